@@ -1,0 +1,105 @@
+//! What threads do, and what they are answered.
+ghost use Rattle.std.specs.Prelude.{◌≡◌, IfOk};
+
+use crate::{Level, LockId, Lockset, PageRange, Site, ThreadId, Word};
+use std::alloc::AllocError;
+
+/// How a lock is held.
+#[derive(Clone, Copy, Debug, PartialEq, Eq, Hash)]
+pub enum Mode {
+    Read,
+    Write,
+}
+
+/// What an access does.
+#[derive(Clone, Copy, Debug, PartialEq, Eq, Hash)]
+pub enum Kind {
+    Read,
+    Write,
+}
+
+/// What a thread does in one step.
+#[derive(Clone, Copy, Debug, PartialEq, Eq, Hash)]
+pub enum Event {
+    /// Takes the lock in the mode.
+    Acquire(LockId, Mode),
+    /// Gives up the lock, which it says to hold in the mode.
+    Release(LockId, Mode),
+    /// Reads or writes the word.
+    Access(Kind, Word, Site),
+    /// Puts the words to a new use.
+    Reuse(PageRange),
+    /// Opens a bracket in which accesses aren't counted.
+    IgnoreOn,
+    /// Closes the innermost one.
+    IgnoreOff,
+    /// Asks for the word's state.
+    Show(Word),
+    /// Goes to this interrupt level.
+    Level(Level),
+}
+
+/// One step of one thread.
+#[derive(Clone, Copy, Debug, PartialEq, Eq, Hash)]
+pub struct Step {
+    pub thread: ThreadId,
+    pub event: Event,
+}
+
+/// What is known of a word.
+#[derive(Debug, PartialEq, Eq, Drop)]
+pub enum WordState {
+    /// No access counts yet.
+    Virgin,
+    /// One thread alone has accessed the word.
+    Exclusive(ThreadId),
+    /// Several threads have read the word, and none has written it since the second came. The set has the locks that were held at
+    /// each of these accesses.
+    Shared(Lockset),
+    /// Several threads have accessed the word, and one has written it since the second came.
+    SharedModified(Lockset),
+}
+
+impl WordState {
+    /// The same state again.
+    pub fn copy(&self) -> Result<WordState, AllocError>
+        ensures { IfOk result (λ copied. copied ≡ self.now) }
+    {
+        match self {
+            WordState::Virgin => Ok(WordState::Virgin),
+            WordState::Exclusive(thread) => Ok(WordState::Exclusive(*thread)),
+            WordState::Shared(locks) => Ok(WordState::Shared(locks.copy()?)),
+            WordState::SharedModified(locks) => Ok(WordState::SharedModified(locks.copy()?)),
+        }
+    }
+}
+
+/// What an accepted step is answered.
+#[derive(Debug, PartialEq, Eq, Drop)]
+pub enum Reply {
+    /// A lock, reuse, ignore or level event took effect.
+    Done,
+    /// An access that reports nothing.
+    Quiet,
+    /// An access that reports a race.
+    Race,
+    /// An access inside an ignore bracket.
+    Ignored,
+    /// What a show found.
+    State(WordState),
+}
+
+impl Reply {
+    /// The same reply again.
+    pub fn copy(&self) -> Result<Reply, AllocError>
+        ensures { IfOk result (λ copied. copied ≡ self.now) }
+    {
+        match self {
+            Reply::Done => Ok(Reply::Done),
+            Reply::Quiet => Ok(Reply::Quiet),
+            Reply::Race => Ok(Reply::Race),
+            Reply::Ignored => Ok(Reply::Ignored),
+            Reply::State(state) => Ok(Reply::State(state.copy()?)),
+        }
+    }
+}
