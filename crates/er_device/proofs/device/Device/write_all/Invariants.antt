@@ -1,0 +1,16 @@
+-- The bytes up to the place reached were written.
+use Rattle.std.proofs.Common.{◌≡◌, ◌-◌, ◌≤◌, length, take}
+use Rattle.std.specs.Io.KnownBytes.{Appends}
+use Rattle.er_device.specs.Device.{inner_of, has_failed, taken_of}
+use Rattle.er_device.proofs.device.Device.write_all.Given as goal
+
+abbrev pub invariant-loop-at : goal.invariant-loop-at
+invariant-loop-at g l = record {
+  within : l.at ≤ length l.bytes;
+  written : Appends (g.W.Write.contents (inner_of l.fn.self)) (g.W.Write.contents (inner_of l.self)) (take l.at l.bytes);
+  working : has_failed l.self ≡ has_failed l.fn.self;
+  taken : taken_of l.self ≡ taken_of l.fn.self;
+}
+
+abbrev pub decreases-loop-at : goal.decreases-loop-at
+decreases-loop-at g l = length l.bytes - l.at

@@ -1,0 +1,22 @@
+//! Readers and writers that remember whether one of their calls failed.
+//!
+//! Begin with [`Device`]: it wraps a reader or a writer of std. A caller that gets an error back asks [`Device::failed`] whether
+//! the device was at fault, or want of memory, or the text.
+//!
+//! What it promises, by the names of clauses: a call that fails marks the device for good, and nothing else does (`failed`); a
+//! read hands on the bytes of what is wrapped (`bytes`) and counts them (`taken`); what was written is all of the bytes, or after
+//! a fault exactly a prefix of them (`bytes`).
+//!
+//! ```
+//! let mut device = Device::new(b"eraser trace 1\n".as_slice());
+//! let mut buffer = [0; 6];
+//! let count = device.read(&mut buffer)?;
+//! // Here `count` is 6, `device.taken()` is 6, and `device.failed()` is false.
+//! ```
+#![tactic(auto)]
+
+pub use device::{Device, Failed};
+
+mod device;
+#[cfg(test)]
+mod tests;

@@ -1,0 +1,225 @@
+-- How a thread's two sets of locks keep their shape as locks come and go and as the level changes.
+use Rattle.std.proofs.Common.{◌≡◌, ℕ, zero, suc, ◌+◌, ◌-◌, ◌<◌, ◌≤◌, Bool, true, false, not, ◌&&◌, ◌||◌, cond, ◌==◌, nat_lt, nat_le, List, [], ◌∷◌, ◌++◌, filter, length, get_or, take, drop, refl, ap, sym, ◌∙◌, subst, arith, ⊎_elim, add-one}
+use Rattle.std.proofs.lemmas.Bool.{eqb-true, eq-eqb, or_left, or_right, or_cases, and_parts, not-true}
+use Rattle.std.proofs.lemmas.List.Folds.{list_any-append}
+use Rattle.std.specs.List.Sorted.{IsStrictlyIncreasing}
+use Rattle.er_event.specs.Lockset.{has, IsBelow, IsRising, with_lock, without_lock, level_lock, is_level_lock, level_locks, locks_from}
+use Rattle.er_event.proofs.LocksetLemmas.{itself, same-rising, has-with_lock, rising-with_lock, has-filtered, rising-filter, without_absent, length-filter-≤}
+use Rattle.er_model.specs.Holdings.{acquired_among, at_level}
+use Rattle.er_model.proofs.Levels.{HasNoLevelLock, among-levels, rising-levels, level-rise, level-lower, level-room, level-counted, level-stays, level-insert, level-remove}
+use Rattle.er_held.specs.Held.{EndsInLevel, IsHolding}
+
+-- no lock at all
+pub holding-nothing : (any write : List ℕ) (level : ℕ) → any ≡ [] → write ≡ [] → level ≡ 0 → IsHolding any write level
+unfolding acquired_among locks_from
+holding-nothing any write level none none' lowest =
+    let empty : EndsInLevel 0 [] = record { rises = tt; ends = refl } in
+    rw (none, none', lowest) (record { any = empty; write = empty; within = λ l there. there; few = omega arith; limit = omega arith })
+
+-- a list with a lock more
+length-with_cases : (l x : ℕ) (xs : List ℕ) (a b : Bool) → nat_lt l x ≡ a → (l == x) ≡ b → length (with_lock l xs) ≤ suc (length xs) →
+    length (cond (nat_lt l x) (l ∷ x ∷ xs) (cond (l == x) (x ∷ xs) (x ∷ with_lock l xs))) ≤ suc (suc (length xs))
+length-with_cases l x xs true b less e rest = rw less (omega arith)
+length-with_cases l x xs false true less same rest = rw (less, same) (omega arith)
+length-with_cases l x xs false false less other rest = rw (less, other) (omega arith)
+
+length-with_lock : (l : ℕ) (xs : List ℕ) → length (with_lock l xs) ≤ suc (length xs)
+unfolding with_lock
+length-with_lock l [] = omega arith
+length-with_lock l (x ∷ xs) = length-with_cases l x xs (nat_lt l x) (l == x) refl refl (length-with_lock l xs)
+
+-- a lock that was not there is put in and taken out again
+first_false : (a b : Bool) → (a || b) ≡ false → a ≡ false
+first_false true b e = e
+first_false false b e = refl
+
+second_false : (a b : Bool) → (a || b) ≡ false → b ≡ false
+second_false true b e = cc
+second_false false b e = e
+
+turned : (l x : ℕ) (b : Bool) → (l == x) ≡ b → (x == l) ≡ false → b ≡ false
+turned l x true same other = let is : l ≡ x = eqb-true l x same in let me : (x == l) ≡ true = eq-eqb x l (sym is) in sym me ∙ other
+turned l x false e other = refl
+
+without-with_cases : (l x : ℕ) (xs : List ℕ) (a b : Bool) → nat_lt l x ≡ a → (l == x) ≡ b → b ≡ false →
+    filter (λ y. not (l == y)) xs ≡ xs → filter (λ y. not (l == y)) (with_lock l xs) ≡ xs →
+    filter (λ y. not (l == y)) (cond (nat_lt l x) (l ∷ x ∷ xs) (cond (l == x) (x ∷ xs) (x ∷ with_lock l xs))) ≡ x ∷ xs
+without-with_cases l x xs a true less same apart all rest = cc
+without-with_cases l x xs true false less other apart all rest = rw (less, itself l, other, all) refl
+without-with_cases l x xs false false less other apart all rest = rw (less, other) (rw (other, rest) refl)
+
+pub without-with_lock : (l : ℕ) (xs : List ℕ) → has xs l ≡ false → without_lock l (with_lock l xs) ≡ xs
+unfolding with_lock without_lock
+without-with_lock l [] absent = rw (itself l) refl
+without-with_lock l (x ∷ xs) absent =
+    without-with_cases l x xs (nat_lt l x) (l == x) refl refl (turned l x (l == x) refl (first_false (x == l) (has xs l) absent))
+    (without_absent xs l (second_false (x == l) (has xs l) absent)) (without-with_lock l xs (second_false (x == l) (has xs l) absent))
+
+-- one of the two sets, with a lock more or less
+ends-insert : (level l : ℕ) (locks : List ℕ) → is_level_lock l ≡ false → EndsInLevel level locks → EndsInLevel level (with_lock l locks)
+ends-insert level l locks plain it = record { rises = rising-with_lock l locks it.rises; ends = level-insert l level locks plain it.ends }
+
+ends-remove : (level l : ℕ) (locks : List ℕ) → is_level_lock l ≡ false → EndsInLevel level locks → EndsInLevel level (without_lock l locks)
+unfolding without_lock
+ends-remove level l locks plain it = record { rises = rising-filter (λ x. not (l == x)) locks it.rises; ends = level-remove l level locks plain it.ends }
+
+-- how many locks are acquired
+module _ (any write : List ℕ) (level : ℕ) (it : IsHolding any write level) where
+  pub holding-room : level ≤ length any
+  holding-room = level-room any level it.any.ends
+
+  pub holding-counted : length (acquired_among any) ≡ length any - level
+  holding-counted = level-counted any level it.any.ends
+
+  pub holding-length : length any ≤ 95
+  holding-length = let few = it.few in let limit = it.limit in omega (arith, holding-counted, few, limit)
+
+  pub write_room : level ≤ length write
+  write_room = level-room write level it.write.ends
+
+  -- the write-held locks are no more than the held ones
+  pub fewer : length write ≤ length any
+  fewer =
+      let part : write ≡ filter (has write) any = same-rising write (filter (has write) any) it.write.rises (rising-filter (has write) any it.any.rises)
+      (λ l. sym (has-filtered (has write) any l ∙ both (has write l) (has any l) (it.within l))) in
+      rw part (length-filter-≤ (has write) any)
+    where
+      both : (a b : Bool) → (a ≡ true → b ≡ true) → (a && b) ≡ a
+      both true b f = f refl
+      both false b f = refl
+
+-- a lock more
+module _ (any write : List ℕ) (level l : ℕ) (it : IsHolding any write level) (plain : is_level_lock l ≡ false) where
+  few-insert : length (acquired_among any) < 64 → length (acquired_among (with_lock l any)) ≤ 64
+  few-insert room =
+      let longer = level-counted (with_lock l any) level (ends-insert level l any plain it.any).ends in
+      omega (arith, longer, length-with_lock l any, holding-counted any write level it, holding-room any write level it)
+
+  pub holding-insert : length (acquired_among any) < 64 → IsHolding (with_lock l any) write level
+  holding-insert room = record {
+    any = ends-insert level l any plain it.any;
+    write = it.write;
+    within = λ k there. has-with_lock l any k ∙ or_right (l == k) (has any k) (it.within k there);
+    few = few-insert room;
+    limit = it.limit;
+  }
+
+  pub holding-insert_both : length (acquired_among any) < 64 → IsHolding (with_lock l any) (with_lock l write) level
+  holding-insert_both room = record {
+    any = ends-insert level l any plain it.any;
+    write = ends-insert level l write plain it.write;
+    within = λ k there. has-with_lock l any k ∙ either (l == k) (has write k) (has any k) (it.within k) (sym (has-with_lock l write k) ∙ there);
+    few = few-insert room;
+    limit = it.limit;
+  }
+    where
+      either : (a b c : Bool) → (b ≡ true → c ≡ true) → (a || b) ≡ true → (a || c) ≡ true
+      either true b c f e = refl
+      either false b c f e = f e
+
+  -- or less
+  pub holding-remove : IsHolding (without_lock l any) (without_lock l write) level
+  unfolding without_lock
+  holding-remove = record {
+    any = ends-remove level l any plain it.any;
+    write = ends-remove level l write plain it.write;
+    within = λ k there. has-filtered (λ x. not (l == x)) any k ∙ both (not (l == k)) (has write k) (has any k) (it.within k) (sym (has-filtered (λ x. not (l == x)) write k) ∙ there);
+    few = let shorter = level-counted (without_lock l any) level (ends-remove level l any plain it.any).ends in
+        let few = it.few in
+        omega (arith, shorter, length-filter-≤ (λ x. not (l == x)) any, holding-counted any write level it, holding-room any write level it);
+    limit = it.limit;
+  }
+    where
+      both : (a b c : Bool) → (b ≡ true → c ≡ true) → (a && b) ≡ true → (a && c) ≡ true
+      both true b c f e = f e
+      both false b c f e = e
+
+-- another level
+among_plain : (locks : List ℕ) → HasNoLevelLock (acquired_among locks)
+unfolding acquired_among
+among_plain locks l member =
+    not-true (is_level_lock l) (and_parts (not (is_level_lock l)) (has locks l) (sym (has-filtered (λ k. not (is_level_lock k)) locks l) ∙ member)).0
+
+ends-level : (level n : ℕ) (locks : List ℕ) → EndsInLevel level locks → EndsInLevel n (at_level n locks)
+unfolding acquired_among
+ends-level level n locks it = record {
+  rises = rising-levels (acquired_among locks) n (among_plain locks) (rising-filter (λ l. not (is_level_lock l)) locks it.rises);
+  ends = level-stays locks n;
+}
+
+has-level : (n : ℕ) (locks : List ℕ) (k : ℕ) → has (at_level n locks) k ≡ ((not (is_level_lock k) && has locks k) || has (level_locks n) k)
+unfolding acquired_among
+has-level n locks k =
+    list_any-append (λ x. x == k) (acquired_among locks) (level_locks n) ∙ ap (λ b. b || has (level_locks n) k) (has-filtered (λ l. not (is_level_lock l)) locks k)
+
+pub holding-level : (any write : List ℕ) (level n : ℕ) → IsHolding any write level → n ≤ 31 → IsHolding (at_level n any) (at_level n write) n
+holding-level any write level n it low = record {
+  any = ends-level level n any it.any;
+  write = ends-level level n write it.write;
+  within = λ k there. has-level n any k ∙ part (not (is_level_lock k)) (has write k) (has any k) (has (level_locks n) k) (it.within k) (sym (has-level n write k) ∙ there);
+  few = rw (among-levels (acquired_among any) n (among_plain any)) it.few;
+  limit = low;
+}
+  where
+    part : (a b c d : Bool) → (b ≡ true → c ≡ true) → ((a && b) || d) ≡ true → ((a && c) || d) ≡ true
+    part a b c true f e = or_right (a && c) true refl
+    part true true c false f e = or_left c false (f refl)
+    part true false c false f e = cc
+    part false b c false f e = e
+
+-- a rising list rises by its places
+has-get : (xs : List ℕ) (k : ℕ) → k < length xs → has xs (get_or xs k 0) ≡ true
+has-get [] k within = absurd (omega arith)
+has-get (x ∷ xs) zero within = or_left (x == x) (has xs x) (itself x)
+has-get (x ∷ xs) (suc k) within = or_right (x == get_or xs k 0) (has xs (get_or xs k 0)) (has-get xs k (omega arith))
+
+pub increasing_from_rising : (xs : List ℕ) → IsRising xs → IsStrictlyIncreasing xs
+increasing_from_rising [] up k within = absurd (omega arith)
+increasing_from_rising (x ∷ xs) up zero within = up.0 (get_or xs 0 0) (has-get xs 0 (omega arith))
+increasing_from_rising (x ∷ xs) up (suc k) within = rw add-one (rw add-one at (increasing_from_rising xs up.1 k (omega arith)))
+
+-- a higher level's locks go behind those that are there
+pub level-joined : (level n : ℕ) (locks more : List ℕ) → EndsInLevel level locks → level ≤ n → more ≡ locks_from (level_lock (suc level)) (n - level) → locks ++ more ≡ at_level n locks
+level-joined level n locks more it above are = rw are (sym (level-rise locks level n it.ends above))
+
+pub level-increasing : (level n : ℕ) (locks more : List ℕ) → EndsInLevel level locks → level ≤ n → more ≡ locks_from (level_lock (suc level)) (n - level) → IsStrictlyIncreasing (locks ++ more)
+level-increasing level n locks more it above are = rw (level-joined level n locks more it above are) (increasing_from_rising (at_level n locks) (ends-level level n locks it).rises)
+
+-- a lower level's list is the front of the list
+pub level-cut : (level n : ℕ) (locks left : List ℕ) (size fewer : ℕ) → EndsInLevel level locks → n ≤ level → size ≡ length locks → fewer ≡ level - n → left ≡ take (size - fewer) locks → left ≡ at_level n locks
+level-cut level n locks left size fewer it below all less is = is ∙ rw (all, less) (sym (level-lower locks level n it.ends below))
+
+-- the first level locks, one by one
+pub locks-last : (l n : ℕ) → locks_from l (suc n) ≡ locks_from l n ++ (l + n) ∷ []
+unfolding locks_from
+locks-last l zero = let here : l + zero ≡ l = omega arith in rw here refl
+locks-last l (suc n) = let next : l + suc n ≡ suc l + n = omega arith in rw next (ap (λ xs. l ∷ xs) (locks-last (suc l) n))
+
+length-locks_from : (l n : ℕ) → length (locks_from l n) ≡ n
+unfolding locks_from
+length-locks_from l zero = refl
+length-locks_from l (suc n) = ap suc (length-locks_from (suc l) n)
+
+-- a part of them
+drop-locks : (l k n : ℕ) → drop k (locks_from l (k + n)) ≡ locks_from (l + k) n
+unfolding locks_from
+drop-locks l zero n = let all : zero + n ≡ n = omega arith in let here : l + zero ≡ l = omega arith in rw (all, here) refl
+drop-locks l (suc k) n = let more : suc k + n ≡ suc (k + n) = omega arith in let next : l + suc k ≡ suc l + k = omega arith in rw (more, next) (drop-locks (suc l) k n)
+
+take-locks : (l k n : ℕ) → take k (locks_from l (k + n)) ≡ locks_from l k
+unfolding locks_from
+take-locks l zero n = refl
+take-locks l (suc k) n = let more : suc k + n ≡ suc (k + n) = omega arith in rw more (ap (λ xs. l ∷ xs) (take-locks (suc l) k n))
+
+locks-part : (level n : ℕ) → level ≤ n → n ≤ 31 → take (n - level) (drop level (level_locks 31)) ≡ locks_from (level_lock (suc level)) (n - level)
+locks-part level n above low =
+    let size : level + ((n - level) + (31 - n)) ≡ 31 = omega arith in
+    let first : 4294967265 + level ≡ level_lock (suc level) = omega arith in
+    let rest : drop level (level_locks 31) ≡ locks_from (level_lock (suc level)) ((n - level) + (31 - n)) =
+    rw (size, first) at (drop-locks 4294967265 level ((n - level) + (31 - n))) in
+    rw rest (take-locks (level_lock (suc level)) (n - level) (31 - n))
+
+-- the slice of them between two levels
+pub locks-between : (level n : ℕ) (locks : List ℕ) (from to : ℕ) → locks ≡ level_locks 31 → from ≡ level → to ≡ n → level ≤ n → n ≤ 31 →
+    take (to - from) (drop from locks) ≡ locks_from (level_lock (suc level)) (n - level)
+locks-between level n locks from to all low high above limit = rw (all, low, high) (locks-part level n above limit)

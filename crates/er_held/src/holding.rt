@@ -1,0 +1,267 @@
+//! `Held`, what one thread holds.
+ghost use Rattle.std.specs.Prelude.{◌≡◌, ◌+◌, ◌-◌, ◌<◌, ◌≤◌, ◌↔◌, ◌++◌, ℕ, IsTrue, IsFalse, IsOk, IfOk, IfErr, IsOkUnless, OnOk, OnErr, length, None, Some};
+ghost use Rattle.er_event.specs.Lockset.{has, level_locks, is_level_lock};
+ghost use Rattle.er_model.specs.Holdings.{acquired_among, refused_by, changed_by};
+ghost use Rattle.er_held.specs.Held.{nothing_held, mode_of};
+
+use er_event::{Event, Level, LockId, Lockset, Mode, Refusal};
+use std::alloc::{AllocError, Global};
+use std::marker::Model;
+
+/// The locks that one thread holds, each in a mode (section 3 of the 1997 paper), its interrupt level (section 2.4 of it), and
+/// how many ignore brackets it has open (section 3.3 of it; that they nest is own).
+#[derive(Drop)]
+pub struct Held {
+    any_mode: Lockset,
+    write_mode: Lockset,
+    level: Level,
+    depth: u8,
+}
+
+impl Model for Held {
+    ghost use Rattle.er_model.specs.Holdings.{Holdings};
+    ghost use Rattle.er_held.specs.Held.{IsHolding};
+
+    ghost Value = { Holdings };
+
+    ghost view = { λ h. record { held = h.any_mode; write_held = h.write_mode; level = h.level; depth = h.depth } };
+
+    ghost invariant = { λ h. IsHolding h.any_mode h.write_mode h.level };
+}
+
+impl Held {
+    /// How many locks a thread may have acquired at once. The locks of its level come on top (own).
+    pub const MOST_LOCKS: usize = 64;
+
+    /// How many ignore brackets a thread may have open (own).
+    pub const MOST_BRACKETS: u8 = 255;
+
+    /// No lock, level 0 and no bracket (own).
+    pub fn new(alloc: Global) -> Self
+        ensures { result ≡ nothing_held }
+    {
+        Held {
+            any_mode: Lockset::new(alloc),
+            write_mode: Lockset::new(alloc),
+            level: Level::default(),
+            depth: 0,
+        }
+    }
+
+    /// The locks that are held in any mode, which protect a read (section 2.3 of the 1997 paper).
+    pub fn held(&self) -> &Lockset
+        ensures locks { result.now ≡ self.now.held }
+        ensures limit { length self.now.held ≤ 95 }
+        ensures write { (l : ℕ) → IsTrue (has self.now.write_held l) → IsTrue (has self.now.held l) }
+    {
+        &self.any_mode
+    }
+
+    /// The locks that are held in write mode, which protect a write (section 2.3 of the 1997 paper).
+    pub fn write_held(&self) -> &Lockset
+        ensures { result.now ≡ self.now.write_held }
+    {
+        &self.write_mode
+    }
+
+    /// The interrupt level.
+    pub fn level(&self) -> Level
+        ensures { result ≡ self.now.level }
+    {
+        self.level
+    }
+
+    /// How many ignore brackets are open.
+    pub fn depth(&self) -> u8
+        ensures value { result ≡ self.now.depth }
+        ensures limit { self.now.depth ≤ 255 }
+    {
+        self.depth
+    }
+
+    /// Whether an ignore bracket is open (section 3.3 of the 1997 paper).
+    pub fn ignoring(&self) -> bool
+        ensures { IsTrue result ↔ (0 < self.now.depth) }
+    {
+        self.depth > 0
+    }
+
+    /// Takes a lock that is held in neither mode (section 2.3 of the 1997 paper; the refusals are own).
+    pub fn acquire(&mut self, lock: LockId, mode: Mode) -> Result<(), Refusal>
+        ensures refused { (why : Refusal) → refused_by self.old (Event.Acquire lock mode) ≡ Some why → result ≡ Err why }
+        ensures accepted { OnOk result (refused_by self.old (Event.Acquire lock mode) ≡ None) }
+        ensures ok { OnOk result (self.new ≡ changed_by self.old (Event.Acquire lock mode)) }
+        ensures err { OnErr result (self.new ≡ self.old) }
+
+        // An accepted acquire can only want memory, and that past seven locks.
+        ensures memory { refused_by self.old (Event.Acquire lock mode) ≡ None → IsOkUnless result Refusal.OutOfMemory }
+        ensures inline { refused_by self.old (Event.Acquire lock mode) ≡ None → length self.old.held < 8 → IsOk result }
+    {
+        if lock.is_level_lock() {
+            return Err(Refusal::LevelLock);
+        }
+        if self.any_mode.contains(lock) {
+            return Err(Refusal::AlreadyHeld);
+        }
+        if self.acquired() >= Held::MOST_LOCKS {
+            return Err(Refusal::HeldFull);
+        }
+        self.add(lock, mode)?;
+        Ok(())
+    }
+
+    // How many locks it has that are not its level's.
+    fn acquired(&self) -> usize
+        ensures { result ≡ length (acquired_among self.now.held) }
+    {
+        self.any_mode.len() - usize::from(self.level.number())
+    }
+
+    fn add(&mut self, lock: LockId, mode: Mode) -> Result<(), AllocError>
+        requires plain { IsFalse (is_level_lock lock) }
+        requires free { IsFalse (has self.old.held lock) }
+        requires room { length (acquired_among self.old.held) < 64 }
+        ensures ok { OnOk result (self.new ≡ changed_by self.old (Event.Acquire lock mode)) }
+        ensures err { OnErr result (self.new ≡ self.old) }
+        ensures inline { length self.old.held < 8 → IsOk result }
+    {
+        self.any_mode.insert(lock)?;
+        match mode {
+            Mode::Read => Ok(()),
+            Mode::Write => match self.write_mode.insert(lock) {
+                Ok(()) => Ok(()),
+                Err(refused) => {
+                    self.any_mode.remove(lock);
+                    Err(refused)
+                }
+            },
+        }
+    }
+
+    /// Gives up a lock that is held in this mode (section 2.3 of the 1997 paper; the refusals are own). It takes no memory.
+    pub fn release(&mut self, lock: LockId, mode: Mode) -> Result<(), Refusal>
+        ensures refused { (why : Refusal) → refused_by self.old (Event.Release lock mode) ≡ Some why → result ≡ Err why }
+        ensures accepted { OnOk result (refused_by self.old (Event.Release lock mode) ≡ None) }
+        ensures free { refused_by self.old (Event.Release lock mode) ≡ None → IsOk result }
+        ensures ok { OnOk result (self.new ≡ changed_by self.old (Event.Release lock mode)) }
+        ensures err { OnErr result (self.new ≡ self.old) }
+    {
+        if lock.is_level_lock() {
+            return Err(Refusal::LevelLock);
+        }
+        match (self.mode_of(lock), mode) {
+            (None, _) => Err(Refusal::NotHeld),
+            (Some(Mode::Read), Mode::Read) | (Some(Mode::Write), Mode::Write) => {
+                self.remove(lock);
+                Ok(())
+            }
+            (Some(_), _) => Err(Refusal::WrongMode),
+        }
+    }
+
+    // The mode in which it has the lock, if it has it.
+    fn mode_of(&self, lock: LockId) -> Option<Mode>
+        ensures { result ≡ mode_of self.now lock }
+    {
+        if self.write_mode.contains(lock) {
+            Some(Mode::Write)
+        } else if self.any_mode.contains(lock) {
+            Some(Mode::Read)
+        } else {
+            None
+        }
+    }
+
+    fn remove(&mut self, lock: LockId)
+        requires { IsFalse (is_level_lock lock) }
+        ensures { self.new ≡ changed_by self.old (Event.Release lock Mode.Read) }
+    {
+        self.any_mode.remove(lock);
+        self.write_mode.remove(lock);
+    }
+
+    /// Opens an ignore bracket (section 3.3 of the 1997 paper; the limit is own). It takes no memory.
+    pub fn ignore_on(&mut self) -> Result<(), Refusal>
+        ensures refused { (why : Refusal) → refused_by self.old Event.IgnoreOn ≡ Some why → result ≡ Err why }
+        ensures accepted { OnOk result (refused_by self.old Event.IgnoreOn ≡ None) }
+        ensures free { refused_by self.old Event.IgnoreOn ≡ None → IsOk result }
+        ensures ok { OnOk result (self.new ≡ changed_by self.old Event.IgnoreOn) }
+        ensures err { OnErr result (self.new ≡ self.old) }
+    {
+        if self.depth == Held::MOST_BRACKETS {
+            return Err(Refusal::IgnoreTooDeep);
+        }
+        self.depth += 1;
+        Ok(())
+    }
+
+    /// Closes the innermost ignore bracket (section 3.3 of the 1997 paper; the refusal is own). It takes no memory.
+    pub fn ignore_off(&mut self) -> Result<(), Refusal>
+        ensures refused { (why : Refusal) → refused_by self.old Event.IgnoreOff ≡ Some why → result ≡ Err why }
+        ensures accepted { OnOk result (refused_by self.old Event.IgnoreOff ≡ None) }
+        ensures free { refused_by self.old Event.IgnoreOff ≡ None → IsOk result }
+        ensures ok { OnOk result (self.new ≡ changed_by self.old Event.IgnoreOff) }
+        ensures err { OnErr result (self.new ≡ self.old) }
+    {
+        if self.depth == 0 {
+            return Err(Refusal::IgnoreNotOn);
+        }
+        self.depth -= 1;
+        Ok(())
+    }
+
+    /// Goes to an interrupt level, whose locks and those of the levels below it are then held in write mode (section 2.4 of the
+    /// 1997 paper). A level that is no higher takes no memory.
+    pub fn set_level(&mut self, level: Level) -> Result<(), Refusal>
+        ensures ok { OnOk result (self.new ≡ changed_by self.old (Event.Level level)) }
+        ensures err { OnErr result (self.new ≡ self.old) }
+        ensures memory { IsOkUnless result Refusal.OutOfMemory }
+        ensures free { level ≤ self.old.level → IsOk result }
+    {
+        if level.number() <= self.level.number() {
+            self.lower_level(level);
+        } else {
+            self.raise_level(level)?;
+        }
+        Ok(())
+    }
+
+    fn lower_level(&mut self, level: Level)
+        requires { level ≤ self.old.level }
+        ensures { self.new ≡ changed_by self.old (Event.Level level) }
+    {
+        let fewer = usize::from(self.level.number() - level.number());
+        self.any_mode.truncate(self.any_mode.len() - fewer);
+        self.write_mode.truncate(self.write_mode.len() - fewer);
+        self.level = level;
+    }
+
+    fn raise_level(&mut self, level: Level) -> Result<(), AllocError>
+        requires { self.old.level ≤ level }
+        ensures ok { OnOk result (self.new ≡ changed_by self.old (Event.Level level)) }
+        ensures err { OnErr result (self.new ≡ self.old) }
+    {
+        let locks = level_locks();
+        let locks = &locks[..];
+        let more = &locks[usize::from(self.level.number())..usize::from(level.number())];
+        let before = self.any_mode.len();
+        self.any_mode.extend(more)?;
+        if let Err(refused) = self.write_mode.extend(more) {
+            self.any_mode.truncate(before);
+            return Err(refused);
+        }
+        self.level = level;
+        Ok(())
+    }
+}
+
+// The locks of all levels, in order.
+fn level_locks() -> [LockId; 31]
+    ensures { result ≡ level_locks 31 }
+{
+    let mut locks = [LockId::default(); 31];
+    for i in 0..31u32 {
+        locks[i as usize] = LockId::new(LockId::BELOW_LEVELS + 1 + i);
+    }
+    locks
+}

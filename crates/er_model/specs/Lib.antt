@@ -1,0 +1,15 @@
+pub mod Search
+pub mod Words
+pub mod Table
+pub mod Threads
+pub mod Holdings
+pub mod Answers
+pub mod Following
+pub mod Runs
+pub mod Locality
+pub mod Parts
+pub mod Journals
+pub mod Merges
+pub mod Explanations
+pub mod AnswerList
+pub mod Examples

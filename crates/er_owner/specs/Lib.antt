@@ -1,0 +1,3 @@
+pub mod Packed
+pub mod Advancing
+pub mod Numbering

@@ -1,0 +1,275 @@
+#!/usr/bin/env python3
+"""A second reading of docs/FORMATS.md and docs/DEFINITIONS.md, written for checking alone: slow, plain and unproved.
+
+reference.py replay FILE     prints the report of a trace and ends with its exit status
+reference.py random SEED     prints a short random trace, with faults now and then
+
+It shares no code with the program, so that a misreading of the documents shows as a difference.
+"""
+
+import random
+import re
+import sys
+
+NAME = re.compile(rb"[A-Za-z0-9_.:/-]{1,128}\Z")
+NUMBER = re.compile(rb"([0-9]+|0x[0-9a-fA-F]+)\Z")
+VERBS = {
+    b"lock": (1, 1), b"unlock": (1, 1), b"rlock": (1, 1), b"runlock": (1, 1), b"read": (1, 2), b"write": (1, 2),
+    b"reuse": (2, 2), b"ignore-on": (0, 0), b"ignore-off": (0, 0), b"show": (1, 1),
+}
+LEVEL_VERB = {b"level": (1, 1)}
+BYTE_LIMIT = 268435456
+
+
+class Fault(Exception):
+    def __init__(self, line, kind):
+        self.line, self.kind = line, kind
+
+
+def number(word):
+    if not NUMBER.match(word):
+        return None
+    value = int(word, 16 if word.startswith(b"0x") else 10)
+    return value if value < 2**64 else None
+
+
+def is_name(word, of_lock=False):
+    return bool(NAME.match(word)) and not (of_lock and word == b"none")
+
+
+def operands_fault(verb, words):
+    """The kind of the leftmost operand that isn't what its place asks."""
+    for place, word in enumerate(words):
+        if verb in (b"lock", b"unlock", b"rlock", b"runlock"):
+            if not is_name(word, of_lock=True):
+                return "bad name"
+        elif verb in (b"read", b"write") and place == 1:
+            if not is_name(word):
+                return "bad name"
+        elif number(word) is None:
+            return "bad number"
+    return None
+
+
+def event_of(line, words, version):
+    if not is_name(words[0]):
+        raise Fault(line, "bad name")
+    if len(words) < 2:
+        raise Fault(line, "missing operand")
+    verbs = VERBS if version == b"1" else VERBS | LEVEL_VERB
+    if words[1] not in verbs:
+        raise Fault(line, "bad verb")
+    least, most = verbs[words[1]]
+    operands = words[2:]
+    if len(operands) < least:
+        raise Fault(line, "missing operand")
+    if len(operands) > most:
+        raise Fault(line, "extra operand")
+    kind = operands_fault(words[1], operands)
+    if kind:
+        raise Fault(line, kind)
+    if words[1] == b"reuse":
+        address, size = number(operands[0]), number(operands[1])
+        if size > 4194304:
+            raise Fault(line, "size too large")
+        if address >= 2**48 or address + size > 2**48:
+            raise Fault(line, "address out of range")
+    elif words[1] in (b"read", b"write", b"show") and number(operands[0]) >= 2**48:
+        raise Fault(line, "address out of range")
+    elif words[1] == b"level" and number(operands[0]) > 31:
+        raise Fault(line, "level too high")
+    return words[0], words[1], operands
+
+
+def events_of(text):
+    """The event lines of a text, each with its line, or its first fault."""
+    lines = text.split(b"\n")
+    if lines[-1] == b"":
+        lines.pop()
+    events, start, version = [], 0, None
+    for at, line in enumerate(lines, 1):
+        width = len(line) + 1 if start + len(line) < len(text) else len(line)
+        if len(line) > 1024:
+            raise Fault(at, "line too long")
+        if start <= BYTE_LIMIT < start + width:
+            raise Fault(at, "text too long")
+        if any(byte >= 128 for byte in line):
+            raise Fault(at, "not ascii")
+        start += width
+        words = [word for word in re.split(rb"[ \t]+", line) if word]
+        if not words or line.startswith(b"#"):
+            continue
+        if version is None:
+            if len(words) != 3 or words[:2] != [b"eraser", b"trace"] or words[2] not in (b"1", b"2"):
+                raise Fault(at, "no header")
+            version = words[2]
+            continue
+        events.append((at, event_of(at, words, version)))
+    if version is None:
+        raise Fault(len(lines) + 1, "no header")
+    return events
+
+
+class Word:
+    """What is remembered of a word: every counted access of its era, with the locks that cover it."""
+
+    def __init__(self):
+        self.accesses = []
+        self.reported = False
+
+    def joining(self):
+        return next((k for k, a in enumerate(self.accesses) if a[0] != self.accesses[0][0]), None)
+
+    def candidates(self):
+        return set.intersection(*(set(a[2]) for a in self.accesses[self.joining():]))
+
+    def written(self):
+        return self.joining() is not None and any(a[1] == b"write" for a in self.accesses[self.joining():])
+
+    def racy(self):
+        return self.written() and not self.candidates()
+
+
+class Replay:
+    def __init__(self):
+        self.locks, self.held, self.depth, self.level, self.words = {}, {}, {}, {}, {}
+        self.lines, self.steps, self.races, self.refused = [], 0, 0, 0
+
+    def names(self, locks):
+        """By number; a level's lock is its level here, and comes behind all named ones."""
+        named = sorted((lock for lock in locks if isinstance(lock, bytes)), key=lambda lock: self.locks[lock])
+        levels = sorted(lock for lock in locks if isinstance(lock, int))
+        return " ".join([lock.decode() for lock in named] + [f"!{level}" for level in levels]) or "none"
+
+    def cover(self, thread, verb):
+        held = self.held[thread]
+        acquired = list(held) if verb == b"read" else [lock for lock, how in held.items() if how == b"lock"]
+        return acquired + list(range(1, self.level.get(thread, 0) + 1))
+
+    def refusal(self, thread, verb, operands):
+        held, depth = self.held.setdefault(thread, {}), self.depth.setdefault(thread, 0)
+        if verb in (b"lock", b"rlock"):
+            return "already held" if operands[0] in held else "too many locks held" if len(held) >= 64 else None
+        if verb in (b"unlock", b"runlock"):
+            if operands[0] not in held:
+                return "not held"
+            return None if held[operands[0]] == verb.replace(b"un", b"") else "held in the other mode"
+        if verb == b"ignore-on":
+            return "ignore too deep" if depth >= 255 else None
+        if verb == b"ignore-off":
+            return "ignore not on" if depth == 0 else None
+        return None
+
+    def access(self, line, thread, verb, operands):
+        if self.depth[thread]:
+            return
+        at = number(operands[0]) // 4
+        word = self.words.setdefault(at, Word())
+        word.accesses.append((thread, verb, self.cover(thread, verb)))
+        if word.racy() and not word.reported:
+            word.reported = True
+            self.races += 1
+            site = operands[1].decode() if len(operands) > 1 else "-"
+            self.lines.append(f"line {line}: race: {thread.decode()} {verb.decode()} 0x{at * 4:012x} at {site}, holds {self.names(self.cover(thread, b'read'))}")
+
+    def show(self, line, operands):
+        at = number(operands[0]) // 4
+        word = self.words.get(at, Word())
+        if not word.accesses:
+            state = "virgin"
+        elif word.joining() is None:
+            state = "exclusive " + word.accesses[0][0].decode()
+        else:
+            state = ("shared-modified" if word.written() else "shared") + ", candidates " + self.names(word.candidates())
+        self.lines.append(f"line {line}: state 0x{at * 4:012x}: {state}")
+
+    def step(self, line, thread, verb, operands):
+        if verb in (b"lock", b"unlock", b"rlock", b"runlock"):
+            self.locks.setdefault(operands[0], len(self.locks))
+        why = self.refusal(thread, verb, operands)
+        if why:
+            self.steps, self.refused = self.steps + 1, self.refused + 1
+            what = b" ".join([thread, verb] + operands).decode()
+            self.lines.append(f"line {line}: refused: {what}: {why}")
+            return
+        if verb == b"reuse":
+            address, size = number(operands[0]), number(operands[1])
+            if size:
+                first, last = address // 4, (address + size - 1) // 4
+                for at in [at for at in self.words if first <= at <= last]:
+                    del self.words[at]
+                self.steps += last // 1024 - first // 1024 + 1
+            return
+        self.steps += 1
+        if verb in (b"lock", b"rlock"):
+            self.held[thread][operands[0]] = verb
+        elif verb in (b"unlock", b"runlock"):
+            del self.held[thread][operands[0]]
+        elif verb == b"ignore-on":
+            self.depth[thread] += 1
+        elif verb == b"ignore-off":
+            self.depth[thread] -= 1
+        elif verb == b"level":
+            self.level[thread] = number(operands[0])
+        elif verb == b"show":
+            self.show(line, operands)
+        else:
+            self.access(line, thread, verb, operands)
+
+
+def replay(text):
+    """Standard output, standard error and exit status."""
+    try:
+        events = events_of(text)
+    except Fault as fault:
+        return "", f"line {fault.line}: {fault.kind}\n", 2
+    run = Replay()
+    for line, (thread, verb, operands) in events:
+        run.step(line, thread, verb, operands)
+    run.lines.append(f"steps {run.steps}, races {run.races}, suppressed 0, refused {run.refused}")
+    return "".join(line + "\n" for line in run.lines), "", 1 if run.races else 0
+
+
+def random_line(dice, has_levels):
+    thread = f"t{dice.randrange(4)}"
+    address = dice.choice(["0x1000", "0x1004", "4100", "0x1ffc", "0x2000", "0x00003000", "0xffffffffffff"])
+    lock = f"m{dice.randrange(3)}"
+    verb = dice.choices(
+        ["lock", "unlock", "rlock", "runlock", "read", "write", "reuse", "ignore-on", "ignore-off", "show", "level"],
+        [8, 8, 5, 5, 14, 14, 2, 1, 2, 4, 3 if has_levels else 0])[0]
+    if verb in ("lock", "unlock", "rlock", "runlock"):
+        return f"{thread} {verb} {lock}"
+    if verb in ("read", "write"):
+        return f"{thread} {verb} {address}" + dice.choice(["", " a.c:7", "\tb/c.rs:12"])
+    if verb == "reuse":
+        return f"{thread} reuse {dice.choice(['0x1000', '0x1003', '0x1ffc'])} {dice.choice([0, 1, 8, 4096, 9000])}"
+    if verb == "level":
+        return f"{thread} level {dice.choice([0, 0, 1, 2, 3, 31])}"
+    return f"{thread} {verb}" + (f" {address}" if verb == "show" else "")
+
+
+def random_trace(seed):
+    dice = random.Random(seed)
+    version = dice.choice("1112")
+    lines = [f"eraser trace {version}"] + [random_line(dice, version == "2") for _ in range(dice.randrange(120))]
+    for _ in range(dice.randrange(3)):
+        lines.insert(dice.randrange(len(lines) + 1), dice.choice(["", "# a comment", "  \t"]))
+    text = "\n".join(lines).encode() + dice.choice([b"", b"\n"])
+    if dice.randrange(4) == 0:
+        at = dice.randrange(len(text) + 1)
+        text = text[:at] + dice.choice([b" ", b"\n", b"0", b"x", b"!", b"\x80", b"-", b"a" * 1100, b" none ", b"\r"]) + text[at + dice.randrange(3):]
+    return text
+
+
+def main():
+    if sys.argv[1] == "replay":
+        with open(sys.argv[2], "rb") as file:
+            output, errors, status = replay(file.read())
+        sys.stdout.write(output)
+        sys.stderr.write(errors)
+        sys.exit(status)
+    sys.stdout.buffer.write(random_trace(int(sys.argv[2])))
+
+
+if __name__ == "__main__":
+    main()
