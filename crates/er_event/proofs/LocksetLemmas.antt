@@ -225,9 +225,11 @@ without_absent (x ∷ xs) l none =
     first_false : (a b : Bool) → (a || b) ≡ false → a ≡ false
     first_false true b e = e
     first_false false b e = refl
+
     second_false : (a b : Bool) → (a || b) ≡ false → b ≡ false
     second_false true b e = absurd (let never : true ≡ false = e in cc)
     second_false false b e = e
+
     turned : (l x : ℕ) → (x == l) ≡ false → (l == x) ≡ false
     turned l x other = ne_eqb l x (λ same. let differ = eqb-false x l other in omega arith)
 
