@@ -7,7 +7,8 @@ use crate::NumberedState;
 use er_event::ThreadId;
 use std::marker::Model;
 
-/// A shadowed word's state in 32 bits: the two highest tell the state, and the others hold the thread or the set's number.
+/// A shadowed word's state in 32 bits: the two highest tell the state, and the others hold the thread or the set's number (section
+/// 3.1 of the 1997 paper; the order of the bits is own). Contracts see the state.
 #[derive(Clone, Copy, Debug)]
 pub struct Shadow {
     bits: u32,
@@ -36,7 +37,7 @@ impl Shadow {
 
     const SHARED_MODIFIED: u32 = 3 << 30;
 
-    /// The word that no access has changed yet.
+    /// The word that no access has changed yet, 0.
     #[inline]
     pub fn virgin() -> Shadow
         ensures { result ≡ Virgin }
@@ -76,7 +77,7 @@ impl Shadow {
         }
     }
 
-    /// The 32 bits.
+    /// The 32 bits (own): 0 for virgin, else the state, 1 to 3, above thirty bits of the thread or the set.
     #[inline]
     pub fn bits(self) -> u32
         ensures { result ≡ bits_of self }
@@ -85,7 +86,7 @@ impl Shadow {
         bits
     }
 
-    /// The state that they tell.
+    /// The state that the bits tell.
     #[inline]
     pub fn state(self) -> NumberedState
         ensures state { result ≡ self }

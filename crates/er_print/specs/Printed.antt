@@ -1,0 +1,115 @@
+-- The bytes of a report: each word here is the text of one thing, and a line ends with its LF.
+use Rattle.std.specs.Prelude.{ℕ, zero, suc, ◌-◌, ◌*◌, ◌/◌, ◌%◌, cond, List, [], ◌∷◌, ◌++◌, flat_map, slice_index_or, Option, Some, None, codes, decimal}
+use Rattle.std.specs.Char.{digit_char}
+use Rattle.er_event.specs.Lockset.{is_level_lock}
+use Rattle.er_event.specs.Names.{NameTable}
+use Rattle.er_event.specs.Refusal.{text_of, refusal_of}
+use Rattle.er_event.specs.declared.refusals.NoRoom.{NoRoom}
+use Rattle.er_event.specs.declared.steps.Event.{Event}
+use Rattle.er_event.specs.declared.steps.Event.TheVariants.{Acquire, Release, Access, Reuse, IgnoreOn, IgnoreOff, Show, Level}
+use Rattle.er_event.specs.declared.steps.Kind.{Kind}
+use Rattle.er_event.specs.declared.steps.Kind.TheVariants as kind
+use Rattle.er_event.specs.declared.steps.Mode.{Mode}
+use Rattle.er_event.specs.declared.steps.Mode.TheVariants as mode
+use Rattle.er_event.specs.declared.steps.WordState.{WordState}
+use Rattle.er_event.specs.declared.steps.WordState.TheVariants.{Virgin, Exclusive, Shared, SharedModified}
+use Rattle.er_event.specs.Trace.{Recording}
+use Rattle.er_model.specs.declared.answers.Stopped.{Stopped}
+use Rattle.er_report.specs.Report.{Summary, report_of}
+use Rattle.er_report.specs.declared.report.Line.{Line}
+use Rattle.er_report.specs.declared.report.Line.TheVariants as line
+
+-- so many lower-case hexadecimal digits, of which the last is the lowest
+unfoldable pub hex_digits : ℕ → ℕ → List ℕ
+hex_digits zero n = []
+hex_digits (suc k) n = hex_digits k (n / 16) ++ digit_char (n % 16) ∷ []
+
+-- the address of a word's first byte
+abbrev pub address_text : ℕ → List ℕ
+address_text word = codes "0x" ++ hex_digits 12 (4 * word)
+
+-- the name of a number, counted from 0
+abbrev pub name_at : List (List ℕ) → ℕ → List ℕ
+name_at names n = slice_index_or names n []
+
+-- sites count from 1, and the missing one is a dash
+abbrev pub site_text : NameTable → ℕ → List ℕ
+site_text names zero = codes "-"
+site_text names (suc n) = name_at names.sites n
+
+-- the lock of a level is a mark and the level
+abbrev pub lock_text : NameTable → ℕ → List ℕ
+lock_text names lock = cond (is_level_lock lock) (codes "!" ++ decimal (lock - 4294967264)) (name_at names.locks lock)
+
+-- the locks after the first, each behind a space
+abbrev pub more_locks : NameTable → List ℕ → List ℕ
+more_locks names locks = flat_map (λ lock. 32 ∷ lock_text names lock) locks
+
+abbrev pub locks_text : NameTable → List ℕ → List ℕ
+locks_text names [] = codes "none"
+locks_text names (lock ∷ locks) = lock_text names lock ++ more_locks names locks
+
+abbrev pub kind_text : Kind → List ℕ
+kind_text kind.Read = codes "read"
+kind_text kind.Write = codes "write"
+
+-- the verbs of lock events, with the space before the lock
+abbrev pub acquire_text : Mode → List ℕ
+acquire_text mode.Write = codes "lock "
+acquire_text mode.Read = codes "rlock "
+
+abbrev pub release_text : Mode → List ℕ
+release_text mode.Write = codes "unlock "
+release_text mode.Read = codes "runlock "
+
+-- what a thread asked for: the verb, and the lock of a lock event. Events that are never refused are their verbs alone
+abbrev pub event_text : NameTable → Event → List ℕ
+event_text names (Acquire lock mode) = acquire_text mode ++ lock_text names lock
+event_text names (Release lock mode) = release_text mode ++ lock_text names lock
+event_text names IgnoreOn = codes "ignore-on"
+event_text names IgnoreOff = codes "ignore-off"
+event_text names (Access kind word site) = kind_text kind
+event_text names (Reuse range) = codes "reuse"
+event_text names (Show word) = codes "show"
+event_text names (Level level) = codes "level"
+
+abbrev pub candidates_text : NameTable → List ℕ → List ℕ
+candidates_text names locks = codes ", candidates " ++ locks_text names locks
+
+abbrev pub state_text : NameTable → WordState → List ℕ
+state_text names Virgin = codes "virgin"
+state_text names (Exclusive thread) = codes "exclusive " ++ name_at names.threads thread
+state_text names (Shared locks) = codes "shared" ++ candidates_text names locks
+state_text names (SharedModified locks) = codes "shared-modified" ++ candidates_text names locks
+
+-- what a line that tells of a line of the trace begins with
+abbrev pub place_text : ℕ → List ℕ
+place_text number = codes "line " ++ decimal number ++ codes ": "
+
+abbrev pub line_text : NameTable → Line → List ℕ
+line_text names (line.Race number thread kind word site held) =
+    place_text number ++ codes "race: " ++ name_at names.threads thread ++ codes " " ++ kind_text kind
+    ++ codes " " ++ address_text word ++ codes " at " ++ site_text names site ++ codes ", holds " ++ locks_text names held ++ 10 ∷ []
+line_text names (line.Refused number step refusal) =
+    place_text number ++ codes "refused: " ++ name_at names.threads step.thread ++ codes " "
+    ++ event_text names step.event ++ codes ": " ++ text_of refusal ++ 10 ∷ []
+line_text names (line.Shown number word state) =
+    place_text number ++ codes "state " ++ address_text word ++ codes ": " ++ state_text names state ++ 10 ∷ []
+
+-- where the run stopped, if it did
+abbrev pub stop_text : Option (ℕ × NoRoom) → List ℕ
+stop_text None = []
+stop_text (Some stop) = place_text stop.0 ++ codes "stopped: " ++ text_of (refusal_of stop.1) ++ 10 ∷ []
+
+abbrev pub totals_text : Summary → List ℕ
+totals_text s =
+    codes "steps " ++ decimal s.steps ++ codes ", races " ++ decimal s.races ++ codes ", suppressed " ++ decimal s.suppressed
+    ++ codes ", refused " ++ decimal s.refused ++ 10 ∷ []
+
+-- the whole text
+abbrev pub report_text : NameTable → Summary → List ℕ
+report_text names s = flat_map (line_text names) s.lines ++ stop_text s.stop ++ totals_text s
+
+-- the text of the report of a run of the recording's steps that stopped so, or not at all
+abbrev pub output_of : Recording → Option Stopped → List ℕ
+output_of r stop = report_text r.names (report_of r stop)

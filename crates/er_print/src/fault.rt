@@ -1,0 +1,10 @@
+//! Why a report was not written.
+
+/// Why a report was not written in full.
+#[derive(Clone, Copy, Debug, PartialEq, Eq)]
+pub enum WriteFault {
+    /// No memory for the text. Nothing was written.
+    Memory,
+    /// The writer failed. A prefix of the text was written.
+    Write,
+}

@@ -1,0 +1,30 @@
+//! Reports, written to the byte.
+//!
+//! Begin with [`write_report`]. It writes an [`er_report::Report`] on a [`er_device::Device`], with the names of a trace for the
+//! numbers that stand in it.
+//!
+//! What it promises, by the names of clauses: what it writes is the report's text and nothing else, or nothing at all for want of
+//! memory, or a prefix of the text where the writer failed (`bytes`); and it tells a fault of the writer exactly where the writer
+//! failed (`failed`). The text is defined line by line in `specs/Printed`, and whole as `report_text`.
+//!
+//! The text is built whole, in one list of bytes, before the first byte is written.
+//!
+//! ```
+//! let mut device = Device::new(Vec::new(alloc));
+//! write_report(alloc, &mut device, &report, trace.names())?;
+//! // A run of `t1 write 0x1000` and `t2 write 0x1000` on lines 2 and 3 has this text:
+//! // line 3: race: t2 write 0x000000001000 at -, holds none
+//! // steps 2, races 1, suppressed 0, refused 0
+//! ```
+#![tactic(auto)]
+
+pub use fault::WriteFault;
+pub use report::write_report;
+
+mod fault;
+mod lines;
+mod naming;
+mod numbers;
+mod report;
+#[cfg(test)]
+mod tests;

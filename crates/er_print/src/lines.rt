@@ -1,0 +1,100 @@
+//! The lines of a report.
+ghost use Rattle.std.specs.Prelude.{◌≡◌, ◌++◌, OnOk};
+ghost use Rattle.er_report.specs.Names.{HasNames};
+ghost use Rattle.er_report.specs.Report.{told};
+ghost use Rattle.er_print.specs.Printed.{place_text, line_text, stop_text, totals_text};
+
+use crate::naming::{put_event, put_kind, put_locks, put_site, put_state, put_thread};
+use crate::numbers::{put_address, put_number};
+use er_event::{Names, NoRoom};
+use er_report::{Line, Report};
+use std::alloc::AllocError;
+
+/// Puts one line.
+pub(crate) fn put_line(out: &mut Vec<u8>, names: &Names, line: &Line) -> Result<(), AllocError>
+    requires { HasNames names.now line.now }
+    ensures { OnOk result (out.new.items ≡ out.old.items ++ line_text names.now line.now) }
+{
+    match line {
+        Line::Race {
+            line,
+            thread,
+            kind,
+            word,
+            site,
+            held,
+        } => {
+            put_place(out, *line)?;
+            out.extend_from_slice(b"race: ")?;
+            put_thread(out, names, *thread)?;
+            out.extend_from_slice(b" ")?;
+            put_kind(out, *kind)?;
+            out.extend_from_slice(b" ")?;
+            put_address(out, *word)?;
+            out.extend_from_slice(b" at ")?;
+            put_site(out, names, *site)?;
+            out.extend_from_slice(b", holds ")?;
+            put_locks(out, names, held)?;
+            out.extend_from_slice(b"\n")
+        }
+        Line::Refused {
+            line,
+            step,
+            refusal,
+        } => {
+            put_place(out, *line)?;
+            out.extend_from_slice(b"refused: ")?;
+            put_thread(out, names, step.thread)?;
+            out.extend_from_slice(b" ")?;
+            put_event(out, names, step.event)?;
+            out.extend_from_slice(b": ")?;
+            out.extend_from_slice(refusal.text().as_bytes())?;
+            out.extend_from_slice(b"\n")
+        }
+        Line::Shown { line, word, state } => {
+            put_place(out, *line)?;
+            out.extend_from_slice(b"state ")?;
+            put_address(out, *word)?;
+            out.extend_from_slice(b": ")?;
+            put_state(out, names, state)?;
+            out.extend_from_slice(b"\n")
+        }
+    }
+}
+
+/// Puts the line of the stop, if there is one.
+pub(crate) fn put_stop(out: &mut Vec<u8>, stop: Option<(u64, NoRoom)>) -> Result<(), AllocError>
+    ensures { OnOk result (out.new.items ≡ out.old.items ++ stop_text stop) }
+{
+    let Some((line, cause)) = stop else {
+        return Ok(());
+    };
+    put_place(out, line)?;
+    out.extend_from_slice(b"stopped: ")?;
+    out.extend_from_slice(cause.refusal().text().as_bytes())?;
+    out.extend_from_slice(b"\n")
+}
+
+/// Puts the line of totals.
+pub(crate) fn put_totals(out: &mut Vec<u8>, report: &Report) -> Result<(), AllocError>
+    ensures { OnOk result (out.new.items ≡ out.old.items ++ totals_text (told report.now)) }
+{
+    out.extend_from_slice(b"steps ")?;
+    put_number(out, report.steps)?;
+    out.extend_from_slice(b", races ")?;
+    put_number(out, report.races)?;
+    out.extend_from_slice(b", suppressed ")?;
+    put_number(out, report.suppressed)?;
+    out.extend_from_slice(b", refused ")?;
+    put_number(out, report.refused)?;
+    out.extend_from_slice(b"\n")
+}
+
+// Puts what a line that tells of a line of the trace begins with.
+fn put_place(out: &mut Vec<u8>, line: u64) -> Result<(), AllocError>
+    ensures { OnOk result (out.new.items ≡ out.old.items ++ place_text line) }
+{
+    out.extend_from_slice(b"line ")?;
+    put_number(out, line)?;
+    out.extend_from_slice(b": ")
+}

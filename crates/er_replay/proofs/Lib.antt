@@ -1,0 +1,3 @@
+pub mod MachineLemmas
+pub mod RunsLemmas
+pub mod ThreadsLemmas

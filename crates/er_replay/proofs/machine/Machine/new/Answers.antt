@@ -1,0 +1,5 @@
+use Rattle.er_replay.proofs.MachineLemmas.{stands-start}
+use Rattle.er_replay.proofs.machine.Machine.new.Goals as goal
+
+pub returns : goal.returns
+returns c = stands-start _ _ c.new.ensures c.in_ok-new.ensures

@@ -1,0 +1,14 @@
+use Rattle.er_model.specs.AnswerList.{is_state}
+use Rattle.er_replay.proofs.RunsLemmas.{no_room-found, on_err_unless, on_err_of}
+use Rattle.er_replay.proofs.runs.take_step.Goals as goal
+
+pub returns-in-Some-clause-stays : goal.returns-in-Some-clause-stays
+returns-in-Some-clause-stays g c past stands = c.step-answer.ensures.stays past stands (no_room-found c.step-answer.result c.in-Some.cause c.in-Some.ensures)
+
+pub returns-in_err-set-clause-stays : goal.returns-in_err-set-clause-stays
+returns-in_err-set-clause-stays g c =
+    on_err_of c.from_residual.result _ (λ past stands.
+    c.step-answer.ensures.still (c.step-answer.ensures.shows (on_err_unless c.set.result _ (is_state c.step-answer.result) c.in_err-set.was c.set.ensures.free)) past stands)
+
+pub returns-clause-goes_on : goal.returns-clause-goes_on
+returns-clause-goes_on g c past stands = c.step-answer.ensures.goes_on past stands c.in_default.ensures

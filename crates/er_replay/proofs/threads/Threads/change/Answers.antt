@@ -1,0 +1,51 @@
+use Rattle.std.proofs.Common.{◌≡◌, ap, ◌∙◌, sym, ◌⊎◌, Some, IsTrue, rules}
+use Rattle.std.proofs.lemmas.Map.Steps.{set_value_same}
+use Rattle.er_event.specs.declared.refusals.Refusal.{Refusal}
+use Rattle.er_model.specs.Holdings.{Holdings}
+use Rattle.er_replay.specs.Threads.{holding_among}
+use Rattle.er_held.specs.Held.{nothing_held}
+use Rattle.er_replay.proofs.ThreadsLemmas.{holding-found, holding-absent, holding-written, on_ok, on_err, err_from}
+use Rattle.er_replay.proofs.threads.Threads.change.Goals as goal
+use Rattle.er_replay.proofs.threads.Threads.change.Goals.{In-Some, In-None}
+
+found : (c : In-Some) → c.in-Some.held.now ≡ holding_among c.args.self.now c.args.thread
+found c =
+    holding-found c.self.inside.held.entries c.args.thread c.in-Some.held.now c.in-Some.ensures.value
+    ∙ ap (λ threads. holding_among threads c.args.thread) c.self.view_is
+
+pub returns-in-Some-clause-accepted : goal.returns-in-Some-clause-accepted
+returns-in-Some-clause-accepted c = rw (← found (goal.at.returns-in-Some-clause-accepted c).In-Some) c.change.ensures.accepted
+
+pub returns-in-Some-clause-refusals : goal.returns-in-Some-clause-refusals
+returns-in-Some-clause-refusals c = rw (← found (goal.at.returns-in-Some-clause-refusals c).In-Some) c.change.ensures.refusals
+
+pub returns-in-Some-clause-ok : goal.returns-in-Some-clause-ok
+returns-in-Some-clause-ok c =
+    let is = found (goal.at.returns-in-Some-clause-ok c).In-Some in
+    rw (← is, ← c.self.view_is)
+    (on_ok c.change.result _ _ c.change.ensures.ok (λ new t. rw (← new) (holding-written c.self.inside.held.entries _ c.args.thread c.change.new.held ((c.get_mut.follows.holds c.change.new.held).3 (search rules)).0 t)))
+
+pub returns-in-Some-clause-err : goal.returns-in-Some-clause-err
+returns-in-Some-clause-err c =
+    let same = (c.get_mut.follows.holds c.in-Some.held.now).0 ∙ set_value_same _ c.self.inside.held.entries c.in-Some.held.now (sym c.in-Some.ensures.value) in
+    on_err c.change.result _ _ c.change.ensures.err (λ new t. ap (λ w. holding_among (c.get_mut.follows.lender w).entries t) new ∙ ap (λ threads. holding_among threads t) (same ∙ c.self.view_is))
+
+absent : (c : In-None) → nothing_held ≡ holding_among c.args.self.now c.args.thread
+absent c =
+    holding-absent c.self.inside.held.entries c.args.thread c.in-None.ensures.value
+    ∙ ap (λ threads. holding_among threads c.args.thread) c.self.view_is
+
+pub returns-in_err-change-in-None-clause-refusals : goal.returns-in_err-change-in-None-clause-refusals
+returns-in_err-change-in-None-clause-refusals c =
+    let none = absent (goal.at.returns-in_err-change-in-None-clause-refusals c).In-None in
+    err_from c.from_residual.result _ _ c.from_residual.ensures.1 (λ why is. rw (← none, is, ← c.new-held.ensures) c.in_err-change-in-None.ensures.refusals)
+
+pub returns-in_ok-insert-in-None-clause-accepted : goal.returns-in_ok-insert-in-None-clause-accepted
+returns-in_ok-insert-in-None-clause-accepted c =
+    rw (← absent (goal.at.returns-in_ok-insert-in-None-clause-accepted c).In-None, ← c.new-held.ensures) c.in_ok-change-in-None.ensures.accepted
+
+pub returns-in_ok-insert-in-None-clause-ok : goal.returns-in_ok-insert-in-None-clause-ok
+returns-in_ok-insert-in-None-clause-ok c =
+    let none = absent (goal.at.returns-in_ok-insert-in-None-clause-ok c).In-None in
+    rw (← none, ← c.self.view_is, ← c.get_mut.follows.holds-at-none, ← c.new-held.ensures, ← c.in_ok-change-in-None.ensures.ok)
+    (holding-written c.get_mut.follows.lender-at-none.entries _ c.args.thread c.change-in-None.new.held c.in_ok-insert-in-None.ensures.updates.0)

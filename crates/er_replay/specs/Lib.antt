@@ -1,0 +1,4 @@
+pub mod Standing
+pub mod Stops
+pub mod Threads
+pub mod Wants

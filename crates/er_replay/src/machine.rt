@@ -1,0 +1,121 @@
+//! The machine: every thread's holdings and every word's state.
+ghost use Rattle.std.specs.Prelude.{◌≡◌, ◌⊎◌, ◌++◌, ◌∷◌, [], ℕ, List, IsTrue, IsFalse, IfOk, IfErr, OnOk, OnErr, Some};
+ghost use Rattle.er_event.specs.declared.steps.Step.{Step as Steps};
+ghost use Rattle.er_model.specs.Answers.{answer_next, state_end};
+ghost use Rattle.er_model.specs.Following.{answered, marked, replied, state_after};
+ghost use Rattle.er_model.specs.Holdings.{refused_by, after_step};
+ghost use Rattle.er_model.specs.Table.{moved};
+ghost use Rattle.er_model.specs.AnswerList.{is_state};
+ghost use Rattle.er_replay.specs.Wants.{is_show, may_want};
+
+use crate::threads::Threads;
+use er_event::{Event, Kind, Refusal, Reply, Step, ThreadId, Word, WordState};
+use er_shadow::ShadowMap;
+use er_table::LocksetTable;
+use std::alloc::{AllocError, Global};
+use std::marker::Model;
+use std::sync::Wait;
+
+/// Each thread's holdings and each word's state (section 3 of the 1997 paper has the words' part; the rest is own).
+#[derive(Drop)]
+pub struct Machine<'t> {
+    threads: Threads,
+    words: ShadowMap<'t>,
+}
+
+impl<'t> Model for Machine<'t> {
+    ghost use Rattle.er_replay.specs.Standing.{Replayed};
+
+    ghost Value = { Replayed };
+
+    ghost view = { λ m. record { threads = m.threads; words = m.words } };
+}
+
+impl<'t> Machine<'t> {
+    ghost use Rattle.er_replay.specs.Standing.{holding, states, Stands, found_no_room};
+
+    /// A machine that has taken no step (own). The sets of locks that its words need go into the table.
+    pub fn new(alloc: Global, table: &'t LocksetTable) -> Result<Machine<'t>, AllocError>
+        ensures { IfOk result (λ machine. Stands machine []) }
+    {
+        Ok(Machine {
+            threads: Threads::new(alloc),
+            words: ShadowMap::new(alloc, table)?,
+        })
+    }
+
+    /// Takes one step and says what it is answered (sections 2 and 3 of the 1997 paper; the refusals are own).
+    pub fn step<R: Wait>(&mut self, rt: &R, step: Step) -> Result<Reply, Refusal>
+        ensures answer { (past : List Steps) → Stands self.old past → IsFalse (found_no_room result) → result ≡ answer_next past step }
+        ensures goes_on { (past : List Steps) → Stands self.old past → IsFalse (found_no_room result) → Stands self.new (past ++ step ∷ []) }
+        ensures stays { (past : List Steps) → Stands self.old past → IsTrue (found_no_room result) → Stands self.new past }
+
+        // Each refusal is the one that the thread's holdings give, or tells of room that such an event may want.
+        ensures refusals { IfErr result (λ why. (refused_by (holding self.old step.thread) step.event ≡ Some why) ⊎ IsTrue (may_want step.event why)) }
+
+        // A show alone is answered with a state, and changes nothing.
+        ensures shows { IsTrue (is_state result) → IsTrue (is_show step.event) }
+        ensures still { IsTrue (is_show step.event) → (past : List Steps) → Stands self.old past → Stands self.new past }
+    {
+        self.follow(rt, step)
+    }
+
+    fn follow<R: Wait>(&mut self, rt: &R, step: Step) -> Result<Reply, Refusal>
+        ensures answer { IsFalse (found_no_room result) → result ≡ answered (holding self.old step.thread) (states self.old) step }
+        ensures holdings { IsFalse (found_no_room result) → (t : ℕ) → holding self.new t ≡ after_step (holding self.old t) t step }
+        ensures states { IsFalse (found_no_room result) → (w : ℕ) → states self.new w ≡ state_after (holding self.old step.thread) (states self.old w) w step }
+        ensures same_holdings { IsTrue (found_no_room result) → (t : ℕ) → holding self.new t ≡ holding self.old t }
+        ensures same_states { IsTrue (found_no_room result) → (w : ℕ) → states self.new w ≡ states self.old w }
+        ensures refusals { IfErr result (λ why. (refused_by (holding self.old step.thread) step.event ≡ Some why) ⊎ IsTrue (may_want step.event why)) }
+    {
+        let Step { thread, event } = step;
+        match event {
+            Event::Access(kind, word, _) => self.access(rt, thread, kind, word),
+            Event::Reuse(range) => {
+                self.words.reset(range);
+                Ok(Reply::Done)
+            }
+            Event::Show(word) => Ok(Reply::State(self.words.state_of(word)?)),
+            Event::Acquire(..)
+            | Event::Release(..)
+            | Event::IgnoreOn
+            | Event::IgnoreOff
+            | Event::Level(_) => {
+                self.threads.change(thread, event)?;
+                Ok(Reply::Done)
+            }
+        }
+    }
+
+    // An access, which isn't counted while its thread ignores.
+    fn access<R: Wait>(
+        &mut self,
+        rt: &R,
+        thread: ThreadId,
+        kind: Kind,
+        word: Word,
+    ) -> Result<Reply, Refusal>
+        ensures reply { IfOk result (λ reply. reply ≡ replied (holding self.old thread) (states self.old) thread (Event.Access kind word 0)) }
+        ensures ok { OnOk result ((w : ℕ) → states self.new w ≡ moved (states self.old w) w (marked (holding self.old thread) thread (Event.Access kind word 0))) }
+        ensures err { OnErr result ((w : ℕ) → states self.new w ≡ states self.old w) }
+        ensures threads { self.new.threads ≡ self.old.threads }
+        ensures refusals { IfErr result (λ why. IsTrue (may_want (Event.Access kind word 0) why)) }
+    {
+        let held = self.threads.get(thread);
+        if held.ignoring() {
+            return Ok(Reply::Ignored);
+        }
+        let locks = match kind {
+            Kind::Read => held.held(),
+            Kind::Write => held.write_held(),
+        };
+        Ok(self.words.access(rt, thread, word, kind, locks)?)
+    }
+
+    /// What is known of a word (section 3 of the 1997 paper).
+    pub fn state_of(&self, word: Word) -> Result<WordState, AllocError>
+        ensures { (past : List Steps) → Stands self.now past → IfOk result (λ state. state ≡ state_end past word) }
+    {
+        self.words.state_of(word)
+    }
+}

@@ -1,0 +1,91 @@
+//! Every thread's holdings.
+ghost use Rattle.std.specs.Prelude.{◌≡◌, ◌⊎◌, ℕ, nat_eq, cond, IsTrue, IfErr, OnOk, OnErr, None, Some};
+ghost use Rattle.er_model.specs.Holdings.{refused_by, changed_by};
+ghost use Rattle.er_held.specs.Held.{nothing_held};
+ghost use Rattle.er_replay.specs.Threads.{changes_holdings, holding_among};
+ghost use Rattle.er_replay.specs.Wants.{may_want};
+
+use er_event::{Event, Refusal, ThreadId};
+use er_held::Held;
+use std::alloc::Global;
+use std::collections::HashMap;
+use std::marker::Model;
+
+/// The holdings of the threads that took something, by thread. Any other thread has nothing.
+#[derive(Drop)]
+pub(crate) struct Threads {
+    held: HashMap<ThreadId, Held>,
+    nothing: Held,
+    alloc: Global,
+}
+
+impl Model for Threads {
+    ghost use Rattle.std.specs.Prelude.{◌≡◌, ℕ, List};
+    ghost use Rattle.er_held.specs.Held.{nothing_held};
+    ghost use Rattle.er_model.specs.Holdings.{Holdings};
+
+    ghost Value = { List (ℕ × Holdings) };
+
+    ghost view = { λ t. t.held.entries };
+
+    ghost invariant = { λ t. t.nothing ≡ nothing_held };
+}
+
+impl Threads {
+    /// Nobody has anything.
+    pub(crate) fn new(alloc: Global) -> Self
+        ensures { (t : ℕ) → holding_among result t ≡ nothing_held }
+    {
+        Threads {
+            held: HashMap::new(alloc),
+            nothing: Held::new(alloc),
+            alloc,
+        }
+    }
+
+    /// The thread's holdings.
+    pub(crate) fn get(&self, thread: ThreadId) -> &Held
+        ensures { result.now ≡ holding_among self.now thread }
+    {
+        match self.held.get(&thread) {
+            Some(held) => held,
+            None => &self.nothing,
+        }
+    }
+
+    /// What an event makes of its thread's holdings. A thread without a place gets one where its event is accepted.
+    pub(crate) fn change(&mut self, thread: ThreadId, event: Event) -> Result<(), Refusal>
+        requires { IsTrue (changes_holdings event) }
+        ensures accepted { OnOk result (refused_by (holding_among self.old thread) event ≡ None) }
+        ensures ok { OnOk result ((t : ℕ) → holding_among self.new t ≡ cond (nat_eq thread t) (changed_by (holding_among self.old thread) event) (holding_among self.old t)) }
+        ensures err { OnErr result ((t : ℕ) → holding_among self.new t ≡ holding_among self.old t) }
+        ensures refusals { IfErr result (λ why. (refused_by (holding_among self.old thread) event ≡ Some why) ⊎ IsTrue (may_want event why)) }
+    {
+        match self.held.get_mut(&thread) {
+            Some(held) => change(held, event),
+            None => {
+                let mut held = Held::new(self.alloc);
+                change(&mut held, event)?;
+                self.held.insert(thread, held)?;
+                Ok(())
+            }
+        }
+    }
+}
+
+// What an event makes of its thread's holdings.
+fn change(held: &mut Held, event: Event) -> Result<(), Refusal>
+    ensures accepted { OnOk result (refused_by held.old event ≡ None) }
+    ensures ok { OnOk result (held.new ≡ changed_by held.old event) }
+    ensures err { OnErr result (held.new ≡ held.old) }
+    ensures refusals { IfErr result (λ why. (refused_by held.old event ≡ Some why) ⊎ IsTrue (may_want event why)) }
+{
+    match event {
+        Event::Acquire(lock, mode) => held.acquire(lock, mode),
+        Event::Release(lock, mode) => held.release(lock, mode),
+        Event::IgnoreOn => held.ignore_on(),
+        Event::IgnoreOff => held.ignore_off(),
+        Event::Level(level) => held.set_level(level),
+        Event::Access(..) | Event::Reuse(_) | Event::Show(_) => Ok(()),
+    }
+}

@@ -1,0 +1,223 @@
+-- Each number in a report has a name where the recording's steps have names. By the laws that a thread follows its holdings and a
+-- word its state: step by step, every lock that a thread holds or that a word's state tells of was taken by a step, or is a level's.
+use Rattle.std.proofs.Common.{◌≡◌, ◌<◌, ◌==◌, ℕ, zero, suc, true, false, cond, not, nat_lt, List, [], ◌∷◌, length, slice_get, slice_index, Option, Some, None, refl, subst, arith}
+use Rattle.std.specs.List.{All}
+use Rattle.std.proofs.lemmas.Bool.Decides.{nat_tests}
+use Rattle.std.proofs.lemmas.Option.{slice_get_within, get_or_from_slice_get}
+use Rattle.std.proofs.lemmas.List.Elements.{All-nil, All-cons, All-head, All-tail, All-append, All-filter}
+use Rattle.er_event.specs.Lockset.{with_lock, without_lock, meet, is_level_lock, locks_from, level_locks}
+use Rattle.er_event.specs.Names.{NameTable}
+use Rattle.er_event.specs.Trace.{IsNamed, HasNames as HasNumbersNamed}
+use Rattle.er_event.specs.declared.steps.Event.{Event}
+use Rattle.er_event.specs.declared.steps.Event.TheVariants.{Acquire, Release, Access, Reuse, IgnoreOn, IgnoreOff, Show, Level}
+use Rattle.er_event.specs.declared.steps.Kind.{Kind}
+use Rattle.er_event.specs.declared.steps.Kind.TheVariants.{Read as reading, Write as writing}
+use Rattle.er_event.specs.declared.steps.Mode.TheVariants.{Read, Write}
+use Rattle.er_event.specs.declared.steps.Step.{Step}
+use Rattle.er_event.specs.declared.steps.WordState.{WordState}
+use Rattle.er_event.specs.declared.steps.WordState.TheVariants.{Virgin, Exclusive, Shared, SharedModified}
+use Rattle.er_event.specs.declared.refusals.Refusal.{Refusal}
+use Rattle.er_model.specs.Holdings.{Holdings, acquired_among, at_level, refused_by, changed_by, changed_unless, after_step, holdings_at}
+use Rattle.er_model.specs.Table.{advanced, moved, shared_by, reports}
+use Rattle.er_event.specs.Trace.{Recording}
+use Rattle.er_event.specs.declared.steps.Reply.TheVariants.{Race, Quiet, Ignored}
+use Rattle.er_model.specs.Answers.{answer_unless, state_at, reading_of}
+use Rattle.er_model.specs.Following.{marked, locks_for, replied}
+use Rattle.er_model.specs.Threads.{accepted, held}
+use Rattle.er_model.specs.Holdings.{holdings}
+use Rattle.er_model.specs.Words.{Counted, Nothing, is_within}
+use Rattle.er_model.proofs.Threads.{holdings-step, accepted-past_end}
+use Rattle.er_model.proofs.AnswersLemmas.{state-step, state-moved, answer-step}
+use Rattle.er_model.proofs.Prefixes.{holdings-empty, state-start}
+use Rattle.er_report.specs.Names.{HasLockName, HasLockNames, HasStateNames, HasEventNames, HasNames}
+use Rattle.er_report.specs.Report.{reply_line, answer_line, line_of, line_at, lines_below}
+use Rattle.er_report.specs.declared.report.Line.TheVariants as line
+
+module _ (names : NameTable) where
+  -- lists of locks
+  named_with : (lock : ℕ) (locks : List ℕ) → HasLockName names lock → HasLockNames names locks → HasLockNames names (with_lock lock locks)
+  unfolding with_lock
+  named_with lock [] new others = All-cons (HasLockName names) lock [] new others
+  named_with lock (x ∷ xs) new others =
+      let P : List ℕ → Type 0 = HasLockNames names in
+      let first : HasLockName names x = All-head (HasLockName names) x xs others in
+      let rest : HasLockNames names xs = All-tail (HasLockName names) x xs others in
+      elim (nat_lt lock x) as (λ b. P (cond b (lock ∷ x ∷ xs) (cond (lock == x) (x ∷ xs) (x ∷ with_lock lock xs)))) [
+        | true ↦ All-cons (HasLockName names) lock (x ∷ xs) new others
+        | false ↦ elim (lock == x) as (λ b. P (cond b (x ∷ xs) (x ∷ with_lock lock xs))) [
+          | true ↦ others
+          | false ↦ All-cons (HasLockName names) x (with_lock lock xs) first (named_with lock xs new rest)
+        ]
+      ]
+
+  named_without : (lock : ℕ) (locks : List ℕ) → HasLockNames names locks → HasLockNames names (without_lock lock locks)
+  unfolding without_lock
+  named_without lock locks all = All-filter (λ x. not (lock == x)) (HasLockName names) locks all
+
+  named_meet : (xs ys : List ℕ) → HasLockNames names xs → HasLockNames names (meet xs ys)
+  unfolding meet
+  named_meet xs ys all = All-filter _ (HasLockName names) xs all
+
+  above_levels : (lock : ℕ) → 4294967264 < lock → HasLockName names lock
+  above_levels lock above = λ plain. absurd (grind (arith, nat_tests))
+
+  named_from : (lock n : ℕ) → 4294967264 < lock → HasLockNames names (locks_from lock n)
+  unfolding locks_from
+  named_from lock zero above = All-nil (HasLockName names)
+  named_from lock (suc n) above =
+      All-cons (HasLockName names) lock (locks_from (suc lock) n) (above_levels lock above) (named_from (suc lock) n (omega arith))
+
+  named_at_level : (n : ℕ) (locks : List ℕ) → HasLockNames names locks → HasLockNames names (at_level n locks)
+  unfolding acquired_among
+  named_at_level n locks all =
+      All-append (HasLockName names) (acquired_among locks) (level_locks n)
+      (All-filter (λ l. not (is_level_lock l)) (HasLockName names) locks all) (named_from 4294967265 n (omega arith))
+
+  -- what one thread holds
+  record HasHoldings (h : Holdings) : Type 0 where
+    any : HasLockNames names h.held
+    write : HasLockNames names h.write_held
+
+  named_changed : (h : Holdings) (e : Event) → HasNumbersNamed names e → HasHoldings h → HasHoldings (changed_by h e)
+  named_changed h (Acquire l Read) new old = record { any = named_with l h.held (λ _. new) old.any; write = old.write }
+  named_changed h (Acquire l Write) new old = record { any = named_with l h.held (λ _. new) old.any; write = named_with l h.write_held (λ _. new) old.write }
+  named_changed h (Release l m) new old = record { any = named_without l h.held old.any; write = named_without l h.write_held old.write }
+  named_changed h IgnoreOn new old = record { any = old.any; write = old.write }
+  named_changed h IgnoreOff new old = record { any = old.any; write = old.write }
+  named_changed h (Level n) new old = record { any = named_at_level n h.held old.any; write = named_at_level n h.write_held old.write }
+  named_changed h (Access kind w site) new old = old
+  named_changed h (Reuse range) new old = old
+  named_changed h (Show w) new old = old
+
+  named_unless : (o : Option Refusal) (h : Holdings) (e : Event) → HasNumbersNamed names e → HasHoldings h → HasHoldings (changed_unless o h e)
+  named_unless None h e new old = named_changed h e new old
+  named_unless (Some why) h e new old = old
+
+  named_after : (h : Holdings) (t : ℕ) (step : Step) → IsNamed names step → HasHoldings h → HasHoldings (after_step h t step)
+  named_after h t step new old =
+      elim (step.thread == t) as (λ b. HasHoldings (cond b (changed_unless (refused_by h step.event) h step.event) h)) [
+        | true ↦ named_unless (refused_by h step.event) h step.event new.event old
+        | false ↦ old
+      ]
+
+  -- what is known of one word
+  named_shared : (kind : Kind) (locks : List ℕ) → HasLockNames names locks → HasStateNames names (shared_by kind locks)
+  named_shared reading locks all = all
+  named_shared writing locks all = all
+
+  named_advanced : (before : WordState) (t : ℕ) (kind : Kind) (locks : List ℕ) → t < length names.threads → HasLockNames names locks
+      → HasStateNames names before → HasStateNames names (advanced before t kind locks)
+  named_advanced Virgin t kind locks own all old = own
+  named_advanced (Exclusive u) t kind locks own all old =
+      elim (u == t) as (λ b. HasStateNames names (cond b (Exclusive u) (shared_by kind locks))) [
+        | true ↦ old
+        | false ↦ named_shared kind locks all
+      ]
+  named_advanced (Shared both) t kind locks own all old = named_shared kind (meet both locks) (named_meet both locks old)
+  named_advanced (SharedModified both) t kind locks own all old = named_meet both locks old
+
+  named_locks_for : (h : Holdings) (kind : Kind) → HasHoldings h → HasLockNames names (locks_for h kind)
+  named_locks_for h reading all = all.any
+  named_locks_for h writing all = all.write
+
+  named_moved : (h : Holdings) (before : WordState) (w t : ℕ) (e : Event) → t < length names.threads → HasHoldings h
+      → HasStateNames names before → HasStateNames names (moved before w (marked h t e))
+  named_moved h before w t (Access kind word site) own all old =
+      elim (nat_lt 0 h.depth) as (λ b. HasStateNames names (moved before w (cond b Nothing (Counted t kind word (locks_for h kind))))) [
+        | true ↦ old
+        | false ↦ elim (word == w) as (λ b. HasStateNames names (cond b (advanced before t kind (locks_for h kind)) before)) [
+          | true ↦ named_advanced before t kind (locks_for h kind) own (named_locks_for h kind all) old
+          | false ↦ old
+        ]
+      ]
+  named_moved h before w t (Reuse range) own all old =
+      elim (is_within w range) as (λ b. HasStateNames names (cond b Virgin before)) [ true ↦ tt | false ↦ old ]
+  named_moved h before w t (Acquire l m) own all old = old
+  named_moved h before w t (Release l m) own all old = old
+  named_moved h before w t IgnoreOn own all old = old
+  named_moved h before w t IgnoreOff own all old = old
+  named_moved h before w t (Show word) own all old = old
+  named_moved h before w t (Level n) own all old = old
+
+  -- a line
+  named_reply : (number : ℕ) (locks : List ℕ) (h : Holdings) (states : ℕ → WordState) (t : ℕ) (e : Event) → t < length names.threads
+      → HasNumbersNamed names e → HasLockNames names locks → ((w : ℕ) → HasStateNames names (states w))
+      → All (HasNames names) (reply_line number locks t e (replied h states t e))
+  named_reply number locks h states t (Access kind w site) own new all shown =
+      elim (nat_lt 0 h.depth) as (λ b. All (HasNames names) (reply_line number locks t (Access kind w site)
+      (cond b Ignored (cond (reports (states w) (advanced (states w) t kind (locks_for h kind))) Race Quiet)))) [
+        | true ↦ All-nil (HasNames names)
+        | false ↦ elim (reports (states w) (advanced (states w) t kind (locks_for h kind))) as (λ b.
+            All (HasNames names) (reply_line number locks t (Access kind w site) (cond b Race Quiet))) [
+              | true ↦ All-cons (HasNames names) (line.Race number t kind w site locks) [] (own, new, all) (All-nil (HasNames names))
+              | false ↦ All-nil (HasNames names)
+            ]
+      ]
+  named_reply number locks h states t (Show w) own new all shown =
+      All-cons (HasNames names) (line.Shown number w (states w)) [] (shown w) (All-nil (HasNames names))
+  named_reply number locks h states t (Acquire l m) own new all shown = All-nil (HasNames names)
+  named_reply number locks h states t (Release l m) own new all shown = All-nil (HasNames names)
+  named_reply number locks h states t (Reuse range) own new all shown = All-nil (HasNames names)
+  named_reply number locks h states t IgnoreOn own new all shown = All-nil (HasNames names)
+  named_reply number locks h states t IgnoreOff own new all shown = All-nil (HasNames names)
+  named_reply number locks h states t (Level n) own new all shown = All-nil (HasNames names)
+
+  named_event : (e : Event) → HasNumbersNamed names e → HasEventNames names e
+  named_event (Acquire l m) new = λ _. new
+  named_event (Release l m) new = λ _. new
+  named_event (Access kind w site) new = tt
+  named_event (Reuse range) new = tt
+  named_event IgnoreOn new = tt
+  named_event IgnoreOff new = tt
+  named_event (Show w) new = tt
+  named_event (Level n) new = tt
+
+  named_answer : (number : ℕ) (locks : List ℕ) (h : Holdings) (states : ℕ → WordState) (step : Step) (o : Option Refusal) → IsNamed names step
+      → HasLockNames names locks → ((w : ℕ) → HasStateNames names (states w))
+      → All (HasNames names) (answer_line number locks step (answer_unless o (replied h states step.thread step.event)))
+  named_answer number locks h states step None new all shown =
+      named_reply number locks h states step.thread step.event new.thread new.event all shown
+  named_answer number locks h states step (Some why) new all shown =
+      All-cons (HasNames names) (line.Refused number step why) [] (new.thread, named_event step.event new.event) (All-nil (HasNames names))
+
+  -- at each point of the list
+  module _ (steps : List Step) (all : All (IsNamed names) steps) where
+    named_step : (n : ℕ) (step : Step) → slice_get steps n ≡ Some step → IsNamed names step
+    named_step n step is = subst (IsNamed names) (get_or_from_slice_get steps n step step is) (all n step (slice_get_within steps n step is))
+
+    named_holdings_by : (n t : ℕ) (o : Option Step) → slice_get steps n ≡ o → HasHoldings (holdings_at steps t n) → HasHoldings (holdings_at steps t (suc n))
+    named_holdings_by n t None is old = rw (accepted-past_end steps n is) old
+    named_holdings_by n t (Some step) is old = rw (holdings-step steps n step t is) (named_after (holdings_at steps t n) t step (named_step n step is) old)
+
+    named_holdings : (n t : ℕ) → HasHoldings (holdings_at steps t n)
+    unfolding accepted
+    named_holdings zero t = rw (holdings-empty t) (record { any = All-nil (HasLockName names); write = All-nil (HasLockName names) })
+    named_holdings (suc n) t = named_holdings_by n t (slice_get steps n) refl (named_holdings n t)
+
+    named_state_by : (n w : ℕ) (o : Option Step) → slice_get steps n ≡ o → HasStateNames names (state_at steps w n) → HasStateNames names (state_at steps w (suc n))
+    unfolding reading_of
+    named_state_by n w None is old = rw (state-moved (reading_of steps) w n, is) old
+    named_state_by n w (Some step) is old =
+        rw (state-step steps n step w is)
+        (named_moved (holdings_at steps step.thread n) (state_at steps w n) w step.thread step.event (named_step n step is).thread (named_holdings n step.thread) old)
+
+    named_state : (n w : ℕ) → HasStateNames names (state_at steps w n)
+    named_state zero w = rw (state-start (reading_of steps) w) tt
+    named_state (suc n) w = named_state_by n w (slice_get steps n) refl (named_state n w)
+
+module _ (r : Recording) (all : All (IsNamed r.names) r.steps) where
+  named_line_by : (k : ℕ) (o : Option Step) → slice_get r.steps k ≡ o → All (HasNames r.names) (line_of r k o)
+  unfolding holdings
+  named_line_by k None is = All-nil (HasNames r.names)
+  named_line_by k (Some step) is =
+      let h : Holdings = holdings_at r.steps step.thread k in
+      rw (answer-step r.steps k step is)
+      (named_answer r.names (slice_index r.lines k) (held (accepted r.steps k) step.thread) h (λ w. state_at r.steps w k) step
+      (refused_by h step.event) (named_step r.names r.steps all k step is) (named_holdings r.names r.steps all k step.thread).any
+      (named_state r.names r.steps all k))
+
+  -- each line that the definitions give has its names
+  pub named_lines : (n : ℕ) → All (HasNames r.names) (lines_below r n)
+  unfolding lines_below line_at
+  named_lines zero = All-nil (HasNames r.names)
+  named_lines (suc n) = All-append (HasNames r.names) (lines_below r n) (line_at r n) (named_lines n) (named_line_by n (slice_get r.steps n) refl)

@@ -1,0 +1,4 @@
+pub mod Draft
+pub mod Holders
+pub mod Names
+pub mod Report

@@ -1,0 +1,43 @@
+-- The numbers in a report that need a name to be printed.
+use Rattle.std.specs.Prelude.{◌≡◌, ◌<◌, ◌≤◌, ℕ, false, List, length, All}
+use Rattle.er_event.specs.Lockset.{is_level_lock}
+use Rattle.er_event.specs.Names.{NameTable}
+use Rattle.er_event.specs.declared.steps.Event.{Event}
+use Rattle.er_event.specs.declared.steps.Event.TheVariants.{Acquire, Release, Access, Reuse, IgnoreOn, IgnoreOff, Show, Level}
+use Rattle.er_event.specs.declared.steps.WordState.{WordState}
+use Rattle.er_event.specs.declared.steps.WordState.TheVariants.{Virgin, Exclusive, Shared, SharedModified}
+use Rattle.er_report.specs.declared.report.Line.{Line}
+use Rattle.er_report.specs.declared.report.Line.TheVariants as line
+
+-- the lock has a name; a level lock needs none
+abbrev pub HasLockName : NameTable → ℕ → Type 0
+HasLockName names lock = is_level_lock lock ≡ false → lock < length names.locks
+
+-- each of the locks has
+abbrev pub HasLockNames : NameTable → List ℕ → Type 0
+HasLockNames names locks = All (HasLockName names) locks
+
+-- the lock that an event takes or gives up has
+abbrev pub HasEventNames : NameTable → Event → Type 0
+HasEventNames names (Acquire lock mode) = HasLockName names lock
+HasEventNames names (Release lock mode) = HasLockName names lock
+HasEventNames names (Access kind word site) = Unit {0}
+HasEventNames names (Reuse range) = Unit {0}
+HasEventNames names IgnoreOn = Unit {0}
+HasEventNames names IgnoreOff = Unit {0}
+HasEventNames names (Show word) = Unit {0}
+HasEventNames names (Level level) = Unit {0}
+
+-- the thread or the locks of a state have
+abbrev pub HasStateNames : NameTable → WordState → Type 0
+HasStateNames names Virgin = Unit {0}
+HasStateNames names (Exclusive thread) = thread < length names.threads
+HasStateNames names (Shared locks) = HasLockNames names locks
+HasStateNames names (SharedModified locks) = HasLockNames names locks
+
+-- each thread, lock and site of a line has; site 0 needs none
+abbrev pub HasNames : NameTable → Line → Type 0
+HasNames names (line.Race number thread kind word site held) =
+    (thread < length names.threads) × (site ≤ length names.sites) × HasLockNames names held
+HasNames names (line.Refused number step refusal) = (step.thread < length names.threads) × HasEventNames names step.event
+HasNames names (line.Shown number word state) = HasStateNames names state

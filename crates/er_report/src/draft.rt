@@ -1,0 +1,99 @@
+//! A report that grows by one step after another.
+ghost use Rattle.std.specs.Prelude.{◌≡◌, ℕ, [], Ok, OnOk, IfOk};
+ghost use Rattle.er_model.specs.AnswerList.{shown};
+ghost use Rattle.er_model.specs.Holdings.{after_step};
+ghost use Rattle.er_report.specs.Draft.{nothing_told, with_answer, HasRoom};
+ghost use Rattle.er_report.specs.Holders.{held_by};
+ghost use Rattle.er_report.specs.Report.{told, answer_line};
+ghost use Rattle.std.specs.Option.{option_to_list};
+
+use crate::holders::Holders;
+use crate::{Line, Report};
+use er_event::{Event, Step};
+use er_model::Answer;
+use std::alloc::{AllocError, Global};
+
+/// The report of the steps so far, and what their threads hold.
+#[derive(Drop)]
+pub(crate) struct Draft {
+    pub(crate) holders: Holders,
+    pub(crate) report: Report,
+}
+
+impl Draft {
+    /// The report before any step.
+    pub(crate) fn new(alloc: Global) -> Self
+        ensures holders { result.holders ≡ [] }
+        ensures report { told result.report ≡ nothing_told }
+    {
+        Draft {
+            holders: Holders::new(alloc),
+            report: Report {
+                lines: Vec::new(alloc),
+                stop: None,
+                steps: 0,
+                races: 0,
+                suppressed: 0,
+                refused: 0,
+            },
+        }
+    }
+
+    /// Adds a step of this line and its answer.
+    pub(crate) fn add(
+        &mut self,
+        alloc: Global,
+        number: u64,
+        step: &Step,
+        answer: Answer<'_>,
+    ) -> Result<(), AllocError>
+        requires { HasRoom (told self.old.report) }
+        ensures report { OnOk result (told self.new.report
+            ≡ with_answer (told self.old.report) number (held_by self.old.holders step.now.thread).held step.now (shown answer.entry)) }
+        ensures holders { OnOk result ((t : ℕ) → held_by self.new.holders t ≡ after_step (held_by self.old.holders t) t step.now) }
+    {
+        if let Some(line) = line_of(alloc, &self.holders, number, step, answer)? {
+            self.report.lines.push(line)?;
+        }
+        self.report.steps += 1;
+        match answer {
+            Answer::Race => self.report.races += 1,
+            Answer::Refused(_) => self.report.refused += 1,
+            _ => {}
+        }
+        self.holders.follow(alloc, step)
+    }
+}
+
+// The line of a step, if its answer gives it one. A set of locks is copied for a race alone.
+fn line_of(
+    alloc: Global,
+    holders: &Holders,
+    number: u64,
+    step: &Step,
+    answer: Answer<'_>,
+) -> Result<Option<Line>, AllocError>
+    ensures { IfOk result (λ line. option_to_list line ≡ answer_line number (held_by holders.now step.now.thread).held step.now (shown answer.entry)) }
+{
+    Ok(match (answer, step.event) {
+        (Answer::Race, Event::Access(kind, word, site)) => Some(Line::Race {
+            line: number,
+            thread: step.thread,
+            kind,
+            word,
+            site,
+            held: holders.locks_of(alloc, step.thread)?,
+        }),
+        (Answer::State(state), Event::Show(word)) => Some(Line::Shown {
+            line: number,
+            word,
+            state: state.copy()?,
+        }),
+        (Answer::Refused(refusal), _) => Some(Line::Refused {
+            line: number,
+            step: *step,
+            refusal,
+        }),
+        _ => None,
+    })
+}

@@ -1,0 +1,31 @@
+//! What a run of a trace came to, line by line.
+//!
+//! Begin with [`summarise`]. It takes a trace and what a replay of its steps came to, and gives a [`Report`]: a [`Line`] for each
+//! race, each refusal and each word shown, where the run stopped, and how many there were of each.
+//!
+//! What it promises, by the names of clauses: the report is the one that the definitions give of the whole list of steps
+//! (`report`), with the locks that a thread held at its race; and each number in it that wants a name to be printed has one
+//! (`named`).
+//!
+//! It goes over the steps once and keeps what each thread holds. A set of locks is copied for a line alone, so memory goes by
+//! the number of lines and threads, and not of steps.
+//!
+//! ```
+//! // The trace is `t1 write 0x1000` and `t2 write 0x1000`, on lines 2 and 3.
+//! let report = summarise(alloc, &trace, &outcome)?;
+//! assert_eq!(report.races, 1);
+//! if let [Line::Race { line, held, .. }] = report.lines.as_slice() {
+//!     // Here `line` is 3, and `held` is empty.
+//! }
+//! ```
+#![tactic(auto)]
+
+pub use report::{Line, Report};
+pub use summary::summarise;
+
+mod draft;
+mod holders;
+mod report;
+mod summary;
+#[cfg(test)]
+mod tests;

@@ -1,0 +1,80 @@
+-- What a whole replay comes to, from the bytes read to the bytes written.
+use Rattle.std.specs.Prelude.{◌≡◌, ℕ, ◌<◌, nat_lt, cond, List, length, take, Option, Some, None, IfSome, Result, Ok, Err}
+use Rattle.std.specs.Io.KnownBytes.{Appends, Keeps}
+use Rattle.er_event.specs.declared.refusals.NoRoom.{NoRoom}
+use Rattle.er_event.specs.Trace.{Recording}
+use Rattle.er_model.specs.Answers.{answers}
+use Rattle.er_model.specs.declared.answers.Outcome.{Outcome}
+use Rattle.er_model.specs.declared.answers.Stopped.{Stopped}
+use Rattle.er_print.specs.Printed.{output_of}
+use Rattle.er_print.specs.declared.fault.WriteFault.TheVariants as writing
+use Rattle.er_report.specs.Report.{report_of, told as summary, answered_steps}
+use Rattle.er_report.specs.declared.report.Report.{Report}
+use Rattle.er_run.specs.declared.fault.RunFault.{RunFault}
+use Rattle.er_run.specs.declared.fault.RunFault.TheVariants.{Read, Write, Memory}
+use Rattle.er_run.specs.declared.fault.Verdict.{Verdict}
+use Rattle.er_run.specs.declared.fault.Verdict.TheVariants as verdict
+use Rattle.er_text.specs.Trace.{IsTrace, IsFault}
+use Rattle.er_text.specs.declared.faults.ReadFault.TheVariants as reading
+
+-- a run of the text's trace, which stopped at one of its steps or not at all
+pub record IsRunOf (text : List ℕ) (limit : ℕ) (recording : Recording) (stop : Option Stopped) : Type 0 where
+  pub trace : IsTrace text limit recording
+  pub within : IfSome stop (λ s. s.at < length recording.steps)
+
+-- stopped where the run stopped, and else whether a race is printed
+abbrev pub verdict_of : Recording → Option Stopped → Verdict
+verdict_of recording (Some stop) = verdict.Stopped
+verdict_of recording None = cond (nat_lt 0 (report_of recording None).races) verdict.Races verdict.Clean
+
+-- the text is a trace, and what was written is the whole report of a run of it
+pub record IsReplayed (text : List ℕ) (limit : ℕ) (old new : Option (List ℕ)) (told : Verdict) : Type 0 where
+  pub recording : Recording
+  pub stop : Option Stopped
+  pub run : IsRunOf text limit recording stop
+  pub written : Appends old new (output_of recording stop)
+  pub verdict : told ≡ verdict_of recording stop
+
+-- the text is a trace, and what was written is the beginning of the report of a run of it
+pub record IsBegun (text : List ℕ) (limit : ℕ) (old new : Option (List ℕ)) : Type 0 where
+  pub recording : Recording
+  pub stop : Option Stopped
+  pub count : ℕ
+  pub run : IsRunOf text limit recording stop
+  pub written : Appends old new (take count (output_of recording stop))
+
+-- where there is a fault: one of the text is its first, and a failed write left a beginning of the report
+abbrev pub IsFailed : Option (List ℕ) → ℕ → Option (List ℕ) → Option (List ℕ) → Result Verdict RunFault → Type 0
+IsFailed told limit old new (Ok verdict) = Unit {0}
+IsFailed told limit old new (Err (Read (reading.Text fault))) = IfSome told (λ text. IsFault text limit fault)
+IsFailed told limit old new (Err (Read reading.Memory)) = Unit {0}
+IsFailed told limit old new (Err (Read reading.Read)) = Unit {0}
+IsFailed told limit old new (Err (Write writing.Memory)) = Unit {0}
+IsFailed told limit old new (Err (Write writing.Write)) = IfSome told (λ text. IsBegun text limit old new)
+IsFailed told limit old new (Err Memory) = Unit {0}
+
+-- nothing was written, unless a write failed
+abbrev pub WritesNothing : Option (List ℕ) → Option (List ℕ) → RunFault → Type 0
+WritesNothing old new (Read fault) = Keeps old new
+WritesNothing old new (Write writing.Memory) = Keeps old new
+WritesNothing old new (Write writing.Write) = Unit {0}
+WritesNothing old new Memory = Keeps old new
+
+-- the answers of a run of the recording's steps up to its stop, which is at one of them
+pub record HasRun (recording : Recording) (outcome : Outcome) : Type 0 where
+  pub answers : outcome.answers ≡ answers (answered_steps recording.steps outcome.stopped)
+  pub within : IfSome outcome.stopped (λ s. s.at < length recording.steps)
+
+-- the report of a run of the recording's steps
+pub record IsReportOfRun (recording : Recording) (report : Report) : Type 0 where
+  pub stop : Option Stopped
+  pub within : IfSome stop (λ s. s.at < length recording.steps)
+  pub says : summary report ≡ report_of recording stop
+
+-- what a report's numbers come to
+abbrev pub verdict_by : Option (ℕ × NoRoom) → ℕ → Verdict
+verdict_by (Some stop) races = verdict.Stopped
+verdict_by None races = cond (nat_lt 0 races) verdict.Races verdict.Clean
+
+abbrev pub is_verdict_of : Report → Verdict
+is_verdict_of report = verdict_by report.stop report.races

@@ -1,0 +1,23 @@
+//! A whole replay: from the bytes of a trace to the bytes of its report.
+//!
+//! Begin with [`replay_text`]. It reads a trace text to its end, replays it on a new machine, and writes the report.
+//!
+//! What it promises, by the names of clauses: what was written is exactly the report that the text defines (`report`), a
+//! fault of the text is the text's first fault (`fault`), and nothing was written after any fault but a failed write
+//! (`nothing`).
+//!
+//! ```text
+//! let text: &[u8] = b"eraser trace 1\nt1 write 0x1000\nt2 write 0x1000\n";
+//! let mut source = Device::new(text);
+//! let mut sink = Device::new(Vec::new(rt.alloc()));
+//! let verdict = replay_text(&rt, &mut source, &mut sink, &Options::greatest())?;   // Verdict::Races
+//! ```
+#![tactic(auto)]
+
+pub use fault::{RunFault, Verdict};
+pub use options::Options;
+pub use replay::replay_text;
+
+mod fault;
+mod options;
+mod replay;

@@ -1,0 +1,5 @@
+pub mod Known
+pub mod LocksetTable
+pub mod Numbers
+pub mod SetRef
+pub mod Sets

@@ -1,0 +1,143 @@
+//! One owner's numbers, with what it remembers of the sets that meet.
+//!
+//! `intersect` gives what numbering the common locks of the two sets gives (`ok`, `names`). That two equal numbers and number 0 need
+//! no search, and that a pair is looked up before its locks are compared, saves the comparison and the search for the set:
+//! a remembered pair takes about 12 ns.
+ghost use Rattle.std.specs.Prelude.{◌≡◌, ◌≢◌, ◌<◌, ◌≤◌, [], ◌∷◌, length, IsOk, IfOk, IfSome, OnOk, OnErr, IsErrOf, Contains};
+ghost use Rattle.er_event.specs.Lockset.{meet};
+ghost use Rattle.er_table.specs.Known.{IsMeet};
+ghost use Rattle.er_table.specs.Sets.{with_set, set_at, AreDistinct, KeepsNumbers};
+
+use crate::LocksetTable;
+use crate::numbers::Numbers;
+use er_event::{Lockset, NoRoom};
+use std::alloc::{AllocError, Global};
+use std::collections::HashMap;
+use std::marker::Model;
+use std::sync::Wait;
+
+/// How many intersections are remembered. Beyond that they are found anew each time.
+const MOST_REMEMBERED: usize = 65536;
+
+// Two numbers, in order.
+#[derive(Clone, Copy, PartialEq, Eq, Hash)]
+struct Pair {
+    first: u32,
+    second: u32,
+}
+
+/// One owner's numbers for the sets that it met. Contracts see the sets, by number: number 0 is the empty set.
+#[derive(Drop)]
+pub struct Known<'t> {
+    numbers: Numbers<'t>,
+    meets: HashMap<Pair, u32>,
+}
+
+impl<'t> Model for Known<'t> {
+    ghost use Rattle.std.specs.Prelude.{List, ℕ};
+    ghost use Rattle.std.specs.HashMap.{get};
+    ghost use Rattle.er_table.specs.Known.{RemembersMeets, same_pair};
+
+    ghost Value = { List (List ℕ) };
+
+    ghost view = { λ k. k.numbers };
+
+    ghost invariant = { λ k. RemembersMeets k.numbers (get same_pair k.meets) };
+}
+
+impl<'t> Known<'t> {
+    /// The empty set alone has a number yet.
+    pub fn new(alloc: Global, table: &'t LocksetTable) -> Result<Known<'t>, AllocError>
+        ensures { IfOk result (λ known. known ≡ [] ∷ []) }
+    {
+        Ok(Known {
+            numbers: Numbers::new(alloc, table)?,
+            meets: HashMap::new(alloc),
+        })
+    }
+
+    /// How many sets have a number: the numbers are those below.
+    pub fn count(&self) -> u32
+        ensures count { result ≡ length self.now }
+        ensures some { 0 < result }
+        ensures small { result ≤ 1048577 }
+        ensures distinct { AreDistinct self.now }
+        ensures empty { set_at self.now 0 ≡ [] }
+    {
+        self.numbers.count()
+    }
+
+    /// The set of a number.
+    pub fn set(&self, number: u32) -> &Lockset
+        requires { number < length self.now }
+        ensures set { result.now ≡ set_at self.now number }
+        ensures empty { set_at self.now 0 ≡ [] }
+        ensures only_empty { set_at self.now number ≡ [] → number ≡ 0 }
+    {
+        self.numbers.set(number)
+    }
+
+    /// The number of a set, which is the next one if it had none. Refused (`TableFull`) where it had none, and either this owner
+    /// has numbered all the sets that the table takes or the table is full of others.
+    pub fn number_of<R: Wait>(&mut self, rt: &R, set: &Lockset) -> Result<u32, NoRoom>
+        ensures ok { OnOk result (self.new ≡ with_set self.old set.now) }
+        ensures number { IfOk result (λ n. n < length self.new) }
+        ensures names { IfOk result (λ n. set_at self.new n ≡ set.now) }
+        ensures empty { IfOk result (λ n. set.now ≡ [] → n ≡ 0) }
+        ensures only_empty { IfOk result (λ n. n ≡ 0 → set.now ≡ []) }
+        ensures next { IfOk result (λ n. ¬ Contains self.old set.now → n ≡ length self.old) }
+        ensures kept { KeepsNumbers self.old self.new }
+        ensures found { Contains self.old set.now → IsOk result }
+        ensures err { OnErr result (self.new ≡ self.old) }
+        ensures full_only_if_new { IsErrOf result NoRoom.TableFull → ¬ Contains self.old set.now }
+        ensures full_only_if_some { IsErrOf result NoRoom.TableFull → set.now ≢ [] }
+        ensures refusals { ¬ IsErrOf result NoRoom.JournalFull }
+    {
+        self.numbers.number_of(rt, set)
+    }
+
+    /// The number of the locks that two sets have in common, which is the next one if they had none. Refused as `number_of` is.
+    pub fn intersect<R: Wait>(&mut self, rt: &R, first: u32, second: u32) -> Result<u32, NoRoom>
+        requires first { first < length self.old }
+        requires second { second < length self.old }
+        ensures ok { OnOk result (self.new ≡ with_set self.old (meet (set_at self.old first) (set_at self.old second))) }
+        ensures number { IfOk result (λ n. n < length self.new) }
+        ensures names { IfOk result (λ n. set_at self.new n ≡ meet (set_at self.old first) (set_at self.old second)) }
+        ensures empty { IfOk result (λ n. meet (set_at self.old first) (set_at self.old second) ≡ [] → n ≡ 0) }
+        ensures only_empty { IfOk result (λ n. n ≡ 0 → meet (set_at self.old first) (set_at self.old second) ≡ []) }
+        ensures next { IfOk result (λ n. ¬ Contains self.old (meet (set_at self.old first) (set_at self.old second)) → n ≡ length self.old) }
+        ensures kept { KeepsNumbers self.old self.new }
+        ensures err { OnErr result (self.new ≡ self.old) }
+        ensures full_only_if_new { IsErrOf result NoRoom.TableFull → ¬ Contains self.old (meet (set_at self.old first) (set_at self.old second)) }
+        ensures full_only_if_some { IsErrOf result NoRoom.TableFull → meet (set_at self.old first) (set_at self.old second) ≢ [] }
+        ensures refusals { ¬ IsErrOf result NoRoom.JournalFull }
+    {
+        let pair = Pair { first, second };
+        if let Some(number) = self.remembered(pair) {
+            return Ok(number);
+        }
+        if self.meets.len() >= MOST_REMEMBERED {
+            return self.numbers.number_of_meet(rt, first, second);
+        }
+        self.meets.reserve(1)?;
+        let number = self.numbers.number_of_meet(rt, first, second)?;
+        let inserted: Result<_, _> = self.meets.insert(pair, number);
+        inserted.unwrap();
+        Ok(number)
+    }
+
+    // The number that `intersect` gives, where it is plain or was found before.
+    fn remembered(&self, pair: Pair) -> Option<u32>
+        requires first { pair.first < length self.now }
+        requires second { pair.second < length self.now }
+        ensures { IfSome result (λ n. IsMeet self.now pair n) }
+    {
+        match self.numbers.plain_meet(pair.first, pair.second) {
+            Some(number) => Some(number),
+            None => self.meets.get(&pair).copied(),
+        }
+    }
+}
+
+#[cfg(test)]
+mod tests;

@@ -1,0 +1,161 @@
+//! Numbers for the sets of a table, as one owner gives them.
+ghost use Rattle.std.specs.Prelude.{◌≡◌, ◌≢◌, ◌+◌, ◌<◌, ◌≤◌, [], ◌∷◌, ◌++◌, length, IsOk, IfOk, IfSome, OnOk, OnErr, IsErrOf, Contains};
+ghost use Rattle.er_event.specs.Lockset.{meet};
+ghost use Rattle.er_table.specs.Sets.{with_set, set_at, AreDistinct};
+
+use crate::LocksetTable;
+use er_event::{Lockset, NoRoom};
+use indexmap::IndexSet;
+use std::alloc::{AllocError, Global};
+use std::marker::Model;
+use std::sync::Wait;
+
+/// One owner's numbers for the sets of a table. Contracts see the sets, by number.
+#[derive(Drop)]
+pub(crate) struct Numbers<'t> {
+    table: &'t LocksetTable,
+    empty: Lockset,
+    others: IndexSet<&'t Lockset>,
+    limit: u32,
+}
+
+impl<'t> Model for Numbers<'t> {
+    ghost use Rattle.std.specs.Prelude.{◌≡◌, List, ℕ, []};
+    ghost use Rattle.er_table.specs.Numbers.{numbered, AreNumbers};
+
+    ghost Value = { List (List ℕ) };
+
+    ghost view = { λ n. numbered n.others.keys };
+
+    ghost invariant = { λ n. (n.empty ≡ []) × AreNumbers n.limit (numbered n.others.keys) };
+}
+
+impl<'t> Numbers<'t> {
+    /// The empty set alone has a number yet.
+    pub(crate) fn new(alloc: Global, table: &'t LocksetTable) -> Result<Numbers<'t>, AllocError>
+        ensures { IfOk result (λ numbers. numbers ≡ [] ∷ []) }
+    {
+        Ok(Numbers {
+            table,
+            empty: Lockset::new(alloc),
+            others: IndexSet::with_capacity(alloc, 1)?,
+            limit: table.max_sets(),
+        })
+    }
+
+    pub(crate) fn count(&self) -> u32
+        ensures count { result ≡ length self.now }
+        ensures some { 0 < result }
+        ensures small { result ≤ 1048577 }
+        ensures distinct { AreDistinct self.now }
+        ensures empty { set_at self.now 0 ≡ [] }
+    {
+        self.others.len() as u32 + 1
+    }
+
+    pub(crate) fn set(&self, number: u32) -> &Lockset
+        requires { number < length self.now }
+        ensures set { result.now ≡ set_at self.now number }
+        ensures empty { set_at self.now 0 ≡ [] }
+        ensures only_empty { set_at self.now number ≡ [] → number ≡ 0 }
+    {
+        if number == 0 {
+            &self.empty
+        } else {
+            self.others.as_slice()[number as usize - 1]
+        }
+    }
+
+    /// The number of the locks that two sets have in common, where one of the two has that number.
+    pub(crate) fn plain_meet(&self, first: u32, second: u32) -> Option<u32>
+        requires first { first < length self.now }
+        requires second { second < length self.now }
+        ensures number { IfSome result (λ n. n < length self.now) }
+        ensures names { IfSome result (λ n. set_at self.now n ≡ meet (set_at self.now first) (set_at self.now second)) }
+        ensures empty { IfSome result (λ n. meet (set_at self.now first) (set_at self.now second) ≡ [] → n ≡ 0) }
+        ensures only_empty { IfSome result (λ n. n ≡ 0 → meet (set_at self.now first) (set_at self.now second) ≡ []) }
+    {
+        let _others = &self.others;
+        if first == second {
+            Some(first)
+        } else if first == 0 || second == 0 {
+            Some(0)
+        } else {
+            None
+        }
+    }
+
+    /// The locks that two sets have in common.
+    pub(crate) fn meet(&self, first: u32, second: u32) -> Result<Lockset, AllocError>
+        requires first { first < length self.now }
+        requires second { second < length self.now }
+        ensures { IfOk result (λ set. set ≡ meet (set_at self.now first) (set_at self.now second)) }
+    {
+        self.set(first).intersect(self.set(second))
+    }
+
+    /// The number of a set, which is the next one if it had none.
+    pub(crate) fn number_of<R: Wait>(&mut self, rt: &R, set: &Lockset) -> Result<u32, NoRoom>
+        ensures ok { OnOk result (self.new ≡ with_set self.old set.now) }
+        ensures number { IfOk result (λ n. n < length self.new) }
+        ensures names { IfOk result (λ n. set_at self.new n ≡ set.now) }
+        ensures empty { IfOk result (λ n. set.now ≡ [] → n ≡ 0) }
+        ensures only_empty { IfOk result (λ n. n ≡ 0 → set.now ≡ []) }
+        ensures next { IfOk result (λ n. ¬ Contains self.old set.now → n ≡ length self.old) }
+        ensures found { Contains self.old set.now → IsOk result }
+        ensures err { OnErr result (self.new ≡ self.old) }
+        ensures full_only_if_new { IsErrOf result NoRoom.TableFull → ¬ Contains self.old set.now }
+        ensures full_only_if_some { IsErrOf result NoRoom.TableFull → set.now ≢ [] }
+        ensures refusals { ¬ IsErrOf result NoRoom.JournalFull }
+    {
+        let others = &self.others;
+        if set.is_empty() {
+            return Ok(0);
+        }
+        match others.get_index_of(&set) {
+            Some(index) => Ok(index as u32 + 1),
+            None => self.add(rt, set),
+        }
+    }
+
+    /// The number of the locks that two sets have in common.
+    pub(crate) fn number_of_meet<R: Wait>(
+        &mut self,
+        rt: &R,
+        first: u32,
+        second: u32,
+    ) -> Result<u32, NoRoom>
+        requires first { first < length self.old }
+        requires second { second < length self.old }
+        ensures ok { OnOk result (self.new ≡ with_set self.old (meet (set_at self.old first) (set_at self.old second))) }
+        ensures number { IfOk result (λ n. n < length self.new) }
+        ensures names { IfOk result (λ n. set_at self.new n ≡ meet (set_at self.old first) (set_at self.old second)) }
+        ensures empty { IfOk result (λ n. meet (set_at self.old first) (set_at self.old second) ≡ [] → n ≡ 0) }
+        ensures only_empty { IfOk result (λ n. n ≡ 0 → meet (set_at self.old first) (set_at self.old second) ≡ []) }
+        ensures next { IfOk result (λ n. ¬ Contains self.old (meet (set_at self.old first) (set_at self.old second)) → n ≡ length self.old) }
+        ensures err { OnErr result (self.new ≡ self.old) }
+        ensures full_only_if_new { IsErrOf result NoRoom.TableFull → ¬ Contains self.old (meet (set_at self.old first) (set_at self.old second)) }
+        ensures full_only_if_some { IsErrOf result NoRoom.TableFull → meet (set_at self.old first) (set_at self.old second) ≢ [] }
+        ensures refusals { ¬ IsErrOf result NoRoom.JournalFull }
+    {
+        let meet = self.meet(first, second)?;
+        self.number_of(rt, &meet)
+    }
+
+    fn add<R: Wait>(&mut self, rt: &R, set: &Lockset) -> Result<u32, NoRoom>
+        requires { ¬ Contains self.old set.now }
+        ensures ok { OnOk result (self.new ≡ self.old ++ set.now ∷ []) }
+        ensures number { IfOk result (λ n. n ≡ length self.old) }
+        ensures err { OnErr result (self.new ≡ self.old) }
+        ensures refusals { ¬ IsErrOf result NoRoom.JournalFull }
+    {
+        if self.others.len() >= self.limit as usize {
+            return Err(NoRoom::TableFull);
+        }
+        self.others.reserve(1)?;
+        let set_ref = self.table.intern(rt, set)?;
+        let number = self.others.len() as u32 + 1;
+        self.others.insert(self.table.get(&set_ref)).unwrap();
+        Ok(number)
+    }
+}

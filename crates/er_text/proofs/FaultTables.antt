@@ -1,0 +1,197 @@
+-- The first fault in the table of an event line is the one that its reading tells.
+use Rattle.std.proofs.Common.{◌≡◌, ℕ, suc, ◌+◌, ◌/◌, ◌^◌, ◌<◌, ◌≤◌, ◌⊎◌, inl, inr, Bool, true, false, not, ◌&&◌, ◌||◌, cond, List, [], ◌∷◌, Option, Some, None, Result, Ok, Err, length, drop, nat_lt, nat_le, unwrap_or, codes, refl, subst, sym, ap, ◌∙◌, arith}
+use Rattle.std.specs.List.{list_all}
+use Rattle.std.specs.Option.{is_some}
+use Rattle.std.specs.Str.{bytes_eq}
+use Rattle.std.proofs.lemmas.Bool.Decides.{nat_tests}
+use Rattle.er_event.specs.Span.{Span}
+use Rattle.er_event.specs.declared.steps.Kind.{Kind}
+use Rattle.er_event.specs.declared.steps.Kind.TheVariants as kind
+use Rattle.er_event.specs.declared.steps.Mode.TheVariants as mode
+use Rattle.er_text.specs.declared.faults.TextKind.{TextKind}
+use Rattle.er_text.specs.declared.faults.TextKind.TheVariants.{BadName, MissingOperand, BadVerb, ExtraOperand, BadNumber, SizeTooLarge, AddressOutOfRange, LevelTooHigh}
+use Rattle.er_text.specs.declared.verbs.Verb.{Verb}
+use Rattle.er_text.specs.declared.verbs.Verb.TheVariants as verb
+use Rattle.er_text.specs.declared.verbs.Version.{Version}
+use Rattle.er_text.specs.Lines.{has_bytes, word_at}
+use Rattle.er_text.specs.Number.{number_of}
+use Rattle.er_text.specs.Naming.{is_name, is_lock_name, name_of, lock_name_of}
+use Rattle.er_text.specs.Verbs.{verb_of, least_of, most_of}
+use Rattle.er_text.specs.Events.{Deed, Acquires, Releases, Accesses, Reuses, Shows, Levels, Saying, run_of}
+use Rattle.er_text.specs.Saying.{and_then, map_ok, or_fault, number_in, name_in, lock_in, site_in, word_in, level_in, is_outside, run_in, access_in, reuse_in, operands_in, count_of, counted_in, deed_in, said_of}
+use Rattle.er_text.specs.Trace.{first_kind, lock_kinds, access_kinds, reuse_kinds, show_kinds, level_kinds, operand_kinds, verb_kinds, event_kinds}
+use Rattle.er_text.proofs.SpellingLaws.{equal, AreWhole}
+
+abbrev pub fault_of : {X : Type 0} → Result X TextKind → Option TextKind
+fault_of (Ok x) = None
+fault_of (Err k) = Some k
+
+pub fault_of-map : {X Y : Type 0} (f : X → Y) (r : Result X TextKind) → fault_of (map_ok f r) ≡ fault_of r
+fault_of-map f (Ok x) = refl
+fault_of-map f (Err k) = refl
+
+named : (b : Bool) (w : List ℕ) → cond (not b) (Some BadName) None ≡ fault_of (or_fault BadName (cond b (Some w) None))
+named true w = refl
+named false w = refl
+
+lock_faults : (f : List ℕ → Deed) (w : List ℕ) → first_kind ((not (is_lock_name w), BadName) ∷ []) ≡ fault_of (map_ok f (lock_in w))
+lock_faults f w = named (is_lock_name w) w ∙ sym (fault_of-map f (lock_in w))
+
+-- what follows a number
+number_faults : {X : Type 0} (r : Option ℕ) (rows : ℕ → List (Bool × TextKind)) (f : ℕ → Result X TextKind) → ((n : ℕ) → first_kind (rows n) ≡ fault_of (f n))
+    → first_kind ((not (is_some r), BadNumber) ∷ rows (unwrap_or r 0)) ≡ fault_of (and_then (or_fault BadNumber r) f)
+number_faults None rows f more = refl
+number_faults (Some n) rows f more = more n
+
+word_faults : {X : Type 0} (b : Bool) (n : ℕ) (f : ℕ → X) → cond b (Some AddressOutOfRange) None ≡ fault_of (map_ok f (cond b (Err AddressOutOfRange) (Ok (n / 4))))
+word_faults true n f = refl
+word_faults false n f = refl
+
+site_word : {X : Type 0} (b dash : Bool) (site : List ℕ) (rows : List (Bool × TextKind)) (f : Option (List ℕ) → Result X TextKind)
+    → (dash ≡ true → b ≡ true) → ((s : Option (List ℕ)) → first_kind rows ≡ fault_of (f s))
+    → first_kind ((not b, BadName) ∷ rows) ≡ fault_of (and_then (cond dash (Ok None) (map_ok Some (or_fault BadName (cond b (Some site) None)))) f)
+site_word true true site rows f is more = more None
+site_word true false site rows f is more = more (Some site)
+site_word false true site rows f is more = absurd (let e = is refl in cc)
+site_word false false site rows f is more = refl
+
+dash_named : (w : List ℕ) → bytes_eq w (codes "-") ≡ true → is_name w ≡ true
+dash_named w e = ap is_name (equal w (codes "-") e)
+
+-- what follows a site
+site_faults : {X : Type 0} (site : List ℕ) (rows : List (Bool × TextKind)) (f : Option (List ℕ) → Result X TextKind)
+    → ((s : Option (List ℕ)) → first_kind rows ≡ fault_of (f s))
+    → first_kind ((has_bytes site && not (is_name site), BadName) ∷ rows) ≡ fault_of (and_then (site_in site) f)
+site_faults [] rows f more = more None
+site_faults (x ∷ xs) rows f more = site_word (is_name (x ∷ xs)) (bytes_eq (x ∷ xs) (codes "-")) (x ∷ xs) rows f (dash_named (x ∷ xs)) more
+
+access_faults : (k : Kind) (a b : List ℕ)
+    → first_kind ((not (is_some (number_of a)), BadNumber) ∷ (has_bytes b && not (is_name b), BadName) ∷ (nat_le (2 ^ 48) (unwrap_or (number_of a) 0), AddressOutOfRange) ∷ [])
+    ≡ fault_of (access_in k a b)
+access_faults k a b =
+    number_faults (number_of a) (λ n. (has_bytes b && not (is_name b), BadName) ∷ (nat_le (2 ^ 48) n, AddressOutOfRange) ∷ [])
+    (λ n. and_then (site_in b) (λ s. map_ok (λ w. Accesses k w s) (word_in n)))
+    (λ n. site_faults b ((nat_le (2 ^ 48) n, AddressOutOfRange) ∷ []) (λ s. map_ok (λ w. Accesses k w s) (word_in n)) (λ s. word_faults (nat_le (2 ^ 48) n) n (λ w. Accesses k w s)))
+
+run_faults : (large outside : Bool) (run : Option Span)
+    → first_kind ((large, SizeTooLarge) ∷ (outside, AddressOutOfRange) ∷ []) ≡ fault_of (map_ok Reuses (cond large (Err SizeTooLarge) (cond outside (Err AddressOutOfRange) (Ok run))))
+run_faults true outside run = refl
+run_faults false true run = refl
+run_faults false false run = refl
+
+reuse_faults : (a b : List ℕ)
+    → first_kind ((not (is_some (number_of a)), BadNumber) ∷ (not (is_some (number_of b)), BadNumber) ∷ (nat_lt 4194304 (unwrap_or (number_of b) 0), SizeTooLarge)
+    ∷ (nat_le (2 ^ 48) (unwrap_or (number_of a) 0) || nat_lt (2 ^ 48) (unwrap_or (number_of a) 0 + unwrap_or (number_of b) 0), AddressOutOfRange) ∷ [])
+    ≡ fault_of (reuse_in a b)
+reuse_faults a b =
+    number_faults (number_of a)
+    (λ m. (not (is_some (number_of b)), BadNumber) ∷ (nat_lt 4194304 (unwrap_or (number_of b) 0), SizeTooLarge) ∷ (is_outside m (unwrap_or (number_of b) 0), AddressOutOfRange) ∷ [])
+    (λ m. and_then (number_in b) (λ n. map_ok Reuses (run_in m n)))
+    (λ m. number_faults (number_of b) (λ n. (nat_lt 4194304 n, SizeTooLarge) ∷ (is_outside m n, AddressOutOfRange) ∷ []) (λ n. map_ok Reuses (run_in m n))
+    (λ n. run_faults (nat_lt 4194304 n) (is_outside m n) (run_of m n)))
+
+level_faults : (b : Bool) (n : ℕ) → cond b (Some LevelTooHigh) None ≡ fault_of (map_ok Levels (cond b (Err LevelTooHigh) (Ok n)))
+level_faults true n = refl
+level_faults false n = refl
+
+operand_faults : (v : Verb) (ops : List (List ℕ)) → first_kind (operand_kinds v ops) ≡ fault_of (operands_in v (word_at 0 ops) (word_at 1 ops))
+operand_faults verb.Lock ops = lock_faults (λ l. Acquires l mode.Write) (word_at 0 ops)
+operand_faults verb.Unlock ops = lock_faults (λ l. Releases l mode.Write) (word_at 0 ops)
+operand_faults verb.ReadLock ops = lock_faults (λ l. Acquires l mode.Read) (word_at 0 ops)
+operand_faults verb.ReadUnlock ops = lock_faults (λ l. Releases l mode.Read) (word_at 0 ops)
+operand_faults verb.Read ops = access_faults kind.Read (word_at 0 ops) (word_at 1 ops)
+operand_faults verb.Write ops = access_faults kind.Write (word_at 0 ops) (word_at 1 ops)
+operand_faults verb.Reuse ops = reuse_faults (word_at 0 ops) (word_at 1 ops)
+operand_faults verb.IgnoreOn ops = refl
+operand_faults verb.IgnoreOff ops = refl
+operand_faults verb.Show ops =
+    number_faults (number_of (word_at 0 ops)) (λ n. (nat_le (2 ^ 48) n, AddressOutOfRange) ∷ []) (λ n. map_ok Shows (word_in n)) (λ n. word_faults (nat_le (2 ^ 48) n) n Shows)
+operand_faults verb.Level ops =
+    number_faults (number_of (word_at 0 ops)) (λ n. (nat_lt 31 n, LevelTooHigh) ∷ []) (λ n. map_ok Levels (level_in n)) (λ n. level_faults (nat_lt 31 n) n)
+
+abbrev pub count : List (List ℕ) → ℕ
+count ops = count_of (word_at 0 ops) (word_at 1 ops) (word_at 2 ops)
+
+-- operands are counted up to 3
+pub count_is : (ops : List (List ℕ)) → AreWhole ops → (count ops ≡ length ops) ⊎ ((count ops ≡ 3) × (3 ≤ length ops))
+count_is [] whole = inl refl
+count_is ([] ∷ ops) whole = absurd (cc)
+count_is ((x ∷ xs) ∷ []) whole = inl refl
+count_is ((x ∷ xs) ∷ [] ∷ ops) whole = absurd (cc)
+count_is ((x ∷ xs) ∷ (y ∷ ys) ∷ []) whole = inl refl
+count_is ((x ∷ xs) ∷ (y ∷ ys) ∷ [] ∷ ops) whole = absurd (cc)
+count_is ((x ∷ xs) ∷ (y ∷ ys) ∷ (z ∷ zs) ∷ ops) whole = inr (refl, omega arith)
+
+least_small : (v : Verb) → least_of v ≤ 2
+least_small verb.Lock = omega arith
+least_small verb.Unlock = omega arith
+least_small verb.ReadLock = omega arith
+least_small verb.ReadUnlock = omega arith
+least_small verb.Read = omega arith
+least_small verb.Write = omega arith
+least_small verb.Reuse = omega arith
+least_small verb.IgnoreOn = omega arith
+least_small verb.IgnoreOff = omega arith
+least_small verb.Show = omega arith
+least_small verb.Level = omega arith
+
+most_small : (v : Verb) → most_of v ≤ 2
+most_small verb.Lock = omega arith
+most_small verb.Unlock = omega arith
+most_small verb.ReadLock = omega arith
+most_small verb.ReadUnlock = omega arith
+most_small verb.Read = omega arith
+most_small verb.Write = omega arith
+most_small verb.Reuse = omega arith
+most_small verb.IgnoreOn = omega arith
+most_small verb.IgnoreOff = omega arith
+most_small verb.Show = omega arith
+most_small verb.Level = omega arith
+
+abbrev Agree : ℕ → ℕ → ℕ → ℕ → Type 0
+Agree n k least most = (nat_lt n least ≡ nat_lt k least) × (nat_lt most n ≡ nat_lt most k)
+
+agree : (n k least most : ℕ) → least ≤ 2 → most ≤ 2 → (k ≡ n) ⊎ ((k ≡ 3) × (3 ≤ n)) → Agree n k least most
+agree n k least most l m (inl same) = rw same (refl, refl)
+agree n k least most l m (inr far) =
+    let three = far.0 in
+    let many = far.1 in
+    let a : nat_lt n least ≡ false = grind (arith, nat_tests, l, many) in
+    let b : nat_lt k least ≡ false = grind (arith, nat_tests, l, three) in
+    let c : nat_lt most n ≡ true = grind (arith, nat_tests, m, many) in
+    let d : nat_lt most k ≡ true = grind (arith, nat_tests, m, three) in
+    (a ∙ sym b, c ∙ sym d)
+
+count_chain : {X : Type 0} (few many : Bool) (rows : List (Bool × TextKind)) (r : Result X TextKind) → first_kind rows ≡ fault_of r
+    → first_kind ((few, MissingOperand) ∷ (many, ExtraOperand) ∷ rows) ≡ fault_of (cond few (Err MissingOperand) (cond many (Err ExtraOperand) r))
+count_chain true many rows r e = refl
+count_chain false true rows r e = refl
+count_chain false false rows r e = e
+
+verb_faults : (v : Option Verb) (ops : List (List ℕ)) → AreWhole ops → first_kind (verb_kinds v ops) ≡ fault_of (deed_in v (word_at 0 ops) (word_at 1 ops) (word_at 2 ops))
+verb_faults None ops whole = refl
+verb_faults (Some v) ops whole =
+    let same = agree (length ops) (count ops) (least_of v) (most_of v) (least_small v) (most_small v) (count_is ops whole) in
+    rw (same.0, same.1)
+    (count_chain (nat_lt (count ops) (least_of v)) (nat_lt (most_of v) (count ops)) (operand_kinds v ops) (operands_in v (word_at 0 ops) (word_at 1 ops)) (operand_faults v ops))
+
+thread_chain : (b : Bool) (thread : List ℕ) (rows : List (Bool × TextKind)) (f : List ℕ → Result Saying TextKind) → first_kind rows ≡ fault_of (f thread)
+    → first_kind ((not b, BadName) ∷ rows) ≡ fault_of (and_then (or_fault BadName (cond b (Some thread) None)) f)
+thread_chain true thread rows f more = more
+thread_chain false thread rows f more = refl
+
+-- the first fault of the table is the one that is told, and none is told where no row applies
+pub event_faults : (version : Version) (ws : List (List ℕ)) → AreWhole ws → first_kind (event_kinds version ws) ≡ fault_of (said_of version ws)
+event_faults version [] whole = refl
+event_faults version (t ∷ []) whole = thread_chain (is_name t) t ((true, MissingOperand) ∷ verb_kinds (verb_of version []) []) (λ w. Err MissingOperand) refl
+event_faults version ([] ∷ v ∷ ops) whole = absurd (cc)
+event_faults version ((x ∷ xs) ∷ [] ∷ ops) whole = absurd (cc)
+event_faults version ((x ∷ xs) ∷ (y ∷ ys) ∷ ops) whole =
+    let t = x ∷ xs in
+    let v = y ∷ ys in
+    let some : nat_lt (suc (suc (length ops))) 2 ≡ false = grind (arith, nat_tests) in
+    let deed = deed_in (verb_of version v) (word_at 0 ops) (word_at 1 ops) (word_at 2 ops) in
+    let inner : first_kind ((nat_lt (suc (suc (length ops))) 2, MissingOperand) ∷ verb_kinds (verb_of version v) ops)
+    ≡ fault_of (map_ok (λ d. record { thread = t; deed = d }) deed) =
+    rw some (verb_faults (verb_of version v) ops whole ∙ sym (fault_of-map (λ d. record { thread = t; deed = d }) deed)) in
+    thread_chain (is_name t) t ((nat_lt (suc (suc (length ops))) 2, MissingOperand) ∷ verb_kinds (verb_of version v) ops) (λ w. map_ok (λ d. record { thread = w; deed = d }) deed) inner

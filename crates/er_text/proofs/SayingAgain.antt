@@ -1,0 +1,114 @@
+-- The words that the grammar allows for an event are read as what it says of them.
+use Rattle.std.proofs.Common.{◌≡◌, ℕ, ◌+◌, ◌/◌, ◌^◌, ◌<◌, ◌≤◌, Bool, true, false, not, ◌||◌, cond, List, [], ◌∷◌, Option, Some, None, Result, Ok, Err, nat_lt, nat_le, codes, refl, sym, ap, ◌∙◌, arith}
+use Rattle.std.specs.Str.{bytes_eq}
+use Rattle.std.proofs.lemmas.Bool.Decides.{nat_tests}
+use Rattle.er_event.specs.Span.{Span}
+use Rattle.er_event.specs.declared.steps.Kind.{Kind}
+use Rattle.er_event.specs.declared.steps.Kind.TheVariants as kind
+use Rattle.er_event.specs.declared.steps.Mode.{Mode}
+use Rattle.er_event.specs.declared.steps.Mode.TheVariants as mode
+use Rattle.er_text.specs.declared.faults.TextKind.{TextKind}
+use Rattle.er_text.specs.declared.verbs.Verb.TheVariants as verb
+use Rattle.er_text.specs.declared.verbs.Version.{Version}
+use Rattle.er_text.specs.Lines.{has_bytes}
+use Rattle.er_text.specs.Number.{number_of}
+use Rattle.er_text.specs.Naming.{is_name, is_lock_name, name_of, lock_name_of}
+use Rattle.er_text.specs.Verbs.{verb_of}
+use Rattle.er_text.specs.Events.{Deed, Acquires, Releases, Accesses, Reuses, IgnoresOn, IgnoresOff, Shows, Levels, Saying, run_of}
+use Rattle.er_text.specs.Saying.{and_then, map_ok, or_fault, number_in, lock_in, site_in, word_in, level_in, is_outside, run_in, access_in, said_of}
+use Rattle.er_text.specs.Trace.{acquire_word, release_word, kind_word, IsSite, IsDeed, Says}
+use Rattle.er_text.proofs.SpellingLaws.{spelled_verb}
+
+some_name : (word : List ℕ) → is_name word ≡ true → has_bytes word ≡ true
+some_name [] name = absurd (cc)
+some_name (x ∷ xs) name = refl
+
+some_lock : (word : List ℕ) → is_lock_name word ≡ true → has_bytes word ≡ true
+some_lock [] name = absurd (cc)
+some_lock (x ∷ xs) name = refl
+
+some_number : (word : List ℕ) (n : ℕ) → number_of word ≡ Some n → has_bytes word ≡ true
+some_number [] n e = absurd (cc)
+some_number (x ∷ xs) n e = refl
+
+word_again : (n : ℕ) → n < 2 ^ 48 → word_in n ≡ Ok (n / 4)
+word_again n small = let test : nat_le (2 ^ 48) n ≡ false = grind (arith, nat_tests, small) in rw test refl
+
+level_again : (n : ℕ) → n ≤ 31 → level_in n ≡ Ok n
+level_again n low = let test : nat_lt 31 n ≡ false = grind (arith, nat_tests, low) in rw test refl
+
+run_again : (a n : ℕ) → n ≤ 4194304 → a < 2 ^ 48 → a + n ≤ 2 ^ 48 → run_in a n ≡ Ok (run_of a n)
+run_again a n small low within =
+    let x : nat_lt 4194304 n ≡ false = grind (arith, nat_tests, small) in
+    let y : nat_le (2 ^ 48) a ≡ false = grind (arith, nat_tests, low) in
+    let z : nat_lt (2 ^ 48) (a + n) ≡ false = grind (arith, nat_tests, within) in
+    rw (x, y, z) refl
+
+lock_again : (l : List ℕ) → is_lock_name l ≡ true → lock_in l ≡ Ok l
+lock_again l lock = rw lock refl
+
+locked : (version : Version) (t l : List ℕ) (m : Mode) → is_name t ≡ true → is_lock_name l ≡ true
+    → said_of version (t ∷ acquire_word m ∷ l ∷ []) ≡ Ok (record { thread = t; deed = Acquires l m })
+locked version t l mode.Write name lock = rw (name, lock_again l lock, some_lock l lock) refl
+locked version t l mode.Read name lock = rw (name, lock_again l lock, some_lock l lock) refl
+
+unlocked : (version : Version) (t l : List ℕ) (m : Mode) → is_name t ≡ true → is_lock_name l ≡ true
+    → said_of version (t ∷ release_word m ∷ l ∷ []) ≡ Ok (record { thread = t; deed = Releases l m })
+unlocked version t l mode.Write name lock = rw (name, lock_again l lock, some_lock l lock) refl
+unlocked version t l mode.Read name lock = rw (name, lock_again l lock, some_lock l lock) refl
+
+plain_access : (version : Version) (t a : List ℕ) (k : Kind) (n : ℕ) → is_name t ≡ true → number_of a ≡ Some n → n < 2 ^ 48
+    → said_of version (t ∷ kind_word k ∷ a ∷ []) ≡ Ok (record { thread = t; deed = Accesses k (n / 4) None })
+plain_access version t a kind.Read n name number small = rw (name, some_number a n number, number, word_again n small) refl
+plain_access version t a kind.Write n name number small = rw (name, some_number a n number, number, word_again n small) refl
+
+site_again : (dash : Bool) (w : List ℕ) → bytes_eq w (codes "-") ≡ dash → is_name w ≡ true → site_in w ≡ Ok (cond dash None (Some w))
+site_again true w is name = rw (is, some_name w name) refl
+site_again false w is name = rw (is, name, some_name w name) refl
+
+site_access : (version : Version) (t a w : List ℕ) (k : Kind) (n : ℕ) (site : Option (List ℕ)) → is_name t ≡ true → number_of a ≡ Some n → n < 2 ^ 48 → has_bytes w ≡ true
+    → site_in w ≡ Ok site → said_of version (t ∷ kind_word k ∷ a ∷ w ∷ []) ≡ Ok (record { thread = t; deed = Accesses k (n / 4) site })
+site_access version t a w kind.Read n site name number small some is = rw (name, some_number a n number, number, is, some, word_again n small) refl
+site_access version t a w kind.Write n site name number small some is = rw (name, some_number a n number, number, is, some, word_again n small) refl
+
+accessed : (version : Version) (t a : List ℕ) (k : Kind) (n : ℕ) (behind : List (List ℕ)) (site : Option (List ℕ)) → is_name t ≡ true → number_of a ≡ Some n → n < 2 ^ 48
+    → IsSite behind site → said_of version (t ∷ kind_word k ∷ a ∷ behind) ≡ Ok (record { thread = t; deed = Accesses k (n / 4) site })
+accessed version t a k n [] site name number small is =
+    plain_access version t a k n name number small ∙ ap (λ (s : Option (List ℕ)). Ok (record { thread = t; deed = Accesses k (n / 4) s })) (sym is)
+accessed version t a k n (w ∷ []) site name number small is =
+    site_access version t a w k n site name number small (some_name w is.0) (site_again (bytes_eq w (codes "-")) w refl is.0 ∙ ap Ok (sym is.1))
+accessed version t a k n (w ∷ x ∷ ws) site name number small is = absurd is
+
+reused : (version : Version) (t a b : List ℕ) (m n : ℕ) → is_name t ≡ true → number_of a ≡ Some m → number_of b ≡ Some n → n ≤ 4194304 → m < 2 ^ 48 → m + n ≤ 2 ^ 48
+    → said_of version (t ∷ codes "reuse" ∷ a ∷ b ∷ []) ≡ Ok (record { thread = t; deed = Reuses (run_of m n) })
+reused version t a b m n name first second small low within =
+    rw (name, some_number a m first, some_number b n second, first, second, run_again m n small low within) refl
+
+showed : (version : Version) (t a : List ℕ) (n : ℕ) → is_name t ≡ true → number_of a ≡ Some n → n < 2 ^ 48
+    → said_of version (t ∷ codes "show" ∷ a ∷ []) ≡ Ok (record { thread = t; deed = Shows (n / 4) })
+showed version t a n name number small = rw (name, some_number a n number, number, word_again n small) refl
+
+leveled : (version : Version) (t a : List ℕ) (n : ℕ) → verb_of version (codes "level") ≡ Some verb.Level → is_name t ≡ true → number_of a ≡ Some n → n ≤ 31
+    → said_of version (t ∷ codes "level" ∷ a ∷ []) ≡ Ok (record { thread = t; deed = Levels n })
+leveled version t a n known name number low = rw (known, name, some_number a n number, number, level_again n low) refl
+
+deed_again : (version : Version) (ws : List (List ℕ)) (t : List ℕ) (deed : Deed) → is_name t ≡ true → IsDeed version ws t deed
+    → said_of version ws ≡ Ok (record { thread = t; deed = deed })
+deed_again version ws t (Acquires l m) name is = ap (said_of version) is.0 ∙ locked version t l m name is.1
+deed_again version ws t (Releases l m) name is = ap (said_of version) is.0 ∙ unlocked version t l m name is.1
+deed_again version ws t (Accesses k w site) name is =
+    ap (said_of version) is.3 ∙ accessed version t is.0 k is.1 is.2 site name is.4 is.5 is.7
+    ∙ ap (λ (n : ℕ). Ok (record { thread = t; deed = Accesses k n site })) (sym is.6)
+deed_again version ws t (Reuses run) name is =
+    ap (said_of version) is.4 ∙ reused version t is.0 is.1 is.2 is.3 name is.5 is.6 is.7 is.8 is.9
+    ∙ ap (λ (r : Option Span). Ok (record { thread = t; deed = Reuses r })) (sym is.10)
+deed_again version ws t IgnoresOn name is = ap (said_of version) is ∙ (rw name refl)
+deed_again version ws t IgnoresOff name is = ap (said_of version) is ∙ (rw name refl)
+deed_again version ws t (Shows w) name is =
+    ap (said_of version) is.2 ∙ showed version t is.0 is.1 name is.3 is.4 ∙ ap (λ (n : ℕ). Ok (record { thread = t; deed = Shows n })) (sym is.5)
+deed_again version ws t (Levels n) name is =
+    ap (said_of version) is.1 ∙ leveled version t is.0 n (spelled_verb version verb.Level is.4) name is.2 is.3
+
+-- the words of an event line are read as what they say
+pub says_said : (version : Version) (ws : List (List ℕ)) (s : Saying) → Says version ws s → said_of version ws ≡ Ok s
+says_said version ws s says = deed_again version ws s.thread s.deed says.0 says.1

@@ -1,0 +1,64 @@
+-- What an event line says, and the steps that it adds to a trace.
+use Rattle.std.specs.Prelude.{ℕ, ◌+◌, ◌++◌, ◌==◌, List, [], ◌∷◌, map, Option, Some, None, if◌then◌else◌}
+use Rattle.er_event.specs.Names.{number_of}
+use Rattle.er_event.specs.Span.{Span, span_of_bytes, parts_of}
+use Rattle.er_event.specs.Trace.{Recording, with_step, with_thread, with_lock, with_site}
+use Rattle.er_event.specs.declared.addresses.PageRange.{PageRange}
+use Rattle.er_event.specs.declared.steps.Event.TheVariants as event
+use Rattle.er_event.specs.declared.steps.Kind.{Kind}
+use Rattle.er_event.specs.declared.steps.Mode.{Mode}
+use Rattle.er_event.specs.declared.steps.Step.{Step}
+
+-- what a thread does: the lock and its mode, the word and its site if there is one, the words put to a new use, the level
+pub data Deed : Type 0 where
+  Acquires : List ℕ → Mode → Deed
+  Releases : List ℕ → Mode → Deed
+  Accesses : Kind → ℕ → Option (List ℕ) → Deed
+  Reuses : Option Span → Deed
+  IgnoresOn : Deed
+  IgnoresOff : Deed
+  Shows : ℕ → Deed
+  Levels : ℕ → Deed
+
+-- which thread does what
+pub record Saying : Type 0 where
+  pub thread : List ℕ
+  pub deed : Deed
+
+-- the words that some bytes touch, if there is a byte
+abbrev pub run_of : ℕ → ℕ → Option Span
+run_of address size = if size == 0 then None else Some (span_of_bytes address size)
+
+-- the words of a run, page by page
+abbrev pub run_parts : Option Span → List PageRange
+run_parts None = []
+run_parts (Some span) = parts_of span
+
+-- one step for each of these parts, by rising page, all of one line
+abbrev pub with_reuses : Recording → ℕ → ℕ → List PageRange → Recording
+with_reuses r line thread parts =
+    record r { steps = r.steps ++ map (λ part. record { thread = thread; event = event.Reuse part }) parts; lines = r.lines ++ map (λ part. line) parts }
+
+-- sites are numbered from 1, and the missing site is 0
+abbrev pub site_number : Recording → Option (List ℕ) → ℕ
+site_number r None = 0
+site_number r (Some site) = number_of r.names.sites site + 1
+
+abbrev pub with_site_of : Recording → Option (List ℕ) → Recording
+with_site_of r None = r
+with_site_of r (Some site) = with_site r site
+
+-- what the thread of this number does, on a line of that number
+abbrev pub tell_deed : ℕ → ℕ → Deed → Recording → Recording
+tell_deed line thread (Acquires lock m) r = with_step (with_lock r lock) (record { thread = thread; event = event.Acquire (number_of r.names.locks lock) m }) line
+tell_deed line thread (Releases lock m) r = with_step (with_lock r lock) (record { thread = thread; event = event.Release (number_of r.names.locks lock) m }) line
+tell_deed line thread (Accesses k w site) r = with_step (with_site_of r site) (record { thread = thread; event = event.Access k w (site_number r site) }) line
+tell_deed line thread (Reuses run) r = with_reuses r line thread (run_parts run)
+tell_deed line thread IgnoresOn r = with_step r (record { thread = thread; event = event.IgnoreOn }) line
+tell_deed line thread IgnoresOff r = with_step r (record { thread = thread; event = event.IgnoreOff }) line
+tell_deed line thread (Shows w) r = with_step r (record { thread = thread; event = event.Show w }) line
+tell_deed line thread (Levels n) r = with_step r (record { thread = thread; event = event.Level n }) line
+
+-- the recording after one more event line; its thread is numbered first
+abbrev pub tell : ℕ → Saying → Recording → Recording
+tell line s r = tell_deed line (number_of r.names.threads s.thread) s.deed (with_thread r s.thread)

@@ -1,0 +1,19 @@
+-- The faults of texts in words.
+use Rattle.std.specs.Prelude.{ℕ, List, codes}
+use Rattle.er_text.specs.declared.faults.TextKind.{TextKind}
+use Rattle.er_text.specs.declared.faults.TextKind.TheVariants.{LineTooLong, TextTooLong, NotAscii, NoHeader, BadName, MissingOperand, BadVerb, ExtraOperand, BadNumber, SizeTooLarge, AddressOutOfRange, LevelTooHigh}
+
+-- a fault in words, as it is printed
+abbrev pub text_of : TextKind → List ℕ
+text_of LineTooLong = codes "line too long"
+text_of TextTooLong = codes "text too long"
+text_of NotAscii = codes "not ascii"
+text_of NoHeader = codes "no header"
+text_of BadName = codes "bad name"
+text_of MissingOperand = codes "missing operand"
+text_of BadVerb = codes "bad verb"
+text_of ExtraOperand = codes "extra operand"
+text_of BadNumber = codes "bad number"
+text_of SizeTooLarge = codes "size too large"
+text_of AddressOutOfRange = codes "address out of range"
+text_of LevelTooHigh = codes "level too high"

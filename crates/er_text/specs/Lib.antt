@@ -1,0 +1,13 @@
+pub mod Lines
+pub mod Number
+pub mod Naming
+pub mod Verbs
+pub mod Faults
+pub mod Events
+pub mod Trace
+pub mod Saying
+pub mod Reading
+pub mod Progress
+pub mod Windows
+pub mod Usual
+pub mod Named

@@ -1,0 +1,54 @@
+-- The lines of a text, and the words of a line.
+use Rattle.std.specs.Prelude.{ℕ, ◌+◌, ◌==◌, ◌||◌, Bool, true, false, List, [], ◌∷◌, length, drop, filter, nat_lt, if◌then◌else◌}
+use Rattle.std.specs.List.{slice_split}
+
+-- a line, and whether an LF follows it
+pub record Line : Type 0 where
+  pub bytes : List ℕ
+  pub ended : Bool
+
+abbrev pub is_end : ℕ → Bool
+is_end byte = byte == 10
+
+-- this byte, and then the first of the lines
+abbrev pub onto_line : ℕ → List Line → List Line
+onto_line byte [] = record { bytes = byte ∷ []; ended = false } ∷ []
+onto_line byte (line ∷ lines) = record { bytes = byte ∷ line.bytes; ended = line.ended } ∷ lines
+
+-- the parts of a text between its LFs, of which an empty last one is none
+abbrev pub lines_of : List ℕ → List Line
+lines_of [] = []
+lines_of (byte ∷ bytes) = if is_end byte then record { bytes = []; ended = true } ∷ lines_of bytes else onto_line byte (lines_of bytes)
+
+-- how many bytes of the text a line takes, its LF included
+abbrev pub width : Line → ℕ
+width line = length line.bytes + (if line.ended then 1 else 0)
+
+-- a space or a tab
+abbrev pub is_gap : ℕ → Bool
+is_gap byte = (byte == 32) || (byte == 9)
+
+abbrev pub has_bytes : List ℕ → Bool
+has_bytes [] = false
+has_bytes (byte ∷ bytes) = true
+
+-- the longest parts of a line without a gap
+abbrev pub words : List ℕ → List (List ℕ)
+words line = filter has_bytes (slice_split is_gap line)
+
+-- the first word, or no bytes where there is none
+abbrev pub first_of : List (List ℕ) → List ℕ
+first_of [] = []
+first_of (word ∷ words) = word
+
+-- the word at a place, or no bytes where there is none
+abbrev pub word_at : ℕ → List (List ℕ) → List ℕ
+word_at n words = first_of (drop n words)
+
+abbrev pub is_ascii : ℕ → Bool
+is_ascii byte = nat_lt byte 128
+
+-- the line begins with a number sign
+abbrev pub is_comment : List ℕ → Bool
+is_comment [] = false
+is_comment (byte ∷ bytes) = byte == 35

@@ -1,0 +1,43 @@
+-- Each step is what its line says, and each of its numbers has the name that stands there.
+use Rattle.std.specs.Prelude.{◌≡◌, ℕ, ◌-◌, ◌<◌, List, [], ◌∷◌, Option, Some, None}
+use Rattle.std.specs.List.{Contains, slice_get}
+use Rattle.er_event.specs.Names.{NameTable}
+use Rattle.er_event.specs.declared.addresses.PageRange.{PageRange}
+use Rattle.er_event.specs.declared.steps.Event.{Event}
+use Rattle.er_event.specs.declared.steps.Event.TheVariants as event
+use Rattle.er_event.specs.declared.steps.Step.{Step}
+use Rattle.er_text.specs.declared.verbs.Version.{Version}
+use Rattle.er_text.specs.Lines.{words}
+use Rattle.er_text.specs.Events.{Saying, Deed, Acquires, Releases, Accesses, Reuses, IgnoresOn, IgnoresOff, Shows, Levels, run_parts}
+use Rattle.er_text.specs.Trace.{Placed, Says}
+
+-- sites are numbered from 1, and the missing site is 0
+abbrev pub IsSiteNumber : List (List ℕ) → ℕ → Option (List ℕ) → Type 0
+IsSiteNumber sites n None = n ≡ 0
+IsSiteNumber sites n (Some site) = (0 < n) × (slice_get sites (n - 1) ≡ Some site)
+
+-- the event does this, under these names; a reuse is the event of one page
+abbrev pub Does : NameTable → Deed → Event → Type 0
+Does names (Acquires lock m) e = (n : ℕ) × (e ≡ event.Acquire n m) × (slice_get names.locks n ≡ Some lock)
+Does names (Releases lock m) e = (n : ℕ) × (e ≡ event.Release n m) × (slice_get names.locks n ≡ Some lock)
+Does names (Accesses k w site) e = (n : ℕ) × (e ≡ event.Access k w n) × IsSiteNumber names.sites n site
+Does names (Reuses run) e = (part : PageRange) × (e ≡ event.Reuse part) × Contains (run_parts run) part
+Does names IgnoresOn e = e ≡ event.IgnoreOn
+Does names IgnoresOff e = e ≡ event.IgnoreOff
+Does names (Shows w) e = e ≡ event.Show w
+Does names (Levels n) e = e ≡ event.Level n
+
+-- the step is one of what the line says
+pub record IsToldBy (v : Version) (names : NameTable) (step : Step) (p : Placed) : Type 0 where
+  pub saying : Saying
+  pub says : Says v (words p.line.bytes) saying
+  pub thread : slice_get names.threads step.thread ≡ Some saying.thread
+  pub does : Does names saying.deed step.event
+
+-- each step is told by one of these event lines, whose number stands beside it
+abbrev pub AreNamed : Version → List Placed → NameTable → List Step → List ℕ → Type 0
+AreNamed v events names [] [] = Unit {0}
+AreNamed v events names (step ∷ steps) (line ∷ lines) =
+    ((p : Placed) × Contains events p × (line ≡ p.number) × IsToldBy v names step p) × AreNamed v events names steps lines
+AreNamed v events names [] (line ∷ lines) = ⊥
+AreNamed v events names (step ∷ steps) [] = ⊥

@@ -1,0 +1,74 @@
+-- The words that headers and events are spelled with.
+use Rattle.std.specs.Prelude.{ℕ, ◌&&◌, Bool, true, false, not, List, [], ◌∷◌, Option, Some, None, codes, if◌then◌else◌}
+use Rattle.std.specs.Str.{bytes_eq}
+use Rattle.er_text.specs.Lines.{has_bytes}
+use Rattle.er_text.specs.declared.verbs.Verb.{Verb}
+use Rattle.er_text.specs.declared.verbs.Verb.TheVariants.{Lock, Unlock, ReadLock, ReadUnlock, Read, Write, Reuse, IgnoreOn, IgnoreOff, Show, Level}
+use Rattle.er_text.specs.declared.verbs.Version.{Version}
+use Rattle.er_text.specs.declared.verbs.Version.TheVariants.{One, Two}
+
+-- how a version is spelled
+abbrev pub version_word : Version → List ℕ
+version_word One = codes "1"
+version_word Two = codes "2"
+
+abbrev pub header_version : List ℕ → Option Version
+header_version word = if bytes_eq word (codes "1") then Some One else if bytes_eq word (codes "2") then Some Two else None
+
+-- the version that the first four words of a line tell, of which those that are missing are empty
+abbrev pub version_of : List ℕ → List ℕ → List ℕ → List ℕ → Option Version
+version_of first second third fourth =
+    if bytes_eq first (codes "eraser") && bytes_eq second (codes "trace") && not (has_bytes fourth) then header_version third else None
+
+-- `level` came with the second version
+abbrev pub level_verb : Version → Option Verb
+level_verb One = None
+level_verb Two = Some Level
+
+abbrev pub rarer_verb_of : Version → List ℕ → Option Verb
+rarer_verb_of version word =
+    if bytes_eq word (codes "reuse") then Some Reuse
+    else if bytes_eq word (codes "ignore-on") then Some IgnoreOn
+    else if bytes_eq word (codes "ignore-off") then Some IgnoreOff
+    else if bytes_eq word (codes "show") then Some Show
+    else if bytes_eq word (codes "level") then level_verb version
+    else None
+
+-- the verb that a word is
+abbrev pub verb_of : Version → List ℕ → Option Verb
+verb_of version word =
+    if bytes_eq word (codes "read") then Some Read
+    else if bytes_eq word (codes "write") then Some Write
+    else if bytes_eq word (codes "lock") then Some Lock
+    else if bytes_eq word (codes "unlock") then Some Unlock
+    else if bytes_eq word (codes "rlock") then Some ReadLock
+    else if bytes_eq word (codes "runlock") then Some ReadUnlock
+    else rarer_verb_of version word
+
+-- how many operands a verb needs
+abbrev pub least_of : Verb → ℕ
+least_of Lock = 1
+least_of Unlock = 1
+least_of ReadLock = 1
+least_of ReadUnlock = 1
+least_of Read = 1
+least_of Write = 1
+least_of Reuse = 2
+least_of IgnoreOn = 0
+least_of IgnoreOff = 0
+least_of Show = 1
+least_of Level = 1
+
+-- how many operands a verb allows
+abbrev pub most_of : Verb → ℕ
+most_of Lock = 1
+most_of Unlock = 1
+most_of ReadLock = 1
+most_of ReadUnlock = 1
+most_of Read = 2
+most_of Write = 2
+most_of Reuse = 2
+most_of IgnoreOn = 0
+most_of IgnoreOff = 0
+most_of Show = 1
+most_of Level = 1

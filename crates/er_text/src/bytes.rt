@@ -1,0 +1,60 @@
+//! Where lines and words end.
+ghost use Rattle.std.specs.Prelude.{◌≡◌, ◌≤◌, not, position, length, drop};
+ghost use Rattle.std.specs.List.{list_all, position_or_len};
+ghost use Rattle.er_text.specs.Lines.{is_end, is_gap, is_ascii, first_of, words};
+
+use memchr::memchr;
+
+/// How many bytes stand before the first LF, or before the end.
+pub(crate) fn line_len(bytes: &[u8]) -> usize
+    ensures { result ≡ position_or_len is_end bytes.now }
+{
+    memchr(b'\n', bytes).unwrap_or(bytes.len())
+}
+
+pub(crate) fn is_ascii(bytes: &[u8]) -> bool
+    ensures { result ≡ list_all is_ascii bytes.now }
+{
+    bytes.is_ascii()
+}
+
+fn find_gap(bytes: &[u8]) -> Option<usize>
+    ensures { result ≡ position is_gap bytes.now }
+{
+    bytes
+        .iter()
+        .position(|byte| *byte == b' ' || *byte == b'\t')
+}
+
+fn find_word(bytes: &[u8]) -> Option<usize>
+    ensures { result ≡ position (λ byte. not (is_gap byte)) bytes.now }
+{
+    bytes
+        .iter()
+        .position(|byte| !(*byte == b' ' || *byte == b'\t'))
+}
+
+/// How many bytes stand before the first gap, or before the end.
+fn word_len(bytes: &[u8]) -> usize
+    ensures place { result ≡ position_or_len is_gap bytes.now }
+    ensures bound { result ≤ length bytes.now }
+{
+    find_gap(bytes).unwrap_or(bytes.len())
+}
+
+/// How many gaps stand in front.
+fn gap_len(bytes: &[u8]) -> usize
+    ensures place { result ≡ position_or_len (λ byte. not (is_gap byte)) bytes.now }
+    ensures bound { result ≤ length bytes.now }
+{
+    find_word(bytes).unwrap_or(bytes.len())
+}
+
+/// The first word, which is empty where there is none, and what follows it.
+pub(crate) fn next_word(bytes: &[u8]) -> (&[u8], &[u8])
+    ensures word { result.0.now ≡ first_of (words bytes.now) }
+    ensures rest { words result.1.now ≡ drop 1 (words bytes.now) }
+{
+    let rest = &bytes[gap_len(bytes)..];
+    rest.split_at(word_len(rest))
+}

@@ -1,0 +1,20 @@
+//! What holds of every text.
+ghost use Rattle.std.specs.Prelude.{◌≡◌, ◌⊎◌, ℕ, List};
+ghost use Rattle.er_event.specs.Trace.{Recording};
+ghost use Rattle.er_text.specs.declared.faults.TextFault.{TextFault};
+ghost use Rattle.er_text.specs.Named.{AreNamed};
+ghost use Rattle.er_text.specs.Trace.{IsTrace, IsFault};
+
+/// A text is a trace or has a fault, and never both. It has one trace at most, and one fault.
+pub fn trace_or_fault()
+    ensures either { (text : List ℕ) (limit : ℕ) → ((t : Recording) × IsTrace text limit t) ⊎ ((f : TextFault) × IsFault text limit f) }
+    ensures never_both { (text : List ℕ) (limit : ℕ) (t : Recording) (f : TextFault) → IsTrace text limit t → IsFault text limit f → ⊥ }
+    ensures one_trace { (text : List ℕ) (limit : ℕ) (t u : Recording) → IsTrace text limit t → IsTrace text limit u → t ≡ u }
+    ensures one_fault { (text : List ℕ) (limit : ℕ) (f g : TextFault) → IsFault text limit f → IsFault text limit g → f ≡ g }
+{}
+
+/// Each step of a trace is what one of its event lines says, and has that line's number. Its thread, lock and site have there the
+/// names that the trace gives for their numbers.
+pub fn steps_are_named()
+    ensures { (text : List ℕ) (limit : ℕ) (t : Recording) (is : IsTrace text limit t) → AreNamed is.version is.events t.names t.steps t.lines }
+{}

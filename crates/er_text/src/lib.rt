@@ -1,0 +1,38 @@
+//! The texts of traces: read byte by byte, as their grammar says of whole lines.
+//!
+//! Begin with [`read_trace`]: it reads a text from any reader, in whatever pieces it comes, and gives its [`Trace`](er_event::Trace)
+//! or the fault of its first faulty line.
+//!
+//! What it promises, by the names of clauses: what is told of a text is its trace or its fault by the grammar (`told`), and every
+//! text has exactly one of these (`trace_or_fault`); a fault of the reader is told exactly where the reader failed (`failed`);
+//! no reading takes more than `byte_limit` and 1,025 bytes (`taken`).
+//!
+//! ```
+//! let mut reader = Device::new(b"eraser trace 1\nt1 lock m\nt1 write 0x1000 save.c:12\n".as_slice());
+//! match read_trace(rt.alloc(), &mut reader, 1 << 20) {
+//!     // Two steps of one thread, of the lines 2 and 3.
+//!     Ok(trace) => println!(rt; "{} steps", trace.steps().len())?,
+//!     Err(ReadFault::Text(fault)) => println!(rt; "line {}: {}", fault.line, fault.kind.text())?,
+//!     Err(fault) => println!(rt; "{fault:?}")?,
+//! }
+//! ```
+#![tactic(auto)]
+
+pub use faults::{ReadFault, TextFault, TextKind};
+pub use laws::{steps_are_named, trace_or_fault};
+pub use reading::read_trace;
+
+mod bytes;
+mod classes;
+mod faults;
+mod laws;
+mod naming;
+mod numbers;
+mod reading;
+mod saying;
+mod telling;
+#[cfg(test)]
+mod tests;
+mod usual;
+mod verbs;
+mod windows;

@@ -1,0 +1,60 @@
+//! The steps that a line adds to a trace.
+ghost use Rattle.std.specs.Prelude.{◌≡◌, ◌<◌, ◌^◌, ℕ, length, IfOk, OnOk};
+ghost use Rattle.er_text.specs.Saying.{saying, seen_name};
+ghost use Rattle.er_text.specs.Events.{tell, site_number, with_site_of, with_reuses, run_parts};
+ghost use Rattle.er_text.specs.Progress.{HasNumbers, AddsNames};
+
+use crate::saying::{Action, Said};
+use er_event::{Event, Site, Step, ThreadId, Trace, WordRange};
+use std::alloc::AllocError;
+
+fn site_number(trace: &mut Trace, site: Option<&str>) -> Result<Site, AllocError>
+    requires { length trace.old.names.sites < 2 ^ 30 }
+    ensures number { IfOk result (λ number. number ≡ site_number trace.old (seen_name site.entry)) }
+    ensures trace { OnOk result (trace.new ≡ with_site_of trace.old (seen_name site.entry)) }
+{
+    match site {
+        Some(name) => trace.site(name),
+        None => Ok(Site::MISSING),
+    }
+}
+
+/// Adds a step for each page of a range.
+fn tell_reuse(
+    trace: &mut Trace,
+    line: u64,
+    thread: ThreadId,
+    range: Option<WordRange>,
+) -> Result<(), AllocError>
+    requires { thread < length trace.old.names.threads }
+    ensures { OnOk result (trace.new ≡ with_reuses trace.old line thread (run_parts range)) }
+{
+    let Some(range) = range else {
+        return Ok(());
+    };
+    for i in 0..range.parts() {
+        let event = Event::Reuse(range.part(i));
+        trace.push(Step { thread, event }, line)?;
+    }
+    Ok(())
+}
+
+/// Adds the steps of a line to a trace. The thread is numbered first.
+pub(crate) fn tell(trace: &mut Trace, line: u64, said: &Said<'_>) -> Result<(), AllocError>
+    requires { HasNumbers trace.old }
+    ensures told { OnOk result (trace.new ≡ tell line (saying said.now) trace.old) }
+    ensures more { OnOk result (AddsNames trace.old trace.new) }
+{
+    let thread = trace.thread(said.thread)?;
+    let event = match said.action {
+        Action::Acquire(lock, mode) => Event::Acquire(trace.lock(lock)?, mode),
+        Action::Release(lock, mode) => Event::Release(trace.lock(lock)?, mode),
+        Action::Access(kind, word, site) => Event::Access(kind, word, site_number(trace, site)?),
+        Action::Reuse(range) => return tell_reuse(trace, line, thread, range),
+        Action::IgnoreOn => Event::IgnoreOn,
+        Action::IgnoreOff => Event::IgnoreOff,
+        Action::Show(word) => Event::Show(word),
+        Action::Level(level) => Event::Level(level),
+    };
+    trace.push(Step { thread, event }, line)
+}

@@ -1,0 +1,131 @@
+//! The bytes of a text that were read and aren't passed over yet.
+ghost use Rattle.std.specs.Prelude.{◌≡◌, ◌≢◌, ◌+◌, ◌-◌, ◌<◌, ◌≤◌, ℕ, List, Option, length, take, drop, slice_index, All, IfOk, OnErr, OnOk, max, vec_len, ◌++◌};
+ghost use Rattle.std.specs.Io.KnownBytes.{Keeps, Consumes, IsAtEnd, prepend_known};
+ghost use Rattle.er_device.specs.Device.{inner_of, has_failed, taken_of, Failing};
+
+use crate::bytes::line_len;
+use er_device::{Device, Failed};
+use std::alloc::{AllocError, Global};
+use std::io::Read;
+
+/// How many bytes a window has room for.
+const SIZE: usize = 65536;
+
+/// The most bytes that a line has, without its LF.
+const LINE: usize = 1024;
+
+/// What stands in front of a window.
+#[derive(Clone, Copy, Debug, PartialEq, Eq)]
+pub(crate) enum Front {
+    /// A line of so many bytes, and its LF.
+    Whole(usize),
+    /// The last bytes of the text, which no LF follows.
+    Last(usize),
+    /// A line of more than 1,024 bytes.
+    Long,
+}
+
+/// The bytes that were read and have not been passed over yet.
+#[derive(Drop)]
+pub(crate) struct Window {
+    bytes: Vec<u8>,
+    start: usize,
+    end: usize,
+    ghost size: { vec_len bytes ≡ 65536 },
+    ghost ordered: { start ≤ end },
+    ghost within: { end ≤ 65536 },
+}
+
+impl Window {
+    ghost use Rattle.er_text.specs.Windows.{items, Shows};
+
+    pub(crate) fn new(alloc: Global) -> Result<Window, AllocError>
+        ensures { IfOk result (λ w. length (items w) ≡ 0) }
+    {
+        Ok(Window {
+            bytes: vec![in alloc; 0; SIZE]?,
+            start: 0,
+            end: 0,
+        })
+    }
+
+    pub(crate) fn as_slice(&self) -> &[u8]
+        ensures value { result.now ≡ items self.now }
+        ensures fits { length result.now ≤ 65536 }
+    {
+        &self.bytes[self.start..self.end]
+    }
+
+    pub(crate) fn consume(&mut self, count: usize)
+        requires { count ≤ length (items self.old) }
+        ensures { items self.new ≡ drop count (items self.old) }
+    {
+        self.start += count;
+    }
+
+    fn move_to_front(&mut self)
+        ensures items { items self.new ≡ items self.old }
+        ensures start { self.new.start ≡ 0 }
+        ensures end { self.new.end ≡ length (items self.old) }
+    {
+        let (start, end) = (self.start, self.end);
+        self.bytes.copy_within(start..end, 0);
+        self.start = 0;
+        self.end = end - start;
+    }
+
+    /// One read, which leaves at most `most` bytes in the window.
+    pub(crate) fn fill<R: Read>(
+        &mut self,
+        reader: &mut Device<R>,
+        most: usize,
+    ) -> Result<usize, Failed>
+        requires room { length (items self.old) < most }
+        requires small { length (items self.old) < 65536 }
+        ensures bytes { IfOk result (λ n. (more : List ℕ) × (length more ≡ n) × (items self.new ≡ items self.old ++ more)
+            × Consumes (R.remaining (inner_of reader.old)) (R.remaining (inner_of reader.new)) more) }
+        ensures most { IfOk result (λ n. length (items self.old) + n ≤ most) }
+        ensures end { IfOk result (λ n. n ≡ 0 → IsAtEnd (R.remaining (inner_of reader.new))) }
+        ensures failed { Failing (has_failed reader.old) (has_failed reader.new) result }
+        ensures taken { IfOk result (λ n. taken_of reader.new ≤ taken_of reader.old + n) }
+        ensures err { OnErr result (taken_of reader.new ≡ taken_of reader.old) }
+    {
+        self.move_to_front();
+        let end = self.end;
+        let stop = SIZE.min(most);
+        let count = reader.read(&mut self.bytes[end..stop])?;
+        self.end = end + count;
+        Ok(count)
+    }
+
+    /// Where the line in front ends. It leaves at most `most` bytes in the window.
+    pub(crate) fn find<R: Read>(
+        &mut self,
+        reader: &mut Device<R>,
+        most: usize,
+    ) -> Result<Front, Failed>
+        requires most { 1024 < most }
+        requires held { length (items self.old) ≤ most }
+        ensures front { IfOk result (λ front. Shows front (items self.new) (R.remaining (inner_of reader.new))) }
+        ensures same { OnOk result (Keeps (prepend_known (items self.old) (R.remaining (inner_of reader.old)))
+            (prepend_known (items self.new) (R.remaining (inner_of reader.new)))) }
+        ensures most { OnOk result (length (items self.new) ≤ most) }
+        ensures failed { Failing (has_failed reader.old) (has_failed reader.new) result }
+        ensures taken { IfOk result (λ _. taken_of reader.new + length (items self.old) ≤ taken_of reader.old + length (items self.new)) }
+        ensures err { OnErr result (taken_of reader.new + length (items self.old) ≤ taken_of reader.old + most) }
+    {
+        loop {
+            let bytes = self.as_slice();
+            let len = line_len(bytes);
+            if len > LINE {
+                return Ok(Front::Long);
+            }
+            if len < bytes.len() {
+                return Ok(Front::Whole(len));
+            }
+            if self.fill(reader, most)? == 0 {
+                return Ok(Front::Last(len));
+            }
+        }
+    }
+}

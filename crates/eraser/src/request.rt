@@ -1,0 +1,65 @@
+//! What a command line asks for.
+use clap::error::ErrorKind;
+use clap::{Arg, ArgMatches, Command, Error};
+use std::alloc::{AllocError, Global};
+
+/// What a command line asks for.
+#[derive(Clone, Copy, Drop)]
+pub enum Request<'a> {
+    /// A replay of the trace at this path, which is standard input where it is `-`.
+    Replay(&'a str),
+}
+
+fn replay_command<'a>(alloc: Global) -> Result<Command<'a>, AllocError> {
+    let trace = Arg::new(alloc, "trace")
+        .value_name("TRACE")
+        .required(true)
+        .help("The trace to replay, or - for standard input");
+    Command::new(alloc, "replay")
+        .about("Replay a trace and report its races")
+        .arg(trace)
+}
+
+/// The command line of the program.
+pub fn eraser_command<'a>(alloc: Global) -> Result<Command<'a>, AllocError> {
+    Command::new(alloc, "eraser")
+        .version("0.1.0")
+        .about("Finds data races by the locks that are held at each access")
+        .after_help(AFTER_HELP)
+        .subcommand_required(true)
+        .arg_required_else_help(true)
+        .subcommand(replay_command(alloc)?)
+}
+
+const AFTER_HELP: &str = "\
+Example:
+  printf 'eraser trace 1\\nt1 write 0x1000\\nt2 write 0x1000\\n' | eraser replay -
+prints
+  line 3: race: t2 write 0x000000001000 at -, holds none
+  steps 2, races 1, suppressed 0, refused 0
+
+Exit status:
+  0  no race was printed
+  1  some race was printed
+  2  wrong arguments, or a text with a fault
+  3  the replay ran out of room
+  4  a file could not be opened, read or written
+
+The texts of traces and reports are described in docs/FORMATS.md.";
+
+fn request_of<'a>(matches: &ArgMatches<'a>) -> Option<Request<'a>> {
+    match matches.subcommand()? {
+        ("replay", found) => Some(Request::Replay(found.get_str("trace")?)),
+        _ => None,
+    }
+}
+
+/// Reads a command line, of which the first word is the program's name.
+pub fn read_request<'a>(alloc: Global, words: &'a [String]) -> Result<Request<'a>, Error> {
+    let mut command = eraser_command(alloc)?;
+    let matches = command.try_get_matches_from_mut(words)?;
+    match request_of(&matches) {
+        Some(request) => Ok(request),
+        None => Err(command.error(ErrorKind::InvalidValue, "a value is out of its range")?),
+    }
+}
