@@ -1,5 +1,5 @@
 -- A trace by the grammar is read, and is told as it is.
-use Rattle.std.proofs.Common.{◌≡◌, ℕ, ◌+◌, ◌≤◌, Bool, true, false, not, ◌&&◌, ◌||◌, cond, List, [], ◌∷◌, Option, Some, None, Result, Ok, Err, length, filter, nat_lt, refl, subst, sym, ap, ◌∙◌, arith}
+use Rattle.std.proofs.Common.{◌≡◌, ℕ, ◌+◌, ◌≤◌, Bool, true, false, not, ◌&&◌, ◌||◌, cond, List, [], ◌∷◌, Option, Some, None, Result, Ok, length, filter, nat_lt, refl, subst, sym, ap, ◌∙◌, arith}
 use Rattle.std.specs.List.{AllByRecursion}
 use Rattle.std.proofs.lemmas.Bool.Decides.{nat_tests}
 use Rattle.er_event.specs.Trace.{Recording}
@@ -7,9 +7,8 @@ use Rattle.er_text.specs.declared.faults.TextKind.{TextKind}
 use Rattle.er_text.specs.declared.verbs.Version.{Version}
 use Rattle.er_text.specs.Lines.{Line, has_bytes, words, word_at, width, is_comment, lines_of}
 use Rattle.er_text.specs.Events.{Saying, tell}
-use Rattle.er_text.specs.Saying.{said_of}
 use Rattle.er_text.specs.Reading.{Progress, at_front, open_with, tell_said, read_words, read_content, pass, read_line, finish_as, faulty, go_on, read_lines, read_text}
-use Rattle.er_text.specs.Trace.{Placed, placed_from, has_content, header_words, version_in, IsPlain, Says, AllSay, tell_all, IsTrace}
+use Rattle.er_text.specs.Trace.{Placed, placed_from, has_content, header_words, version_in, IsPlain, AllSay, tell_all, IsTrace}
 use Rattle.er_text.proofs.SpellingLaws.{header_again}
 use Rattle.er_text.proofs.SayingAgain.{says_said}
 use Rattle.er_text.proofs.ReadingLaws.{at_place}

@@ -1,5 +1,5 @@
 -- The place of an LF as a search finds it, and bytes that are all ASCII.
-use Rattle.std.proofs.Common.{◌≡◌, ℕ, ◌<◌, ◌≤◌, Bool, true, false, List, [], ◌∷◌, Option, Some, None, length, get_or, unwrap_or, nat_lt, refl, sym, arith}
+use Rattle.std.proofs.Common.{◌≡◌, ℕ, ◌<◌, ◌≤◌, Bool, true, false, List, Option, Some, None, length, get_or, unwrap_or, refl, sym, arith}
 use Rattle.std.specs.Bool.{MatchBool}
 use Rattle.std.specs.List.{list_all, position_or_len, AllPass, All}
 use Rattle.std.specs.Str.{IsAscii, IsNotAscii, IsUtf8}

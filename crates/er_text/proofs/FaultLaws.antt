@@ -1,6 +1,5 @@
 -- A text that has a fault by the grammar is read to that fault and to no other.
 use Rattle.std.proofs.Common.{◌≡◌, ℕ, suc, ◌+◌, ◌≤◌, inl, inr, List, [], ◌∷◌, ◌++◌, Option, Some, None, Result, Ok, Err, length, refl, subst, sym, ap, ◌∙◌, arith}
-use Rattle.er_event.specs.Trace.{Recording}
 use Rattle.er_text.specs.declared.faults.TextKind.{TextKind}
 use Rattle.er_text.specs.declared.faults.TextKind.TheVariants.{NoHeader}
 use Rattle.er_text.specs.declared.faults.TextFault.{TextFault}

@@ -1,9 +1,9 @@
 -- Numbers keep their names as a trace grows, and a new number has the name that was read.
-use Rattle.std.proofs.Common.{◌≡◌, ℕ, zero, suc, ◌+◌, ◌-◌, ◌<◌, ◌≤◌, Bool, true, false, not, ◌||◌, cond, List, [], ◌∷◌, ◌++◌, map, length, get_or, Option, Some, None, refl, subst, sym, ap, ◌∙◌, arith}
+use Rattle.std.proofs.Common.{◌≡◌, ℕ, zero, suc, ◌+◌, ◌-◌, Bool, true, false, not, ◌||◌, cond, List, [], ◌∷◌, ◌++◌, map, Option, Some, None, refl, subst, sym, ap, arith}
 use Rattle.std.specs.List.{Contains, slice_get, list_any, position_or_len}
 use Rattle.std.specs.Str.{bytes_eq}
 use Rattle.er_event.specs.Names.{NameTable, is_known, number_of, with_name}
-use Rattle.er_event.specs.Span.{Span, parts_of}
+use Rattle.er_event.specs.Span.{Span}
 use Rattle.er_event.specs.Trace.{Recording, no_steps, with_thread}
 use Rattle.er_event.specs.declared.addresses.PageRange.{PageRange}
 use Rattle.er_event.specs.declared.steps.Event.{Event}
@@ -11,9 +11,9 @@ use Rattle.er_event.specs.declared.steps.Event.TheVariants as event
 use Rattle.er_event.specs.declared.steps.Step.{Step}
 use Rattle.er_text.specs.declared.verbs.Version.{Version}
 use Rattle.er_text.specs.Lines.{words}
-use Rattle.er_text.specs.Events.{Saying, Deed, Acquires, Releases, Accesses, Reuses, IgnoresOn, IgnoresOff, Shows, Levels, run_parts, site_number, with_site_of, tell_deed, tell}
+use Rattle.er_text.specs.Events.{Saying, Deed, Acquires, Releases, Accesses, Reuses, IgnoresOn, IgnoresOff, Shows, Levels, run_parts, tell_deed, tell}
 use Rattle.er_text.specs.Trace.{Placed, Says, AllSay, tell_all, IsTrace}
-use Rattle.er_text.specs.Named.{IsSiteNumber, Does, IsToldBy, AreNamed}
+use Rattle.er_text.specs.Named.{IsSiteNumber, Does, AreNamed}
 use Rattle.er_text.proofs.SpellingLaws.{equal}
 
 kept : {X : Type 0} (xs ys : List X) (n : ℕ) (x : X) → slice_get xs n ≡ Some x → slice_get (xs ++ ys) n ≡ Some x

@@ -1,5 +1,5 @@
 -- What is read of the words of an event line is what the grammar says of them.
-use Rattle.std.proofs.Common.{◌≡◌, ℕ, suc, ◌+◌, ◌/◌, ◌^◌, ◌<◌, ◌≤◌, Bool, true, false, not, ◌||◌, cond, List, [], ◌∷◌, Option, Some, None, Result, Ok, Err, length, nat_lt, nat_le, nat_eq, codes, refl, subst, sym, ap, ◌∙◌, arith}
+use Rattle.std.proofs.Common.{◌≡◌, ℕ, ◌+◌, ◌/◌, ◌^◌, ◌<◌, ◌≤◌, Bool, true, false, ◌||◌, cond, List, [], ◌∷◌, Option, Some, None, Result, Ok, Err, nat_lt, nat_le, codes, refl, subst, sym, ap, ◌∙◌, arith}
 use Rattle.std.specs.Str.{bytes_eq}
 use Rattle.std.proofs.lemmas.Bool.Decides.{nat_tests}
 use Rattle.er_event.specs.Span.{Span}
@@ -12,12 +12,12 @@ use Rattle.er_text.specs.declared.faults.TextKind.TheVariants.{BadName, MissingO
 use Rattle.er_text.specs.declared.verbs.Verb.{Verb}
 use Rattle.er_text.specs.declared.verbs.Verb.TheVariants as verb
 use Rattle.er_text.specs.declared.verbs.Version.{Version}
-use Rattle.er_text.specs.Lines.{has_bytes, word_at}
+use Rattle.er_text.specs.Lines.{word_at}
 use Rattle.er_text.specs.Number.{number_of}
 use Rattle.er_text.specs.Naming.{is_name, is_lock_name}
-use Rattle.er_text.specs.Verbs.{verb_of, least_of, most_of}
+use Rattle.er_text.specs.Verbs.{verb_of}
 use Rattle.er_text.specs.Events.{Deed, Acquires, Releases, Accesses, Reuses, IgnoresOn, IgnoresOff, Shows, Levels, Saying, run_of}
-use Rattle.er_text.specs.Saying.{and_then, map_ok, or_fault, number_in, name_in, lock_in, site_in, word_in, level_in, is_outside, run_in, access_in, reuse_in, operands_in, counted_in, deed_in, said_of}
+use Rattle.er_text.specs.Saying.{and_then, map_ok, or_fault, number_in, name_in, lock_in, site_in, word_in, level_in, run_in, access_in, reuse_in, operands_in, counted_in, deed_in, said_of}
 use Rattle.er_text.specs.Trace.{acquire_word, release_word, kind_word, IsSite, IsDeed, Says}
 use Rattle.er_text.proofs.SpellingLaws.{equal, AreWhole, spelling, IsKnown, verb_spelled}
 use Rattle.er_text.proofs.FaultTables.{count}

@@ -1,5 +1,5 @@
 -- The words of headers and verbs are those that the grammar spells out.
-use Rattle.std.proofs.Common.{◌≡◌, ℕ, ◌⊎◌, inl, inr, Bool, true, false, not, ◌&&◌, cond, List, [], ◌∷◌, Option, Some, None, codes, refl, subst, sym, ap, ◌∙◌}
+use Rattle.std.proofs.Common.{◌≡◌, ℕ, Bool, true, false, not, ◌&&◌, cond, List, [], ◌∷◌, Option, Some, None, codes, refl, subst, ap, ◌∙◌}
 use Rattle.std.specs.List.{list_all}
 use Rattle.std.specs.Str.{bytes_eq}
 use Rattle.std.proofs.lemmas.Bool.{and_parts}
@@ -9,7 +9,7 @@ use Rattle.er_text.specs.declared.verbs.Verb.TheVariants.{Lock, Unlock, ReadLock
 use Rattle.er_text.specs.declared.verbs.Version.{Version}
 use Rattle.er_text.specs.declared.verbs.Version.TheVariants.{One, Two}
 use Rattle.er_text.specs.Lines.{has_bytes, word_at}
-use Rattle.er_text.specs.Verbs.{version_word, header_version, version_of, verb_of, rarer_verb_of, level_verb}
+use Rattle.er_text.specs.Verbs.{version_word, header_version, verb_of, rarer_verb_of, level_verb}
 use Rattle.er_text.specs.Trace.{header_words, version_in}
 
 pub equal : (xs ys : List ℕ) → bytes_eq xs ys ≡ true → xs ≡ ys

@@ -3,9 +3,7 @@ use Rattle.std.proofs.Common.{◌≡◌, ℕ, suc, ◌+◌, ◌≤◌, ◌⊎◌
 use Rattle.std.specs.List.{list_all, AllByRecursion}
 use Rattle.std.proofs.lemmas.Bool.Decides.{nat_tests}
 use Rattle.er_event.specs.Trace.{Recording}
-use Rattle.er_text.specs.declared.faults.TextFault.{TextFault}
 use Rattle.er_text.specs.declared.faults.TextKind.{TextKind}
-use Rattle.er_text.specs.declared.faults.TextKind.TheVariants.{NoHeader}
 use Rattle.er_text.specs.declared.faults.ReadFault.{ReadFault}
 use Rattle.er_text.specs.declared.faults.ReadFault.TheVariants as fault
 use Rattle.er_text.specs.declared.verbs.Version.{Version}

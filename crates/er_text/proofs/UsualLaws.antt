@@ -1,7 +1,7 @@
 -- Lines in their usual form say what the grammar says of their words.
-use Rattle.std.proofs.Common.{◌≡◌, ◌==◌, ℕ, zero, suc, append-nil, ◌+◌, ◌/◌, ◌^◌, ◌<◌, ◌≤◌, Bool, true, false, not, ◌||◌, ◌&&◌, cond, List, [], ◌∷◌, ◌++◌, length, take, drop, get_or, filter, Option, Some, None, Ok, Result, nat_lt, nat_le, codes, refl, subst, sym, ap, ◌∙◌, arith}
+use Rattle.std.proofs.Common.{◌≡◌, ◌==◌, ℕ, zero, suc, append-nil, ◌/◌, ◌^◌, ◌≤◌, Bool, true, false, not, ◌&&◌, cond, List, [], ◌∷◌, ◌++◌, length, take, drop, get_or, filter, Option, Some, None, Ok, nat_lt, nat_le, codes, refl, sym, ap, ◌∙◌, arith}
 use Rattle.std.specs.List.{list_all, slice_split, All}
-use Rattle.std.specs.Char.{digit_value, is_digit}
+use Rattle.std.specs.Char.{is_digit}
 use Rattle.std.specs.Str.{bytes_eq}
 use Rattle.std.specs.Str.Parse.{digits_value}
 use Rattle.std.proofs.lemmas.Bool.{and_parts}
@@ -12,17 +12,13 @@ use Rattle.std.proofs.lemmas.List.Folds.{list_all-append}
 use Rattle.std.proofs.lemmas.List.Splits.{slice_split_at, slice_split_none}
 use Rattle.std.proofs.lemmas.List.Sums.{AllPass-from_list_all, list_all-from_AllPass}
 use Rattle.er_event.specs.declared.steps.Kind.{Kind}
-use Rattle.er_event.specs.declared.steps.Kind.TheVariants as kind
 use Rattle.er_event.specs.declared.steps.Mode.TheVariants as mode
-use Rattle.er_text.specs.declared.faults.TextKind.{TextKind}
 use Rattle.er_text.specs.declared.verbs.Version.{Version}
 use Rattle.er_text.specs.Lines.{is_gap, is_ascii, is_comment, has_bytes, words, word_at}
-use Rattle.er_text.specs.Number.{number_of, value_in}
+use Rattle.er_text.specs.Number.{number_of}
 use Rattle.er_text.specs.Naming.{is_name_byte, is_name, is_lock_name, name_of, lock_name_of}
 use Rattle.er_text.specs.Events.{Deed, Acquires, Releases, Accesses, Saying, tell}
-use Rattle.er_text.specs.Saying.{said_of}
-use Rattle.er_text.specs.Reading.{Progress, tell_said, read_words, read_content, read_plain}
-use Rattle.er_text.specs.Trace.{kind_word, IsSite, IsDeed, Says}
+use Rattle.er_text.specs.Reading.{Progress, tell_said, read_words, read_plain}
 use Rattle.er_text.specs.Usual.{IsFrontName, IsHexFront, TellsAccess, TellsUsual, SaysUsually}
 use Rattle.er_text.proofs.ByteLemmas.{name_ascii}
 use Rattle.er_text.proofs.SayingAgain.{says_said}

@@ -1,5 +1,5 @@
 -- What an event line says, and the steps that it adds to a trace.
-use Rattle.std.specs.Prelude.{ℕ, ◌+◌, ◌++◌, ◌==◌, List, [], ◌∷◌, map, Option, Some, None, if◌then◌else◌}
+use Rattle.std.specs.Prelude.{ℕ, ◌+◌, ◌++◌, ◌==◌, List, [], map, Option, Some, None, if◌then◌else◌}
 use Rattle.er_event.specs.Names.{number_of}
 use Rattle.er_event.specs.Span.{Span, span_of_bytes, parts_of}
 use Rattle.er_event.specs.Trace.{Recording, with_step, with_thread, with_lock, with_site}
@@ -7,7 +7,6 @@ use Rattle.er_event.specs.declared.addresses.PageRange.{PageRange}
 use Rattle.er_event.specs.declared.steps.Event.TheVariants as event
 use Rattle.er_event.specs.declared.steps.Kind.{Kind}
 use Rattle.er_event.specs.declared.steps.Mode.{Mode}
-use Rattle.er_event.specs.declared.steps.Step.{Step}
 
 -- what a thread does: the lock and its mode, the word and its site if there is one, the words put to a new use, the level
 pub data Deed : Type 0 where

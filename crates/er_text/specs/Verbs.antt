@@ -1,5 +1,5 @@
 -- The words that headers and events are spelled with.
-use Rattle.std.specs.Prelude.{ℕ, ◌&&◌, Bool, true, false, not, List, [], ◌∷◌, Option, Some, None, codes, if◌then◌else◌}
+use Rattle.std.specs.Prelude.{ℕ, ◌&&◌, not, List, Option, Some, None, codes, if◌then◌else◌}
 use Rattle.std.specs.Str.{bytes_eq}
 use Rattle.er_text.specs.Lines.{has_bytes}
 use Rattle.er_text.specs.declared.verbs.Verb.{Verb}

@@ -57,6 +57,7 @@ impl Reading {
         })
     }
 
+    /// Reads a line of ASCII.
     fn content(&mut self, bytes: &[u8]) -> Result<(), ReadFault>
         requires { IsSound 268435456 (progress self.old) }
         ensures content { Advances (progress self.old) (progress self.new) result (read_content (progress self.old) bytes.now) }
@@ -83,7 +84,7 @@ impl Reading {
         }
     }
 
-    /// Reads a line that is in the limits.
+    /// Reads a line that is in the limits. A line in its usual form is ASCII, and so the test is for the others alone.
     fn plain(&mut self, bytes: &[u8]) -> Result<(), ReadFault>
         requires { IsSound 268435456 (progress self.old) }
         ensures content { Advances (progress self.old) (progress self.new) result (read_plain (progress self.old) bytes.now) }
@@ -194,7 +195,10 @@ fn read_all<R: Read>(
     reading.finish()
 }
 
-/// Reads a trace to its end, in whatever pieces it comes.
+/// Reads a trace text to its end, or to its first faulty line, in whatever pieces it comes. The format of the text is own.
+///
+/// The text has at most `byte_limit` bytes, and the limit is at most 268,435,456 (256 MiB). What follows a faulty line may or may
+/// not have been taken from the reader. No memory is kept but that of the trace and a window of 65,536 bytes.
 pub fn read_trace<R: Read>(
     alloc: Global,
     reader: &mut Device<R>,

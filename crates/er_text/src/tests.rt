@@ -347,18 +347,24 @@ a reuse 0xffc 0x1008
 d read 0 t";
 
 /// The verb of a step and the numbers behind it.
-fn told_by(event: Event) -> (&'static str, u64, u64) {
+fn told_by(event: &Event) -> (&'static str, u64, u64) {
     match event {
-        Event::Acquire(lock, Mode::Write) => ("lock", u64::from(lock.number()), 0),
-        Event::Acquire(lock, Mode::Read) => ("rlock", u64::from(lock.number()), 0),
-        Event::Release(lock, Mode::Write) => ("unlock", u64::from(lock.number()), 0),
-        Event::Release(lock, Mode::Read) => ("runlock", u64::from(lock.number()), 0),
-        Event::Access(Kind::Read, word, site) => ("read", word.number(), u64::from(site.number())),
-        Event::Access(Kind::Write, word, site) => (
-            "write",
-            word.number(),
-            u64::from(site.number()),
-        ),
+        Event::Acquire(lock, mode) => {
+            let verb = if *mode == Mode::Read { "rlock" } else { "lock" };
+            (verb, u64::from(lock.number()), 0)
+        }
+        Event::Release(lock, mode) => {
+            let verb = if *mode == Mode::Read {
+                "runlock"
+            } else {
+                "unlock"
+            };
+            (verb, u64::from(lock.number()), 0)
+        }
+        Event::Access(kind, word, site) => {
+            let verb = if *kind == Kind::Read { "read" } else { "write" };
+            (verb, word.number(), u64::from(site.number()))
+        }
         Event::Reuse(range) => ("reuse", range.lo.number(), range.hi.number()),
         Event::IgnoreOn => ("ignore-on", 0, 0),
         Event::IgnoreOff => ("ignore-off", 0, 0),
@@ -392,7 +398,7 @@ fn every_verb(rt: HostRuntime) -> Result<(), Fail> {
     for ((step, line), (wanted_line, thread, verb, first, second)) in told.zip(&wanted) {
         assert_eq!(rt; line, wanted_line);
         assert_eq!(rt; step.thread.number(), *thread, "line {line}");
-        let numbers = told_by(step.event);
+        let numbers = told_by(&step.event);
         assert_eq!(rt; numbers.0, *verb, "line {line}");
         assert_eq!(rt; (numbers.1, numbers.2), (*first, *second), "line {line}");
     }

@@ -1,5 +1,5 @@
 -- An address and perhaps a site.
-use Rattle.std.proofs.Common.{◌≡◌, ℕ, Option, Some, None, List, length, take, drop, ◌-◌, sym, ap, ◌∙◌, rules}
+use Rattle.std.proofs.Common.{◌≡◌, ℕ, Some, None, length, take, drop, ◌-◌, sym, ap, ◌∙◌, rules}
 use Rattle.std.proofs.lemmas.List.{nil_from_length, take_rest}
 use Rattle.er_text.specs.Events.{Accesses}
 use Rattle.er_text.proofs.UsualLaws.{access_alone, access_site, missing_site, named_site}

@@ -1,5 +1,5 @@
 -- Each step reads one digit more, and 12 of them stay below 2 ^ 48.
-use Rattle.std.proofs.Common.{◌≡◌, ◌<◌, ◌≤◌, ◌^◌, length, arith}
+use Rattle.std.proofs.Common.{◌≡◌, ◌<◌, ◌^◌, arith}
 use Rattle.er_text.proofs.UsualLemmas.{no_digit, digit_more, few_small, hex_found}
 use Rattle.er_text.proofs.usual.hex_front.Goals as goal
 

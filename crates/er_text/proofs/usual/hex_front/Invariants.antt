@@ -1,5 +1,4 @@
 -- The digits so far write the value.
-use Rattle.std.proofs.Common.{◌≤◌, length}
 use Rattle.er_text.proofs.UsualLemmas.{HexSoFar}
 use Rattle.er_text.proofs.usual.hex_front.Given as goal
 

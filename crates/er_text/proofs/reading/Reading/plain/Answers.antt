@@ -1,5 +1,5 @@
 -- An event line in its usual form is read as the grammar says.
-use Rattle.std.proofs.Common.{◌≡◌, Ok, sym, ap, ◌∙◌}
+use Rattle.std.proofs.Common.{Ok, sym, ap, ◌∙◌}
 use Rattle.er_event.specs.Trace.{Recording}
 use Rattle.er_text.specs.Progress.{progress}
 use Rattle.er_text.specs.Reading.{Progress}
