@@ -1,5 +1,5 @@
 -- A run answers one step more.
-use Rattle.std.proofs.Common.{◌≡◌, ℕ, ◌<◌, ◌+◌, ◌-◌, Bool, true, false, List, [], ◌∷◌, ◌++◌, length, take, set, Result, Ok, Err, IsTrue, IsFalse, IsOk, OnErr, Option, Some, get_or, slice_get, refl, ap, sym, ◌∙◌, append_assoc, append-nil}
+use Rattle.std.proofs.Common.{◌≡◌, ℕ, ◌<◌, ◌+◌, Bool, true, false, List, [], ◌∷◌, ◌++◌, length, take, set, Result, Ok, Err, IsTrue, IsFalse, IsOk, OnErr, Some, get_or, slice_get, refl, ap, sym, ◌∙◌, append_assoc, append-nil}
 use Rattle.std.proofs.lemmas.List.{take_more, take_more_set}
 use Rattle.std.proofs.lemmas.Option.{slice_get_read}
 use Rattle.er_event.specs.Refusal.{refusal_of}
@@ -11,7 +11,7 @@ use Rattle.er_event.specs.declared.steps.Step.{Step}
 use Rattle.er_model.specs.Answers.{answer_next}
 use Rattle.er_model.specs.Runs.{answers_after}
 use Rattle.er_model.proofs.Runs.{after-one, after-none}
-use Rattle.er_replay.specs.Standing.{Replayed, Stands, found_no_room, is_no_room}
+use Rattle.er_replay.specs.Standing.{Replayed, Stands, found_no_room}
 
 -- what had no room is a refusal of that kind
 pub no_room-found : (answer : Result Reply Refusal) (cause : NoRoom) → answer ≡ Err (refusal_of cause) → IsTrue (found_no_room answer)

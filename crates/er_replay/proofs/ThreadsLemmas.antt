@@ -1,5 +1,5 @@
 -- One thread's holdings among all, as the map of threads is read and written.
-use Rattle.std.proofs.Common.{◌≡◌, ℕ, [], Bool, true, false, cond, List, Option, Some, None, unwrap_or, Result, Ok, Err, OnOk, OnErr, IfErr, IsErrAnd, refl, ap, sym, ◌∙◌, eqb}
+use Rattle.std.proofs.Common.{◌≡◌, ℕ, [], Bool, true, false, cond, List, Option, Some, None, unwrap_or, Result, Ok, Err, OnOk, OnErr, IfErr, IsErrAnd, refl, ap, ◌∙◌, eqb}
 use Rattle.std.specs.Map.{lookup}
 use Rattle.er_held.specs.Held.{nothing_held}
 use Rattle.er_model.specs.Holdings.{Holdings}

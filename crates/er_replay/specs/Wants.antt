@@ -3,7 +3,7 @@ use Rattle.std.specs.Prelude.{Bool, true, false}
 use Rattle.er_event.specs.declared.refusals.Refusal.{Refusal}
 use Rattle.er_event.specs.declared.refusals.Refusal.TheVariants.{TableFull, OutOfMemory}
 use Rattle.er_event.specs.declared.steps.Event.{Event}
-use Rattle.er_event.specs.declared.steps.Event.TheVariants.{Acquire, Release, Access, Reuse, IgnoreOn, IgnoreOff, Show, Level}
+use Rattle.er_event.specs.declared.steps.Event.TheVariants.{Acquire, Access, IgnoreOn, Show, Level}
 
 -- the event may find no room of this kind: an access may want a set of locks or memory, what takes a lock, opens a bracket, sets a
 -- level or shows a word may want memory, and what gives up a lock, closes a bracket or reuses words wants nothing

@@ -1,4 +1,4 @@
-use Rattle.std.proofs.Common.{◌≡◌, ◌+◌, ◌<◌, ◌≤◌, length, take, refl, sym, ◌∙◌, ap, arith, ◌++◌, ◌∷◌, [], suc, add-one, length-set}
+use Rattle.std.proofs.Common.{◌≡◌, ◌<◌, length, refl, sym, ◌∙◌, ap, arith, add-one, length-set}
 use Rattle.std.proofs.lemmas.List.{take_more_set, take_all}
 use Rattle.er_event.specs.Lockset.{locks_from}
 use Rattle.er_held.proofs.HeldLemmas.{locks-last}

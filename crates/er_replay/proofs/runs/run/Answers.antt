@@ -1,11 +1,6 @@
-use Rattle.std.proofs.Common.{◌≡◌, ◌<◌, List, [], ◌∷◌, ◌++◌, ◌+◌, length, take, ap, sym, ◌∙◌, refl, arith, inr, IsSomeAnd, IsTrue}
+use Rattle.std.proofs.Common.{[], ◌++◌, ◌+◌, length, take, ap, sym, ◌∙◌, refl, inr}
 use Rattle.std.proofs.lemmas.Bool.{eqb-true}
 use Rattle.std.proofs.lemmas.List.{nil_from_length, take_all, length-replicate}
-use Rattle.er_event.specs.declared.steps.Step.{Step}
-use Rattle.er_event.specs.Refusal.{refusal_of}
-use Rattle.er_model.specs.Runs.{answers_after}
-use Rattle.er_replay.specs.Standing.{Stands}
-use Rattle.er_replay.specs.Wants.{may_want}
 use Rattle.er_replay.proofs.RunsLemmas.{taken-none, answered-none, found, next-stands, next-answers}
 use Rattle.er_replay.proofs.runs.run.Goals as goal
 

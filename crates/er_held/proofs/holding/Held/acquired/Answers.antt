@@ -1,4 +1,4 @@
-use Rattle.std.proofs.Common.{◌≡◌, ◌-◌, length, sym, ◌∙◌, arith}
+use Rattle.std.proofs.Common.{arith}
 use Rattle.er_held.proofs.HeldLemmas.{holding-room, holding-counted}
 use Rattle.er_held.proofs.holding.Held.acquired.Goals as goal
 

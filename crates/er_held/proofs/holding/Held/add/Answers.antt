@@ -1,7 +1,6 @@
-use Rattle.std.proofs.Common.{◌≡◌, ◌<◌, false, length, sym, ◌∙◌, ap, refl, arith}
+use Rattle.std.proofs.Common.{◌≡◌, ◌<◌, false, length, ◌∙◌, ap, arith}
 use Rattle.er_event.specs.Lockset.{has, without_lock}
 use Rattle.er_model.specs.Holdings.{acquired_among}
-use Rattle.er_held.specs.Held.{IsHolding}
 use Rattle.er_held.proofs.HeldLemmas.{holding-insert, holding-insert_both, fewer, without-with_lock}
 use Rattle.er_held.proofs.holding.Held.add.Goals as goal
 

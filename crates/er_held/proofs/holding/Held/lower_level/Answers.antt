@@ -1,4 +1,4 @@
-use Rattle.std.proofs.Common.{◌≡◌, ◌≤◌, ◌-◌, length, take, ◌∙◌, refl, sym, arith}
+use Rattle.std.proofs.Common.{◌≡◌, ◌≤◌, ◌-◌, ◌∙◌, refl, arith}
 use Rattle.er_model.specs.Holdings.{at_level}
 use Rattle.er_held.proofs.HeldLemmas.{holding-room, write_room, holding-level, level-cut}
 use Rattle.er_held.proofs.holding.Held.lower_level.Goals as goal

@@ -1,6 +1,5 @@
 -- The level locks between the two levels go behind both sets.
-use Rattle.std.proofs.Common.{◌≡◌, ◌≤◌, ◌-◌, suc, take, drop, refl, ◌∙◌}
-use Rattle.er_event.specs.Lockset.{locks_from, level_lock}
+use Rattle.std.proofs.Common.{◌≡◌, ◌≤◌, refl, ◌∙◌}
 use Rattle.er_model.specs.Holdings.{at_level}
 use Rattle.er_held.proofs.HeldLemmas.{locks-between, level-increasing, level-joined, holding-level}
 use Rattle.er_held.proofs.holding.Held.raise_level.Goals as goal

@@ -1,7 +1,5 @@
-use Rattle.std.proofs.Common.{◌≡◌, ap, ◌∙◌, sym, ◌⊎◌, Some, IsTrue, rules}
+use Rattle.std.proofs.Common.{◌≡◌, ap, ◌∙◌, sym, rules}
 use Rattle.std.proofs.lemmas.Map.Steps.{set_value_same}
-use Rattle.er_event.specs.declared.refusals.Refusal.{Refusal}
-use Rattle.er_model.specs.Holdings.{Holdings}
 use Rattle.er_replay.specs.Threads.{holding_among}
 use Rattle.er_held.specs.Held.{nothing_held}
 use Rattle.er_replay.proofs.ThreadsLemmas.{holding-found, holding-absent, holding-written, on_ok, on_err, err_from}
