@@ -1,8 +1,9 @@
 #!/usr/bin/env python3
 """A second reading of docs/FORMATS.md and docs/DEFINITIONS.md, written for checking alone: slow, plain and unproved.
 
-reference.py replay FILE     prints the report of a trace and ends with its exit status
-reference.py random SEED     prints a short random trace, with faults now and then
+reference.py replay FILE [RULES]   prints the report of a trace and ends with its exit status
+reference.py random SEED           prints a short random trace, with faults now and then
+reference.py rules SEED            prints a short random text of suppressions, with faults now and then
 
 It shares no code with the program, so that a misreading of the documents shows as a difference.
 """
@@ -81,12 +82,12 @@ def event_of(line, words, version):
     return words[0], words[1], operands
 
 
-def events_of(text):
-    """The event lines of a text, each with its line, or its first fault."""
+def content_of(text):
+    """The lines of a text that aren't skipped, each with its number and words, up to a line that no text may have."""
     lines = text.split(b"\n")
     if lines[-1] == b"":
         lines.pop()
-    events, start, version = [], 0, None
+    start = 0
     for at, line in enumerate(lines, 1):
         width = len(line) + 1 if start + len(line) < len(text) else len(line)
         if len(line) > 1024:
@@ -97,17 +98,50 @@ def events_of(text):
             raise Fault(at, "not ascii")
         start += width
         words = [word for word in re.split(rb"[ \t]+", line) if word]
-        if not words or line.startswith(b"#"):
-            continue
+        if words and not line.startswith(b"#"):
+            yield at, words
+    yield len(lines) + 1, None
+
+
+def events_of(text):
+    """The event lines of a trace, each with its line, or its first fault."""
+    events, version = [], None
+    for at, words in content_of(text):
         if version is None:
-            if len(words) != 3 or words[:2] != [b"eraser", b"trace"] or words[2] not in (b"1", b"2"):
+            if words is None or len(words) != 3 or words[:2] != [b"eraser", b"trace"] or words[2] not in (b"1", b"2"):
                 raise Fault(at, "no header")
             version = words[2]
-            continue
-        events.append((at, event_of(at, words, version)))
-    if version is None:
-        raise Fault(len(lines) + 1, "no header")
+        elif words is not None:
+            events.append((at, event_of(at, words, version)))
     return events
+
+
+def rule_of(line, words):
+    """A site, or the first and the last word of a run of bytes, which are the wrong way round where it is of no byte."""
+    wanted = {b"site": 1, b"words": 2}.get(words[0])
+    if wanted is None:
+        raise Fault(line, "bad verb")
+    operands = words[1:]
+    if len(operands) != wanted:
+        raise Fault(line, "missing operand" if len(operands) < wanted else "extra operand")
+    if words[0] == b"site":
+        if not is_name(operands[0]):
+            raise Fault(line, "bad name")
+        return operands[0]
+    address, size = number(operands[0]), number(operands[1])
+    if address is None or size is None:
+        raise Fault(line, "bad number")
+    if address >= 2**48 or address + size > 2**48:
+        raise Fault(line, "address out of range")
+    return (address // 4, (address + size - 1) // 4) if size else (1, 0)
+
+
+def rules_of(text):
+    return [rule_of(at, words) for at, words in content_of(text) if words is not None]
+
+
+def takes(rule, site, word):
+    return rule == site if isinstance(rule, bytes) else rule[0] <= word <= rule[1]
 
 
 class Word:
@@ -131,7 +165,8 @@ class Word:
 
 
 class Replay:
-    def __init__(self):
+    def __init__(self, rules):
+        self.rules, self.taken = rules, [0] * len(rules)
         self.locks, self.held, self.depth, self.level, self.words = {}, {}, {}, {}, {}
         self.lines, self.steps, self.races, self.refused = [], 0, 0, 0
 
@@ -168,9 +203,13 @@ class Replay:
         word.accesses.append((thread, verb, self.cover(thread, verb)))
         if word.racy() and not word.reported:
             word.reported = True
+            site = operands[1] if len(operands) > 1 else b"-"
+            taker = next((k for k, rule in enumerate(self.rules) if takes(rule, site, at)), None)
+            if taker is not None:
+                self.taken[taker] += 1
+                return
             self.races += 1
-            site = operands[1].decode() if len(operands) > 1 else "-"
-            self.lines.append(f"line {line}: race: {thread.decode()} {verb.decode()} 0x{at * 4:012x} at {site}, holds {self.names(self.cover(thread, b'read'))}")
+            self.lines.append(f"line {line}: race: {thread.decode()} {verb.decode()} 0x{at * 4:012x} at {site.decode()}, holds {self.names(self.cover(thread, b'read'))}")
 
     def show(self, line, operands):
         at = number(operands[0]) // 4
@@ -217,16 +256,21 @@ class Replay:
             self.access(line, thread, verb, operands)
 
 
-def replay(text):
+def replay(text, rules=b""):
     """Standard output, standard error and exit status."""
+    try:
+        found = rules_of(rules)
+    except Fault as fault:
+        return "", f"suppressions line {fault.line}: {fault.kind}\n", 2
     try:
         events = events_of(text)
     except Fault as fault:
         return "", f"line {fault.line}: {fault.kind}\n", 2
-    run = Replay()
+    run = Replay(found)
     for line, (thread, verb, operands) in events:
         run.step(line, thread, verb, operands)
-    run.lines.append(f"steps {run.steps}, races {run.races}, suppressed 0, refused {run.refused}")
+    run.lines += [f"suppression {number}: {count}" for number, count in enumerate(run.taken, 1)]
+    run.lines.append(f"steps {run.steps}, races {run.races}, suppressed {sum(run.taken)}, refused {run.refused}")
     return "".join(line + "\n" for line in run.lines), "", 1 if run.races else 0
 
 
@@ -261,14 +305,28 @@ def random_trace(seed):
     return text
 
 
+def random_rules(seed):
+    dice = random.Random(seed)
+    lines = []
+    for _ in range(dice.randrange(6)):
+        address, size = dice.choice(["0x1000", "4100", "0x2000", "0xffffffffffff", "0"]), dice.choice(["0", "1", "4", "4097", "0x10000", "99999999"])
+        lines.append(dice.choice([f"site {dice.choice(['a.c:7', 'b/c.rs:12', '-', 'other'])}", f"words {address} {size}", "", "# a comment"]))
+    text = "\n".join(lines).encode() + dice.choice([b"", b"\n"])
+    if dice.randrange(5) == 0:
+        at = dice.randrange(len(text) + 1)
+        text = text[:at] + dice.choice([b" ", b"\n", b"0", b"x", b"!", b"\x80", b"a" * 1100, b" none ", b"\r"]) + text[at + dice.randrange(3):]
+    return text
+
+
 def main():
     if sys.argv[1] == "replay":
-        with open(sys.argv[2], "rb") as file:
-            output, errors, status = replay(file.read())
+        texts = [open(name, "rb").read() for name in sys.argv[2:4]]
+        output, errors, status = replay(*texts)
         sys.stdout.write(output)
         sys.stderr.write(errors)
         sys.exit(status)
-    sys.stdout.buffer.write(random_trace(int(sys.argv[2])))
+    made = random_trace if sys.argv[1] == "random" else random_rules
+    sys.stdout.buffer.write(made(int(sys.argv[2])))
 
 
 if __name__ == "__main__":

@@ -1,0 +1,131 @@
+"""Worked traces with the whole text that the program writes of each, by name. `tests/run` passes each by path and by standard input.
+
+Lines are parted by `; ` here, and `x` stands for the address 0x1000 (0x000000001000 in what is written). A trace's header is
+`eraser trace 1` unless it gives its own `header`.
+"""
+
+from dataclasses import dataclass, field
+
+IN, OUT = "0x1000", "0x000000001000"
+
+
+@dataclass
+class Case:
+    name: str
+    text: bytes
+    output: bytes
+    errors: bytes = b""
+    status: int = 0
+    rules: bytes = field(default=None)
+
+
+def lines(joined):
+    return [line for line in joined.split("; ") if line]
+
+
+def spelled(line, address):
+    return " ".join(address if word == "x" else word for word in line.split(" "))
+
+
+def text_of(joined, header="eraser trace 1"):
+    return "".join(f"{spelled(line, IN)}\n" for line in [header, *lines(joined)]).encode()
+
+
+def output_of(joined):
+    return "".join(f"{line.replace(' x', ' ' + OUT)}\n" for line in lines(joined)).encode()
+
+
+def totals(steps, races, suppressed, refused):
+    return f"steps {steps}, races {races}, suppressed {suppressed}, refused {refused}"
+
+
+def told(name, joined, report, counts, status=0, header="eraser trace 1", rules=None):
+    """A trace that is replayed: the lines before the totals, and the totals."""
+    output = output_of("; ".join([*lines(report), totals(*counts)]))
+    rules = None if rules is None else "".join(f"{spelled(line, IN)}\n" for line in lines(rules)).encode()
+    return Case(name, text_of(joined, header), output, status=status, rules=rules)
+
+
+def faulty(name, text, line, kind):
+    """A text with a fault: nothing is written but the fault."""
+    return Case(name, text, b"", f"line {line}: {kind}\n".encode(), 2)
+
+
+RACE = "race: t2 write x at -, holds none"
+DEEP = "; ".join(["t1 ignore-on"] * 256)
+LOCKS = "; ".join(f"t1 lock l{n}" for n in range(1, 66))
+PAGES = range(0, 32768, 4096)
+EIGHT = "; ".join(f"{thread} write {page}" for thread in ("t1", "t2") for page in PAGES)
+SHRINK = (
+    "t1 lock a; t1 lock b; t1 write x; t1 unlock b; t2 lock b; t2 lock c; t2 write x; t2 unlock c; t1 lock c; t1 write x; "
+    "t1 unlock a; t2 lock a; t2 write x"
+)
+LEVELS = "t1 level 2; t1 write x; t1 level 0; t2 level 1; t2 write x; t2 show x"
+LEVEL_AND_LOCK = "t1 write x; t2 level 3; t2 lock m; t2 write x; t2 show x; t1 level 2; t1 write x; t1 show x"
+
+REPLAYED = [
+    told("header_alone", "", "", (0, 0, 0, 0)),
+    told("two_writers", "t1 write x; t2 write x", f"line 3: {RACE}", (2, 1, 0, 0), 1),
+    told("one_lock_protects", "t1 lock m; t1 write x; t1 unlock m; t2 lock m; t2 write x; t2 unlock m; t1 show x",
+         "line 8: state x: shared-modified, candidates m", (7, 0, 0, 0)),
+    told("read_sharing", "t1 write x; t2 read x; t3 read x; t1 write x", "line 5: race: t1 write x at -, holds none", (4, 1, 0, 0), 1),
+    told("read_sharing_alone", "t1 write x; t2 read x; t3 read x", "", (3, 0, 0, 0)),
+    told("read_mode_lock", "t1 lock m; t1 write x; t1 unlock m; t2 rlock m; t2 write x", "line 6: race: t2 write x at -, holds m", (5, 1, 0, 0), 1),
+    told("read_mode_lock_for_a_read", "t1 lock m; t1 write x; t1 unlock m; t2 rlock m; t2 read x; t2 show x",
+         "line 7: state x: shared, candidates m", (6, 0, 0, 0)),
+    told("reported_once_between_reuses", "t1 write x; t2 write x; t1 write x; t1 reuse x 4; t1 write x; t2 write x",
+         f"line 3: {RACE}; line 7: {RACE}", (6, 2, 0, 0), 1),
+    told("ignore_brackets", "t1 write x; t2 ignore-on; t2 write x; t2 ignore-off; t2 ignore-off; t1 write x; t1 show x",
+         "line 6: refused: t2 ignore-off: ignore not on; line 8: state x: exclusive t1", (7, 0, 0, 1)),
+    told("ignore_too_deep", DEEP, "line 257: refused: t1 ignore-on: ignore too deep", (256, 0, 0, 1)),
+    told("lock_refusals", "t1 unlock m; t1 lock m; t1 runlock m; t1 rlock m; t1 unlock m; t1 unlock m",
+         "line 2: refused: t1 unlock m: not held; line 4: refused: t1 runlock m: held in the other mode; "
+         "line 5: refused: t1 rlock m: already held; line 7: refused: t1 unlock m: not held", (6, 0, 0, 4)),
+    told("sixty_five_locks", f"{LOCKS}; t1 lock l1; t1 unlock l1; t1 lock l65",
+         "line 66: refused: t1 lock l65: too many locks held; line 67: refused: t1 lock l1: already held", (68, 0, 0, 2)),
+    told("candidates_shrink", SHRINK, "line 14: race: t2 write x at -, holds a b", (13, 1, 0, 0), 1),
+    told("lock_taken_too_late", "t1 write x; t2 read x; t2 lock m; t2 write x", "line 5: race: t2 write x at -, holds m", (4, 1, 0, 0), 1),
+    told("reuse_of_nothing", "t1 reuse x 0", "", (0, 0, 0, 0)),
+    told("reuse_of_one_byte", "t1 write x; t1 write 0x1004; t1 reuse 0x1003 1; t1 show x; t1 show 0x1004",
+         "line 5: state x: virgin; line 6: state 0x000000001004: exclusive t1", (5, 0, 0, 0)),
+    told("reuse_across_pages", "t1 write 0x1ffc; t1 write 0x2000; t1 reuse 0x1ffc 8; t1 show 0x1ffc; t1 show 0x2000",
+         "line 5: state 0x000000001ffc: virgin; line 6: state 0x000000002000: virgin", (6, 0, 0, 0)),
+    told("reuse_of_1025_pages", "t1 reuse 4 4194304", "", (1025, 0, 0, 0)),
+    told("reuse_of_1024_pages", "t1 reuse 0 4194304", "", (1024, 0, 0, 0)),
+    told("last_address", "t1 read 0xffffffffffff; t1 show 0xffffffffffff", "line 3: state 0xfffffffffffc: exclusive t1", (2, 0, 0, 0)),
+    told("eight_pages", EIGHT, "; ".join(f"line {10 + at}: race: t2 write 0x{page:012x} at -, holds none" for at, page in enumerate(PAGES)),
+         (16, 8, 0, 0), 1),
+    told("levels", LEVELS, "line 7: state x: shared-modified, candidates !1", (6, 0, 0, 0), header="eraser trace 2"),
+    told("levels_and_a_race", f"{LEVELS}; t1 write x",
+         "line 7: state x: shared-modified, candidates !1; line 8: race: t1 write x at -, holds none", (7, 1, 0, 0), 1, header="eraser trace 2"),
+    told("level_and_lock", LEVEL_AND_LOCK,
+         "line 6: state x: shared-modified, candidates m !1 !2 !3; line 9: state x: shared-modified, candidates !1 !2", (8, 0, 0, 0),
+         header="eraser trace 2"),
+    told("locks_at_the_highest_level", f"t1 level 31; {LOCKS}", "line 67: refused: t1 lock l65: too many locks held", (66, 0, 0, 1),
+         header="eraser trace 2"),
+    Case("no_last_end", b"eraser trace 1\nt1 write 0x1000", output_of(totals(1, 0, 0, 0))),
+    Case("skipped_lines", b"\n# c\neraser trace 1\nt1 show 4\n", output_of(f"line 4: state 0x000000000004: virgin; {totals(1, 0, 0, 0)}")),
+    Case("longest_comment", b"eraser trace 1\n#" + b"a" * 1023 + b"\n", output_of(totals(0, 0, 0, 0))),
+]
+
+FAULTY = [
+    faulty("empty_input", b"", 1, "no header"),
+    faulty("bad_verb", text_of("t1 wri"), 2, "bad verb"),
+    faulty("line_too_long", b"eraser trace 1\n#" + b"a" * 1024 + b"\n", 2, "line too long"),
+    faulty("not_ascii", b"eraser trace 1\nt1 read 0x1000 \x80\n", 2, "not ascii"),
+    faulty("missing_operand", text_of("t1 write"), 2, "missing operand"),
+    faulty("missing_verb", text_of("t1"), 2, "missing operand"),
+    faulty("extra_operand", text_of("t1 unlock m n"), 2, "extra operand"),
+    faulty("bad_thread_name", text_of("t! lock m"), 2, "bad name"),
+    faulty("bad_lock_name", text_of("t1 lock none"), 2, "bad name"),
+    faulty("bad_digit", text_of("t1 read 0xg"), 2, "bad number"),
+    faulty("number_too_great", text_of("t1 read 18446744073709551616"), 2, "bad number"),
+    faulty("header_of_no_version", b"eraser trace 3\n", 1, "no header"),
+    faulty("size_too_large", text_of("t1 reuse x 4194305"), 2, "size too large"),
+    faulty("address_out_of_range", text_of("t1 read 0x1000000000000"), 2, "address out of range"),
+    faulty("reuse_out_of_range", text_of("t1 reuse 0xffffffffffff 2"), 2, "address out of range"),
+    faulty("level_too_high", text_of("t1 level 32", "eraser trace 2"), 2, "level too high"),
+    faulty("level_in_text_one", text_of("t1 level 3"), 2, "bad verb"),
+]
+
+CASES = REPLAYED + FAULTY
