@@ -1,0 +1,24 @@
+//! Rules that keep races out of a report.
+//!
+//! Begin with [`Suppressions`], a list of rules in order. A [`Rule`] takes races by the site of the access or by its word, and the
+//! first rule that takes a race is the one that counts it. Sites go by their names, since rules are written in another text than
+//! the trace is.
+//!
+//! What it promises, by the names of clauses: a rule takes what the definitions say (`takes`), the rule that is told is the first
+//! that does (`taker`), and a push that found no memory changed nothing (`err`).
+//!
+//! ```
+//! let mut suppressions = Suppressions::new(alloc);
+//! suppressions.push(Rule::Site(None))?;
+//! suppressions.push(Rule::Words(Some(WordSpan { first: word, last: word })))?;
+//! // An access of that word at no site is for the first rule, and one at a site for the second.
+//! assert_eq!(suppressions.taker(None, word), Some(0));
+//! assert_eq!(suppressions.taker(Some("main.c:7"), word), Some(1));
+//! ```
+#![tactic(auto)]
+
+pub use rules::{Rule, Suppressions, WordSpan};
+
+mod rules;
+#[cfg(test)]
+mod tests;

@@ -1,0 +1,86 @@
+//! Rules, and which of them takes a race.
+ghost use Rattle.std.specs.Prelude.{◌≡◌, ◌++◌, ◌∷◌, [], option_copied, option_map, position, string_bytes, OnOk, OnErr};
+ghost use Rattle.er_rules.specs.Rules.{takes, taker, target_of, targets_of, same_site};
+
+use er_event::Word;
+use std::alloc::{AllocError, Global};
+
+/// The words from the first to the last, both included.
+#[derive(Clone, Copy, Debug, PartialEq, Eq, Hash)]
+pub struct WordSpan {
+    pub first: Word,
+    pub last: Word,
+}
+
+/// What races a rule takes.
+#[derive(Debug, PartialEq, Eq, Drop)]
+pub enum Rule {
+    /// Those whose access is at the site of this name, or at the missing site.
+    Site(Option<String>),
+    /// Those at one of these words. There are none in a run of no bytes.
+    Words(Option<WordSpan>),
+}
+
+impl Rule {
+    /// Whether it takes a race of an access to the word, at the site of this name or at the missing one.
+    pub fn takes(&self, site: Option<&str>, word: Word) -> bool
+        ensures takes { result ≡ takes (target_of self.now) (option_copied site.entry) word }
+    {
+        match self {
+            Rule::Site(name) => is_at(name, site),
+            Rule::Words(Some(words)) => words.first <= word && word <= words.last,
+            Rule::Words(None) => false,
+        }
+    }
+}
+
+// Whether the site is that of the name, or both are the missing site.
+fn is_at(name: &Option<String>, site: Option<&str>) -> bool
+    ensures { result ≡ same_site (option_map string_bytes name.now) (option_copied site.entry) }
+{
+    match (name, site) {
+        (Some(name), Some(site)) => name.as_str() == site,
+        (None, None) => true,
+        _ => false,
+    }
+}
+
+/// Rules in order. The first that takes a race takes it alone.
+#[derive(Debug, PartialEq, Eq, Drop)]
+pub struct Suppressions {
+    pub rules: Vec<Rule>,
+}
+
+impl Suppressions {
+    /// No rules.
+    pub fn new(alloc: Global) -> Self
+        ensures { targets_of result ≡ [] }
+    {
+        Suppressions {
+            rules: Vec::new(alloc),
+        }
+    }
+
+    /// Adds a rule after the others.
+    pub fn push(&mut self, rule: Rule) -> Result<(), AllocError>
+        ensures ok { OnOk result (targets_of self.new ≡ targets_of self.old ++ target_of rule ∷ []) }
+        ensures err { OnErr result (targets_of self.new ≡ targets_of self.old) }
+    {
+        self.rules.push(rule)?;
+        Ok(())
+    }
+
+    /// The place of the first rule, from 0, that takes a race of an access to the word, at the site of this name or at the missing
+    /// one.
+    pub fn taker(&self, site: Option<&str>, word: Word) -> Option<usize>
+        ensures taker { result ≡ taker (targets_of self.now) (option_copied site.entry) word }
+    {
+        first_taker(self.rules.as_slice(), site, word)
+    }
+}
+
+fn first_taker(rules: &[Rule], site: Option<&str>, word: Word) -> Option<usize>
+    ensures { result ≡ position (λ rule. takes (target_of rule) (option_copied site.entry) word) rules.now }
+{
+    rules.iter().position(|rule| rule.takes(site, word))
+}
