@@ -1,5 +1,5 @@
 //! Rules, and which of them takes a race.
-ghost use Rattle.std.specs.Prelude.{◌≡◌, ◌++◌, ◌∷◌, [], option_copied, option_map, position, string_bytes, OnOk, OnErr};
+ghost use Rattle.std.specs.Prelude.{◌≡◌, ◌<◌, ◌++◌, ◌↔◌, IsTrue, ◌∷◌, [], option_copied, option_map, position, length, string_bytes, IfSome, OnOk, OnErr};
 ghost use Rattle.er_rules.specs.Rules.{takes, taker, target_of, targets_of, same_site};
 
 use er_event::Word;
@@ -61,6 +61,20 @@ impl Suppressions {
         }
     }
 
+    /// How many rules there are.
+    pub fn len(&self) -> usize
+        ensures { result ≡ length (targets_of self.now) }
+    {
+        self.rules.len()
+    }
+
+    /// Whether there are none.
+    pub fn is_empty(&self) -> bool
+        ensures { IsTrue result ↔ (targets_of self.now ≡ []) }
+    {
+        self.rules.is_empty()
+    }
+
     /// Adds a rule after the others.
     pub fn push(&mut self, rule: Rule) -> Result<(), AllocError>
         ensures ok { OnOk result (targets_of self.new ≡ targets_of self.old ++ target_of rule ∷ []) }
@@ -74,13 +88,15 @@ impl Suppressions {
     /// one.
     pub fn taker(&self, site: Option<&str>, word: Word) -> Option<usize>
         ensures taker { result ≡ taker (targets_of self.now) (option_copied site.entry) word }
+        ensures within { IfSome result (λ rule. rule < length (targets_of self.now)) }
     {
         first_taker(self.rules.as_slice(), site, word)
     }
 }
 
 fn first_taker(rules: &[Rule], site: Option<&str>, word: Word) -> Option<usize>
-    ensures { result ≡ position (λ rule. takes (target_of rule) (option_copied site.entry) word) rules.now }
+    ensures first { result ≡ position (λ rule. takes (target_of rule) (option_copied site.entry) word) rules.now }
+    ensures within { IfSome result (λ rule. rule < length rules.now) }
 {
     rules.iter().position(|rule| rule.takes(site, word))
 }
