@@ -1,7 +1,7 @@
 """Worked traces with the whole text that the program writes of each, by name. `tests/run` passes each by path and by standard input.
 
 Lines are parted by `; ` here, and `x` stands for the address 0x1000 (0x000000001000 in what is written). A trace's header is
-`eraser trace 1` unless it gives its own `header`.
+`eraser trace 1` unless it gives its own `header`. A case with `rules` is replayed with them as suppressions.
 """
 
 from dataclasses import dataclass, field
@@ -128,4 +128,36 @@ FAULTY = [
     faulty("level_in_text_one", text_of("t1 level 3"), 2, "bad verb"),
 ]
 
-CASES = REPLAYED + FAULTY
+RULES = "site S; words x 4"
+SUPPRESSED = [
+    told("suppressions", "t1 write x S; t2 write x S", "suppression 1: 1; suppression 2: 0", (2, 0, 1, 0), rules=RULES),
+    told("suppressions_of_another_site", "t1 write x S; t2 write x T", "suppression 1: 0; suppression 2: 1", (2, 0, 1, 0), rules=RULES),
+    told("suppressions_that_take_nothing", "t1 write x S; t2 write x", "line 3: race: t2 write x at -, holds none; suppression 1: 0; suppression 2: 0",
+         (2, 1, 0, 0), 1, rules="site S; words x 0"),
+    told("suppression_of_the_missing_site", "t1 write x S; t2 write x", "suppression 1: 1", (2, 0, 1, 0), rules="site -"),
+    told("no_suppressions", "t1 write x; t2 write x", f"line 3: {RACE}", (2, 1, 0, 0), 1, rules=""),
+    told("suppressions_of_all_words", "t1 write 0xffffffffffff; t2 write 0xffffffffffff", "suppression 1: 1", (2, 0, 1, 0), rules="words 0 281474976710656"),
+]
+
+
+def faulty_rules(name, rules, line, kind):
+    """Suppressions with a fault: the trace, which has one too, isn't looked at."""
+    return Case(name, b"no header\n", b"", f"suppressions line {line}: {kind}\n".encode(), 2, rules)
+
+
+FAULTY_RULES = [
+    faulty_rules("rule_of_no_verb", b"sites S\n", 1, "bad verb"),
+    faulty_rules("rule_without_operand", b"# c\n\nsite\n", 3, "missing operand"),
+    faulty_rules("words_without_size", b"words 0x1000\n", 1, "missing operand"),
+    faulty_rules("rule_of_two_sites", b"site a b\n", 1, "extra operand"),
+    faulty_rules("words_with_a_site", b"words 0x1000 4 a\n", 1, "extra operand"),
+    faulty_rules("bad_site_name", b"site a!\n", 1, "bad name"),
+    faulty_rules("bad_rule_address", b"words 0xg 4\n", 1, "bad number"),
+    faulty_rules("bad_rule_size", b"words 0x1000 four\n", 1, "bad number"),
+    faulty_rules("rule_out_of_range", b"words 0xffffffffffff 2\n", 1, "address out of range"),
+    faulty_rules("empty_rule_out_of_range", b"words 0x1000000000000 0\n", 1, "address out of range"),
+    faulty_rules("rule_not_ascii", b"site a\nsite \x80\n", 2, "not ascii"),
+    faulty_rules("rule_too_long", b"#" + b"a" * 1024 + b"\n", 1, "line too long"),
+]
+
+CASES = REPLAYED + FAULTY + SUPPRESSED + FAULTY_RULES

@@ -31,3 +31,8 @@ number_one before after n few last =
 -- two texts put one behind the other
 pub put_two : (old front new first second : List ℕ) → front ≡ old ++ first → new ≡ front ++ second → new ≡ old ++ (first ++ second)
 put_two old front new first second one two = two ∙ ap (λ (text : List ℕ). text ++ second) one ∙ append_assoc old first second
+
+pub put_five : (old a b c d e r s t u v : List ℕ) → a ≡ old ++ r → b ≡ a ++ s → c ≡ b ++ t → d ≡ c ++ u → e ≡ d ++ v
+    → e ≡ old ++ (r ++ s ++ t ++ u ++ v)
+put_five old a b c d e r s t u v first second third fourth fifth =
+    rw (fifth, fourth, third, second, first) (simp append_assoc)

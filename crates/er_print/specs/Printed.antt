@@ -1,5 +1,5 @@
 -- The bytes of a report: each word here is the text of one thing, and a line ends with its LF.
-use Rattle.std.specs.Prelude.{ℕ, zero, suc, ◌-◌, ◌*◌, ◌/◌, ◌%◌, cond, List, [], ◌∷◌, ◌++◌, flat_map, slice_index_or, Option, Some, None, codes, decimal}
+use Rattle.std.specs.Prelude.{ℕ, zero, suc, ◌+◌, ◌-◌, ◌*◌, ◌/◌, ◌%◌, cond, List, [], ◌∷◌, ◌++◌, flat_map, slice_index_or, Option, Some, None, codes, decimal}
 use Rattle.std.specs.Char.{digit_char}
 use Rattle.er_event.specs.Lockset.{is_level_lock}
 use Rattle.er_event.specs.Names.{NameTable}
@@ -18,6 +18,7 @@ use Rattle.er_model.specs.declared.answers.Stopped.{Stopped}
 use Rattle.er_report.specs.Report.{Summary, report_of}
 use Rattle.er_report.specs.declared.report.Line.{Line}
 use Rattle.er_report.specs.declared.report.Line.TheVariants as line
+use Rattle.er_rules.specs.Rules.{Target}
 
 -- so many lower-case hexadecimal digits, of which the last is the lowest
 unfoldable pub hex_digits : ℕ → ℕ → List ℕ
@@ -101,15 +102,24 @@ abbrev pub stop_text : Option (ℕ × NoRoom) → List ℕ
 stop_text None = []
 stop_text (Some stop) = place_text stop.0 ++ codes "stopped: " ++ text_of (refusal_of stop.1) ++ 10 ∷ []
 
+-- how many races the rule of this number took
+abbrev pub count_text : ℕ → ℕ → List ℕ
+count_text number count = codes "suppression " ++ decimal number ++ codes ": " ++ decimal count ++ 10 ∷ []
+
+-- a line for each rule, of which the first has this number
+abbrev pub counts_text : ℕ → List ℕ → List ℕ
+counts_text number [] = []
+counts_text number (count ∷ counts) = count_text number count ++ counts_text (number + 1) counts
+
 abbrev pub totals_text : Summary → List ℕ
 totals_text s =
     codes "steps " ++ decimal s.steps ++ codes ", races " ++ decimal s.races ++ codes ", suppressed " ++ decimal s.suppressed
     ++ codes ", refused " ++ decimal s.refused ++ 10 ∷ []
 
 -- the whole text
-abbrev pub report_text : NameTable → Summary → List ℕ
-report_text names s = flat_map (line_text names) s.lines ++ stop_text s.stop ++ totals_text s
+unfoldable pub report_text : NameTable → Summary → List ℕ
+report_text names s = flat_map (line_text names) s.lines ++ stop_text s.stop ++ counts_text 1 s.rule_counts ++ totals_text s
 
--- the text of the report of a run of the recording's steps that stopped so, or not at all
-abbrev pub output_of : Recording → Option Stopped → List ℕ
-output_of r stop = report_text r.names (report_of r stop)
+-- the text of the report of a run of the recording's steps under these rules, which stopped so or not at all
+abbrev pub output_of : Recording → List Target → Option Stopped → List ℕ
+output_of r rules stop = report_text r.names (report_of r rules stop)

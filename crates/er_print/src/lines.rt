@@ -2,7 +2,7 @@
 ghost use Rattle.std.specs.Prelude.{◌≡◌, ◌++◌, OnOk};
 ghost use Rattle.er_report.specs.Names.{HasNames};
 ghost use Rattle.er_report.specs.Report.{told};
-ghost use Rattle.er_print.specs.Printed.{place_text, line_text, stop_text, totals_text};
+ghost use Rattle.er_print.specs.Printed.{place_text, line_text, stop_text, count_text, counts_text, totals_text};
 
 use crate::naming::{put_event, put_kind, put_locks, put_site, put_state, put_thread};
 use crate::numbers::{put_address, put_number};
@@ -73,6 +73,27 @@ pub(crate) fn put_stop(out: &mut Vec<u8>, stop: Option<(u64, NoRoom)>) -> Result
     out.extend_from_slice(b"stopped: ")?;
     out.extend_from_slice(cause.refusal().text().as_bytes())?;
     out.extend_from_slice(b"\n")
+}
+
+/// Puts a line for each rule, with its number, from 1, and how many races it took.
+pub(crate) fn put_rule_counts(out: &mut Vec<u8>, rule_counts: &[u64]) -> Result<(), AllocError>
+    ensures { OnOk result (out.new.items ≡ out.old.items ++ counts_text 1 rule_counts.now) }
+{
+    for (k, count) in rule_counts.iter().enumerate() {
+        put_rule_count(out, k as u64 + 1, *count)?;
+    }
+    Ok(())
+}
+
+fn put_rule_count(out: &mut Vec<u8>, number: u64, count: u64) -> Result<(), AllocError>
+    ensures { OnOk result (out.new.items ≡ out.old.items ++ count_text number count) }
+{
+    out.extend_from_slice(b"suppression ")?;
+    put_number(out, number)?;
+    out.extend_from_slice(b": ")?;
+    put_number(out, count)?;
+    out.extend_from_slice(b"\n")?;
+    Ok(())
 }
 
 /// Puts the line of totals.

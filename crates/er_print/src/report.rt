@@ -7,7 +7,7 @@ ghost use Rattle.er_print.specs.Printed.{report_text};
 ghost use Rattle.er_print.specs.Written.{WritesReport, FailsWriting};
 
 use crate::WriteFault;
-use crate::lines::{put_line, put_stop, put_totals};
+use crate::lines::{put_line, put_rule_counts, put_stop, put_totals};
 use er_device::Device;
 use er_event::Names;
 use er_report::Report;
@@ -36,6 +36,7 @@ pub fn write_report<W: Write>(
     Ok(())
 }
 
+#[tactic(auto, unfolding(crate::specs::Printed::report_text))]
 fn report_text(alloc: Global, report: &Report, names: &Names) -> Result<Vec<u8>, AllocError>
     requires { All (HasNames names.now) report.now.lines.items }
     ensures { IfOk result (λ text. text.items ≡ report_text names.now (told report.now)) }
@@ -45,6 +46,7 @@ fn report_text(alloc: Global, report: &Report, names: &Names) -> Result<Vec<u8>,
         put_line(&mut text, names, line)?;
     }
     put_stop(&mut text, report.stop)?;
+    put_rule_counts(&mut text, &report.rule_counts)?;
     put_totals(&mut text, report)?;
     Ok(text)
 }

@@ -96,6 +96,7 @@ fn report_of(alloc: Global, line: Line) -> Result<Report, Fail> {
     Ok(Report {
         lines: vec![in alloc; line]?,
         stop: None,
+        rule_counts: Vec::new(alloc),
         steps: 0,
         races: 0,
         suppressed: 0,
@@ -267,6 +268,7 @@ fn stopped_report(alloc: Global) -> Result<Report, Fail> {
     Ok(Report {
         lines: vec![in alloc; bare, shown_line(WordState::Virgin)]?,
         stop: Some((12, NoRoom::TableFull)),
+        rule_counts: Vec::from_array(alloc, [2, 0, 18_446_744_073_709_551_615])?,
         steps: 10,
         races: 1,
         suppressed: 2,
@@ -281,6 +283,9 @@ fn a_report_is_printed_whole(rt: HostRuntime) -> Result<(), Fail> {
     let expected = b"line 10: race: t2 write 0x000000001000 at -, holds none\n\
         line 9: state 0xfffffffffffc: virgin\n\
         line 12: stopped: table full\n\
+        suppression 1: 2\n\
+        suppression 2: 0\n\
+        suppression 3: 18446744073709551615\n\
         steps 10, races 1, suppressed 2, refused 30\n";
     assert_eq!(rt; text.as_slice(), expected.as_slice());
     Ok(())
@@ -315,6 +320,7 @@ fn cut_at(alloc: Global, good: usize) -> Result<(Vec<u8>, Result<(), WriteFault>
     let report = Report {
         lines: Vec::new(alloc),
         stop: Some((12, NoRoom::TableFull)),
+        rule_counts: Vec::new(alloc),
         steps: 10,
         races: 0,
         suppressed: 0,

@@ -1,6 +1,6 @@
 -- Each number in a report has a name where the recording's steps have names. By the laws that a thread follows its holdings and a
 -- word its state: step by step, every lock that a thread holds or that a word's state tells of was taken by a step, or is a level's.
-use Rattle.std.proofs.Common.{◌≡◌, ◌<◌, ◌==◌, ℕ, zero, suc, true, false, cond, not, nat_lt, List, [], ◌∷◌, length, slice_get, slice_index, Option, Some, None, refl, subst, arith}
+use Rattle.std.proofs.Common.{◌≡◌, ◌<◌, ◌==◌, ℕ, zero, suc, true, false, cond, not, nat_lt, List, [], ◌∷◌, length, slice_get, slice_index, Option, Some, None, is_some, refl, subst, arith}
 use Rattle.std.specs.List.{All}
 use Rattle.std.proofs.lemmas.Bool.Decides.{nat_tests}
 use Rattle.std.proofs.lemmas.Option.{slice_get_within, get_or_from_slice_get}
@@ -29,8 +29,9 @@ use Rattle.er_model.specs.Words.{Counted, Nothing, is_within}
 use Rattle.er_model.proofs.Threads.{holdings-step, accepted-past_end}
 use Rattle.er_model.proofs.AnswersLemmas.{state-step, state-moved, answer-step}
 use Rattle.er_model.proofs.Prefixes.{holdings-empty, state-start}
-use Rattle.er_report.specs.Names.{HasLockName, HasLockNames, HasStateNames, HasEventNames, HasNames}
-use Rattle.er_report.specs.Report.{reply_line, answer_line, line_of, line_at, lines_below}
+use Rattle.er_report.specs.Names.{HasLockName, HasLockNames, HasStateNames, HasEventNames, HasSiteName, HasNames}
+use Rattle.er_report.specs.Report.{reply_line, answer_line, line_of, line_at, lines_below, taker_at}
+use Rattle.er_rules.specs.Rules.{Target}
 use Rattle.er_report.specs.declared.report.Line.TheVariants as line
 
 module _ (names : NameTable) where
@@ -205,6 +206,21 @@ module _ (names : NameTable) where
     named_state zero w = rw (state-start (reading_of steps) w) tt
     named_state (suc n) w = named_state_by n w (slice_get steps n) refl (named_state n w)
 
+-- the site of each access has its name
+site_in : (names : NameTable) (e : Event) → HasNumbersNamed names e → HasSiteName names e
+site_in names (Access kind w site) new = new
+site_in names (Acquire l m) new = tt
+site_in names (Release l m) new = tt
+site_in names (Reuse range) new = tt
+site_in names IgnoreOn new = tt
+site_in names IgnoreOff new = tt
+site_in names (Show w) new = tt
+site_in names (Level n) new = tt
+
+pub site_named : (names : NameTable) (steps : List Step) → All (IsNamed names) steps → (k : ℕ) (step : Step) → slice_get steps k ≡ Some step
+    → HasSiteName names step.event
+site_named names steps all k step is = site_in names step.event (named_step names steps all k step is).event
+
 module _ (r : Recording) (all : All (IsNamed r.names) r.steps) where
   named_line_by : (k : ℕ) (o : Option Step) → slice_get r.steps k ≡ o → All (HasNames r.names) (line_of r k o)
   unfolding holdings
@@ -217,7 +233,12 @@ module _ (r : Recording) (all : All (IsNamed r.names) r.steps) where
       (named_state r.names r.steps all k))
 
   -- each line that the definitions give has its names
-  pub named_lines : (n : ℕ) → All (HasNames r.names) (lines_below r n)
+  pub named_lines : (rules : List Target) (n : ℕ) → All (HasNames r.names) (lines_below r rules n)
   unfolding lines_below line_at
-  named_lines zero = All-nil (HasNames r.names)
-  named_lines (suc n) = All-append (HasNames r.names) (lines_below r n) (line_at r n) (named_lines n) (named_line_by n (slice_get r.steps n) refl)
+  named_lines rules zero = All-nil (HasNames r.names)
+  named_lines rules (suc n) =
+      All-append (HasNames r.names) (lines_below r rules n) (cond (is_some (taker_at r rules n)) [] (line_at r n)) (named_lines rules n)
+      (elim (is_some (taker_at r rules n)) as (λ b. All (HasNames r.names) (cond b [] (line_at r n))) [
+        | true ↦ All-nil (HasNames r.names)
+        | false ↦ named_line_by n (slice_get r.steps n) refl
+      ])

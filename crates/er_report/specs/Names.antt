@@ -28,6 +28,17 @@ HasEventNames names IgnoreOff = Unit {0}
 HasEventNames names (Show word) = Unit {0}
 HasEventNames names (Level level) = Unit {0}
 
+-- the site of an access has; the missing site needs none
+abbrev pub HasSiteName : NameTable → Event → Type 0
+HasSiteName names (Access kind word site) = site ≤ length names.sites
+HasSiteName names (Acquire lock mode) = Unit {0}
+HasSiteName names (Release lock mode) = Unit {0}
+HasSiteName names (Reuse range) = Unit {0}
+HasSiteName names IgnoreOn = Unit {0}
+HasSiteName names IgnoreOff = Unit {0}
+HasSiteName names (Show word) = Unit {0}
+HasSiteName names (Level level) = Unit {0}
+
 -- the thread or the locks of a state have
 abbrev pub HasStateNames : NameTable → WordState → Type 0
 HasStateNames names Virgin = Unit {0}

@@ -1,5 +1,7 @@
 -- What a report says of a recording, by the definitions of the whole list of its steps.
-use Rattle.std.specs.Prelude.{ℕ, zero, suc, Bool, true, false, List, [], ◌∷◌, ◌++◌, length, take, count_by, slice_get, slice_index, Option, Some, None, Result, Ok, Err}
+use Rattle.std.specs.Prelude.{ℕ, zero, suc, ◌+◌, ◌==◌, Bool, true, false, cond, ◌&&◌, is_some, is_none, List, [], ◌∷◌, ◌++◌, map, length, take, slice_get, slice_index, Option, Some, None, Result, Ok, Err}
+use Rattle.std.specs.List.{range_with_len}
+use Rattle.er_event.specs.Names.{NameTable}
 use Rattle.er_event.specs.declared.refusals.NoRoom.{NoRoom}
 use Rattle.er_event.specs.declared.refusals.Refusal.{Refusal}
 use Rattle.er_event.specs.declared.steps.Event.{Event}
@@ -8,17 +10,19 @@ use Rattle.er_event.specs.declared.steps.Reply.{Reply}
 use Rattle.er_event.specs.declared.steps.Reply.TheVariants.{Race, State}
 use Rattle.er_event.specs.declared.steps.Step.{Step}
 use Rattle.er_event.specs.Trace.{Recording}
-use Rattle.er_model.specs.Answers.{answer, answers}
+use Rattle.er_model.specs.Answers.{answer}
 use Rattle.er_model.specs.Threads.{accepted, held}
 use Rattle.er_model.specs.declared.answers.Stopped.{Stopped}
 use Rattle.er_report.specs.declared.report.Line.{Line}
 use Rattle.er_report.specs.declared.report.Line.TheVariants as line
 use Rattle.er_report.specs.declared.report.Report.{Report}
+use Rattle.er_rules.specs.Rules.{Target, taker}
 
 -- a report, as contracts compare it
 pub record Summary : Type 0 where
   pub lines : List Line
   pub stop : Option (ℕ × NoRoom)
+  pub rule_counts : List ℕ
   pub steps : ℕ
   pub races : ℕ
   pub suppressed : ℕ
@@ -26,7 +30,16 @@ pub record Summary : Type 0 where
 
 -- what a report holds
 abbrev pub told : Report → Summary
-told r = record { lines = r.lines.items; stop = r.stop; steps = r.steps; races = r.races; suppressed = r.suppressed; refused = r.refused }
+told r =
+    record {
+      lines = r.lines.items;
+      stop = r.stop;
+      rule_counts = r.rule_counts.items;
+      steps = r.steps;
+      races = r.races;
+      suppressed = r.suppressed;
+      refused = r.refused;
+    }
 
 -- the line of a race or of a show, and none of another reply; these are the locks that the thread holds
 abbrev pub reply_line : ℕ → List ℕ → ℕ → Event → Reply → List Line
@@ -48,11 +61,6 @@ line_of r k (Some step) = answer_line (slice_index r.lines k) (held (accepted r.
 unfoldable pub line_at : Recording → ℕ → List Line
 line_at r k = line_of r k (slice_get r.steps k)
 
--- the lines of the first n steps
-unfoldable pub lines_below : Recording → ℕ → List Line
-lines_below r zero = []
-lines_below r (suc n) = lines_below r n ++ line_at r n
-
 -- an answer that is a race, and one that is a refusal
 abbrev pub is_race : Result Reply Refusal → Bool
 is_race (Ok Race) = true
@@ -62,6 +70,56 @@ is_race (Err refusal) = false
 abbrev pub is_refused : Result Reply Refusal → Bool
 is_refused (Ok reply) = false
 is_refused (Err refusal) = true
+
+-- the name of a site; the missing site has none
+abbrev pub site_name : NameTable → ℕ → Option (List ℕ)
+site_name names zero = None
+site_name names (suc n) = slice_get names.sites n
+
+-- the first rule that takes races of the event, which only an access has
+abbrev pub event_taker : List Target → NameTable → Event → Option ℕ
+event_taker rules names (Access kind word site) = taker rules (site_name names site) word
+event_taker rules names event = None
+
+-- the rule that takes an event of this answer, which must be a race
+abbrev pub answer_taker : List Target → NameTable → Event → Result Reply Refusal → Option ℕ
+answer_taker rules names event answer = cond (is_race answer) (event_taker rules names event) None
+
+-- past the list's end there is none
+abbrev pub taker_of : Recording → List Target → ℕ → Option Step → Option ℕ
+taker_of r rules k None = None
+taker_of r rules k (Some step) = answer_taker rules r.names step.event (answer r.steps k)
+
+-- the rule that takes the race at position k, if there is a race and such a rule
+unfoldable pub taker_at : Recording → List Target → ℕ → Option ℕ
+taker_at r rules k = taker_of r rules k (slice_get r.steps k)
+
+-- the lines of the first n steps, but for the races that a rule takes
+unfoldable pub lines_below : Recording → List Target → ℕ → List Line
+lines_below r rules zero = []
+lines_below r rules (suc n) = lines_below r rules n ++ cond (is_some (taker_at r rules n)) [] (line_at r n)
+
+-- how many positions below n pass the test
+unfoldable pub count_below : (ℕ → Bool) → ℕ → ℕ
+count_below test zero = 0
+count_below test (suc n) = count_below test n + cond (test n) 1 0
+
+-- the race at position k is printed
+abbrev pub is_printed : Recording → List Target → ℕ → Bool
+is_printed r rules k = is_race (answer r.steps k) && is_none (taker_at r rules k)
+
+-- the rule that is told is the one in place i
+abbrev pub is_rule : ℕ → Option ℕ → Bool
+is_rule i None = false
+is_rule i (Some j) = i == j
+
+-- how many races of the first n steps the rule in place i takes
+abbrev pub rule_count : Recording → List Target → ℕ → ℕ → ℕ
+rule_count r rules n i = count_below (λ k. is_rule i (taker_at r rules k)) n
+
+-- and each rule, in order
+abbrev pub rule_counts : Recording → List Target → ℕ → List ℕ
+rule_counts r rules n = map (rule_count r rules n) (range_with_len 0 (length rules))
 
 -- the steps that were answered: those before the stop, or all of them
 abbrev pub answered_steps : List Step → Option Stopped → List Step
@@ -73,15 +131,16 @@ abbrev pub stop_line : Recording → Option Stopped → Option (ℕ × NoRoom)
 stop_line r None = None
 stop_line r (Some stop) = Some (slice_index r.lines stop.at, stop.cause)
 
--- the report of a run of the recording's steps that stopped so, or not at all
-abbrev pub report_of : Recording → Option Stopped → Summary
-report_of r stop =
-    let steps = answered_steps r.steps stop in
+-- the report of a run of the recording's steps under these rules, which stopped so or not at all
+abbrev pub report_of : Recording → List Target → Option Stopped → Summary
+report_of r rules stop =
+    let n = length (answered_steps r.steps stop) in
     record {
-      lines = lines_below r (length steps);
+      lines = lines_below r rules n;
       stop = stop_line r stop;
-      steps = length steps;
-      races = count_by is_race (answers steps);
-      suppressed = 0;
-      refused = count_by is_refused (answers steps);
+      rule_counts = rule_counts r rules n;
+      steps = n;
+      races = count_below (is_printed r rules) n;
+      suppressed = count_below (λ k. is_some (taker_at r rules k)) n;
+      refused = count_below (λ k. is_refused (answer r.steps k)) n;
     }

@@ -1,5 +1,5 @@
 //! A report that grows by one step after another.
-ghost use Rattle.std.specs.Prelude.{◌≡◌, ℕ, [], Ok, OnOk, IfOk};
+ghost use Rattle.std.specs.Prelude.{◌≡◌, ◌<◌, ℕ, [], length, Ok, OnOk, IfOk, IfSome};
 ghost use Rattle.er_model.specs.AnswerList.{shown};
 ghost use Rattle.er_model.specs.Holdings.{after_step};
 ghost use Rattle.er_report.specs.Draft.{nothing_told, with_answer, HasRoom};
@@ -21,46 +21,57 @@ pub(crate) struct Draft {
 }
 
 impl Draft {
-    /// The report before any step.
-    pub(crate) fn new(alloc: Global) -> Self
-        ensures holders { result.holders ≡ [] }
-        ensures report { told result.report ≡ nothing_told }
+    /// The report before any step, with so many rules.
+    pub(crate) fn new(alloc: Global, rules: usize) -> Result<Self, AllocError>
+        ensures holders { IfOk result (λ draft. draft.holders ≡ []) }
+        ensures report { IfOk result (λ draft. told draft.report ≡ nothing_told rules) }
     {
-        Draft {
+        Ok(Draft {
             holders: Holders::new(alloc),
             report: Report {
                 lines: Vec::new(alloc),
                 stop: None,
+                rule_counts: vec![in alloc; 0; rules]?,
                 steps: 0,
                 races: 0,
                 suppressed: 0,
                 refused: 0,
             },
-        }
+        })
     }
 
-    /// Adds a step of this line and its answer.
+    /// Adds a step of this line, its answer, and the rule that takes its race, if one does.
     pub(crate) fn add(
         &mut self,
         alloc: Global,
         number: u64,
         step: &Step,
         answer: Answer<'_>,
+        taker: Option<usize>,
     ) -> Result<(), AllocError>
-        requires { HasRoom (told self.old.report) }
+        requires room { HasRoom (told self.old.report) }
+        requires rule { IfSome taker (λ rule. rule < length self.old.report.rule_counts.items) }
         ensures report { OnOk result (told self.new.report
-            ≡ with_answer (told self.old.report) number (held_by self.old.holders step.now.thread).held step.now (shown answer.entry)) }
+            ≡ with_answer (told self.old.report) number (held_by self.old.holders step.now.thread).held step.now (shown answer.entry) taker) }
         ensures holders { OnOk result ((t : ℕ) → held_by self.new.holders t ≡ after_step (held_by self.old.holders t) t step.now) }
     {
-        if let Some(line) = line_of(alloc, &self.holders, number, step, answer)? {
-            self.report.lines.push(line)?;
+        match taker {
+            Some(rule) => {
+                self.report.rule_counts[rule] += 1;
+                self.report.suppressed += 1;
+            }
+            None => {
+                if let Some(line) = line_of(alloc, &self.holders, number, step, answer)? {
+                    self.report.lines.push(line)?;
+                }
+                match answer {
+                    Answer::Race => self.report.races += 1,
+                    Answer::Refused(_) => self.report.refused += 1,
+                    _ => {}
+                }
+            }
         }
         self.report.steps += 1;
-        match answer {
-            Answer::Race => self.report.races += 1,
-            Answer::Refused(_) => self.report.refused += 1,
-            _ => {}
-        }
         self.holders.follow(alloc, step)
     }
 }

@@ -1,18 +1,19 @@
 //! What a run of a trace came to, line by line.
 //!
-//! Begin with [`summarise`]. It takes a trace and what a replay of its steps came to, and gives a [`Report`]: a [`Line`] for each
-//! race, each refusal and each word shown, where the run stopped, and how many there were of each.
+//! Begin with [`summarise`]. It takes a trace, what a replay of its steps came to, and the rules of `er_rules`, and gives a
+//! [`Report`]: a [`Line`] for each race that no rule takes, each refusal and each word shown, where the run stopped, how many
+//! races each rule took, and how many there were of each sort.
 //!
-//! What it promises, by the names of clauses: the report is the one that the definitions give of the whole list of steps
-//! (`report`), with the locks that a thread held at its race; and each number in it that wants a name to be printed has one
-//! (`named`).
+//! What it promises, by the names of clauses: the report is the one that the definitions give of the whole list of steps under
+//! the rules (`report`), with the locks that a thread held at its race, and each race that a rule takes counted for the first
+//! such rule alone; and each number in it that wants a name to be printed has one (`named`).
 //!
 //! It goes over the steps once and keeps what each thread holds. A set of locks is copied for a line alone, so memory goes by
-//! the number of lines and threads, and not of steps.
+//! the number of lines, threads and rules, and not of steps. Rules are looked at for a race alone.
 //!
 //! ```
 //! // The trace is `t1 write 0x1000` and `t2 write 0x1000`, on lines 2 and 3.
-//! let report = summarise(alloc, &trace, &outcome)?;
+//! let report = summarise(alloc, &trace, &outcome, &Suppressions::new(alloc))?;
 //! assert_eq!(report.races, 1);
 //! if let [Line::Race { line, held, .. }] = report.lines.as_slice() {
 //!     // Here `line` is 3, and `held` is empty.
@@ -27,5 +28,6 @@ mod draft;
 mod holders;
 mod report;
 mod summary;
+mod takers;
 #[cfg(test)]
 mod tests;

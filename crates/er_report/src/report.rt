@@ -46,6 +46,8 @@ pub struct Report {
     pub lines: Vec<Line>,
     /// The line of the step at which the run stopped, and why, where it did.
     pub stop: Option<(u64, NoRoom)>,
+    /// How many races each rule took, in the order of the rules.
+    pub rule_counts: Vec<u64>,
     /// How many steps were answered, refused ones among them.
     pub steps: u64,
     /// How many races the lines tell.

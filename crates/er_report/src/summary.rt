@@ -3,26 +3,36 @@ ghost use Rattle.std.specs.Prelude.{◌≡◌, ◌<◌, All, length, IfOk, IfSom
 ghost use Rattle.er_model.specs.Answers.{answers};
 ghost use Rattle.er_report.specs.Names.{HasNames};
 ghost use Rattle.er_report.specs.Report.{told, report_of, answered_steps, stop_line};
+ghost use Rattle.er_rules.specs.Rules.{targets_of};
 
 use crate::Report;
 use crate::draft::Draft;
+use crate::takers::taker_of;
 use er_event::{NoRoom, Trace};
 use er_model::{Outcome, Stopped};
+use er_rules::Suppressions;
 use std::alloc::{AllocError, Global};
 
-/// The report of a run of a trace's steps, which may have stopped at one of them (own).
-pub fn summarise(alloc: Global, trace: &Trace, outcome: &Outcome) -> Result<Report, AllocError>
+/// The report of a run of a trace's steps, which may have stopped at one of them (own). A race that a rule takes has no line and
+/// counts for the first such rule.
+pub fn summarise(
+    alloc: Global,
+    trace: &Trace,
+    outcome: &Outcome,
+    suppressions: &Suppressions,
+) -> Result<Report, AllocError>
     requires stop { IfSome outcome.now.stopped (λ stop. stop.at < length trace.now.steps) }
     requires answers { outcome.now.answers ≡ answers (answered_steps trace.now.steps outcome.now.stopped) }
-    ensures report { IfOk result (λ report. told report ≡ report_of trace.now outcome.now.stopped) }
+    ensures report { IfOk result (λ report. told report ≡ report_of trace.now (targets_of suppressions.now) outcome.now.stopped) }
     ensures named { IfOk result (λ report. All (HasNames trace.now.names) report.lines.items) }
 {
-    let mut draft = Draft::new(alloc);
+    let mut draft = Draft::new(alloc, suppressions.len())?;
     for (k, step) in trace.steps().iter().enumerate() {
         let Some(answer) = outcome.answers.get(k) else {
             break;
         };
-        draft.add(alloc, trace.lines()[k], step, answer)?;
+        let taker = taker_of(suppressions, trace.names(), step.event, answer);
+        draft.add(alloc, trace.lines()[k], step, answer, taker)?;
     }
     let Draft {
         holders: _,

@@ -8,6 +8,7 @@ use er_event::{
     Word, WordState,
 };
 use er_model::{Answer, Answers, Outcome, Stopped, worked_examples};
+use er_rules::{Rule, Suppressions, WordSpan};
 use std::alloc::{AllocError, Global};
 use std::test::Fail;
 
@@ -69,29 +70,66 @@ fn answers_of_two_writers(alloc: Global) -> Result<Answers, AllocError>
     Ok(answers)
 }
 
-fn report_of_two_writers(alloc: Global) -> Result<Report, AllocError> {
+fn report_of_two_writers(alloc: Global, suppressions: &Suppressions) -> Result<Report, AllocError> {
     worked_examples();
     let trace = two_writers(alloc)?;
     let outcome = Outcome {
         answers: answers_of_two_writers(alloc)?,
         stopped: None,
     };
-    summarise(alloc, &trace, &outcome)
+    summarise(alloc, &trace, &outcome, suppressions)
 }
 
 #[test]
 fn two_writers_race(rt: HostRuntime) -> Result<(), Fail> {
-    let report = report_of_two_writers(rt.alloc())?;
+    let report = report_of_two_writers(rt.alloc(), &Suppressions::new(rt.alloc()))?;
     let lines = vec![in rt.alloc(); race_line(3, SECOND, Lockset::new(rt.alloc()))]?;
     let expected = Report {
         lines,
         stop: None,
+        rule_counts: Vec::new(rt.alloc()),
         steps: 2,
         races: 1,
         suppressed: 0,
         refused: 0,
     };
     assert_eq!(rt; report, expected);
+    Ok(())
+}
+
+// One rule by site and one by words, of which the second takes the race of the two writers and the first does where it is for the
+// missing site.
+fn rules_of(alloc: Global, site: Option<String>) -> Result<Suppressions, AllocError> {
+    let mut suppressions = Suppressions::new(alloc);
+    suppressions.push(Rule::Site(site))?;
+    let word = Word::new(WORD);
+    suppressions.push(Rule::Words(Some(WordSpan {
+        first: word,
+        last: word,
+    })))?;
+    Ok(suppressions)
+}
+
+fn suppressed_report(alloc: Global, rule_counts: [u64; 2]) -> Result<Report, AllocError> {
+    Ok(Report {
+        lines: Vec::new(alloc),
+        stop: None,
+        rule_counts: Vec::from_array(alloc, rule_counts)?,
+        steps: 2,
+        races: 0,
+        suppressed: 1,
+        refused: 0,
+    })
+}
+
+#[test]
+fn suppressions(rt: HostRuntime) -> Result<(), Fail> {
+    let rules = rules_of(rt.alloc(), None)?;
+    let report = report_of_two_writers(rt.alloc(), &rules)?;
+    assert_eq!(rt; report, suppressed_report(rt.alloc(), [1, 0])?);
+    let rules = rules_of(rt.alloc(), Some(String::from_str(rt.alloc(), "S")?))?;
+    let report = report_of_two_writers(rt.alloc(), &rules)?;
+    assert_eq!(rt; report, suppressed_report(rt.alloc(), [0, 1])?);
     Ok(())
 }
 
@@ -119,7 +157,7 @@ fn report_of_a_stop(alloc: Global) -> Result<Report, AllocError> {
             cause: NoRoom::OutOfMemory,
         }),
     };
-    summarise(alloc, &trace, &outcome)
+    summarise(alloc, &trace, &outcome, &Suppressions::new(alloc))
 }
 
 #[test]
@@ -128,6 +166,7 @@ fn a_stop_has_its_line(rt: HostRuntime) -> Result<(), Fail> {
     let expected = Report {
         lines: Vec::new(rt.alloc()),
         stop: Some((2, NoRoom::OutOfMemory)),
+        rule_counts: Vec::new(rt.alloc()),
         steps: 0,
         races: 0,
         suppressed: 0,
@@ -137,6 +176,7 @@ fn a_stop_has_its_line(rt: HostRuntime) -> Result<(), Fail> {
     Ok(())
 }
 
+// Adds a step that no rule takes, to a report under no rules.
 fn add(
     draft: &mut Draft,
     alloc: Global,
@@ -147,15 +187,19 @@ fn add(
     let Report {
         lines: _,
         stop: _,
+        rule_counts,
         steps,
         races,
-        suppressed: _,
+        suppressed,
         refused,
     } = &draft.report;
-    if *steps > 1000 || races > steps || refused > steps {
+    if *steps > 1000 || races > steps || suppressed > steps || refused > steps {
         return Err(Fail::from("too many steps"));
     }
-    draft.add(alloc, line, &step, answer)?;
+    if !rule_counts.is_empty() {
+        return Err(Fail::from("there are rules"));
+    }
+    draft.add(alloc, line, &step, answer, None)?;
     Ok(())
 }
 
@@ -172,7 +216,7 @@ fn set_of(alloc: Global, locks: &[u32]) -> Result<Lockset, AllocError> {
 }
 
 fn locks_come_and_go(alloc: Global) -> Result<Draft, Fail> {
-    let mut draft = Draft::new(alloc);
+    let mut draft = Draft::new(alloc, 0)?;
     add(
         &mut draft,
         alloc,
@@ -210,7 +254,7 @@ fn a_race_tells_the_locks_of_its_thread_then(rt: HostRuntime) -> Result<(), Fail
 }
 
 fn refused_shown_and_ignored(alloc: Global) -> Result<Draft, Fail> {
-    let mut draft = Draft::new(alloc);
+    let mut draft = Draft::new(alloc, 0)?;
     add(
         &mut draft,
         alloc,
@@ -260,7 +304,7 @@ fn a_refusal_and_a_show_have_lines(rt: HostRuntime) -> Result<(), Fail> {
 }
 
 fn levels_rise_and_fall(alloc: Global) -> Result<Draft, Fail> {
-    let mut draft = Draft::new(alloc);
+    let mut draft = Draft::new(alloc, 0)?;
     let high = Level::of_number(2).map_err(|_| "too high")?;
     add(
         &mut draft,

@@ -1,5 +1,5 @@
 -- The first element that passes a test, found among the elements or among their images.
-use Rattle.std.proofs.Common.{◌≡◌, ◌<◌, ◌+◌, ℕ, suc, Bool, not, cond, nat_lt, List, [], ◌∷◌, map, length, position, Option, Some, None, IfSome, refl, ap, subst}
+use Rattle.std.proofs.Common.{◌≡◌, ◌<◌, ◌+◌, ℕ, suc, Bool, not, cond, List, [], ◌∷◌, map, length, position, Option, IfSome, refl, ap, subst}
 use Rattle.std.specs.List.{position_or_len}
 
 place_of : {X Y : Type 0} (f : X → Y) (p : Y → Bool) (xs : List X) → position_or_len (λ x. p (f x)) xs ≡ position_or_len p (map f xs)

@@ -10,6 +10,7 @@ use Rattle.er_print.specs.Printed.{output_of}
 use Rattle.er_print.specs.declared.fault.WriteFault.TheVariants as writing
 use Rattle.er_report.specs.Report.{report_of, told as summary, answered_steps}
 use Rattle.er_report.specs.declared.report.Report.{Report}
+use Rattle.er_rules.specs.Rules.{Target}
 use Rattle.er_run.specs.declared.fault.RunFault.{RunFault}
 use Rattle.er_run.specs.declared.fault.RunFault.TheVariants.{Read, Write, Memory}
 use Rattle.er_run.specs.declared.fault.Verdict.{Verdict}
@@ -23,35 +24,35 @@ pub record IsRunOf (text : List ℕ) (limit : ℕ) (recording : Recording) (stop
   pub within : IfSome stop (λ s. s.at < length recording.steps)
 
 -- stopped where the run stopped, and else whether a race is printed
-abbrev pub verdict_of : Recording → Option Stopped → Verdict
-verdict_of recording (Some stop) = verdict.Stopped
-verdict_of recording None = cond (nat_lt 0 (report_of recording None).races) verdict.Races verdict.Clean
+abbrev pub verdict_of : Recording → List Target → Option Stopped → Verdict
+verdict_of recording rules (Some stop) = verdict.Stopped
+verdict_of recording rules None = cond (nat_lt 0 (report_of recording rules None).races) verdict.Races verdict.Clean
 
--- the text is a trace, and what was written is the whole report of a run of it
-pub record IsReplayed (text : List ℕ) (limit : ℕ) (old new : Option (List ℕ)) (told : Verdict) : Type 0 where
+-- the text is a trace, and what was written is the whole report of a run of it under these rules
+pub record IsReplayed (text : List ℕ) (limit : ℕ) (rules : List Target) (old new : Option (List ℕ)) (told : Verdict) : Type 0 where
   pub recording : Recording
   pub stop : Option Stopped
   pub run : IsRunOf text limit recording stop
-  pub written : Appends old new (output_of recording stop)
-  pub verdict : told ≡ verdict_of recording stop
+  pub written : Appends old new (output_of recording rules stop)
+  pub verdict : told ≡ verdict_of recording rules stop
 
--- the text is a trace, and what was written is the beginning of the report of a run of it
-pub record IsBegun (text : List ℕ) (limit : ℕ) (old new : Option (List ℕ)) : Type 0 where
+-- the text is a trace, and what was written is the beginning of the report of a run of it under these rules
+pub record IsBegun (text : List ℕ) (limit : ℕ) (rules : List Target) (old new : Option (List ℕ)) : Type 0 where
   pub recording : Recording
   pub stop : Option Stopped
   pub count : ℕ
   pub run : IsRunOf text limit recording stop
-  pub written : Appends old new (take count (output_of recording stop))
+  pub written : Appends old new (take count (output_of recording rules stop))
 
 -- where there is a fault: one of the text is its first, and a failed write left a beginning of the report
-abbrev pub IsFailed : Option (List ℕ) → ℕ → Option (List ℕ) → Option (List ℕ) → Result Verdict RunFault → Type 0
-IsFailed told limit old new (Ok verdict) = Unit {0}
-IsFailed told limit old new (Err (Read (reading.Text fault))) = IfSome told (λ text. IsFault text limit fault)
-IsFailed told limit old new (Err (Read reading.Memory)) = Unit {0}
-IsFailed told limit old new (Err (Read reading.Read)) = Unit {0}
-IsFailed told limit old new (Err (Write writing.Memory)) = Unit {0}
-IsFailed told limit old new (Err (Write writing.Write)) = IfSome told (λ text. IsBegun text limit old new)
-IsFailed told limit old new (Err Memory) = Unit {0}
+abbrev pub IsFailed : Option (List ℕ) → ℕ → List Target → Option (List ℕ) → Option (List ℕ) → Result Verdict RunFault → Type 0
+IsFailed told limit rules old new (Ok verdict) = Unit {0}
+IsFailed told limit rules old new (Err (Read (reading.Text fault))) = IfSome told (λ text. IsFault text limit fault)
+IsFailed told limit rules old new (Err (Read reading.Memory)) = Unit {0}
+IsFailed told limit rules old new (Err (Read reading.Read)) = Unit {0}
+IsFailed told limit rules old new (Err (Write writing.Memory)) = Unit {0}
+IsFailed told limit rules old new (Err (Write writing.Write)) = IfSome told (λ text. IsBegun text limit rules old new)
+IsFailed told limit rules old new (Err Memory) = Unit {0}
 
 -- nothing was written, unless a write failed
 abbrev pub WritesNothing : Option (List ℕ) → Option (List ℕ) → RunFault → Type 0
@@ -65,11 +66,11 @@ pub record HasRun (recording : Recording) (outcome : Outcome) : Type 0 where
   pub answers : outcome.answers ≡ answers (answered_steps recording.steps outcome.stopped)
   pub within : IfSome outcome.stopped (λ s. s.at < length recording.steps)
 
--- the report of a run of the recording's steps
-pub record IsReportOfRun (recording : Recording) (report : Report) : Type 0 where
+-- the report of a run of the recording's steps under these rules
+pub record IsReportOfRun (recording : Recording) (rules : List Target) (report : Report) : Type 0 where
   pub stop : Option Stopped
   pub within : IfSome stop (λ s. s.at < length recording.steps)
-  pub says : summary report ≡ report_of recording stop
+  pub says : summary report ≡ report_of recording rules stop
 
 -- what a report's numbers come to
 abbrev pub verdict_by : Option (ℕ × NoRoom) → ℕ → Verdict

@@ -1,16 +1,18 @@
 //! A whole replay: from the bytes of a trace to the bytes of its report.
 //!
-//! Begin with [`replay_text`]. It reads a trace text to its end, replays it on a new machine, and writes the report.
+//! Begin with [`replay_text`]. It reads a trace text to its end, replays it on a new machine, and writes the report, without the
+//! races that the rules of `er_rules` take.
 //!
-//! What it promises, by the names of clauses: what was written is exactly the report that the text defines (`report`), a
-//! fault of the text is the text's first fault (`fault`), and nothing was written after any fault but a failed write
-//! (`nothing`).
+//! What it promises, by the names of clauses: what was written is exactly the report that the text and the rules define
+//! (`report`), a fault of the text is the text's first fault (`fault`), and nothing was written after any fault but a failed
+//! write (`nothing`).
 //!
 //! ```text
 //! let text: &[u8] = b"eraser trace 1\nt1 write 0x1000\nt2 write 0x1000\n";
 //! let mut source = Device::new(text);
 //! let mut sink = Device::new(Vec::new(rt.alloc()));
-//! let verdict = replay_text(&rt, &mut source, &mut sink, &Options::greatest())?;   // Verdict::Races
+//! let rules = Suppressions::new(rt.alloc());
+//! let verdict = replay_text(&rt, &mut source, &mut sink, &rules, &Options::greatest())?;   // Verdict::Races
 //! ```
 #![tactic(auto)]
 
@@ -21,3 +23,5 @@ pub use replay::replay_text;
 mod fault;
 mod options;
 mod replay;
+#[cfg(test)]
+mod tests;

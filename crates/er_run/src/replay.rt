@@ -2,6 +2,7 @@
 ghost use Rattle.std.specs.Prelude.{◌≡◌, ◌≤◌, false, All, IfSome, IfOk, IfErr};
 ghost use Rattle.er_device.specs.Device.{inner_of, has_failed};
 ghost use Rattle.er_report.specs.Names.{HasNames};
+ghost use Rattle.er_rules.specs.Rules.{targets_of};
 ghost use Rattle.er_run.specs.Replays.{IsReplayed, IsFailed, WritesNothing, HasRun, IsReportOfRun, is_verdict_of};
 
 use crate::{Options, RunFault, Verdict};
@@ -11,13 +12,14 @@ use er_model::Outcome;
 use er_print::write_report;
 use er_replay::{Machine, run};
 use er_report::{Report, summarise};
+use er_rules::Suppressions;
 use er_table::LocksetTable;
 use er_text::read_trace;
 use std::alloc::{AllocError, Global};
 use std::io::{Read, Write};
 use std::sync::Wait;
 
-/// Reads a trace text, replays it on one machine, and writes its report.
+/// Reads a trace text, replays it on one machine, and writes its report, without the races that the rules take.
 ///
 /// The text is read to its end and the report built whole before the first byte is written. Where a step is refused for want
 /// of room the replay stops there, and the report says so.
@@ -25,6 +27,7 @@ pub fn replay_text<R, D, W>(
     rt: &R,
     reader: &mut Device<D>,
     writer: &mut Device<W>,
+    suppressions: &Suppressions,
     options: &Options,
 ) -> Result<Verdict, RunFault>
 where
@@ -33,14 +36,15 @@ where
     W: Write,
     requires reader { has_failed reader.old ≡ false }
     requires writer { has_failed writer.old ≡ false }
-    ensures report { IfOk result (λ verdict. IfSome (D.remaining (inner_of reader.old)) (λ text. IsReplayed text options.now.byte_limit (W.contents (inner_of writer.old)) (W.contents (inner_of writer.new)) verdict)) }
-    ensures fault { IsFailed (D.remaining (inner_of reader.old)) options.now.byte_limit (W.contents (inner_of writer.old)) (W.contents (inner_of writer.new)) result }
+    ensures report { IfOk result (λ verdict. IfSome (D.remaining (inner_of reader.old)) (λ text. IsReplayed text options.now.byte_limit (targets_of suppressions.now) (W.contents (inner_of writer.old)) (W.contents (inner_of writer.new)) verdict)) }
+    ensures fault { IsFailed (D.remaining (inner_of reader.old)) options.now.byte_limit (targets_of suppressions.now) (W.contents (inner_of writer.old)) (W.contents (inner_of writer.new)) result }
     ensures nothing { IfErr result (λ why. WritesNothing (W.contents (inner_of writer.old)) (W.contents (inner_of writer.new)) why) }
 {
     let trace = read_trace(rt.alloc(), reader, options.byte_limit)?;
-    let report = report_on(rt, rt.alloc(), &trace, options.max_sets)?;
+    let report = report_on(rt, rt.alloc(), &trace, suppressions, options.max_sets)?;
+    let verdict = verdict_of(&report);
     match write_report(rt.alloc(), writer, &report, trace.names()) {
-        Ok(()) => Ok(verdict_of(&report)),
+        Ok(()) => Ok(verdict),
         Err(why) => Err(RunFault::Write(why)),
     }
 }
@@ -64,15 +68,16 @@ fn report_on<R: Wait>(
     rt: &R,
     alloc: Global,
     trace: &Trace,
+    suppressions: &Suppressions,
     max_sets: u32,
 ) -> Result<Report, AllocError>
     requires some { 1 ≤ max_sets }
     requires few { max_sets ≤ 1048576 }
-    ensures report { IfOk result (λ report. IsReportOfRun trace.now report) }
+    ensures report { IfOk result (λ report. IsReportOfRun trace.now (targets_of suppressions.now) report) }
     ensures named { IfOk result (λ report. All (HasNames trace.now.names) report.lines.items) }
 {
     let outcome = outcome_of(rt, alloc, trace, max_sets)?;
-    summarise(alloc, trace, &outcome)
+    summarise(alloc, trace, &outcome, suppressions)
 }
 
 fn verdict_of(report: &Report) -> Verdict

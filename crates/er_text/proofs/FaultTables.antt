@@ -37,7 +37,7 @@ lock_faults : (f : List ℕ → Deed) (w : List ℕ) → first_kind ((not (is_lo
 lock_faults f w = named (is_lock_name w) w ∙ sym (fault_of-map f (lock_in w))
 
 -- what follows a number
-number_faults : {X : Type 0} (r : Option ℕ) (rows : ℕ → List (Bool × TextKind)) (f : ℕ → Result X TextKind) → ((n : ℕ) → first_kind (rows n) ≡ fault_of (f n))
+pub number_faults : {X : Type 0} (r : Option ℕ) (rows : ℕ → List (Bool × TextKind)) (f : ℕ → Result X TextKind) → ((n : ℕ) → first_kind (rows n) ≡ fault_of (f n))
     → first_kind ((not (is_some r), BadNumber) ∷ rows (unwrap_or r 0)) ≡ fault_of (and_then (or_fault BadNumber r) f)
 number_faults None rows f more = refl
 number_faults (Some n) rows f more = more n
@@ -54,7 +54,7 @@ site_word true false site rows f is more = more (Some site)
 site_word false true site rows f is more = absurd (let e = is refl in cc)
 site_word false false site rows f is more = refl
 
-dash_named : (w : List ℕ) → bytes_eq w (codes "-") ≡ true → is_name w ≡ true
+pub dash_named : (w : List ℕ) → bytes_eq w (codes "-") ≡ true → is_name w ≡ true
 dash_named w e = ap is_name (equal w (codes "-") e)
 
 -- what follows a site

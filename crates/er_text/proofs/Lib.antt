@@ -18,3 +18,7 @@ pub mod TraceLaws
 pub mod AgainLaws
 pub mod TextLaws
 pub mod NamedLaws
+pub mod RuleWords
+pub mod RuleLaws
+pub mod GatherTurns
+pub mod GatherLaws

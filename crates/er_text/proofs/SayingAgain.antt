@@ -18,7 +18,7 @@ use Rattle.er_text.specs.Saying.{lock_in, site_in, word_in, level_in, run_in, sa
 use Rattle.er_text.specs.Trace.{acquire_word, release_word, kind_word, IsSite, IsDeed, Says}
 use Rattle.er_text.proofs.SpellingLaws.{spelled_verb}
 
-some_name : (word : List ℕ) → is_name word ≡ true → has_bytes word ≡ true
+pub some_name : (word : List ℕ) → is_name word ≡ true → has_bytes word ≡ true
 some_name [] name = absurd (cc)
 some_name (x ∷ xs) name = refl
 
@@ -26,7 +26,7 @@ some_lock : (word : List ℕ) → is_lock_name word ≡ true → has_bytes word 
 some_lock [] name = absurd (cc)
 some_lock (x ∷ xs) name = refl
 
-some_number : (word : List ℕ) (n : ℕ) → number_of word ≡ Some n → has_bytes word ≡ true
+pub some_number : (word : List ℕ) (n : ℕ) → number_of word ≡ Some n → has_bytes word ≡ true
 some_number [] n e = absurd (cc)
 some_number (x ∷ xs) n e = refl
 
@@ -61,7 +61,7 @@ plain_access : (version : Version) (t a : List ℕ) (k : Kind) (n : ℕ) → is_
 plain_access version t a kind.Read n name number small = rw (name, some_number a n number, number, word_again n small) refl
 plain_access version t a kind.Write n name number small = rw (name, some_number a n number, number, word_again n small) refl
 
-site_again : (dash : Bool) (w : List ℕ) → bytes_eq w (codes "-") ≡ dash → is_name w ≡ true → site_in w ≡ Ok (cond dash None (Some w))
+pub site_again : (dash : Bool) (w : List ℕ) → bytes_eq w (codes "-") ≡ dash → is_name w ≡ true → site_in w ≡ Ok (cond dash None (Some w))
 site_again true w is name = rw (is, some_name w name) refl
 site_again false w is name = rw (is, name, some_name w name) refl
 

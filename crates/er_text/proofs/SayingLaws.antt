@@ -30,7 +30,7 @@ pub bound : {X Y : Type 0} (f : X → Result Y TextKind) (r : Result X TextKind)
 bound f (Ok x) y e = (x, refl, e)
 bound f (Err k) y e = absurd (cc)
 
-number_found : (r : Option ℕ) (n : ℕ) → or_fault BadNumber r ≡ Ok n → r ≡ Some n
+pub number_found : (r : Option ℕ) (n : ℕ) → or_fault BadNumber r ≡ Ok n → r ≡ Some n
 number_found None n e = absurd (cc)
 number_found (Some m) n e = cc
 
@@ -80,7 +80,7 @@ site_tested true false w s d n e = let e = sym n ∙ ap is_name (equal w (codes 
 site_tested false true w s d n e = (refl, cc)
 site_tested false false w s d n e = absurd (cc)
 
-site_found : (w : List ℕ) (s : Option (List ℕ)) → site_in w ≡ Ok s → IsSite (some_word w) s
+pub site_found : (w : List ℕ) (s : Option (List ℕ)) → site_in w ≡ Ok s → IsSite (some_word w) s
 site_found [] s e = cc
 site_found (x ∷ xs) s e = let w = x ∷ xs in site_tested (bytes_eq w (codes "-")) (is_name w) w s refl refl e
 

@@ -41,7 +41,7 @@ fails_whole limit p q (Some text) (Some ys) new xs n f keeps place within line r
     ∙ ap (λ (l : ℕ). Err (record { line = l; kind = f.kind })) (sym line)
 
 -- the bytes at the end, which no LF follows
-at_end : (text xs ys : List ℕ) → xs ++ ys ≡ text → IsAtEnd (Some ys) → xs ≡ text
+pub at_end : (text xs ys : List ℕ) → xs ++ ys ≡ text → IsAtEnd (Some ys) → xs ≡ text
 at_end text xs ys keeps end = sym (append-nil xs) ∙ ap (λ (t : List ℕ). xs ++ t) (sym end) ∙ keeps
 
 pub turn_last : (limit : ℕ) (p q : Progress) (old known new : Option (List ℕ)) (xs : List ℕ)

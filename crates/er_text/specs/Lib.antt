@@ -11,3 +11,5 @@ pub mod Progress
 pub mod Windows
 pub mod Usual
 pub mod Named
+pub mod Rules
+pub mod Gathering

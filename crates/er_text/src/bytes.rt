@@ -1,7 +1,7 @@
 //! Where lines and words end.
 ghost use Rattle.std.specs.Prelude.{◌≡◌, ◌≤◌, not, position, length, drop};
 ghost use Rattle.std.specs.List.{list_all, position_or_len};
-ghost use Rattle.er_text.specs.Lines.{is_end, is_gap, is_ascii, first_of, words};
+ghost use Rattle.er_text.specs.Lines.{is_end, is_gap, is_ascii, is_comment, first_of, words};
 
 use memchr::memchr;
 
@@ -16,6 +16,13 @@ pub(crate) fn is_ascii(bytes: &[u8]) -> bool
     ensures { result ≡ list_all is_ascii bytes.now }
 {
     bytes.is_ascii()
+}
+
+/// Whether the first byte is a number sign.
+pub(crate) fn is_comment(bytes: &[u8]) -> bool
+    ensures { result ≡ is_comment bytes.now }
+{
+    matches!(bytes, [b'#', ..])
 }
 
 fn find_gap(bytes: &[u8]) -> Option<usize>

@@ -19,9 +19,9 @@ pub enum TextKind {
     NoHeader,
     /// A word isn't the name that its place asks for.
     BadName,
-    /// The verb, or an operand, isn't there.
+    /// The verb of an event, or an operand, isn't there.
     MissingOperand,
-    /// The second word isn't a verb of this text.
+    /// The second word of an event isn't a verb of this text, or the first word of a rule is no sort of rule.
     BadVerb,
     /// There are more operands than the verb takes.
     ExtraOperand,
@@ -66,7 +66,7 @@ pub struct TextFault {
     pub kind: TextKind,
 }
 
-/// Why a reading gave no trace.
+/// Why a reading gave no trace, or no rules.
 #[derive(Clone, Copy, Debug, PartialEq, Eq, Hash)]
 pub enum ReadFault {
     /// The text has this fault.

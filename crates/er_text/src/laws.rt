@@ -4,6 +4,8 @@ ghost use Rattle.er_event.specs.Trace.{Recording};
 ghost use Rattle.er_text.specs.declared.faults.TextFault.{TextFault};
 ghost use Rattle.er_text.specs.Named.{AreNamed};
 ghost use Rattle.er_text.specs.Trace.{IsTrace, IsFault};
+ghost use Rattle.er_rules.specs.Rules.{Target};
+ghost use Rattle.er_text.specs.Rules.{IsRules, IsRulesFault};
 
 /// A text is a trace or has a fault, and never both. It has one trace at most, and one fault.
 pub fn trace_or_fault()
@@ -17,4 +19,12 @@ pub fn trace_or_fault()
 /// names that the trace gives for their numbers.
 pub fn steps_are_named()
     ensures { (text : List ℕ) (limit : ℕ) (t : Recording) (is : IsTrace text limit t) → AreNamed is.version is.events t.names t.steps t.lines }
+{}
+
+/// A text is a list of rules or has a fault, and never both. It has one list of rules at most, and one fault.
+pub fn rules_or_fault()
+    ensures either { (text : List ℕ) (limit : ℕ) → ((rules : List Target) × IsRules text limit rules) ⊎ ((f : TextFault) × IsRulesFault text limit f) }
+    ensures never_both { (text : List ℕ) (limit : ℕ) (rules : List Target) (f : TextFault) → IsRules text limit rules → IsRulesFault text limit f → ⊥ }
+    ensures one_list { (text : List ℕ) (limit : ℕ) (r s : List Target) → IsRules text limit r → IsRules text limit s → r ≡ s }
+    ensures one_fault { (text : List ℕ) (limit : ℕ) (f g : TextFault) → IsRulesFault text limit f → IsRulesFault text limit g → f ≡ g }
 {}

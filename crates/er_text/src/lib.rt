@@ -1,11 +1,12 @@
-//! The texts of traces: read byte by byte, as their grammar says of whole lines.
+//! The texts of traces and of suppressions: read byte by byte, as their grammars say of whole lines.
 //!
 //! Begin with [`read_trace`]: it reads a text from any reader, in whatever pieces it comes, and gives its [`Trace`](er_event::Trace)
-//! or the fault of its first faulty line.
+//! or the fault of its first faulty line. [`read_suppressions`] does the same for the rules that keep races out of a report, and
+//! gives them as [`Suppressions`](er_rules::Suppressions).
 //!
-//! What it promises, by the names of clauses: what is told of a text is its trace or its fault by the grammar (`told`), and every
-//! text has exactly one of these (`trace_or_fault`); a fault of the reader is told exactly where the reader failed (`failed`);
-//! no reading takes more than `byte_limit` and 1,025 bytes (`taken`).
+//! What they promise, by the names of clauses: what is told of a text is its trace, or its rules, or its fault by the grammar
+//! (`told`), and every text has exactly one of these (`trace_or_fault`, `rules_or_fault`); a fault of the reader is told exactly
+//! where the reader failed (`failed`); no reading takes more than `byte_limit` and 1,025 bytes (`taken`).
 //!
 //! ```
 //! let mut reader = Device::new(b"eraser trace 1\nt1 lock m\nt1 write 0x1000 save.c:12\n".as_slice());
@@ -19,8 +20,9 @@
 #![tactic(auto)]
 
 pub use faults::{ReadFault, TextFault, TextKind};
-pub use laws::{steps_are_named, trace_or_fault};
+pub use laws::{rules_or_fault, steps_are_named, trace_or_fault};
 pub use reading::read_trace;
+pub use suppressions::read_suppressions;
 
 mod bytes;
 mod classes;
@@ -29,7 +31,11 @@ mod laws;
 mod naming;
 mod numbers;
 mod reading;
+#[cfg(test)]
+mod rule_tests;
+mod rules;
 mod saying;
+mod suppressions;
 mod telling;
 #[cfg(test)]
 mod tests;

@@ -2,13 +2,13 @@
 ghost use Rattle.std.specs.Prelude.{◌≡◌, ◌+◌, ◌<◌, ◌≤◌, length, OnOk, IfOk, IfSome, IsErrOf, true, false};
 ghost use Rattle.std.specs.Io.KnownBytes.{prepend_known};
 ghost use Rattle.er_device.specs.Device.{inner_of, has_failed, taken_of};
-ghost use Rattle.er_text.specs.Lines.{width, is_comment};
+ghost use Rattle.er_text.specs.Lines.{width};
 ghost use Rattle.er_text.specs.Reading.{at_front, read_content, read_plain, read_line, read_text, finish, IsOutcome};
 ghost use Rattle.er_text.specs.Windows.{items};
 ghost use Rattle.er_text.specs.Trace.{Tells, HasFailedBy};
 ghost use Rattle.er_text.specs.Progress.{progress, Advances, IsSound, Grows, Turns};
 
-use crate::bytes::is_ascii;
+use crate::bytes::{is_ascii, is_comment};
 use crate::faults::{ReadFault, TextFault, TextKind};
 use crate::saying::split_words;
 use crate::telling::tell;
@@ -27,12 +27,6 @@ struct Reading {
     start: u64,
     version: Option<Version>,
     trace: Trace,
-}
-
-fn is_comment(bytes: &[u8]) -> bool
-    ensures { result ≡ is_comment bytes.now }
-{
-    matches!(bytes, [b'#', ..])
 }
 
 impl Reading {

@@ -155,7 +155,7 @@ fn reuse<'a>(address: &'a [u8], size: &'a [u8]) -> Result<Action<'a>, TextKind>
     Ok(Action::Reuse(range_of(address, size)?))
 }
 
-fn number(word: &[u8]) -> Result<u64, TextKind>
+pub(crate) fn number(word: &[u8]) -> Result<u64, TextKind>
     ensures { result ≡ number_in word.now }
 {
     number_of(word).ok_or(TextKind::BadNumber)
@@ -168,7 +168,7 @@ fn lock(word: &[u8]) -> Result<&str, TextKind>
 }
 
 /// The site that a word names. A missing word and `-` name none.
-fn site_of(word: &[u8]) -> Result<Option<&str>, TextKind>
+pub(crate) fn site_of(word: &[u8]) -> Result<Option<&str>, TextKind>
     ensures { GivesSite result (site_in word.now) }
 {
     if word.is_empty() || word == b"-".as_slice() {

@@ -34,7 +34,7 @@ fn fault_behind(alloc: Global, header: &str, line: &[u8]) -> Result<Option<TextF
 }
 
 /// The number sign and `a` so many times.
-fn comment(alloc: Global, count: u32) -> Result<Vec<u8>, AllocError> {
+pub(crate) fn comment(alloc: Global, count: u32) -> Result<Vec<u8>, AllocError> {
     let mut text = Vec::new(alloc);
     text.push(b'#')?;
     for _ in 0..count {
@@ -45,8 +45,8 @@ fn comment(alloc: Global, count: u32) -> Result<Vec<u8>, AllocError> {
 
 /// Gives one byte a call.
 #[derive(Drop)]
-struct Drops<'a> {
-    left: &'a [u8],
+pub(crate) struct Drops<'a> {
+    pub(crate) left: &'a [u8],
 }
 
 impl<'a> Read for Drops<'a> {
@@ -64,8 +64,8 @@ impl<'a> Read for Drops<'a> {
 
 /// Gives this byte for ever, `size` of them a call at most.
 #[derive(Drop)]
-struct Endless {
-    byte: u8,
+pub(crate) struct Endless {
+    pub(crate) byte: u8,
 }
 
 impl Read for Endless {
@@ -79,9 +79,9 @@ impl Read for Endless {
 
 /// Gives a byte of the text a call, and fails once it gave `good` of them.
 #[derive(Drop)]
-struct Failing<'a> {
-    left: &'a [u8],
-    good: u32,
+pub(crate) struct Failing<'a> {
+    pub(crate) left: &'a [u8],
+    pub(crate) good: u32,
 }
 
 impl<'a> Read for Failing<'a> {
@@ -402,5 +402,21 @@ fn every_verb(rt: HostRuntime) -> Result<(), Fail> {
         assert_eq!(rt; numbers.0, *verb, "line {line}");
         assert_eq!(rt; (numbers.1, numbers.2), (*first, *second), "line {line}");
     }
+    Ok(())
+}
+
+/// Each allocation in turn is refused by `rt try --test --fail-alloc`.
+#[test]
+fn each_allocation_of_a_trace_refused(rt: HostRuntime) -> Result<(), Fail> {
+    let mut reader = Device::new(EVERY_VERB);
+    let trace = match read_trace(rt.alloc(), &mut reader, 65535) {
+        Ok(trace) => trace,
+        Err(fault) => {
+            assert_eq!(rt; fault, ReadFault::Memory);
+            assert!(rt; !reader.failed());
+            read(rt.alloc(), EVERY_VERB)?
+        }
+    };
+    assert_eq!(rt; trace.steps().len(), 15);
     Ok(())
 }

@@ -1,10 +1,11 @@
 //! One command line, run over a reader and two writers.
-use crate::request::{Request, read_request};
+use crate::request::{Replay, Request, read_request};
 use clap::error::ErrorKind;
 use er_device::Device;
 use er_print::WriteFault;
+use er_rules::Suppressions;
 use er_run::{Options, RunFault, Verdict, replay_text};
-use er_text::{ReadFault, TextFault};
+use er_text::{ReadFault, TextFault, read_suppressions};
 use std::alloc::Global;
 use std::fs::File;
 use std::io::{Read, Write};
@@ -15,8 +16,10 @@ use std::sync::Wait;
 #[derive(Clone, Copy, Debug, PartialEq, Eq)]
 enum Fault {
     Text(TextFault),
+    Suppressions(TextFault),
     Memory,
     OpenTrace,
+    OpenSuppressions,
     Read,
     Write,
 }
@@ -24,17 +27,18 @@ enum Fault {
 impl Fault {
     fn status(self) -> u8 {
         match self {
-            Fault::Text(_) => 2,
+            Fault::Text(_) | Fault::Suppressions(_) => 2,
             Fault::Memory => 3,
-            Fault::OpenTrace | Fault::Read | Fault::Write => 4,
+            Fault::OpenTrace | Fault::OpenSuppressions | Fault::Read | Fault::Write => 4,
         }
     }
 
     fn text(self) -> &'static str {
         match self {
-            Fault::Text(fault) => fault.kind.text(),
+            Fault::Text(fault) | Fault::Suppressions(fault) => fault.kind.text(),
             Fault::Memory => "out of memory",
             Fault::OpenTrace => "cannot open trace",
+            Fault::OpenSuppressions => "cannot open suppressions",
             Fault::Read => "read fault",
             Fault::Write => "write fault",
         }
@@ -75,7 +79,7 @@ where
         Err(error) => return refused(rt.alloc(), &error, output, errors),
     };
     let outcome = match request {
-        Request::Replay(path) => run_replay(rt, path, input, output),
+        Request::Replay(replay) => run_replay(rt, replay, input, output),
     };
     match outcome {
         Ok(verdict) => status_of(verdict),
@@ -91,23 +95,69 @@ fn status_of(verdict: Verdict) -> u8 {
     }
 }
 
-fn run_replay<R, I, O>(rt: &R, path: &str, input: &mut I, output: &mut O) -> Result<Verdict, Fault>
+// The suppressions are opened and read before the trace is opened.
+fn run_replay<R, I, O>(
+    rt: &R,
+    replay: Replay<'_>,
+    input: &mut I,
+    output: &mut O,
+) -> Result<Verdict, Fault>
 where
     R: Files + AllocGlobal + Wait,
     I: Read,
     O: Write,
 {
     let options = Options::greatest();
+    let suppressions = suppressions_at(rt, replay.suppressions, &options)?;
+    replay_trace(rt, replay.trace, &suppressions, &options, input, output)
+}
+
+fn suppressions_at<R>(
+    rt: &R,
+    path: Option<&str>,
+    options: &Options,
+) -> Result<Suppressions, Fault>
+where
+    R: Files + AllocGlobal,
+{
+    let Some(path) = path else {
+        return Ok(Suppressions::new(rt.alloc()));
+    };
+    let Ok(file) = File::open(rt, path) else {
+        return Err(Fault::OpenSuppressions);
+    };
+    let mut source = Device::new(file);
+    match read_suppressions(rt.alloc(), &mut source, options.byte_limit) {
+        Ok(suppressions) => Ok(suppressions),
+        Err(ReadFault::Text(fault)) => Err(Fault::Suppressions(fault)),
+        Err(ReadFault::Memory) => Err(Fault::Memory),
+        Err(ReadFault::Read) => Err(Fault::Read),
+    }
+}
+
+fn replay_trace<R, I, O>(
+    rt: &R,
+    path: &str,
+    suppressions: &Suppressions,
+    options: &Options,
+    input: &mut I,
+    output: &mut O,
+) -> Result<Verdict, Fault>
+where
+    R: Files + AllocGlobal + Wait,
+    I: Read,
+    O: Write,
+{
     let mut sink = Device::new(output);
     if path == "-" {
         let mut source = Device::new(input);
-        return Ok(replay_text(rt, &mut source, &mut sink, &options)?);
+        return Ok(replay_text(rt, &mut source, &mut sink, suppressions, options)?);
     }
     let Ok(file) = File::open(rt, path) else {
         return Err(Fault::OpenTrace);
     };
     let mut source = Device::new(file);
-    Ok(replay_text(rt, &mut source, &mut sink, &options)?)
+    Ok(replay_text(rt, &mut source, &mut sink, suppressions, options)?)
 }
 
 /// Writes the fault's line to the errors, and answers its status. A fault in telling a fault is not told.
@@ -115,6 +165,9 @@ fn tell<E: Write>(alloc: Global, fault: Fault, errors: &mut E) -> u8 {
     let text = fault.text();
     let line = match fault {
         Fault::Text(TextFault { line, .. }) => format!(in alloc; "line {line}: {text}\n"),
+        Fault::Suppressions(TextFault { line, .. }) => {
+            format!(in alloc; "suppressions line {line}: {text}\n")
+        }
         _ => format!(in alloc; "{text}\n"),
     };
     let mut sink = Device::new(errors);

@@ -6,17 +6,31 @@ use std::alloc::{AllocError, Global};
 /// What a command line asks for.
 #[derive(Clone, Copy, Drop)]
 pub enum Request<'a> {
-    /// A replay of the trace at this path, which is standard input where it is `-`.
-    Replay(&'a str),
+    /// A replay of a trace.
+    Replay(Replay<'a>),
+}
+
+/// Which trace to replay, and by which suppressions.
+#[derive(Clone, Copy, Drop)]
+pub struct Replay<'a> {
+    /// The path of the suppressions, where there are some.
+    pub suppressions: Option<&'a str>,
+    /// The path of the trace, which is standard input where it is `-`.
+    pub trace: &'a str,
 }
 
 fn replay_command<'a>(alloc: Global) -> Result<Command<'a>, AllocError> {
+    let suppress = Arg::new(alloc, "suppress")
+        .long("suppress")
+        .value_name("FILE")
+        .help("Count the races that this file's rules take, and leave their lines out");
     let trace = Arg::new(alloc, "trace")
         .value_name("TRACE")
         .required(true)
         .help("The trace to replay, or - for standard input");
     Command::new(alloc, "replay")
         .about("Replay a trace and report its races")
+        .arg(suppress)?
         .arg(trace)
 }
 
@@ -38,6 +52,10 @@ prints
   line 3: race: t2 write 0x000000001000 at -, holds none
   steps 2, races 1, suppressed 0, refused 0
 
+A suppression file has a rule a line, and the first that fits a race takes it:
+  site parser.c:120
+  words 0x1000 64
+
 Exit status:
   0  no race was printed
   1  some race was printed
@@ -45,11 +63,14 @@ Exit status:
   3  the replay ran out of room
   4  a file could not be opened, read or written
 
-The texts of traces and reports are described in docs/FORMATS.md.";
+The texts of traces, suppressions and reports are described in docs/FORMATS.md.";
 
 fn request_of<'a>(matches: &ArgMatches<'a>) -> Option<Request<'a>> {
     match matches.subcommand()? {
-        ("replay", found) => Some(Request::Replay(found.get_str("trace")?)),
+        ("replay", found) => Some(Request::Replay(Replay {
+            suppressions: found.get_str("suppress"),
+            trace: found.get_str("trace")?,
+        })),
         _ => None,
     }
 }

@@ -1,4 +1,4 @@
-use Rattle.std.proofs.Common.{◌≡◌, ◌<◌, List, [], length, ◌∙◌, ap, subst, IfSome}
+use Rattle.std.proofs.Common.{◌<◌, List, [], length, ◌∙◌, ap, subst, IfSome}
 use Rattle.er_event.specs.declared.steps.Step.{Step}
 use Rattle.er_model.specs.Answers.{answers}
 use Rattle.er_model.proofs.Runs.{after-start}

@@ -1,0 +1,82 @@
+-- The grammar of suppression texts, and the fault of a text that is none. It speaks of whole lines, and knows no reading.
+use Rattle.std.specs.Prelude.{◌≡◌, ℕ, ◌+◌, ◌^◌, ◌<◌, ◌≤◌, ◌||◌, ◌&&◌, Bool, true, not, List, [], ◌∷◌, ◌++◌, Some, None, Result, Ok, Err, length, drop, filter, nat_lt, nat_le, codes, if◌then◌else◌}
+use Rattle.std.specs.List.{list_all, AllByRecursion}
+use Rattle.std.specs.Str.{bytes_eq}
+use Rattle.er_rules.specs.Rules.{Target, AtSite, AtWords, targets_of}
+use Rattle.er_rules.specs.declared.rules.Suppressions.{Suppressions}
+use Rattle.er_text.specs.declared.faults.TextKind.{TextKind}
+use Rattle.er_text.specs.declared.faults.TextKind.TheVariants.{LineTooLong, TextTooLong, NotAscii, BadName, MissingOperand, BadVerb, ExtraOperand, BadNumber, AddressOutOfRange}
+use Rattle.er_text.specs.declared.faults.TextFault.{TextFault}
+use Rattle.er_text.specs.declared.faults.ReadFault.{ReadFault}
+use Rattle.er_text.specs.declared.faults.ReadFault.TheVariants as fault
+use Rattle.er_text.specs.Lines.{words, word_at, width, is_ascii}
+use Rattle.er_text.specs.Number.{number_of}
+use Rattle.er_text.specs.Naming.{is_name}
+use Rattle.er_text.specs.Events.{run_of}
+use Rattle.er_text.specs.Trace.{Placed, placed, has_content, IsSite, IsPlain, first_kind, number_at, is_number_at}
+
+-- the words that write a rule: a site, of which `-` is the missing one, or an address and a size in bytes
+abbrev pub IsRule : List (List ℕ) → Target → Type 0
+IsRule words (AtSite site) = (name : List ℕ) × (words ≡ codes "site" ∷ name ∷ []) × IsSite (name ∷ []) site
+IsRule words (AtWords run) =
+    (address size : List ℕ) × (a n : ℕ) × (words ≡ codes "words" ∷ address ∷ size ∷ [])
+    × (number_of address ≡ Some a) × (number_of size ≡ Some n) × (a < 2 ^ 48) × (a + n ≤ 2 ^ 48) × (run ≡ run_of a n)
+
+-- lines and the rules that they write, one for one
+abbrev pub AllRule : List Placed → List Target → Type 0
+AllRule [] [] = Unit {0}
+AllRule (p ∷ ps) (t ∷ ts) = IsRule (words p.line.bytes) t × AllRule ps ts
+AllRule [] (t ∷ ts) = ⊥
+AllRule (p ∷ ps) [] = ⊥
+
+abbrev pub site_kinds : List (List ℕ) → List (Bool × TextKind)
+site_kinds operands =
+    (nat_lt (length operands) 1, MissingOperand) ∷ (nat_lt 1 (length operands), ExtraOperand) ∷ (not (is_name (word_at 0 operands)), BadName) ∷ []
+
+abbrev pub run_kinds : List (List ℕ) → List (Bool × TextKind)
+run_kinds operands =
+    (nat_lt (length operands) 2, MissingOperand) ∷ (nat_lt 2 (length operands), ExtraOperand)
+    ∷ (not (is_number_at 0 operands), BadNumber) ∷ (not (is_number_at 1 operands), BadNumber)
+    ∷ (nat_le (2 ^ 48) (number_at 0 operands) || nat_lt (2 ^ 48) (number_at 0 operands + number_at 1 operands), AddressOutOfRange) ∷ []
+
+-- the faults of the words of a rule, in their order
+abbrev pub rule_kinds : List (List ℕ) → List (Bool × TextKind)
+rule_kinds words =
+    if bytes_eq (word_at 0 words) (codes "site") then site_kinds (drop 1 words)
+    else if bytes_eq (word_at 0 words) (codes "words") then run_kinds (drop 1 words)
+    else (true, BadVerb) ∷ []
+
+-- the faults of a line, in their order
+abbrev pub rule_line_kinds : ℕ → Placed → List (Bool × TextKind)
+rule_line_kinds limit p =
+    (nat_lt 1024 (length p.line.bytes), LineTooLong)
+    ∷ (nat_le p.start limit && nat_lt limit (p.start + width p.line), TextTooLong)
+    ∷ (not (list_all is_ascii p.line.bytes), NotAscii)
+    ∷ (if has_content p then rule_kinds (words p.line.bytes) else [])
+
+-- no fault in this line
+abbrev pub IsFaultless : ℕ → Placed → Type 0
+IsFaultless limit p = first_kind (rule_line_kinds limit p) ≡ None
+
+-- the first faulty line, with its first fault
+abbrev pub IsFirstFaultyRule : ℕ → List Placed → TextFault → Type 0
+IsFirstFaultyRule limit lines f =
+    (before : List Placed) × (p : Placed) × (after : List Placed) × (lines ≡ before ++ p ∷ after) × AllByRecursion (IsFaultless limit) before
+    × (first_kind (rule_line_kinds limit p) ≡ Some f.kind) × (f.line ≡ p.number)
+
+-- the fault of a text
+abbrev pub IsRulesFault : List ℕ → ℕ → TextFault → Type 0
+IsRulesFault text limit f = IsFirstFaultyRule limit (placed text) f
+
+-- a text writes these rules: it is in its limits, and its lines with content are the rules in order
+pub record IsRules (text : List ℕ) (limit : ℕ) (targets : List Target) : Type 0 where
+  pub short : length text ≤ limit
+  pub plain : AllByRecursion IsPlain (placed text)
+  pub rules : AllRule (filter has_content (placed text)) targets
+
+-- what is told of a text: its rules, or its fault, unless memory or the reader failed
+abbrev pub TellsRules : List ℕ → ℕ → Result Suppressions ReadFault → Type 0
+TellsRules text limit (Ok rules) = IsRules text limit (targets_of rules)
+TellsRules text limit (Err (fault.Text f)) = IsRulesFault text limit f
+TellsRules text limit (Err fault.Memory) = Unit {0}
+TellsRules text limit (Err fault.Read) = Unit {0}
