@@ -1,0 +1,10 @@
+pub mod ListLemmas
+pub mod NumberLemmas
+pub mod OrderLemmas
+pub mod PairLemmas
+pub mod AnswerLemmas
+pub mod TurnLemmas
+pub mod RestLemmas
+pub mod MergeLemmas
+pub mod FirstLemmas
+pub mod SampleLemmas

@@ -1,0 +1,40 @@
+//! Whether seats' calls and shards' journals agree, and the one run that they make.
+//!
+//! Begin with [`SeatView`] and [`JournalView`], which borrow what a detector's seats and shards kept, and give them to
+//! [`settle_lists`]. It answers the [`Run`] that they make, or the first thing that is wrong, an [`Unsettled`].
+//!
+//! What it promises, by the names of clauses: a fault but want of memory is the first that applies (`first`), and where there
+//! is a run, none applies (`settled`); the run is a merge of the seats' calls and the journals (`merge`), in the stated order
+//! (`order`); each of its replies, and each word's state in its journal, is what the whole run gives (`replies`, `states`).
+//!
+//! The checks and the merge are one pass each: over names, over numbers, over each list, and over all entries by least next
+//! ticket. Nothing is sorted.
+//!
+//! ```text
+//! let seats = [SeatView::new(7, ThreadId::new(0), seat.calls())];
+//! let journals = [JournalView::new(shard.journal())];
+//! match settle_lists(alloc, 7, 1, &seats, &journals) {
+//!     Ok(run) => println!(rt; "{} steps", run.steps.len())?,
+//!     Err(fault) => println!(rt; "unsettled: {}", fault.text())?,
+//! }
+//! ```
+#![tactic(auto)]
+
+pub use faults::Unsettled;
+pub use pairs::pairs_are_in_turn;
+pub use settling::{Run, settle_lists};
+pub use views::{JournalView, SeatView};
+
+mod answers;
+mod checks;
+mod faults;
+mod hands;
+mod names;
+mod orders;
+mod pairs;
+mod rising;
+mod settling;
+#[cfg(test)]
+mod tests;
+mod turns;
+mod views;

@@ -1,0 +1,95 @@
+//! The one run that seats and journals make.
+ghost use Rattle.std.specs.Prelude.{◌≡◌, ◌<◌, ℕ, length, slice_get, Some, Ok, IfOk, IfErr};
+ghost use Rattle.er_event.specs.declared.steps.Step.{Step as StepShown};
+ghost use Rattle.er_model.specs.Answers.{answer, state_end};
+ghost use Rattle.er_model.specs.Journals.{IsLegalJournal, journal_state};
+ghost use Rattle.er_model.specs.Merges.{IsMerge, reply_at, shard_of};
+ghost use Rattle.er_settle.specs.Seats.{calls_by};
+ghost use Rattle.er_settle.specs.Faults.{IsFirst, IsSettled};
+ghost use Rattle.er_settle.specs.Turns.{AreSeatLists};
+ghost use Rattle.er_settle.specs.Runs.{steps_of, replies_to, journal_at, IsInTurn};
+
+use crate::checks::check_all;
+use crate::turns::{Turn, in_turn};
+use crate::{JournalView, SeatView, Unsettled};
+use er_event::{Reply, Step};
+use std::alloc::{AllocError, Global};
+
+/// What all threads did, in one order, with what each step was answered.
+#[derive(Drop)]
+pub struct Run {
+    /// The steps.
+    pub steps: Vec<Step>,
+    /// The reply to each of them.
+    pub replies: Vec<Reply>,
+}
+
+/// Settles seats and journals: checks that they agree, and merges them. The journals stand by the places of their shards.
+///
+/// A fault but want of memory is the first that applies. The run has each seat's calls in their order, those with tickets by rising
+/// ticket, one without a ticket directly before its seat's next call with one, and the rest at the end by seat number.
+pub fn settle_lists(
+    alloc: Global,
+    name: u64,
+    opened: u32,
+    seats: &[SeatView<'_>],
+    journals: &[JournalView<'_>],
+) -> Result<Run, Unsettled>
+    requires { 0 < length journals.now }
+    ensures first { IfErr result (IsFirst name opened seats.now journals.now) }
+    ensures settled { IfOk result (λ run. IsSettled name opened seats.now journals.now) }
+    ensures merge { IfOk result (λ run. IsMerge (length journals.now) run.steps.items run.replies.items (calls_by seats.now) (journal_at journals.now)) }
+    ensures replies { IfOk result (λ run. (k : ℕ) (step : StepShown) → slice_get run.steps.items k ≡ Some step → answer run.steps.items k ≡ Ok (reply_at run.replies.items k)) }
+    ensures states { IfOk result (λ run. (w : ℕ) → journal_state (journal_at journals.now (shard_of (length journals.now) w)) w ≡ state_end run.steps.items w) }
+    ensures order { IfOk result (λ run. IsInTurn seats.now run.steps.items run.replies.items) }
+{
+    let lists = match check_all(alloc, name, opened, seats, journals) {
+        Ok(lists) => lists,
+        Err(fault) => return Err(fault),
+    };
+    all_seats_are_legal(seats);
+    all_journals_are_legal(journals);
+    let Ok(turns) = in_turn(alloc, &lists.index, seats, lists.order.as_slice()) else {
+        return Err(Unsettled::Memory);
+    };
+    let Ok(run) = run_of(alloc, turns.as_slice()) else {
+        return Err(Unsettled::Memory);
+    };
+    Ok(run)
+}
+
+// The turns as steps with replies.
+fn run_of(alloc: Global, turns: &[Turn<'_>]) -> Result<Run, AllocError>
+    ensures steps { IfOk result (λ run. run.steps.items ≡ steps_of turns.now) }
+    ensures replies { IfOk result (λ run. run.replies.items ≡ replies_to turns.now) }
+{
+    let mut steps = Vec::with_capacity(alloc, turns.len())?;
+    let mut replies = Vec::with_capacity(alloc, turns.len())?;
+    for turn in turns {
+        let call = turn.call();
+        steps.push(Step {
+            thread: turn.thread(),
+            event: call.event,
+        })?;
+        replies.push(call.reply.copy()?)?;
+    }
+    Ok(Run { steps, replies })
+}
+
+// Each view keeps that its list is legal, and so all are.
+fn all_seats_are_legal(seats: &[SeatView<'_>])
+    ensures { AreSeatLists seats.now }
+{
+    for seat in seats {
+        seat.calls();
+    }
+}
+
+// The same of the journals.
+fn all_journals_are_legal(journals: &[JournalView<'_>])
+    ensures { (i : ℕ) → i < length journals.now → IsLegalJournal (journal_at journals.now i) }
+{
+    for journal in journals {
+        journal.entries();
+    }
+}
