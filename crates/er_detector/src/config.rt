@@ -1,0 +1,50 @@
+//! How a detector is made.
+ghost use Rattle.std.specs.Prelude.{◌≡◌, ◌≤◌, IsSome, IfSome};
+ghost use Rattle.er_detector.specs.Limits.{IsShardCount, IsLimit};
+
+/// How a detector is made (own). The numbers are in their limits.
+#[derive(Clone, Copy, Debug, PartialEq, Eq)]
+pub struct Config {
+    /// What tells the detector's seats and shards from another's.
+    pub name: u64,
+    /// How many shards it has, 1 to 64.
+    pub shards: u32,
+    /// How many entries each shard's journal takes, 1 to 1,073,741,824.
+    pub journal_limit: u32,
+    /// How many seats it opens, 1 to 1,073,741,824.
+    pub max_threads: u32,
+    pub ghost shard_count: { IsShardCount shards },
+    pub ghost entries: { IsLimit journal_limit },
+    pub ghost seats: { IsLimit max_threads },
+}
+
+impl Config {
+    /// The greatest number of shards.
+    pub const MAX_SHARDS: u32 = 64;
+
+    /// The greatest limit of a journal, and the greatest number of seats.
+    pub const MAX_LIMIT: u32 = 1_073_741_824;
+
+    /// The configuration with these numbers, or none where one is out of its limits.
+    pub fn new(name: u64, shards: u32, journal_limit: u32, max_threads: u32) -> Option<Config>
+        ensures some { IsShardCount shards → IsLimit journal_limit → IsLimit max_threads → IsSome result }
+        ensures some_only { IsSome result → IsShardCount shards × (IsLimit journal_limit × IsLimit max_threads) }
+        ensures value { IfSome result (λ config. (config.name ≡ name) × ((config.shards ≡ shards) × ((config.journal_limit ≡ journal_limit) × (config.max_threads ≡ max_threads)))) }
+    {
+        if shards < 1 || shards > Config::MAX_SHARDS {
+            return None;
+        }
+        if journal_limit < 1 || journal_limit > Config::MAX_LIMIT {
+            return None;
+        }
+        if max_threads < 1 || max_threads > Config::MAX_LIMIT {
+            return None;
+        }
+        Some(Config {
+            name,
+            shards,
+            journal_limit,
+            max_threads,
+        })
+    }
+}

@@ -1,0 +1,305 @@
+//! A detector: shards under locks of their own, and the two counters.
+ghost use Rattle.std.specs.Prelude.{◌≡◌, ◌<◌, ◌≤◌, ◌⊎◌, ◌&&◌, ℕ, [], IsTrue, IsFalse, IfOk, IfErr, IsErrOf, IsErrAnd, OnOk, OnErr, Err, length, vec_len};
+ghost use Rattle.std.specs.List.{All};
+ghost use Rattle.er_event.specs.Span.{page_count, part_lo, parts_below, parts_of};
+ghost use Rattle.er_held.specs.Held.{nothing_held};
+ghost use Rattle.er_model.specs.Journals.{journal_state};
+ghost use Rattle.er_model.specs.Merges.{shard_of};
+ghost use Rattle.er_shadow.specs.Shadows.{needs_set};
+ghost use Rattle.er_seat.specs.Seats.{holdings_of};
+ghost use Rattle.er_detector.specs.Calls.{is_seat_of, is_shard_of, IsListed, IsEntered, IsIgnored, IsReused, HasReused, may_refuse, may_refuse_reuse};
+ghost use Rattle.er_detector.specs.Limits.{IsShardCount};
+ghost use Rattle.er_detector.specs.Races.{IsRace};
+
+use crate::Config;
+use crate::races::add_races;
+use er_event::{Kind, PageRange, Refusal, Reply, Site, ThreadId, Word, WordRange};
+use er_model::Entry;
+use er_seat::{Seat, VacantSeat};
+use er_shard::Shard;
+use er_table::LocksetTable;
+use std::alloc::{AllocError, Global};
+use std::marker::Model;
+use std::sync::atomic::{AtomicU64, Ordering};
+use std::sync::{Mutex, MutexGuard, Wait};
+
+/// Shards under locks of their own, with the counters of tickets and of seats (own: the tool of the 1997 paper has one memory for all
+/// threads, which it runs in turn). Contracts see how it was made.
+#[derive(Drop)]
+pub struct Detector<'t> {
+    config: Config,
+    shards: Vec<Mutex<Shard<'t>>>,
+    tickets: AtomicU64,
+    opened: AtomicU64,
+    alloc: Global,
+}
+
+impl<'t> Model for Detector<'t> {
+    ghost use Rattle.std.specs.Prelude.{◌≡◌, vec_len};
+    ghost use Rattle.er_detector.specs.declared.config.Config.{Config};
+
+    ghost Value = { Config };
+
+    ghost view = { λ d. d.config };
+
+    ghost invariant = { λ d. vec_len d.shards ≡ d.config.shards };
+}
+
+/// A detector's shards, out of their locks.
+#[derive(Drop)]
+pub struct Parts<'t> {
+    /// The detector's name.
+    pub name: u64,
+    /// How many seats were opened.
+    pub opened: u64,
+    /// The shards, by place: 1 to 64.
+    pub shards: Vec<Shard<'t>>,
+    pub ghost shard_count: { IsShardCount (vec_len shards) },
+}
+
+/// Where a reuse stopped, and why (own). All words of its range before that one were reset.
+#[derive(Clone, Copy, Debug, PartialEq, Eq)]
+pub struct ReuseStopped {
+    /// The first word of the first page that was refused.
+    pub first_word_not_done: Word,
+    /// Why that page was refused.
+    pub cause: Refusal,
+}
+
+impl<'t> Detector<'t> {
+    /// A detector to which nothing was done. The sets of locks that its shards need go into the table.
+    pub fn new(
+        alloc: Global,
+        table: &'t LocksetTable,
+        config: Config,
+    ) -> Result<Detector<'t>, AllocError>
+        ensures { IfOk result (λ detector. detector ≡ config) }
+    {
+        let mut shards = Vec::with_capacity(alloc, config.shards as usize)?;
+        for number in 0..config.shards {
+            let shard = Shard::new(alloc, table, config.name, number, config.journal_limit)?;
+            shards.push(Mutex::new(shard))?;
+        }
+        Ok(Detector {
+            config,
+            shards,
+            tickets: AtomicU64::new(0),
+            opened: AtomicU64::new(0),
+            alloc,
+        })
+    }
+
+    /// A seat that made no call and whose thread holds nothing (own). Threads are numbered by their seats, from 0. Refused where there
+    /// is no memory for the first call (`OutOfMemory`), and where all seats are taken (`TooManyThreads`).
+    pub fn open_seat(&self) -> Result<Seat, Refusal>
+        ensures name { IfOk result (λ seat. seat.name ≡ self.now.name) }
+        ensures thread { IfOk result (λ seat. seat.thread < self.now.max_threads) }
+        ensures calls { IfOk result (λ seat. seat.calls ≡ []) }
+        ensures nothing { IfOk result (λ seat. holdings_of seat ≡ nothing_held) }
+        ensures refusals { IfErr result (λ why. (why ≡ Refusal.OutOfMemory) ⊎ (why ≡ Refusal.TooManyThreads)) }
+    {
+        let vacant = VacantSeat::new(self.alloc, self.config.name)?;
+        let number = self.opened.fetch_add(1, Ordering::SeqCst);
+        if number >= u64::from(self.config.max_threads) {
+            return Err(Refusal::TooManyThreads);
+        }
+        Ok(vacant.taken_by(ThreadId::new(number as u32)))
+    }
+
+    /// How it was made.
+    pub fn config(&self) -> Config
+        ensures { result ≡ self.now }
+    {
+        self.config
+    }
+
+    /// The shard of a word: its page's number modulo the number of shards.
+    pub fn shard_of(&self, word: Word) -> u32
+        ensures place { result ≡ shard_of self.now.shards word }
+        ensures within { result < self.now.shards }
+    {
+        (word.page() % u64::from(self.config.shards)) as u32
+    }
+
+    /// A shard, under its lock.
+    pub fn shard<R: Wait>(&self, rt: &R, number: u32) -> MutexGuard<'_, Shard<'t>>
+        requires { number < self.now.shards }
+    {
+        self.shards[number as usize].lock(rt)
+    }
+
+    /// Makes an access in a shard whose lock the caller has (section 2 of the 1997 paper; seats and journals are own). Where the seat
+    /// ignores, the access is listed and changes no shard. Refused where the seat or the shard isn't the detector's or the word isn't
+    /// the shard's (`ForeignSeat`), where the shard's journal or the table of sets is full, and where there is no memory.
+    pub fn access_in<R: Wait>(
+        &self,
+        rt: &R,
+        shard: &mut Shard<'t>,
+        seat: &mut Seat,
+        word: Word,
+        kind: Kind,
+        site: Site,
+    ) -> Result<Reply, Refusal>
+        ensures counted { (holdings_of seat.old).depth ≡ 0 → IfOk result (λ reply. (ticket : ℕ) × (IsListed seat.old seat.new word kind site ticket reply × IsEntered seat.old shard.old shard.new word kind site ticket reply)) }
+        ensures ignored { 0 < (holdings_of seat.old).depth → IfOk result (λ reply. reply ≡ Reply.Ignored) }
+        ensures listed { 0 < (holdings_of seat.old).depth → OnOk result (IsIgnored seat.old seat.new word kind site) }
+        ensures unchanged { 0 < (holdings_of seat.old).depth → shard.new ≡ shard.old }
+        ensures err { OnErr result (seat.new ≡ seat.old) }
+        ensures err_shard { OnErr result (shard.new ≡ shard.old) }
+        ensures foreign { IsFalse (is_seat_of self.now seat.old && is_shard_of self.now shard.old word) → result ≡ Err Refusal.ForeignSeat }
+        ensures foreign_only { IsErrOf result Refusal.ForeignSeat → IsFalse (is_seat_of self.now seat.old && is_shard_of self.now shard.old word) }
+        ensures full { (holdings_of seat.old).depth ≡ 0 → shard.old.limit ≤ length shard.old.journal → IsTrue (is_seat_of self.now seat.old && is_shard_of self.now shard.old word) → IsErrAnd result (λ why. (why ≡ Refusal.JournalFull) ⊎ (why ≡ Refusal.OutOfMemory)) }
+        ensures full_only { IsErrOf result Refusal.JournalFull → shard.old.limit ≤ length shard.old.journal }
+        ensures table_full { IsErrOf result Refusal.TableFull → IsTrue (needs_set (journal_state shard.old.journal word) seat.old.thread) }
+        ensures refusals { IfErr result (λ why. IsTrue (may_refuse (holdings_of seat.old).depth why)) }
+    {
+        if !self.has_both(shard, seat, word) {
+            return Err(Refusal::ForeignSeat);
+        }
+        if seat.ignoring() {
+            return ignored(seat, word, kind, site);
+        }
+        let ticket = self.draw();
+        Ok(seat.count(rt, shard, ticket, word, kind, site)?)
+    }
+
+    /// The same under the lock of the word's shard, which isn't taken where the seat ignores (section 2 of the 1997 paper; seats are
+    /// own).
+    pub fn access<R: Wait>(
+        &self,
+        rt: &R,
+        seat: &mut Seat,
+        word: Word,
+        kind: Kind,
+        site: Site,
+    ) -> Result<Reply, Refusal>
+        ensures counted { (holdings_of seat.old).depth ≡ 0 → IfOk result (λ reply. (ticket : ℕ) × IsListed seat.old seat.new word kind site ticket reply) }
+        ensures ignored { 0 < (holdings_of seat.old).depth → IfOk result (λ reply. reply ≡ Reply.Ignored) }
+        ensures listed { 0 < (holdings_of seat.old).depth → OnOk result (IsIgnored seat.old seat.new word kind site) }
+        ensures err { OnErr result (seat.new ≡ seat.old) }
+        ensures foreign { IsFalse (is_seat_of self.now seat.old) → result ≡ Err Refusal.ForeignSeat }
+        ensures refusals { IfErr result (λ why. IsTrue (may_refuse (holdings_of seat.old).depth why)) }
+    {
+        if seat.name() != self.config.name {
+            return Err(Refusal::ForeignSeat);
+        }
+        if seat.ignoring() {
+            return ignored(seat, word, kind, site);
+        }
+        let mut shard = self.shard(rt, self.shard_of(word));
+        self.access_in(rt, &mut shard, seat, word, kind, site)
+    }
+
+    /// Puts a range of words to a new use, page by page and each page under its shard's lock (section 3.3 of the 1997 paper; seats are
+    /// own). Where a page is refused, those before it stay done.
+    pub fn reuse<R: Wait>(
+        &self,
+        rt: &R,
+        seat: &mut Seat,
+        range: &WordRange,
+    ) -> Result<(), ReuseStopped>
+        ensures done { OnOk result (HasReused seat.old seat.new (parts_of range.now)) }
+        ensures stopped { IfErr result (λ stopped. (pages : ℕ) × ((pages < page_count range.now) × ((stopped.first_word_not_done ≡ part_lo range.now pages) × HasReused seat.old seat.new (parts_below range.now pages)))) }
+        ensures foreign { IsFalse (is_seat_of self.now seat.old) → result ≡ Err (record { first_word_not_done = range.now.first; cause = Refusal.ForeignSeat }) }
+        ensures refusals { IfErr result (λ stopped. IsTrue (may_refuse_reuse stopped.cause)) }
+    {
+        for page in 0..range.parts() {
+            let part = range.part(page);
+            let first_word_not_done = part.lo;
+            if let Err(cause) = self.reuse_part(rt, seat, part) {
+                return Err(ReuseStopped {
+                    first_word_not_done,
+                    cause,
+                });
+            }
+        }
+        Ok(())
+    }
+
+    /// The entries of races, shard by shard and each shard under its lock (own). Other threads may go on meanwhile, so it shows no one
+    /// moment of all shards.
+    pub fn races<R: Wait>(&self, rt: &R) -> Result<Vec<Entry>, AllocError>
+        ensures { IfOk result (λ races. All IsRace races.items) }
+    {
+        let mut races = Vec::new(self.alloc);
+        for number in 0..self.config.shards {
+            let shard = self.shard(rt, number);
+            add_races(&mut races, shard.journal())?;
+        }
+        Ok(races)
+    }
+
+    /// Takes the shards out of their locks.
+    pub fn into_parts(self) -> Result<Parts<'t>, AllocError>
+        ensures name { IfOk result (λ parts. parts.name ≡ self.entry.name) }
+        ensures opened { IfOk result (λ parts. parts.opened ≤ self.entry.max_threads) }
+        ensures shards { IfOk result (λ parts. vec_len parts.shards ≡ self.entry.shards) }
+    {
+        let Detector {
+            config,
+            shards: locks,
+            tickets: _,
+            opened,
+            alloc,
+        } = self;
+        let mut shards = Vec::with_capacity(alloc, locks.len())?;
+        for lock in locks {
+            shards.push(lock.into_inner())?;
+        }
+        Ok(Parts {
+            name: config.name,
+            opened: opened.into_inner().min(u64::from(config.max_threads)),
+            shards,
+        })
+    }
+
+    // One page of a reuse, under its shard's lock.
+    fn reuse_part<R: Wait>(&self, rt: &R, seat: &mut Seat, part: PageRange) -> Result<(), Refusal>
+        ensures done { OnOk result ((ticket : ℕ) × IsReused seat.old seat.new part ticket) }
+        ensures err { OnErr result (seat.new ≡ seat.old) }
+        ensures foreign { IsFalse (is_seat_of self.now seat.old) → result ≡ Err Refusal.ForeignSeat }
+        ensures refusals { IfErr result (λ why. IsTrue (may_refuse_reuse why)) }
+    {
+        if seat.name() != self.config.name {
+            return Err(Refusal::ForeignSeat);
+        }
+        let part = &part;
+        let mut shard = self.shard(rt, self.shard_of(part.lo));
+        if !self.has(&shard, part.lo) {
+            return Err(Refusal::ForeignSeat);
+        }
+        let ticket = self.draw();
+        Ok(seat.reuse(&mut shard, ticket, *part)?)
+    }
+
+    // Whether the seat and the shard are the detector's, and the word is the shard's.
+    fn has_both(&self, shard: &Shard<'t>, seat: &Seat, word: Word) -> bool
+        ensures { result ≡ (is_seat_of self.now seat.now && is_shard_of self.now shard.now word) }
+    {
+        seat.name() == self.config.name && self.has(shard, word)
+    }
+
+    // Whether the shard is the detector's, and the word is one of its words.
+    fn has(&self, shard: &Shard<'t>, word: Word) -> bool
+        ensures { result ≡ is_shard_of self.now shard.now word }
+    {
+        shard.name() == self.config.name && shard.number() == self.shard_of(word)
+    }
+
+    // The next ticket.
+    fn draw(&self) -> u64 {
+        self.tickets.fetch_add(1, Ordering::SeqCst)
+    }
+}
+
+// An access by a seat that ignores, which is listed alone.
+fn ignored(seat: &mut Seat, word: Word, kind: Kind, site: Site) -> Result<Reply, Refusal>
+    requires { 0 < (holdings_of seat.old).depth }
+    ensures reply { IfOk result (λ reply. reply ≡ Reply.Ignored) }
+    ensures listed { OnOk result (IsIgnored seat.old seat.new word kind site) }
+    ensures err { OnErr result (seat.new ≡ seat.old) }
+    ensures memory { IfErr result (λ why. why ≡ Refusal.OutOfMemory) }
+{
+    seat.list_ignored(word, kind, site)?;
+    Ok(Reply::Ignored)
+}

@@ -1,0 +1,33 @@
+//! A detector that many threads call at once.
+//!
+//! Begin with [`Detector`], which a [`Config`] makes: its words stand in shards, each under a lock of its own, and each thread opens a
+//! seat with `open_seat`. `access` and `reuse` make a seat's calls under the lock of the shard that they touch, `races` lists the races
+//! so far, and `into_parts` takes the shards out once the threads are done. A [`Gate`] lets tests see that two workers are at work at once.
+//!
+//! What it promises, by the names of clauses: a counted access stands in the seat's list and in the shard's journal, under one
+//! ticket and with what the seat's thread holds (`counted`); where the seat ignores, the access is listed alone (`ignored`, `listed`,
+//! `unchanged`); what isn't this detector's is refused (`foreign`), and a refused access changes nothing (`err`, `err_shard`). A reuse
+//! adds a call for each page that is done (`done`, `stopped`). What a shard and a seat keep whatever threads call is the promise of their
+//! types.
+//!
+//! ```text
+//! let table = LocksetTable::new(alloc, 1_048_576)?;
+//! let config = Config::new(name, 8, 1_000_000, 64).ok_or("out of the limits")?;
+//! let detector = Detector::new(alloc, &table, config)?;
+//! let mut seat = detector.open_seat()?;
+//! seat.acquire(lock, Mode::Write)?;
+//! detector.access(rt, &mut seat, word, Kind::Write, site)?;
+//! seat.release(lock, Mode::Write)?;
+//! ```
+#![tactic(auto)]
+
+pub use config::Config;
+pub use detector::{Detector, Parts, ReuseStopped};
+pub use gate::{Gate, OpenGate, PairGate};
+
+mod config;
+mod detector;
+mod gate;
+mod races;
+#[cfg(test)]
+mod tests;

@@ -1,0 +1,14 @@
+-- A counted access drew a ticket, and owes no further call.
+use Rattle.std.proofs.Common.{arith, ◌≡◌}
+use Rattle.er_seat.specs.Seats.{held_after}
+use Rattle.er_seat.proofs.SeatLemmas.{ends-now, seat-counted}
+use Rattle.er_seat.proofs.seat.Seat.count.Goals as goal
+
+pub owed-requires : goal.owed-requires
+owed-requires g c = ends-now c.self.inside.thread c.self.inside.calls.items c.self.inside.held _ c.self.invariant
+
+pub invariant_of-self-2 : goal.invariant_of-self-2
+invariant_of-self-2 g c =
+    let flat : (held_after c.self.inside.thread c.self.inside.calls.items).depth ≡ 0 = rw (← c.self.view_is) at c.requires in
+    seat-counted c.self.inside.thread c.self.inside.calls.items _ _ c.self.inside.held _ _ c.args.ticket c.args.word c.args.site c.args.kind _ c.self.invariant
+    c.reserve.ensures.items c.push_reserved.ensures.items flat (omega (arith, c.in_ok-reserve.ensures.ok, c.owed.ensures.owed, c.push_reserved.ensures.capacity))

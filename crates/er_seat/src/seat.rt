@@ -1,0 +1,368 @@
+//! `Seat`, one thread's handle.
+ghost use Rattle.std.specs.Prelude.{◌≡◌, ◌≤◌, ◌<◌, ◌+◌, ◌↔◌, ◌⊎◌, [], ℕ, Bool, cond, length, IsTrue, IsFalse, IsOk, IfOk, IsOkUnless, IsErrAnd, IsErrOf, OnOk, OnErr, None, Some, slice_get, is_some, not};
+ghost use Rattle.er_held.specs.Held.{nothing_held};
+ghost use Rattle.er_model.specs.declared.stamps.Call.{Call as Calls};
+ghost use Rattle.er_model.specs.Holdings.{at_level, refused_by, changed_by, holdings_at};
+ghost use Rattle.er_model.specs.Journals.{journal_state};
+ghost use Rattle.er_model.specs.Locality.{is_own_call};
+ghost use Rattle.er_model.specs.Merges.{IsLegalSeat};
+ghost use Rattle.er_shadow.specs.Shadows.{needs_set};
+ghost use Rattle.er_shard.specs.Journaled.{entry_of, with_entry};
+ghost use Rattle.er_seat.specs.Seats.{Seated, holdings_of, stamp_of, steps_in, with_call, done, ignored, ticketed, is_show, owed};
+
+use er_event::{
+    Event, Kind, Level, LockId, Lockset, Mode, NoRoom, PageRange, Refusal, Reply, Site, ThreadId,
+    Word,
+};
+use er_held::Held;
+use er_model::{Call, Stamp, What};
+use er_shard::Shard;
+use std::alloc::{AllocError, Global};
+use std::marker::Model;
+use std::sync::Wait;
+
+/// A seat that no thread has taken: a detector's name, with room for the first call. Contracts see the name.
+#[derive(Drop)]
+pub struct VacantSeat {
+    name: u64,
+    calls: Vec<Call>,
+    alloc: Global,
+}
+
+impl Model for VacantSeat {
+    ghost use Rattle.std.specs.Prelude.{◌≡◌, ◌≤◌, [], ℕ, vec_capacity};
+
+    ghost Value = { ℕ };
+
+    ghost view = { λ s. s.name };
+
+    ghost invariant = { λ s. (s.calls.items ≡ []) × (1 ≤ vec_capacity s.calls) };
+}
+
+impl VacantSeat {
+    /// A seat at the detector of this name (own).
+    pub fn new(alloc: Global, name: u64) -> Result<VacantSeat, AllocError>
+        ensures { IfOk result (λ seat. seat ≡ name) }
+    {
+        let mut calls = Vec::new(alloc);
+        calls.reserve(1)?;
+        Ok(VacantSeat { name, calls, alloc })
+    }
+
+    /// The seat, taken by a thread, which has made no call and holds nothing (own). It takes no memory.
+    pub fn taken_by(self, thread: ThreadId) -> Seat
+        ensures seat { result ≡ record { name = self; thread = thread; calls = [] } }
+        ensures nothing { holdings_of result ≡ nothing_held }
+    {
+        let VacantSeat { name, calls, alloc } = self;
+        Seat {
+            name,
+            thread,
+            held: Held::new(alloc),
+            calls,
+        }
+    }
+}
+
+/// What one thread holds, and the calls that it made. Contracts see its detector's name, its thread and the calls.
+///
+/// The list always has room for the calls that give back what is held: a thread can let go of its locks and close its brackets
+/// where no memory is left.
+#[derive(Drop)]
+pub struct Seat {
+    name: u64,
+    thread: ThreadId,
+    held: Held,
+    calls: Vec<Call>,
+}
+
+impl Model for Seat {
+    ghost use Rattle.std.specs.Prelude.{vec_capacity};
+    ghost use Rattle.er_seat.specs.Seats.{Seated, IsSeat};
+
+    ghost Value = { Seated };
+
+    ghost view = { λ s. record { name = s.name; thread = s.thread; calls = s.calls.items } };
+
+    ghost invariant = { λ s. IsSeat s.thread s.calls.items s.held (vec_capacity s.calls) };
+}
+
+impl Seat {
+    /// The name of its detector (own).
+    pub fn name(&self) -> u64
+        ensures { result ≡ self.now.name }
+    {
+        self.name
+    }
+
+    /// Its thread.
+    pub fn thread(&self) -> ThreadId
+        ensures { result ≡ self.now.thread }
+    {
+        self.thread
+    }
+
+    /// The locks that the thread holds in any mode, which protect a read (section 2 of the 1997 paper).
+    pub fn held(&self) -> &Lockset
+        ensures { result.now ≡ (holdings_of self.now).held }
+    {
+        self.held.held()
+    }
+
+    /// The locks that it holds in write mode, which protect a write (section 2 of the 1997 paper).
+    pub fn write_held(&self) -> &Lockset
+        ensures { result.now ≡ (holdings_of self.now).write_held }
+    {
+        self.held.write_held()
+    }
+
+    /// Its interrupt level (section 3.4 of the 1997 paper).
+    pub fn level(&self) -> Level
+        ensures { result ≡ (holdings_of self.now).level }
+    {
+        self.held.level()
+    }
+
+    /// Whether it is inside an ignore bracket (section 3 of the 1997 paper).
+    pub fn ignoring(&self) -> bool
+        ensures { IsTrue result ↔ (0 < (holdings_of self.now).depth) }
+    {
+        self.held.ignoring()
+    }
+
+    /// The calls that were accepted, in order (own).
+    pub fn calls(&self) -> &[Call]
+        ensures calls { result.now ≡ self.now.calls }
+
+        // The locks, the brackets and the levels, and the accesses in brackets, are answered as the list says.
+        ensures legal { IsLegalSeat self.now.thread self.now.calls }
+
+        // The others, which are counted accesses and reuses, drew tickets.
+        ensures tickets { (j : ℕ) (call : Calls) → slice_get self.now.calls j ≡ Some call → is_some call.ticket ≡ not (is_own_call (holdings_at (steps_in self.now.thread self.now.calls) self.now.thread j) call.event) }
+        ensures no_show { (j : ℕ) (call : Calls) → slice_get self.now.calls j ≡ Some call → IsFalse (is_show call.event) }
+    {
+        self.calls.as_slice()
+    }
+
+    /// Takes a lock that is held in neither mode (section 2 of the 1997 paper; the refusals are own).
+    #[tactic(auto, unfolding(crate::specs::Seats::with_call))]
+    pub fn acquire(&mut self, lock: LockId, mode: Mode) -> Result<(), Refusal>
+        ensures refused { (why : Refusal) → refused_by (holdings_of self.old) (Event.Acquire lock mode) ≡ Some why → result ≡ Err why }
+        ensures accepted { OnOk result (refused_by (holdings_of self.old) (Event.Acquire lock mode) ≡ None) }
+        ensures ok { OnOk result (self.new ≡ with_call self.old (done (Event.Acquire lock mode))) }
+        ensures err { OnErr result (self.new ≡ self.old) }
+        ensures memory { refused_by (holdings_of self.old) (Event.Acquire lock mode) ≡ None → IsOkUnless result Refusal.OutOfMemory }
+    {
+        self.held.acquire(lock, mode)?;
+        let with_release = 1 + owed(&self.held);
+        if let Err(refused) = self.calls.reserve(with_release) {
+            give_back(&mut self.held, lock, mode);
+            return Err(refused.into());
+        }
+        self.calls.push_reserved(done(Event::Acquire(lock, mode)));
+        Ok(())
+    }
+
+    /// Gives up a lock that is held in this mode (section 2 of the 1997 paper; the refusals are own). It takes no memory.
+    #[tactic(auto, unfolding(crate::specs::Seats::with_call))]
+    pub fn release(&mut self, lock: LockId, mode: Mode) -> Result<(), Refusal>
+        ensures refused { (why : Refusal) → refused_by (holdings_of self.old) (Event.Release lock mode) ≡ Some why → result ≡ Err why }
+        ensures accepted { OnOk result (refused_by (holdings_of self.old) (Event.Release lock mode) ≡ None) }
+        ensures free { refused_by (holdings_of self.old) (Event.Release lock mode) ≡ None → IsOk result }
+        ensures ok { OnOk result (self.new ≡ with_call self.old (done (Event.Release lock mode))) }
+        ensures err { OnErr result (self.new ≡ self.old) }
+    {
+        self.held.release(lock, mode)?;
+        self.calls.push_reserved(done(Event::Release(lock, mode)));
+        Ok(())
+    }
+
+    /// Opens an ignore bracket (section 3 of the 1997 paper; the limit is own).
+    #[tactic(auto, unfolding(crate::specs::Seats::with_call))]
+    pub fn ignore_on(&mut self) -> Result<(), Refusal>
+        ensures refused { (why : Refusal) → refused_by (holdings_of self.old) Event.IgnoreOn ≡ Some why → result ≡ Err why }
+        ensures accepted { OnOk result (refused_by (holdings_of self.old) Event.IgnoreOn ≡ None) }
+        ensures ok { OnOk result (self.new ≡ with_call self.old (done Event.IgnoreOn)) }
+        ensures err { OnErr result (self.new ≡ self.old) }
+        ensures memory { refused_by (holdings_of self.old) Event.IgnoreOn ≡ None → IsOkUnless result Refusal.OutOfMemory }
+    {
+        self.held.ignore_on()?;
+        let with_close = 1 + owed(&self.held);
+        if let Err(refused) = self.calls.reserve(with_close) {
+            close_bracket(&mut self.held);
+            return Err(refused.into());
+        }
+        self.calls.push_reserved(done(Event::IgnoreOn));
+        Ok(())
+    }
+
+    /// Closes the innermost ignore bracket (section 3 of the 1997 paper; the refusal is own). It takes no memory.
+    #[tactic(auto, unfolding(crate::specs::Seats::with_call))]
+    pub fn ignore_off(&mut self) -> Result<(), Refusal>
+        ensures refused { (why : Refusal) → refused_by (holdings_of self.old) Event.IgnoreOff ≡ Some why → result ≡ Err why }
+        ensures accepted { OnOk result (refused_by (holdings_of self.old) Event.IgnoreOff ≡ None) }
+        ensures free { refused_by (holdings_of self.old) Event.IgnoreOff ≡ None → IsOk result }
+        ensures ok { OnOk result (self.new ≡ with_call self.old (done Event.IgnoreOff)) }
+        ensures err { OnErr result (self.new ≡ self.old) }
+    {
+        self.held.ignore_off()?;
+        self.calls.push_reserved(done(Event::IgnoreOff));
+        Ok(())
+    }
+
+    /// Goes to an interrupt level (section 3.4 of the 1997 paper), also to the one that stands already. The call's own entry may take
+    /// memory, even where the level doesn't rise.
+    #[tactic(auto, unfolding(crate::specs::Seats::with_call))]
+    pub fn set_level(&mut self, level: Level) -> Result<(), Refusal>
+        ensures ok { OnOk result (self.new ≡ with_call self.old (done (Event.Level level))) }
+        ensures err { OnErr result (self.new ≡ self.old) }
+        ensures memory { IsOkUnless result Refusal.OutOfMemory }
+    {
+        self.calls.reserve(1 + owed(&self.held))?;
+        self.held.set_level(level)?;
+        self.calls.push_reserved(done(Event::Level(level)));
+        Ok(())
+    }
+
+    /// Lists an access inside an ignore bracket, which doesn't count and is answered so (section 3 of the 1997 paper; the list is own).
+    #[tactic(auto, unfolding(crate::specs::Seats::with_call))]
+    pub fn list_ignored(&mut self, word: Word, kind: Kind, site: Site) -> Result<(), AllocError>
+        requires { 0 < (holdings_of self.old).depth }
+        ensures ok { OnOk result (self.new ≡ with_call self.old (ignored (Event.Access kind word site))) }
+        ensures err { OnErr result (self.new ≡ self.old) }
+    {
+        self.calls.reserve(1 + owed(&self.held))?;
+        self.calls.push_reserved(Call {
+            event: Event::Access(kind, word, site),
+            reply: Reply::Ignored,
+            ticket: None,
+        });
+        Ok(())
+    }
+
+    /// Makes an access outside any bracket in a shard, under a ticket, and lists it (section 2 of the 1997 paper; the list is own).
+    /// Refused where there is no memory for the list and the stamp (`OutOfMemory`), and then where the shard refuses it.
+    #[tactic(auto, unfolding(crate::specs::Seats::with_call, crate::specs::Seats::stamp_of))]
+    pub fn count<R: Wait>(
+        &mut self,
+        rt: &R,
+        shard: &mut Shard,
+        ticket: u64,
+        word: Word,
+        kind: Kind,
+        site: Site,
+    ) -> Result<Reply, NoRoom>
+        requires { (holdings_of self.old).depth ≡ 0 }
+        ensures call { IfOk result (λ reply. self.new ≡ with_call self.old (ticketed (Event.Access kind word site) ticket reply)) }
+        ensures entry { IfOk result (λ reply. shard.new ≡ with_entry shard.old (entry_of ticket self.old.thread (What.Access (stamp_of self.old word kind site)) reply)) }
+        ensures err { OnErr result (self.new ≡ self.old) }
+        ensures err_shard { OnErr result (shard.new ≡ shard.old) }
+        ensures full { shard.old.limit ≤ length shard.old.journal → IsErrAnd result (λ cause. (cause ≡ NoRoom.JournalFull) ⊎ (cause ≡ NoRoom.OutOfMemory)) }
+        ensures full_only { IsErrOf result NoRoom.JournalFull → shard.old.limit ≤ length shard.old.journal }
+
+        // The table isn't asked for a set while one thread alone has accessed the word.
+        ensures table_full { IsErrOf result NoRoom.TableFull → IsTrue (needs_set (journal_state shard.old.journal word) self.old.thread) }
+    {
+        self.calls.reserve(1 + owed(&self.held))?;
+        let stamp = stamp(self.thread, &self.held, word, kind, site)?;
+        let reply = shard.apply(rt, ticket, stamp)?;
+        self.calls.push_reserved(Call {
+            event: Event::Access(kind, word, site),
+            reply: same_reply(&reply),
+            ticket: Some(ticket),
+        });
+        Ok(reply)
+    }
+
+    /// Makes one page part of a reuse in a shard, under a ticket, and lists it (section 3.3 of the 1997 paper; the list is own).
+    /// Refused where there is no memory for the list (`OutOfMemory`), and then where the shard refuses it.
+    #[tactic(auto, unfolding(crate::specs::Seats::with_call))]
+    pub fn reuse(&mut self, shard: &mut Shard, ticket: u64, range: PageRange) -> Result<(), NoRoom>
+        ensures call { OnOk result (self.new ≡ with_call self.old (ticketed (Event.Reuse range) ticket Reply.Done)) }
+        ensures entry { OnOk result (shard.new ≡ with_entry shard.old (entry_of ticket self.old.thread (What.Reset range) Reply.Done)) }
+        ensures err { OnErr result (self.new ≡ self.old) }
+        ensures err_shard { OnErr result (shard.new ≡ shard.old) }
+        ensures full { shard.old.limit ≤ length shard.old.journal → IsErrAnd result (λ cause. (cause ≡ NoRoom.JournalFull) ⊎ (cause ≡ NoRoom.OutOfMemory)) }
+        ensures full_only { IsErrOf result NoRoom.JournalFull → shard.old.limit ≤ length shard.old.journal }
+        ensures refusals { ¬ IsErrOf result NoRoom.TableFull }
+    {
+        self.calls.reserve(1 + owed(&self.held))?;
+        let range = &range;
+        shard.reset(ticket, self.thread, *range)?;
+        self.calls.push_reserved(Call {
+            event: Event::Reuse(*range),
+            reply: Reply::Done,
+            ticket: Some(ticket),
+        });
+        Ok(())
+    }
+}
+
+// The stamp of an access, with copies of the locks that are held.
+fn stamp(
+    thread: ThreadId,
+    held: &Held,
+    word: Word,
+    kind: Kind,
+    site: Site,
+) -> Result<Stamp, AllocError>
+    ensures { IfOk result (λ stamp. stamp ≡ record { thread = thread; word = word; kind = kind; site = site; held = held.now.held; write_held = held.now.write_held }) }
+{
+    Ok(Stamp {
+        thread,
+        word,
+        kind,
+        site,
+        held: held.held().copy()?,
+        write_held: held.write_held().copy()?,
+    })
+}
+
+// The same reply again, of those that a counted access is given.
+fn same_reply(reply: &Reply) -> Reply
+    ensures { (reported : Bool) → reply.now ≡ cond reported Reply.Race Reply.Quiet → result ≡ reply.now }
+{
+    match reply {
+        Reply::Race => Reply::Race,
+        _ => Reply::Quiet,
+    }
+}
+
+// A call that no shard sees, and that is done.
+fn done(event: Event) -> Call
+    ensures { result ≡ done event }
+{
+    Call {
+        event,
+        reply: Reply::Done,
+        ticket: None,
+    }
+}
+
+// How many calls give back what is held.
+fn owed(held: &Held) -> usize
+    requires { at_level held.now.level held.now.held ≡ held.now.held }
+    ensures owed { result ≡ owed held.now }
+    ensures limit { result ≤ 350 }
+{
+    let acquired = held.held().len() - usize::from(held.level().number());
+    acquired + usize::from(held.depth())
+}
+
+// Releases a lock that was just acquired.
+fn give_back(held: &mut Held, lock: LockId, mode: Mode)
+    requires { refused_by held.old (Event.Release lock mode) ≡ None }
+    ensures { held.new ≡ changed_by held.old (Event.Release lock mode) }
+{
+    let released: Result<(), Refusal> = held.release(lock, mode);
+    released.unwrap();
+}
+
+// Closes a bracket that was just opened.
+fn close_bracket(held: &mut Held)
+    requires { refused_by held.old Event.IgnoreOff ≡ None }
+    ensures { held.new ≡ changed_by held.old Event.IgnoreOff }
+{
+    let closed: Result<(), Refusal> = held.ignore_off();
+    closed.unwrap();
+}

@@ -1,0 +1,166 @@
+//! A shard: its words, and the journal of which they are the replay.
+ghost use Rattle.std.specs.Prelude.{◌≡◌, ◌≤◌, ◌<◌, ◌+◌, [], Bool, length, IsTrue, IfOk, IsErrOf, OnOk, OnErr, vec_capacity};
+ghost use Rattle.er_model.specs.Journals.{IsLegalJournal, journal_state, notes_of, mark_of_what};
+ghost use Rattle.er_model.specs.Parts.{FitsEnd};
+ghost use Rattle.er_shadow.specs.Replies.{reply_if};
+ghost use Rattle.er_shadow.specs.Shadows.{needs_set};
+ghost use Rattle.er_shard.specs.Journaled.{entry_of};
+
+use er_event::{NoRoom, PageRange, Reply, ThreadId, Word, WordState};
+use er_model::{Entry, Stamp, What};
+use er_shadow::ShadowMap;
+use er_table::LocksetTable;
+use std::alloc::{AllocError, Global};
+use std::marker::Model;
+use std::sync::Wait;
+
+/// Some of memory's words, and the journal of what was done to them (own). Contracts see the journal, with the shard's name, number
+/// and limit: the words' states are those that the journal gives.
+#[derive(Drop)]
+pub struct Shard<'t> {
+    words: ShadowMap<'t>,
+    journal: Vec<Entry>,
+    name: u64,
+    number: u32,
+    limit: u32,
+}
+
+impl<'t> Model for Shard<'t> {
+    ghost use Rattle.er_shard.specs.Journaled.{Journaled, IsReplayOf};
+
+    ghost Value = { Journaled };
+
+    ghost view = { λ s. record { name = s.name; number = s.number; limit = s.limit; journal = s.journal.items } };
+
+    ghost invariant = { λ s. IsReplayOf s.journal.items s.limit s.words };
+}
+
+impl<'t> Shard<'t> {
+    ghost use Rattle.er_shard.specs.Journaled.{AreStamped, with_entry};
+
+    /// A shard with an empty journal that takes `limit` entries (own). `name` is its detector's, and `number` its place there. The
+    /// sets of locks that its words need go into the table.
+    pub fn new(
+        alloc: Global,
+        table: &'t LocksetTable,
+        name: u64,
+        number: u32,
+        limit: u32,
+    ) -> Result<Shard<'t>, AllocError>
+        ensures { IfOk result (λ shard. shard ≡ record { name = name; number = number; limit = limit; journal = [] }) }
+    {
+        Ok(Shard {
+            words: ShadowMap::new(alloc, table)?,
+            journal: Vec::new(alloc),
+            name,
+            number,
+            limit,
+        })
+    }
+
+    /// The name of its detector.
+    pub fn name(&self) -> u64
+        ensures { result ≡ self.now.name }
+    {
+        self.name
+    }
+
+    /// Its number in its detector.
+    pub fn number(&self) -> u32
+        ensures { result ≡ self.now.number }
+    {
+        self.number
+    }
+
+    /// What was done to its words, oldest first.
+    pub fn journal(&self) -> &[Entry]
+        ensures journal { result.now ≡ self.now.journal }
+        ensures legal { IsLegalJournal self.now.journal }
+        ensures stamped { AreStamped self.now.journal }
+        ensures within { length self.now.journal ≤ self.now.limit }
+    {
+        self.journal.as_slice()
+    }
+
+    /// What is known of a word (section 3 of the 1997 paper).
+    pub fn state_of(&self, word: Word) -> Result<WordState, AllocError>
+        ensures { IfOk result (λ state. state ≡ journal_state self.now.journal word) }
+    {
+        self.words.state_of(word)
+    }
+
+    /// Takes a counted access, and says whether it is a race (section 2 of the 1997 paper; the journal is own). Refused where the
+    /// journal is full (`JournalFull`), where a set of locks finds no place in the table (`TableFull`), and where there is no
+    /// memory (`OutOfMemory`).
+    pub fn apply<R: Wait>(&mut self, rt: &R, ticket: u64, stamp: Stamp) -> Result<Reply, NoRoom>
+        ensures entry { IfOk result (λ reply. self.new ≡ with_entry self.old (entry_of ticket stamp.thread (What.Access stamp) reply)) }
+        ensures reply { IfOk result (λ reply. FitsEnd (notes_of self.old.journal) (mark_of_what (What.Access stamp)) reply) }
+        ensures err { OnErr result (self.new ≡ self.old) }
+        ensures full { self.old.limit ≤ length self.old.journal → IsErrOf result NoRoom.JournalFull }
+        ensures full_only { IsErrOf result NoRoom.JournalFull → self.old.limit ≤ length self.old.journal }
+
+        // The table isn't asked for a set while one thread alone has accessed the word.
+        ensures table_full { IsErrOf result NoRoom.TableFull → IsTrue (needs_set (journal_state self.old.journal stamp.word) stamp.thread) }
+    {
+        reserve_entry(&mut self.journal, self.limit)?;
+        let reported = is_race(&self.words.apply(rt, &stamp)?);
+        self.journal.push_reserved(Entry {
+            ticket,
+            thread: stamp.thread,
+            what: What::Access(stamp),
+            reply: reply_to(reported),
+        });
+        Ok(reply_to(reported))
+    }
+
+    /// Makes the words of a range virgin (section 3.3 of the 1997 paper; the journal is own). Refused where the journal is full
+    /// (`JournalFull`), and where there is no memory (`OutOfMemory`).
+    pub fn reset(&mut self, ticket: u64, thread: ThreadId, range: PageRange) -> Result<(), NoRoom>
+        ensures entry { OnOk result (self.new ≡ with_entry self.old (entry_of ticket thread (What.Reset range) Reply.Done)) }
+        ensures err { OnErr result (self.new ≡ self.old) }
+        ensures full { self.old.limit ≤ length self.old.journal → IsErrOf result NoRoom.JournalFull }
+        ensures full_only { IsErrOf result NoRoom.JournalFull → self.old.limit ≤ length self.old.journal }
+        ensures refusals { ¬ IsErrOf result NoRoom.TableFull }
+    {
+        reserve_entry(&mut self.journal, self.limit)?;
+        let range = &range;
+        self.words.reset(*range);
+        self.journal.push_reserved(Entry {
+            ticket,
+            thread,
+            what: What::Reset(*range),
+            reply: Reply::Done,
+        });
+        Ok(())
+    }
+}
+
+// Room for one more entry, in a journal that takes `limit` of them.
+fn reserve_entry(journal: &mut Vec<Entry>, limit: u32) -> Result<(), NoRoom>
+    ensures room { OnOk result (length journal.new.items + 1 ≤ vec_capacity journal.new) }
+    ensures below { OnOk result (length journal.old.items < limit) }
+    ensures same { journal.new.items ≡ journal.old.items }
+    ensures full { limit ≤ length journal.old.items → IsErrOf result NoRoom.JournalFull }
+    ensures full_only { IsErrOf result NoRoom.JournalFull → limit ≤ length journal.old.items }
+    ensures refusals { ¬ IsErrOf result NoRoom.TableFull }
+{
+    if journal.len() >= limit as usize {
+        return Err(NoRoom::JournalFull);
+    }
+    journal.reserve(1)?;
+    Ok(())
+}
+
+// Whether an access was answered with a race.
+fn is_race(reply: &Reply) -> bool
+    ensures { (reported : Bool) → reply.now ≡ reply_if reported → result ≡ reported }
+{
+    matches!(reply, Reply::Race)
+}
+
+// What an access is answered.
+fn reply_to(reported: bool) -> Reply
+    ensures { result ≡ reply_if reported }
+{
+    if reported { Reply::Race } else { Reply::Quiet }
+}
