@@ -112,11 +112,7 @@ where
     replay_trace(rt, replay.trace, &suppressions, &options, input, output)
 }
 
-fn suppressions_at<R>(
-    rt: &R,
-    path: Option<&str>,
-    options: &Options,
-) -> Result<Suppressions, Fault>
+fn suppressions_at<R>(rt: &R, path: Option<&str>, options: &Options) -> Result<Suppressions, Fault>
 where
     R: Files + AllocGlobal,
 {
