@@ -1,7 +1,11 @@
 //! One command line, run over a reader and two writers.
 use crate::request::{Replay, Request, read_request};
 use clap::error::ErrorKind;
+use er_detector::OpenGate;
 use er_device::Device;
+use er_event::{Refusal, Reply};
+use er_gather::{Run, Unsettled};
+use er_load::{LoadFault, Workload, run_workload};
 use er_print::WriteFault;
 use er_rules::Suppressions;
 use er_run::{Options, RunFault, Verdict, replay_text};
@@ -11,6 +15,7 @@ use std::fs::File;
 use std::io::{Read, Write};
 use std::rt::Files;
 use std::sync::Wait;
+use std::thread::Threads;
 
 /// Why a command line ended without its result.
 #[derive(Clone, Copy, Debug, PartialEq, Eq)]
@@ -22,13 +27,21 @@ enum Fault {
     OpenSuppressions,
     Read,
     Write,
+    Refused(Refusal),
+    WorkerNotStarted,
+    WorkerLost,
+    Unsettled(Unsettled),
 }
 
 impl Fault {
     fn status(self) -> u8 {
         match self {
             Fault::Text(_) | Fault::Suppressions(_) => 2,
-            Fault::Memory => 3,
+            Fault::Memory
+            | Fault::Refused(_)
+            | Fault::WorkerNotStarted
+            | Fault::WorkerLost
+            | Fault::Unsettled(_) => 3,
             Fault::OpenTrace | Fault::OpenSuppressions | Fault::Read | Fault::Write => 4,
         }
     }
@@ -41,6 +54,10 @@ impl Fault {
             Fault::OpenSuppressions => "cannot open suppressions",
             Fault::Read => "read fault",
             Fault::Write => "write fault",
+            Fault::Refused(refusal) => refusal.text(),
+            Fault::WorkerNotStarted => "worker not started",
+            Fault::WorkerLost => "worker lost",
+            Fault::Unsettled(unsettled) => unsettled.text(),
         }
     }
 }
@@ -58,6 +75,17 @@ impl From<RunFault> for Fault {
     }
 }
 
+impl From<LoadFault> for Fault {
+    fn from(fault: LoadFault) -> Fault {
+        match fault {
+            LoadFault::Refused(refusal) => Fault::Refused(refusal),
+            LoadFault::WorkerNotStarted => Fault::WorkerNotStarted,
+            LoadFault::WorkerLost => Fault::WorkerLost,
+            LoadFault::Unsettled(unsettled) => Fault::Unsettled(unsettled),
+        }
+    }
+}
+
 /// Runs one command line, whose first word is the program's name, and answers the exit status: 0 where no race was printed,
 /// 1 where some race was, 2 for wrong arguments or a text with a fault, 3 for want of room, 4 for a file that can't be
 /// opened, read or written.
@@ -69,7 +97,7 @@ pub fn command<R, I, O, E>(
     errors: &mut E,
 ) -> u8
 where
-    R: Files + AllocGlobal + Wait,
+    R: Files + AllocGlobal + Threads + Wait + Sync,
     I: Read,
     O: Write,
     E: Write,
@@ -80,9 +108,10 @@ where
     };
     let outcome = match request {
         Request::Replay(replay) => run_replay(rt, replay, input, output),
+        Request::Demo(workload) => run_demo(rt, rt.alloc(), workload, output),
     };
     match outcome {
-        Ok(verdict) => status_of(verdict),
+        Ok(status) => status,
         Err(fault) => tell(rt.alloc(), fault, errors),
     }
 }
@@ -101,7 +130,7 @@ fn run_replay<R, I, O>(
     replay: Replay<'_>,
     input: &mut I,
     output: &mut O,
-) -> Result<Verdict, Fault>
+) -> Result<u8, Fault>
 where
     R: Files + AllocGlobal + Wait,
     I: Read,
@@ -109,7 +138,41 @@ where
 {
     let options = Options::greatest();
     let suppressions = suppressions_at(rt, replay.suppressions, &options)?;
-    replay_trace(rt, replay.trace, &suppressions, &options, input, output)
+    let verdict = replay_trace(rt, replay.trace, &suppressions, &options, input, output)?;
+    Ok(status_of(verdict))
+}
+
+// Runs a workload, and tells what its threads came to.
+fn run_demo<R, O>(rt: &R, alloc: Global, workload: Workload, output: &mut O) -> Result<u8, Fault>
+where
+    R: Threads + Wait + Sync,
+    O: Write,
+{
+    let run = run_workload(rt, alloc, workload, &OpenGate)?;
+    tell_run(alloc, workload, &run, output)
+}
+
+fn tell_run<O: Write>(
+    alloc: Global,
+    workload: Workload,
+    run: &Run,
+    output: &mut O,
+) -> Result<u8, Fault> {
+    let name = workload.name();
+    let steps = run.steps.len();
+    let races = run
+        .replies
+        .iter()
+        .filter(|reply| matches!(reply, Reply::Race))
+        .count();
+    let Ok(line) = format!(in alloc; "{name}: steps {steps}, races {races}\n") else {
+        return Err(Fault::Memory);
+    };
+    let mut sink = Device::new(output);
+    match sink.write_all(line.as_bytes()) {
+        Ok(()) => Ok(u8::from(races > 0)),
+        Err(_) => Err(Fault::Write),
+    }
 }
 
 fn suppressions_at<R>(rt: &R, path: Option<&str>, options: &Options) -> Result<Suppressions, Fault>
@@ -164,6 +227,8 @@ fn tell<E: Write>(alloc: Global, fault: Fault, errors: &mut E) -> u8 {
         Fault::Suppressions(TextFault { line, .. }) => {
             format!(in alloc; "suppressions line {line}: {text}\n")
         }
+        Fault::Refused(_) => format!(in alloc; "refused: {text}\n"),
+        Fault::Unsettled(_) => format!(in alloc; "unsettled: {text}\n"),
         _ => format!(in alloc; "{text}\n"),
     };
     let mut sink = Device::new(errors);

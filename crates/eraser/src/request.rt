@@ -1,6 +1,7 @@
 //! What a command line asks for.
 use clap::error::ErrorKind;
 use clap::{Arg, ArgMatches, Command, Error};
+use er_load::Workload;
 use std::alloc::{AllocError, Global};
 
 /// What a command line asks for.
@@ -8,6 +9,8 @@ use std::alloc::{AllocError, Global};
 pub enum Request<'a> {
     /// A replay of a trace.
     Replay(Replay<'a>),
+    /// A workload on threads of this program.
+    Demo(Workload),
 }
 
 /// Which trace to replay, and by which suppressions.
@@ -34,6 +37,26 @@ fn replay_command<'a>(alloc: Global) -> Result<Command<'a>, AllocError> {
         .arg(trace)
 }
 
+const NAMES: [&str; 6] = [
+    "locked-counter",
+    "racy-counter",
+    "init-then-read",
+    "rw-table",
+    "reuse-pool",
+    "ignored-stats",
+];
+
+fn demo_command<'a>(alloc: Global) -> Result<Command<'a>, AllocError> {
+    let name = Arg::new(alloc, "name")
+        .value_name("NAME")
+        .required(true)
+        .value_parser(NAMES.as_slice())
+        .help("What the threads do");
+    Command::new(alloc, "demo")
+        .about("Run threads that call the detector, and print how many steps and races they made")
+        .arg(name)
+}
+
 /// The command line of the program.
 pub fn eraser_command<'a>(alloc: Global) -> Result<Command<'a>, AllocError> {
     Command::new(alloc, "eraser")
@@ -42,7 +65,8 @@ pub fn eraser_command<'a>(alloc: Global) -> Result<Command<'a>, AllocError> {
         .after_help(AFTER_HELP)
         .subcommand_required(true)
         .arg_required_else_help(true)
-        .subcommand(replay_command(alloc)?)
+        .subcommand(replay_command(alloc)?)?
+        .subcommand(demo_command(alloc)?)
 }
 
 const AFTER_HELP: &str = "\
@@ -60,10 +84,17 @@ Exit status:
   0  no race was printed
   1  some race was printed
   2  wrong arguments, or a text with a fault
-  3  the replay ran out of room
+  3  the replay ran out of room, or a demo was refused or did not settle
   4  a file could not be opened, read or written
 
 The texts of traces, suppressions and reports are described in docs/FORMATS.md.";
+
+fn workload_of(name: &str) -> Option<Workload> {
+    Workload::ALL
+        .iter()
+        .copied()
+        .find(|workload| workload.name() == name)
+}
 
 fn request_of<'a>(matches: &ArgMatches<'a>) -> Option<Request<'a>> {
     match matches.subcommand()? {
@@ -71,6 +102,7 @@ fn request_of<'a>(matches: &ArgMatches<'a>) -> Option<Request<'a>> {
             suppressions: found.get_str("suppress"),
             trace: found.get_str("trace")?,
         })),
+        ("demo", found) => Some(Request::Demo(workload_of(found.get_str("name")?)?)),
         _ => None,
     }
 }

@@ -1,0 +1,5 @@
+pub mod ScriptLemmas
+pub mod CallLemmas
+pub mod JoinLemmas
+pub mod StartLemmas
+pub mod RunLemmas

@@ -1,0 +1,3 @@
+pub mod Parts
+pub mod Scripts
+pub mod Workloads

@@ -1,0 +1,123 @@
+//! One thread's calls: its script played at a detector.
+ghost use Rattle.std.specs.Prelude.{◌≡◌, ◌<◌, IfOk, OnOk};
+ghost use Rattle.er_load.specs.Parts.{HasMade, IsSeatAt, done_before, done_after};
+ghost use Rattle.er_load.specs.Scripts.{events_by, events_in_all};
+ghost use Rattle.er_load.specs.Workloads.{thread_count};
+
+use crate::scripts::{Action, script_of};
+use crate::workloads::Part;
+use er_detector::{Detector, Gate};
+use er_event::{Kind, LockId, Refusal, Reply, Site, Word, WordRange};
+use er_seat::Seat;
+use std::alloc::Global;
+use std::sync::Wait;
+
+/// What plays parts. It stands for a detector with its gate, since of a closure that takes a value along nothing is known where it
+/// borrows what borrows in turn, as a detector borrows its table.
+pub(crate) trait Player: Sync {
+    /// The seat, once it has made the calls of the part.
+    fn play_part<R: Wait>(
+        &self,
+        rt: &R,
+        alloc: Global,
+        part: Part,
+        seat: Seat,
+    ) -> Result<Seat, Refusal>
+        requires number { part.thread < thread_count part.workload }
+        requires before { IsSeatAt part.thread (done_before part.workload part.stage part.thread) seat }
+        ensures { IfOk result (λ seat. IsSeatAt part.thread (done_after part.workload part.stage part.thread) seat) };
+}
+
+/// A detector, and the gate that each thread passes before its first call.
+#[derive(Clone, Copy)]
+pub(crate) struct Stand<'a, 't, G: Gate> {
+    pub(crate) detector: &'a Detector<'t>,
+    pub(crate) gate: &'a G,
+}
+
+impl<'a, 't, G: Gate> Player for Stand<'a, 't, G> {
+    fn play_part<R: Wait>(
+        &self,
+        rt: &R,
+        alloc: Global,
+        part: Part,
+        mut seat: Seat,
+    ) -> Result<Seat, Refusal>
+        requires number { part.thread < thread_count part.workload }
+        requires before { IsSeatAt part.thread (done_before part.workload part.stage part.thread) seat }
+        ensures { IfOk result (λ seat. IsSeatAt part.thread (done_after part.workload part.stage part.thread) seat) }
+    {
+        let script = script_of(alloc, part)?;
+        if seat.calls().is_empty() {
+            self.gate.enter(seat.thread().number());
+        }
+        play(rt, self.detector, &mut seat, script.as_slice())?;
+        Ok(seat)
+    }
+}
+
+// Makes the calls of a script, in order.
+fn play<R: Wait>(
+    rt: &R,
+    detector: &Detector<'_>,
+    seat: &mut Seat,
+    script: &[Action],
+) -> Result<(), Refusal>
+    ensures { OnOk result (HasMade seat.old seat.new (events_in_all script.now)) }
+{
+    for action in script {
+        make(rt, detector, seat, *action)?;
+    }
+    Ok(())
+}
+
+// Makes the call of one action.
+fn make<R: Wait>(
+    rt: &R,
+    detector: &Detector<'_>,
+    seat: &mut Seat,
+    action: Action,
+) -> Result<(), Refusal>
+    ensures { OnOk result (HasMade seat.old seat.new (events_by action)) }
+{
+    let lock = LockId::new(1);
+    match action {
+        Action::Acquire(mode) => seat.acquire(lock, mode),
+        Action::Release(mode) => seat.release(lock, mode),
+        Action::Access(kind, word) => {
+            access(rt, detector, seat, kind, word)?;
+            Ok(())
+        }
+        Action::Reuse(range) => reuse(rt, detector, seat, range),
+        Action::IgnoreOn => seat.ignore_on(),
+        Action::IgnoreOff => seat.ignore_off(),
+    }
+}
+
+// Reads or writes a word.
+fn access<R: Wait>(
+    rt: &R,
+    detector: &Detector<'_>,
+    seat: &mut Seat,
+    kind: Kind,
+    word: Word,
+) -> Result<Reply, Refusal>
+    ensures { OnOk result (HasMade seat.old seat.new (events_by (Action.Access kind word))) }
+{
+    detector.access(rt, seat, word, kind, Site::MISSING)
+}
+
+// Puts words to a new use.
+fn reuse<R: Wait>(
+    rt: &R,
+    detector: &Detector<'_>,
+    seat: &mut Seat,
+    range: WordRange,
+) -> Result<(), Refusal>
+    ensures { OnOk result (HasMade seat.old seat.new (events_by (Action.Reuse range))) }
+{
+    match detector.reuse(rt, seat, &range) {
+        Ok(()) => Ok(()),
+        Err(stopped) => Err(stopped.cause),
+    }
+}

@@ -1,0 +1,93 @@
+//! A whole workload: its detector, its seats, its stages, and the run that they make.
+ghost use Rattle.std.specs.Prelude.{◌≡◌, ℕ, IfOk, Ok, Some, length, slice_get, vec_len};
+ghost use Rattle.er_event.specs.declared.steps.Step.{Step as StepShown};
+ghost use Rattle.er_model.specs.Answers.{answer};
+ghost use Rattle.er_model.specs.Locality.{events_of};
+ghost use Rattle.er_model.specs.Merges.{reply_at};
+ghost use Rattle.er_load.specs.Parts.{AreSeatsAt, done_before, done_after};
+ghost use Rattle.er_load.specs.Workloads.{workload_events, step_count, thread_count};
+
+use crate::plays::Stand;
+use crate::stages::play_stage;
+use crate::workloads::Stage;
+use crate::{LoadFault, Workload};
+use er_detector::{Config, Detector, Gate};
+use er_event::Refusal;
+use er_gather::{Run, Unsettled, settle};
+use er_seat::Seat;
+use er_table::LocksetTable;
+use std::alloc::Global;
+use std::sync::Wait;
+use std::thread::Threads;
+
+// How many sets of locks a workload's table takes.
+const MAX_SETS: u32 = 1024;
+
+/// Runs a workload, each of its threads on a thread of its own, and settles it (own). Each passes the gate under its number before its
+/// first call.
+///
+/// Where a call is refused or there is no memory the fault is `Refused`, where a thread can't be started `WorkerNotStarted`, where the
+/// seats that are opened aren't numbered 0, 1 and so on `Unsettled(SeatMissing)`, and where the run doesn't settle `Unsettled`.
+pub fn run_workload<G: Gate, R: Threads + Wait + Sync>(
+    rt: &R,
+    alloc: Global,
+    workload: Workload,
+    gate: &G,
+) -> Result<Run, LoadFault>
+    ensures events { IfOk result (λ run. (t : ℕ) → events_of run.steps.items t (length run.steps.items) ≡ workload_events workload t) }
+    ensures count { IfOk result (λ run. vec_len run.steps ≡ step_count workload) }
+    ensures replies { IfOk result (λ run. (k : ℕ) (step : StepShown) → slice_get run.steps.items k ≡ Some step → answer run.steps.items k ≡ Ok (reply_at run.replies.items k)) }
+{
+    let table = LocksetTable::new(alloc, MAX_SETS)?;
+    let detector = Detector::new(alloc, &table, config())?;
+    let seats = play_all(rt, alloc, &detector, workload, gate)?;
+    match settle(alloc, detector, seats) {
+        Ok(run) => Ok(run),
+        Err(fault) => Err(LoadFault::Unsettled(fault)),
+    }
+}
+
+// The detector that a workload calls.
+fn config() -> Config {
+    let config: Option<_> = Config::new(1, 8, 1024, 3);
+    config.unwrap()
+}
+
+// The seats of all threads, once they are done with all.
+fn play_all<G: Gate, R: Threads + Wait + Sync>(
+    rt: &R,
+    alloc: Global,
+    detector: &Detector<'_>,
+    workload: Workload,
+    gate: &G,
+) -> Result<Vec<Seat>, LoadFault>
+    ensures count { IfOk result (λ seats. vec_len seats ≡ thread_count workload) }
+    ensures seats { IfOk result (λ seats. AreSeatsAt (done_after workload Stage.Second) seats.items) }
+{
+    let stand = Stand { detector, gate };
+    let seats = open_seats(alloc, detector, workload)?;
+    let seats = play_stage(rt, alloc, &stand, workload, Stage::First, seats)?;
+    play_stage(rt, alloc, &stand, workload, Stage::Second, seats)
+}
+
+// A seat for each thread, by its number.
+fn open_seats(
+    alloc: Global,
+    detector: &Detector<'_>,
+    workload: Workload,
+) -> Result<Vec<Seat>, LoadFault>
+    ensures count { IfOk result (λ seats. vec_len seats ≡ thread_count workload) }
+    ensures seats { IfOk result (λ seats. AreSeatsAt (done_before workload Stage.First) seats.items) }
+{
+    let mut seats = Vec::new(alloc);
+    for number in 0..workload.threads() {
+        let seat = detector.open_seat()?;
+        if seat.thread().number() != number {
+            return Err(LoadFault::Unsettled(Unsettled::SeatMissing));
+        }
+        let Ok(()) = seats.push(seat) else {
+            return Err(LoadFault::Refused(Refusal::OutOfMemory));
+        };
+    }
+    Ok(seats)
+}

@@ -1,0 +1,91 @@
+//! The workloads, by name.
+ghost use Rattle.std.specs.Prelude.{◌≡◌, [], IsTrue};
+ghost use Rattle.er_load.specs.Workloads.{name_of, part, thread_count};
+
+use er_event::ThreadId;
+
+/// What some threads do at one detector (own).
+#[derive(Clone, Copy, Debug, PartialEq, Eq, Hash)]
+pub enum Workload {
+    /// Two threads count up 100 times each, under a lock.
+    LockedCounter,
+    /// Two threads write a word twice each, without a lock.
+    RacyCounter,
+    /// One thread writes 16 words, and then two others read them.
+    InitThenRead,
+    /// One thread writes 4 words, and two others read them, 10 times each, under a lock that the readers take in read mode.
+    RwTable,
+    /// Two threads write 8 words of a page each and put the page to a new use, and then do so with the other's page.
+    ReusePool,
+    /// Two threads count up a word 10 times each, in an ignore bracket.
+    IgnoredStats,
+}
+
+/// The threads of a workload are done with the first stage before the second one begins.
+#[derive(Clone, Copy, Debug, PartialEq, Eq, Hash)]
+pub(crate) enum Stage {
+    First,
+    Second,
+}
+
+/// What one thread does in one stage.
+#[derive(Clone, Copy)]
+pub(crate) struct Part {
+    pub(crate) workload: Workload,
+    pub(crate) stage: Stage,
+    pub(crate) thread: ThreadId,
+}
+
+impl Workload {
+    /// All workloads.
+    pub const ALL: [Workload; 6] = [
+        Workload::LockedCounter,
+        Workload::RacyCounter,
+        Workload::InitThenRead,
+        Workload::RwTable,
+        Workload::ReusePool,
+        Workload::IgnoredStats,
+    ];
+
+    /// The name, as the program takes it.
+    pub fn name(self) -> &'static str
+        ensures { result.now ≡ name_of self }
+    {
+        match self {
+            Workload::LockedCounter => "locked-counter",
+            Workload::RacyCounter => "racy-counter",
+            Workload::InitThenRead => "init-then-read",
+            Workload::RwTable => "rw-table",
+            Workload::ReusePool => "reuse-pool",
+            Workload::IgnoredStats => "ignored-stats",
+        }
+    }
+
+    /// How many threads it has.
+    pub fn threads(self) -> u32
+        ensures { result ≡ thread_count self }
+    {
+        match self {
+            Workload::InitThenRead | Workload::RwTable => 3,
+            _ => 2,
+        }
+    }
+}
+
+impl Part {
+    /// Whether there is nothing to do.
+    #[tactic(auto, unfolding(crate::specs::Workloads::part))]
+    pub(crate) fn is_idle(self) -> bool
+        ensures { IsTrue result → part self.workload self.stage self.thread ≡ [] }
+    {
+        let writes_first = self.thread.number() == 0;
+        match self.stage {
+            Stage::First => self.workload == Workload::InitThenRead && !writes_first,
+            Stage::Second => match self.workload {
+                Workload::InitThenRead => writes_first,
+                Workload::ReusePool => false,
+                _ => true,
+            },
+        }
+    }
+}
