@@ -160,4 +160,21 @@ FAULTY_RULES = [
     faulty_rules("rule_too_long", b"#" + b"a" * 1024 + b"\n", 1, "line too long"),
 ]
 
-CASES = REPLAYED + FAULTY + SUPPRESSED + FAULTY_RULES
+# Lines with two faults, of which the earlier kind is told.
+FIRST_FAULTS = [
+    faulty("line_too_long_before_not_ascii", b"eraser trace 1\n#" + b"a" * 1024 + b"\x80\n", 2, "line too long"),
+    faulty("not_ascii_before_no_header", b"t! \x80\n", 1, "not ascii"),
+    faulty("no_header_before_bad_name", b"t! lock m\n", 1, "no header"),
+    faulty("bad_name_before_missing_verb", text_of("t!"), 2, "bad name"),
+    faulty("bad_name_before_bad_verb", text_of("t! wri"), 2, "bad name"),
+    faulty("bad_verb_before_missing_operand", text_of("t1 wri"), 2, "bad verb"),
+    faulty("missing_operand_before_bad_number", text_of("t1 reuse 0xg"), 2, "missing operand"),
+    faulty("extra_operand_before_bad_name", text_of("t1 unlock none n"), 2, "extra operand"),
+    faulty("bad_number_before_bad_name", text_of("t1 write 0xg !"), 2, "bad number"),
+    faulty("bad_number_before_size_too_large", text_of("t1 reuse 0xg 4194305"), 2, "bad number"),
+    faulty("size_too_large_before_address", text_of("t1 reuse 0x1000000000000 4194305"), 2, "size too large"),
+    faulty("bad_name_before_address", text_of("t1 write 0x1000000000000 !"), 2, "bad name"),
+    faulty("extra_operand_before_level", text_of("t1 level 32 x", "eraser trace 2"), 2, "extra operand"),
+]
+
+CASES = REPLAYED + FAULTY + FIRST_FAULTS + SUPPRESSED + FAULTY_RULES
