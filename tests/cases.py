@@ -167,7 +167,6 @@ FIRST_FAULTS = [
     faulty("no_header_before_bad_name", b"t! lock m\n", 1, "no header"),
     faulty("bad_name_before_missing_verb", text_of("t!"), 2, "bad name"),
     faulty("bad_name_before_bad_verb", text_of("t! wri"), 2, "bad name"),
-    faulty("bad_verb_before_missing_operand", text_of("t1 wri"), 2, "bad verb"),
     faulty("missing_operand_before_bad_number", text_of("t1 reuse 0xg"), 2, "missing operand"),
     faulty("extra_operand_before_bad_name", text_of("t1 unlock none n"), 2, "extra operand"),
     faulty("bad_number_before_bad_name", text_of("t1 write 0xg !"), 2, "bad number"),

@@ -1,4 +1,7 @@
 //! One command line, run over a reader and two writers.
+ghost use Rattle.std.specs.Prelude.{◌≡◌, ◌≤◌, IfOk};
+ghost use Rattle.eraser.specs.Statuses.{verdict_status, fault_status};
+
 use crate::request::{Replay, Request, read_request};
 use clap::error::ErrorKind;
 use er_detector::OpenGate;
@@ -34,7 +37,9 @@ enum Fault {
 }
 
 impl Fault {
-    fn status(self) -> u8 {
+    fn status(self) -> u8
+        ensures { result ≡ fault_status self }
+    {
         match self {
             Fault::Text(_) | Fault::Suppressions(_) => 2,
             Fault::Memory
@@ -101,6 +106,7 @@ where
     I: Read,
     O: Write,
     E: Write,
+    ensures { result ≤ 4 }
 {
     let request = match read_request(rt.alloc(), words) {
         Ok(request) => request,
@@ -116,7 +122,9 @@ where
     }
 }
 
-fn status_of(verdict: Verdict) -> u8 {
+fn status_of(verdict: Verdict) -> u8
+    ensures { result ≡ verdict_status verdict }
+{
     match verdict {
         Verdict::Clean => 0,
         Verdict::Races => 1,
@@ -135,6 +143,7 @@ where
     R: Files + AllocGlobal + Wait,
     I: Read,
     O: Write,
+    ensures { IfOk result (λ status. status ≤ 4) }
 {
     let options = Options::greatest();
     let suppressions = suppressions_at(rt, replay.suppressions, &options)?;
@@ -147,6 +156,7 @@ fn run_demo<R, O>(rt: &R, alloc: Global, workload: Workload, output: &mut O) -> 
 where
     R: Threads + Wait + Sync,
     O: Write,
+    ensures { IfOk result (λ status. status ≤ 1) }
 {
     let run = run_workload(rt, alloc, workload, &OpenGate)?;
     tell_run(alloc, workload, &run, output)
@@ -157,7 +167,9 @@ fn tell_run<O: Write>(
     workload: Workload,
     run: &Run,
     output: &mut O,
-) -> Result<u8, Fault> {
+) -> Result<u8, Fault>
+    ensures { IfOk result (λ status. status ≤ 1) }
+{
     let name = workload.name();
     let steps = run.steps.len();
     let races = run
@@ -220,7 +232,9 @@ where
 }
 
 /// Writes the fault's line to the errors, and answers its status. A fault in telling a fault is not told.
-fn tell<E: Write>(alloc: Global, fault: Fault, errors: &mut E) -> u8 {
+fn tell<E: Write>(alloc: Global, fault: Fault, errors: &mut E) -> u8
+    ensures { result ≡ fault_status fault }
+{
     let text = fault.text();
     let line = match fault {
         Fault::Text(TextFault { line, .. }) => format!(in alloc; "line {line}: {text}\n"),
@@ -245,7 +259,9 @@ fn refused<O: Write, E: Write>(
     error: &clap::Error,
     output: &mut O,
     errors: &mut E,
-) -> u8 {
+) -> u8
+    ensures { result ≤ 4 }
+{
     let kind = error.kind();
     let Ok(text) = error.to_string(alloc) else {
         return tell(alloc, Fault::Memory, errors);

@@ -1,6 +1,11 @@
 //! Two threads write to one counter without a lock, and the detector that they call finds the race. An example of the library.
 #![tactic(auto)]
 
+ghost use Rattle.std.specs.Prelude.{◌≡◌, ℕ, slice_get, Some, Ok, IfOk};
+ghost use Rattle.er_event.specs.declared.steps.Step.{Step};
+ghost use Rattle.er_model.specs.Answers.{answer};
+ghost use Rattle.er_model.specs.Merges.{reply_at};
+
 use er_detector::{Config, Detector};
 use er_event::{Kind, Refusal, Reply, Site, Word};
 use er_gather::{Run, Unsettled, settle};
@@ -59,7 +64,10 @@ fn both<R: Threads + Wait + Sync>(
     Ok(seats)
 }
 
-fn watch<R: Threads + Wait + Sync>(rt: &R, alloc: Global) -> Result<Run, Fault> {
+// What both made of it. Each reply of the run is the one that the whole run gives.
+fn watch<R: Threads + Wait + Sync>(rt: &R, alloc: Global) -> Result<Run, Fault>
+    ensures { IfOk result (λ run. (k : ℕ) (step : Step) → slice_get run.steps.items k ≡ Some step → answer run.steps.items k ≡ Ok (reply_at run.replies.items k)) }
+{
     let table = LocksetTable::new(alloc, 16)?;
     let Some(config) = Config::new(1, 8, 1024, 2) else {
         return Err(Fault::Memory);
