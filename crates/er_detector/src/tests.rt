@@ -7,119 +7,55 @@ use er_model::Stamp;
 use er_seat::Seat;
 use er_table::LocksetTable;
 use std::alloc::Global;
+use std::process::Abort;
 use std::sync::Wait;
 use std::test::*;
 use std::thread::{Threads, join};
 
-// These say nothing of what they return, so that a test's proof has little to carry.
+// These say nothing of what they return, so that a test's proof has little to carry. A test ends where one of them cannot answer.
+
+fn table<R: Abort + AllocGlobal>(rt: &R) -> LocksetTable {
+    match LocksetTable::new(rt.alloc(), 4) {
+        Ok(table) => table,
+        Err(_) => rt.abort(),
+    }
+}
 
 fn is_config(shards: u32, journal_limit: u32, max_threads: u32) -> bool {
     Config::new(7, shards, journal_limit, max_threads).is_some()
 }
 
-// A detector that opens two seats.
-fn detector<'t>(
-    alloc: Global,
-    table: &'t LocksetTable,
-    name: u64,
-    shards: u32,
-    journal_limit: u32,
-) -> Option<Detector<'t>> {
-    let config = Config::new(name, shards, journal_limit, 2)?;
-    Detector::new(alloc, table, config).ok()
-}
-
-fn stamp(alloc: Global, who: u8, at: u16) -> Stamp {
-    Stamp {
-        thread: ThreadId::new(u32::from(who)),
-        word: Word::new(u64::from(at)),
-        kind: Kind::Write,
-        site: Site::MISSING,
-        held: Lockset::new(alloc),
-        write_held: Lockset::new(alloc),
+// Of two seats.
+fn config<R: Abort>(rt: &R, name: u64, shards: u32, journal_limit: u32) -> Config {
+    match Config::new(name, shards, journal_limit, 2) {
+        Some(config) => config,
+        None => rt.abort(),
     }
 }
 
-// A write without locks, through the guard of the shard of its word.
-fn write<R: Wait + AllocGlobal>(
+fn detector<'t, R: Abort + AllocGlobal>(
     rt: &R,
-    detector: &Detector,
-    who: u8,
-    at: u16,
-) -> Result<Reply, NoRoom> {
-    let number = detector.shard_of(Word::new(u64::from(at)));
-    let mut shard = detector.shard(rt, number);
-    shard.apply(rt, u64::from(at), stamp(rt.alloc(), who, at))
-}
-
-#[test]
-fn limits(rt: HostRuntime) {
-    let limit = 1_073_741_824;
-    for (shards, journal_limit, max_threads) in [(1, 1, 1), (64, limit, limit)] {
-        assert!(rt; is_config(shards, journal_limit, max_threads));
-    }
-    for (shards, journal_limit, max_threads) in [
-        (0, 1, 1),
-        (65, 1, 1),
-        (1, 0, 1),
-        (1, limit + 1, 1),
-        (1, 1, 0),
-        (1, 1, limit + 1),
-    ] {
-        assert!(rt; !is_config(shards, journal_limit, max_threads));
+    table: &'t LocksetTable,
+    config: Config,
+) -> Detector<'t> {
+    match Detector::new(rt.alloc(), table, config) {
+        Ok(detector) => detector,
+        Err(_) => rt.abort(),
     }
 }
 
-#[test]
-fn a_words_shard(rt: HostRuntime) -> Result<(), Fail> {
-    let table = LocksetTable::new(rt.alloc(), 4)?;
-    let detector = detector(rt.alloc(), &table, 7, 3, 100).ok_or("no detector")?;
-    assert_eq!(rt; detector.shard_of(Word::new(0)), 0);
-    assert_eq!(rt; detector.shard_of(Word::new(1023)), 0);
-    assert_eq!(rt; detector.shard_of(Word::new(1024)), 1);
-    assert_eq!(rt; detector.shard_of(Word::new(5 * 1024)), 2);
-    assert_eq!(rt; detector.config().max_threads, 2);
-    Ok(())
-}
-
-fn has_place(parts: &Parts, place: u32, entries: usize) -> bool {
-    match parts.shards.get(place as usize) {
-        Some(shard) => {
-            shard.name() == 7 && shard.number() == place && shard.journal().len() == entries
-        }
-        None => false,
+fn parts<'t, R: Abort>(rt: &R, detector: Detector<'t>) -> Parts<'t> {
+    match detector.into_parts() {
+        Ok(parts) => parts,
+        Err(_) => rt.abort(),
     }
 }
 
-#[test]
-fn guard_is_the_shard(rt: HostRuntime) -> Result<(), Fail> {
-    let table = LocksetTable::new(rt.alloc(), 4)?;
-    let detector = detector(rt.alloc(), &table, 7, 2, 100).ok_or("no detector")?;
-    assert_eq!(rt; write(&rt, &detector, 0, 0x400), Ok(Reply::Quiet));
-    assert_eq!(rt; write(&rt, &detector, 1, 0x400), Ok(Reply::Race));
-    assert_eq!(rt; write(&rt, &detector, 1, 0x800), Ok(Reply::Quiet));
-    assert_eq!(rt; detector.races(&rt)?.len(), 1);
-    let parts = detector.into_parts()?;
-    assert_eq!(rt; parts.name, 7);
-    assert_eq!(rt; parts.opened, 0);
-    assert_eq!(rt; parts.shards.len(), 2);
-    assert!(rt; has_place(&parts, 0, 1));
-    assert!(rt; has_place(&parts, 1, 2));
-    Ok(())
-}
-
-#[test]
-fn a_pair_meets(rt: HostRuntime) {
-    let gate = PairGate::new(0, 1);
-    OpenGate.enter(0);
-    gate.enter(2);
-    assert!(rt; !gate.met());
-    join(&rt, || gate.enter(0), || gate.enter(1));
-    assert!(rt; gate.met());
-}
-
-fn open(detector: &Detector) -> Option<Seat> {
-    detector.open_seat().ok()
+fn open<R: Abort>(rt: &R, detector: &Detector) -> Seat {
+    match detector.open_seat() {
+        Ok(seat) => seat,
+        Err(_) => rt.abort(),
+    }
 }
 
 // What a call came to.
@@ -140,6 +76,114 @@ fn told(reply: Result<Reply, Refusal>) -> Answer {
         Ok(_) => Answer::Other,
         Err(why) => Answer::Refused(why),
     }
+}
+
+fn told_of_shard(reply: Result<Reply, NoRoom>) -> Answer {
+    match reply {
+        Ok(Reply::Quiet) => Answer::Quiet,
+        Ok(Reply::Race) => Answer::Race,
+        _ => Answer::Other,
+    }
+}
+
+fn stamp(alloc: Global, who: u8, at: u16) -> Stamp {
+    Stamp {
+        thread: ThreadId::new(u32::from(who)),
+        word: Word::new(u64::from(at)),
+        kind: Kind::Write,
+        site: Site::MISSING,
+        held: Lockset::new(alloc),
+        write_held: Lockset::new(alloc),
+    }
+}
+
+// A write without locks, through the guard of the shard of its word.
+fn write<R: Wait + AllocGlobal>(rt: &R, detector: &Detector, who: u8, at: u16) -> Answer {
+    let number = detector.shard_of(Word::new(u64::from(at)));
+    let mut shard = detector.shard(rt, number);
+    told_of_shard(shard.apply(rt, u64::from(at), stamp(rt.alloc(), who, at)))
+}
+
+#[test]
+fn limits(rt: HostRuntime) {
+    let limit = 1_073_741_824;
+    for (shards, journal_limit, max_threads) in [(1, 1, 1), (64, limit, limit)] {
+        assert!(rt; is_config(shards, journal_limit, max_threads));
+    }
+    for (shards, journal_limit, max_threads) in [
+        (0, 1, 1),
+        (65, 1, 1),
+        (1, 0, 1),
+        (1, limit + 1, 1),
+        (1, 1, 0),
+        (1, 1, limit + 1),
+    ] {
+        assert!(rt; !is_config(shards, journal_limit, max_threads));
+    }
+}
+
+fn shard_of(detector: &Detector, at: u16) -> u32 {
+    detector.shard_of(Word::new(u64::from(at)))
+}
+
+fn max_threads(detector: &Detector) -> u32 {
+    detector.config().max_threads
+}
+
+#[test]
+fn a_words_shard(rt: HostRuntime) {
+    let table = table(&rt);
+    let detector = detector(&rt, &table, config(&rt, 7, 3, 100));
+    for (word, shard) in [(0, 0), (1023, 0), (1024, 1), (5 * 1024, 2)] {
+        assert_eq!(rt; shard_of(&detector, word), shard);
+    }
+    assert_eq!(rt; max_threads(&detector), 2);
+}
+
+fn has_place(parts: &Parts, place: u32, entries: usize) -> bool {
+    match parts.shards.get(place as usize) {
+        Some(shard) => {
+            shard.name() == 7 && shard.number() == place && shard.journal().len() == entries
+        }
+        None => false,
+    }
+}
+
+fn count_races<R: Wait>(rt: &R, detector: &Detector) -> Option<usize> {
+    match detector.races(rt) {
+        Ok(races) => Some(races.len()),
+        Err(_) => None,
+    }
+}
+
+#[test]
+fn guard_is_the_shard(rt: HostRuntime) {
+    let table = table(&rt);
+    let detector = detector(&rt, &table, config(&rt, 7, 2, 100));
+    for (who, at, answer) in [
+        (0, 0x400, Answer::Quiet),
+        (1, 0x400, Answer::Race),
+        (1, 0x800, Answer::Quiet),
+    ] {
+        assert_eq!(rt; write(&rt, &detector, who, at), answer);
+    }
+    assert_eq!(rt; count_races(&rt, &detector), Some(1));
+    let parts = parts(&rt, detector);
+    assert_eq!(rt; parts.name, 7);
+    assert_eq!(rt; parts.opened, 0);
+    assert_eq!(rt; parts.shards.len(), 2);
+    assert!(rt; has_place(&parts, 0, 1));
+    assert!(rt; has_place(&parts, 1, 2));
+}
+
+#[test]
+fn a_pair_meets(rt: HostRuntime) {
+    let gate = PairGate::new(0, 1);
+    OpenGate.enter(0);
+    gate.enter(2);
+    assert!(rt; !gate.met());
+    join(&rt, || gate.enter(0), || gate.enter(1));
+    assert!(rt; gate.met());
 }
 
 fn access<R: Wait>(rt: &R, detector: &Detector, seat: &mut Seat, at: u16) -> Answer {
@@ -163,15 +207,20 @@ fn access_in<R: Wait>(
     told(detector.access_in(rt, &mut shard, seat, word, Kind::Write, Site::MISSING))
 }
 
-fn reuse<R: Wait>(
+fn reuse<R: Abort + Wait>(
     rt: &R,
     detector: &Detector,
     seat: &mut Seat,
     address: u64,
     size: u64,
 ) -> Option<ReuseStopped> {
-    let range = WordRange::of_bytes(address, size).ok()??;
-    detector.reuse(rt, seat, &range).err()
+    let Ok(Some(range)) = WordRange::of_bytes(address, size) else {
+        rt.abort()
+    };
+    match detector.reuse(rt, seat, &range) {
+        Ok(()) => None,
+        Err(stopped) => Some(stopped),
+    }
 }
 
 // How many entries a shard's journal has.
@@ -184,61 +233,61 @@ fn entries<R: Wait>(rt: &R, detector: &Detector, number: u32) -> usize {
 }
 
 // Two seats write a word in turn.
-fn written_by_two<R: Wait>(rt: &R, detector: &Detector) -> Option<(Answer, Answer)> {
-    let mut first = open(detector)?;
-    let mut second = open(detector)?;
+fn written_by_two<R: Abort + Wait>(rt: &R, detector: &Detector) -> (Answer, Answer) {
+    let mut first = open(rt, detector);
+    let mut second = open(rt, detector);
     let one = access(rt, detector, &mut first, 0x400);
     let two = access(rt, detector, &mut second, 0x400);
-    Some((one, two))
+    (one, two)
 }
 
 // Why a seat isn't opened, if it isn't.
 fn unopened(detector: &Detector) -> Option<Refusal> {
-    detector.open_seat().err()
-}
-
-fn count_races<R: Wait>(rt: &R, detector: &Detector) -> Option<usize> {
-    let races = detector.races(rt).ok()?;
-    Some(races.len())
+    match detector.open_seat() {
+        Ok(_) => None,
+        Err(why) => Some(why),
+    }
 }
 
 #[test]
-fn seats_of_two_threads(rt: HostRuntime) -> Result<(), Fail> {
-    let table = LocksetTable::new(rt.alloc(), 4)?;
-    let detector = detector(rt.alloc(), &table, 7, 2, 100).ok_or("no detector")?;
+fn seats_of_two_threads(rt: HostRuntime) {
+    let table = table(&rt);
+    let detector = detector(&rt, &table, config(&rt, 7, 2, 100));
     assert_eq!(rt;
         written_by_two(&rt, &detector),
-        Some((Answer::Quiet, Answer::Race))
+        (Answer::Quiet, Answer::Race)
     );
     assert_eq!(rt; unopened(&detector), Some(Refusal::TooManyThreads));
     assert_eq!(rt; count_races(&rt, &detector), Some(1));
-    Ok(())
 }
 
 // A seat's access at another detector, and in a shard that isn't its word's.
-fn foreign<R: Wait>(rt: &R, here: &Detector, there: &Detector) -> Option<(Answer, Answer)> {
-    let mut seat = open(there)?;
+fn foreign<R: Abort + Wait>(rt: &R, here: &Detector, there: &Detector) -> (Answer, Answer) {
+    let mut seat = open(rt, there);
     let elsewhere = access(rt, here, &mut seat, 0x400);
     let misplaced = access_in(rt, there, &mut seat, 0, 0x400);
-    Some((elsewhere, misplaced))
+    (elsewhere, misplaced)
 }
 
 #[test]
-fn foreign_seats(rt: HostRuntime) -> Result<(), Fail> {
-    let table = LocksetTable::new(rt.alloc(), 4)?;
-    let here = detector(rt.alloc(), &table, 7, 2, 100).ok_or("no detector")?;
-    let there = detector(rt.alloc(), &table, 8, 2, 100).ok_or("no detector")?;
+fn foreign_seats(rt: HostRuntime) {
+    let table = table(&rt);
+    let here = detector(&rt, &table, config(&rt, 7, 2, 100));
+    let there = detector(&rt, &table, config(&rt, 8, 2, 100));
     let refused = Answer::Refused(Refusal::ForeignSeat);
-    assert_eq!(rt; foreign(&rt, &here, &there), Some((refused, refused)));
-    Ok(())
+    assert_eq!(rt; foreign(&rt, &here, &there), (refused, refused));
 }
 
 // A seat writes a word twice, and has so many calls then.
-fn written_twice<R: Wait>(rt: &R, detector: &Detector) -> Option<(Answer, Answer, usize)> {
-    let mut seat = open(detector)?;
+fn written_twice<R: Abort + Wait>(rt: &R, detector: &Detector) -> (Answer, Answer, usize) {
+    let mut seat = open(rt, detector);
     let one = access(rt, detector, &mut seat, 0x400);
     let two = access(rt, detector, &mut seat, 0x400);
-    Some((one, two, seat.calls().len()))
+    (one, two, count_calls(&seat))
+}
+
+fn count_calls(seat: &Seat) -> usize {
+    seat.calls().len()
 }
 
 // Whether one thread alone has accessed a word of the first shard.
@@ -254,118 +303,111 @@ fn is_exclusive<R: Wait>(rt: &R, detector: &Detector, at: u16) -> bool {
 }
 
 #[test]
-fn a_full_journal(rt: HostRuntime) -> Result<(), Fail> {
-    let table = LocksetTable::new(rt.alloc(), 4)?;
-    let detector = detector(rt.alloc(), &table, 7, 1, 1).ok_or("no detector")?;
+fn a_full_journal(rt: HostRuntime) {
+    let table = table(&rt);
+    let detector = detector(&rt, &table, config(&rt, 7, 1, 1));
     let full = Answer::Refused(Refusal::JournalFull);
-    assert_eq!(rt;
-        written_twice(&rt, &detector),
-        Some((Answer::Quiet, full, 1))
-    );
+    assert_eq!(rt; written_twice(&rt, &detector), (Answer::Quiet, full, 1));
     assert_eq!(rt; entries(&rt, &detector, 0), 1);
     assert!(rt; is_exclusive(&rt, &detector, 0x400));
-    Ok(())
 }
 
 // Where a reuse of three pages stops, and how many calls its seat has then.
-fn reused<R: Wait>(rt: &R, detector: &Detector) -> Option<(Option<ReuseStopped>, usize)> {
-    let mut seat = open(detector)?;
+fn reused<R: Abort + Wait>(rt: &R, detector: &Detector) -> (Option<ReuseStopped>, usize) {
+    let mut seat = open(rt, detector);
     let stopped = reuse(rt, detector, &mut seat, 0x1000, 0x3000);
-    Some((stopped, seat.calls().len()))
+    (stopped, count_calls(&seat))
 }
 
 #[test]
-fn reuse_stops_in_the_middle(rt: HostRuntime) -> Result<(), Fail> {
-    let table = LocksetTable::new(rt.alloc(), 4)?;
-    let detector = detector(rt.alloc(), &table, 7, 2, 1).ok_or("no detector")?;
+fn reuse_stops_in_the_middle(rt: HostRuntime) {
+    let table = table(&rt);
+    let detector = detector(&rt, &table, config(&rt, 7, 2, 1));
     let stopped = ReuseStopped {
         first_word_not_done: Word::new(0xc00),
         cause: Refusal::JournalFull,
     };
-    assert_eq!(rt; reused(&rt, &detector), Some((Some(stopped), 2)));
+    assert_eq!(rt; reused(&rt, &detector), (Some(stopped), 2));
     assert_eq!(rt; entries(&rt, &detector, 0), 1);
     assert_eq!(rt; entries(&rt, &detector, 1), 1);
-    Ok(())
 }
 
 // A seat's accesses inside a bracket, and how many calls it has then.
-fn bracketed<R: Wait>(rt: &R, detector: &Detector) -> Option<(Answer, Answer, usize)> {
-    let mut seat = open(detector)?;
-    seat.ignore_on().ok()?;
+fn bracketed<R: Abort + Wait>(rt: &R, detector: &Detector) -> (Answer, Answer, usize) {
+    let mut seat = open(rt, detector);
+    ignore_on(rt, &mut seat);
     let one = access(rt, detector, &mut seat, 5);
     let two = access_in(rt, detector, &mut seat, 0, 5);
-    Some((one, two, seat.calls().len()))
+    (one, two, count_calls(&seat))
+}
+
+fn ignore_on<R: Abort>(rt: &R, seat: &mut Seat) {
+    assert!(rt; seat.ignore_on().is_ok());
 }
 
 #[test]
-fn ignored_access_joins_no_journal(rt: HostRuntime) -> Result<(), Fail> {
-    let table = LocksetTable::new(rt.alloc(), 4)?;
-    let detector = detector(rt.alloc(), &table, 7, 1, 9).ok_or("no detector")?;
+fn ignored_access_joins_no_journal(rt: HostRuntime) {
+    let table = table(&rt);
+    let detector = detector(&rt, &table, config(&rt, 7, 1, 9));
     assert_eq!(rt;
         bracketed(&rt, &detector),
-        Some((Answer::Ignored, Answer::Ignored, 3))
+        (Answer::Ignored, Answer::Ignored, 3)
     );
     assert_eq!(rt; entries(&rt, &detector, 0), 0);
-    Ok(())
 }
 
 // A seat's two writes with a reuse of another page between them.
-fn spread<R: Wait>(rt: &R, detector: &Detector) -> Option<(Answer, Option<ReuseStopped>, Answer)> {
-    let mut seat = open(detector)?;
+fn spread<R: Abort + Wait>(rt: &R, detector: &Detector) -> (Answer, Option<ReuseStopped>, Answer) {
+    let mut seat = open(rt, detector);
     let one = access(rt, detector, &mut seat, 0x400);
     let stopped = reuse(rt, detector, &mut seat, 0x2000, 4);
     let two = access(rt, detector, &mut seat, 0x401);
-    Some((one, stopped, two))
+    (one, stopped, two)
 }
 
 #[test]
-fn access_reaches_its_shard(rt: HostRuntime) -> Result<(), Fail> {
-    let table = LocksetTable::new(rt.alloc(), 4)?;
-    let detector = detector(rt.alloc(), &table, 7, 2, 9).ok_or("no detector")?;
+fn access_reaches_its_shard(rt: HostRuntime) {
+    let table = table(&rt);
+    let detector = detector(&rt, &table, config(&rt, 7, 2, 9));
     assert_eq!(rt;
         spread(&rt, &detector),
-        Some((Answer::Quiet, None, Answer::Quiet))
+        (Answer::Quiet, None, Answer::Quiet)
     );
-    let parts = detector.into_parts()?;
+    let parts = parts(&rt, detector);
     assert_eq!(rt; parts.opened, 1);
     assert!(rt; has_place(&parts, 0, 1));
     assert!(rt; has_place(&parts, 1, 2));
-    Ok(())
 }
 
-fn open_and_write<R: Wait>(rt: &R, detector: &Detector) -> Option<Answer> {
-    let mut seat = open(detector)?;
-    Some(access(rt, detector, &mut seat, 0x400))
+fn open_and_write<R: Abort + Wait>(rt: &R, detector: &Detector) -> Answer {
+    let mut seat = open(rt, detector);
+    access(rt, detector, &mut seat, 0x400)
 }
 
-fn open_and_acquire(detector: &Detector) -> Option<bool> {
-    let mut seat = open(detector)?;
-    Some(seat.acquire(LockId::new(5), Mode::Write).is_ok())
+fn open_and_acquire<R: Abort>(rt: &R, detector: &Detector) -> bool {
+    let mut seat = open(rt, detector);
+    seat.acquire(LockId::new(5), Mode::Write).is_ok()
 }
 
 // One thread writes in the second shard and another takes a lock, while this one has the first shard.
-fn beside_a_guard<R: Threads + Wait + Sync>(
+fn beside_a_guard<R: Abort + Threads + Wait + Sync>(
     rt: &R,
     detector: &Detector,
-) -> (Option<Answer>, Option<bool>) {
+) -> Option<(Answer, bool)> {
     if detector.config().shards == 0 {
-        return (None, None);
+        return None;
     }
     let _kept = detector.shard(rt, 0);
-    join(
+    Some(join(
         rt,
         || open_and_write(rt, detector),
-        || open_and_acquire(detector),
-    )
+        || open_and_acquire(rt, detector),
+    ))
 }
 
 #[test]
-fn one_shard_does_not_stop_another(rt: HostRuntime) -> Result<(), Fail> {
-    let table = LocksetTable::new(rt.alloc(), 4)?;
-    let detector = detector(rt.alloc(), &table, 7, 2, 9).ok_or("no detector")?;
-    assert_eq!(rt;
-        beside_a_guard(&rt, &detector),
-        (Some(Answer::Quiet), Some(true))
-    );
-    Ok(())
+fn one_shard_does_not_stop_another(rt: HostRuntime) {
+    let table = table(&rt);
+    let detector = detector(&rt, &table, config(&rt, 7, 2, 9));
+    assert_eq!(rt; beside_a_guard(&rt, &detector), Some((Answer::Quiet, true)));
 }

@@ -1,108 +1,135 @@
 //! Detectors that threads are done with, settled with seats of their own and of others.
-use crate::{Run, Unsettled, settle, settle_parts};
-use er_detector::{Config, Detector};
+use crate::{Run, settle, settle_parts};
+use er_detector::{Config, Detector, Parts};
 use er_event::{Event, Kind, LockId, Mode, Reply, Site, Step, Word};
 use er_seat::Seat;
+use er_shard::Shard;
 use er_table::LocksetTable;
-use std::alloc::{AllocError, Global};
 use std::mem::swap;
+use std::process::Abort;
 use std::sync::Wait;
 use std::test::*;
 
-// These say nothing of what they return, so that a test's proof has little to carry.
+// These say nothing of what they return, so that a test's proof has little to carry. A test ends where one of them cannot answer.
+
+fn table<R: Abort + AllocGlobal>(rt: &R) -> LocksetTable {
+    match LocksetTable::new(rt.alloc(), 4) {
+        Ok(table) => table,
+        Err(_) => rt.abort(),
+    }
+}
+
+fn config<R: Abort>(rt: &R, name: u64) -> Config {
+    match Config::new(name, 2, 100, 2) {
+        Some(config) => config,
+        None => rt.abort(),
+    }
+}
 
 // A detector of two shards.
-fn detector<'t>(alloc: Global, table: &'t LocksetTable, name: u64) -> Option<Detector<'t>> {
-    let config = Config::new(name, 2, 100, 2)?;
-    Detector::new(alloc, table, config).ok()
-}
-
-fn open(detector: &Detector) -> Option<Seat> {
-    detector.open_seat().ok()
-}
-
-// Whether a write at an address was accepted.
-fn writes<R: Wait>(rt: &R, detector: &Detector, seat: &mut Seat, address: u64) -> bool {
-    match Word::of_address(address) {
-        Ok(word) => detector
-            .access(rt, seat, word, Kind::Write, Site::MISSING)
-            .is_ok(),
-        Err(_) => false,
-    }
-}
-
-// The first seat, which wrote there.
-fn written<R: Wait>(rt: &R, detector: &Detector, address: u64) -> Option<Seat> {
-    let mut seat = open(detector)?;
-    if writes(rt, detector, &mut seat, address) {
-        Some(seat)
-    } else {
-        None
-    }
-}
-
-// Two seats, of which the first wrote at one address and then the second at another.
-fn written_by_two<R: Wait>(
+fn detector<'t, R: Abort + AllocGlobal>(
     rt: &R,
-    detector: &Detector,
-    first: u64,
-    second: u64,
-) -> Option<(Seat, Seat)> {
-    let mut one = open(detector)?;
-    let mut two = open(detector)?;
-    if writes(rt, detector, &mut one, first) && writes(rt, detector, &mut two, second) {
-        Some((one, two))
-    } else {
-        None
+    table: &'t LocksetTable,
+    name: u64,
+) -> Detector<'t> {
+    match Detector::new(rt.alloc(), table, config(rt, name)) {
+        Ok(detector) => detector,
+        Err(_) => rt.abort(),
     }
 }
 
-// Two seats, of which the second wrote under a lock, and then the first too.
-fn locked_by_two<R: Wait>(rt: &R, detector: &Detector, address: u64) -> Option<(Seat, Seat)> {
-    let mut one = open(detector)?;
-    let mut two = open(detector)?;
-    if writes_locked(rt, detector, &mut two, address)
-        && writes_locked(rt, detector, &mut one, address)
-    {
-        Some((one, two))
-    } else {
-        None
+fn parts<'t, R: Abort>(rt: &R, detector: Detector<'t>) -> Parts<'t> {
+    match detector.into_parts() {
+        Ok(parts) => parts,
+        Err(_) => rt.abort(),
     }
 }
 
-fn writes_locked<R: Wait>(rt: &R, detector: &Detector, seat: &mut Seat, address: u64) -> bool {
-    seat.acquire(LockId::new(5), Mode::Write).is_ok()
-        && writes(rt, detector, seat, address)
-        && seat.release(LockId::new(5), Mode::Write).is_ok()
+fn open<R: Abort>(rt: &R, detector: &Detector) -> Seat {
+    match detector.open_seat() {
+        Ok(seat) => seat,
+        Err(_) => rt.abort(),
+    }
 }
 
-fn one_seat(alloc: Global, seat: Seat) -> Result<Vec<Seat>, AllocError> {
-    let mut seats = Vec::new(alloc);
-    seats.push(seat)?;
-    Ok(seats)
+fn word<R: Abort>(rt: &R, address: u64) -> Word {
+    match Word::of_address(address) {
+        Ok(word) => word,
+        Err(_) => rt.abort(),
+    }
 }
 
-fn two_seats(alloc: Global, first: Seat, second: Seat) -> Result<Vec<Seat>, AllocError> {
-    let mut seats = Vec::new(alloc);
-    seats.push(first)?;
-    seats.push(second)?;
-    Ok(seats)
+// A write at an address, which is accepted.
+fn write<R: Abort + Wait>(rt: &R, detector: &Detector, seat: &mut Seat, address: u64) {
+    let word = word(rt, address);
+    assert!(rt;
+        detector
+            .access(rt, seat, word, Kind::Write, Site::MISSING)
+            .is_ok()
+    );
 }
 
-// The run as its threads with a letter for each step, or the fault: w for a write, ! for one that is a race, + for a lock that is taken
+fn acquire<R: Abort>(rt: &R, seat: &mut Seat) {
+    assert!(rt; seat.acquire(LockId::new(5), Mode::Write).is_ok());
+}
+
+fn release<R: Abort>(rt: &R, seat: &mut Seat) {
+    assert!(rt; seat.release(LockId::new(5), Mode::Write).is_ok());
+}
+
+// A write under a lock.
+fn write_locked<R: Abort + Wait>(rt: &R, detector: &Detector, seat: &mut Seat, address: u64) {
+    acquire(rt, seat);
+    write(rt, detector, seat, address);
+    release(rt, seat);
+}
+
+// The next seat, which wrote there.
+fn written<R: Abort + Wait>(rt: &R, detector: &Detector, address: u64) -> Seat {
+    let mut seat = open(rt, detector);
+    write(rt, detector, &mut seat, address);
+    seat
+}
+
+// The same of a seat that is not kept.
+fn write_apart<R: Abort + Wait>(rt: &R, detector: &Detector, address: u64) {
+    let _seat = written(rt, detector, address);
+}
+
+fn add<R: Abort>(rt: &R, seats: &mut Vec<Seat>, seat: Seat) {
+    assert!(rt; seats.push(seat).is_ok());
+}
+
+fn one_seat<R: Abort + AllocGlobal>(rt: &R, seat: Seat) -> Vec<Seat> {
+    let mut seats = Vec::new(rt.alloc());
+    add(rt, &mut seats, seat);
+    seats
+}
+
+fn two_seats<R: Abort + AllocGlobal>(rt: &R, first: Seat, second: Seat) -> Vec<Seat> {
+    let mut seats = one_seat(rt, first);
+    add(rt, &mut seats, second);
+    seats
+}
+
+// Whether a run is these steps, each with its thread and a letter: w for a write, ! for one that is a race, + for a lock that is taken
 // and - for one that is given up.
-fn told(alloc: Global, settled: &Result<Run, Unsettled>) -> Result<String, AllocError> {
-    let mut text = String::new(alloc);
-    match settled {
-        Ok(run) => {
-            for (step, reply) in run.steps.as_slice().iter().zip(run.replies.as_slice()) {
-                text.push(if step.thread.number() == 0 { '0' } else { '1' })?;
-                text.push(letter(step, reply))?;
-            }
-        }
-        Err(fault) => text.push_str(fault.text())?,
+fn is_told(run: &Run, steps: &[(u32, char)]) -> bool {
+    if run.steps.len() != steps.len() || run.replies.len() != steps.len() {
+        return false;
     }
-    Ok(text)
+    for (place, step) in steps.iter().enumerate() {
+        if told_at(run, place) != Some(*step) {
+            return false;
+        }
+    }
+    true
+}
+
+fn told_at(run: &Run, place: usize) -> Option<(u32, char)> {
+    let step = run.steps.get(place)?;
+    let reply = run.replies.get(place)?;
+    Some((step.thread.number(), letter(step, reply)))
 }
 
 fn letter(step: &Step, reply: &Reply) -> char {
@@ -115,115 +142,137 @@ fn letter(step: &Step, reply: &Reply) -> char {
     }
 }
 
-fn settled(
-    alloc: Global,
+// Whether a detector and its seats settle into a run of these steps.
+fn settles_as<R: AllocGlobal>(
+    rt: &R,
     detector: Detector,
-    seats: Result<Vec<Seat>, AllocError>,
-) -> Result<String, AllocError> {
-    told(alloc, &settle(alloc, detector, seats?))
+    seats: Vec<Seat>,
+    steps: &[(u32, char)],
+) -> bool {
+    match settle(rt.alloc(), detector, seats) {
+        Ok(run) => is_told(&run, steps),
+        Err(_) => false,
+    }
+}
+
+fn parts_settle_as<R: AllocGlobal>(
+    rt: &R,
+    parts: Parts<'_>,
+    seats: Vec<Seat>,
+    steps: &[(u32, char)],
+) -> bool {
+    match settle_parts(rt.alloc(), parts, seats) {
+        Ok(run) => is_told(&run, steps),
+        Err(_) => false,
+    }
+}
+
+// The fault in words, and nothing where there is a run.
+fn fault<R: AllocGlobal>(rt: &R, detector: Detector, seats: Vec<Seat>) -> &'static str {
+    match settle(rt.alloc(), detector, seats) {
+        Ok(_) => "",
+        Err(fault) => fault.text(),
+    }
 }
 
 #[test]
-fn two_threads_race(rt: HostRuntime) -> Result<(), Fail> {
-    let table = LocksetTable::new(rt.alloc(), 4)?;
-    let detector = detector(rt.alloc(), &table, 7).ok_or("no detector")?;
-    let (one, two) = written_by_two(&rt, &detector, 0x1000, 0x1000).ok_or("refused")?;
-    let seats = two_seats(rt.alloc(), one, two);
-    assert_eq!(rt; settled(rt.alloc(), detector, seats)?.as_str(), "0w1!");
-    Ok(())
+fn two_threads_race(rt: HostRuntime) {
+    let table = table(&rt);
+    let detector = detector(&rt, &table, 7);
+    let one = written(&rt, &detector, 0x1000);
+    let two = written(&rt, &detector, 0x1000);
+    let seats = two_seats(&rt, one, two);
+    assert!(rt; settles_as(&rt, detector, seats, &[(0, 'w'), (1, '!')]));
 }
 
 // The second seat came first, and is given last.
 #[test]
-fn turns_go_by_ticket(rt: HostRuntime) -> Result<(), Fail> {
-    let table = LocksetTable::new(rt.alloc(), 4)?;
-    let detector = detector(rt.alloc(), &table, 7).ok_or("no detector")?;
-    let (one, two) = locked_by_two(&rt, &detector, 0x1000).ok_or("refused")?;
-    let seats = two_seats(rt.alloc(), one, two)?;
-    let run = settle_parts(rt.alloc(), detector.into_parts()?, seats);
-    assert_eq!(rt; told(rt.alloc(), &run)?.as_str(), "1+1w0+0w0-1-");
-    Ok(())
+fn turns_go_by_ticket(rt: HostRuntime) {
+    let table = table(&rt);
+    let detector = detector(&rt, &table, 7);
+    let mut one = open(&rt, &detector);
+    let mut two = open(&rt, &detector);
+    write_locked(&rt, &detector, &mut two, 0x1000);
+    write_locked(&rt, &detector, &mut one, 0x1000);
+    let seats = two_seats(&rt, one, two);
+    let parts = parts(&rt, detector);
+    let steps = [(1, '+'), (1, 'w'), (0, '+'), (0, 'w'), (0, '-'), (1, '-')];
+    assert!(rt; parts_settle_as(&rt, parts, seats, &steps));
 }
 
 #[test]
-fn a_seat_is_missing(rt: HostRuntime) -> Result<(), Fail> {
-    let table = LocksetTable::new(rt.alloc(), 4)?;
-    let detector = detector(rt.alloc(), &table, 7).ok_or("no detector")?;
-    let (one, _two) = written_by_two(&rt, &detector, 0x1000, 0x1004).ok_or("refused")?;
-    let seats = one_seat(rt.alloc(), one);
-    assert_eq!(rt;
-        settled(rt.alloc(), detector, seats)?.as_str(),
-        "seat missing"
-    );
-    Ok(())
+fn a_seat_is_missing(rt: HostRuntime) {
+    let table = table(&rt);
+    let detector = detector(&rt, &table, 7);
+    let one = written(&rt, &detector, 0x1000);
+    write_apart(&rt, &detector, 0x1004);
+    let seats = one_seat(&rt, one);
+    assert_eq!(rt; fault(&rt, detector, seats), "seat missing");
 }
 
 #[test]
-fn a_seat_is_given_twice(rt: HostRuntime) -> Result<(), Fail> {
-    let table = LocksetTable::new(rt.alloc(), 4)?;
-    let here = detector(rt.alloc(), &table, 7).ok_or("no detector")?;
-    let there = detector(rt.alloc(), &table, 7).ok_or("no detector")?;
-    let one = open(&here).ok_or("refused")?;
-    let other = open(&there).ok_or("refused")?;
-    let seats = two_seats(rt.alloc(), one, other);
-    assert_eq!(rt; settled(rt.alloc(), here, seats)?.as_str(), "seat twice");
-    Ok(())
+fn a_seat_is_given_twice(rt: HostRuntime) {
+    let table = table(&rt);
+    let here = detector(&rt, &table, 7);
+    let there = detector(&rt, &table, 7);
+    let seats = two_seats(&rt, open(&rt, &here), open(&rt, &there));
+    assert_eq!(rt; fault(&rt, here, seats), "seat twice");
 }
 
 #[test]
-fn a_seat_is_foreign(rt: HostRuntime) -> Result<(), Fail> {
-    let table = LocksetTable::new(rt.alloc(), 4)?;
-    let here = detector(rt.alloc(), &table, 7).ok_or("no detector")?;
-    let there = detector(rt.alloc(), &table, 8).ok_or("no detector")?;
-    let seats = one_seat(rt.alloc(), open(&there).ok_or("refused")?);
-    assert_eq!(rt; settled(rt.alloc(), here, seats)?.as_str(), "foreign seat");
-    Ok(())
+fn a_seat_is_foreign(rt: HostRuntime) {
+    let table = table(&rt);
+    let here = detector(&rt, &table, 7);
+    let there = detector(&rt, &table, 8);
+    let seats = one_seat(&rt, open(&rt, &there));
+    assert_eq!(rt; fault(&rt, here, seats), "foreign seat");
 }
 
 // The second seat wrote the same word at the other detector, where it was a race.
 #[test]
-fn another_answer(rt: HostRuntime) -> Result<(), Fail> {
-    let table = LocksetTable::new(rt.alloc(), 4)?;
-    let here = detector(rt.alloc(), &table, 7).ok_or("no detector")?;
-    let there = detector(rt.alloc(), &table, 7).ok_or("no detector")?;
-    let (one, _two) = written_by_two(&rt, &here, 0x1000, 0x1004).ok_or("refused")?;
-    let (_one, two) = written_by_two(&rt, &there, 0x1004, 0x1004).ok_or("refused")?;
-    let seats = two_seats(rt.alloc(), one, two);
-    assert_eq!(rt; settled(rt.alloc(), here, seats)?.as_str(), "answer");
-    Ok(())
+fn another_answer(rt: HostRuntime) {
+    let table = table(&rt);
+    let here = detector(&rt, &table, 7);
+    let there = detector(&rt, &table, 7);
+    let one = written(&rt, &here, 0x1000);
+    write_apart(&rt, &here, 0x1004);
+    write_apart(&rt, &there, 0x1004);
+    let two = written(&rt, &there, 0x1004);
+    let seats = two_seats(&rt, one, two);
+    assert_eq!(rt; fault(&rt, here, seats), "answer");
 }
 
-fn swap_first_shards<'t, R: Wait>(rt: &R, here: &Detector<'t>, there: &Detector<'t>) {
-    if here.config().shards == 0 || there.config().shards == 0 {
-        return;
-    }
+fn swap_first_shards<'t, R: Abort + Wait>(rt: &R, here: &Detector<'t>, there: &Detector<'t>) {
+    assert!(rt; here.config().shards > 0);
     let mut mine = here.shard(rt, 0);
+    swap_with_first_shard(rt, &mut mine, there);
+}
+
+fn swap_with_first_shard<'t, R: Abort + Wait>(rt: &R, shard: &mut Shard<'t>, there: &Detector<'t>) {
+    assert!(rt; there.config().shards > 0);
     let mut other = there.shard(rt, 0);
-    swap(&mut *mine, &mut *other);
+    swap(shard, &mut *other);
 }
 
 // Each journal has one entry, and both have the same ticket.
 #[test]
-fn shards_are_swapped(rt: HostRuntime) -> Result<(), Fail> {
-    let table = LocksetTable::new(rt.alloc(), 4)?;
-    let here = detector(rt.alloc(), &table, 7).ok_or("no detector")?;
-    let there = detector(rt.alloc(), &table, 7).ok_or("no detector")?;
-    let one = written(&rt, &here, 0x1000).ok_or("refused")?;
-    let _other = written(&rt, &there, 0).ok_or("refused")?;
+fn shards_are_swapped(rt: HostRuntime) {
+    let table = table(&rt);
+    let here = detector(&rt, &table, 7);
+    let there = detector(&rt, &table, 7);
+    let one = written(&rt, &here, 0x1000);
+    write_apart(&rt, &there, 0);
     swap_first_shards(&rt, &here, &there);
-    let seats = one_seat(rt.alloc(), one);
-    assert_eq!(rt; settled(rt.alloc(), here, seats)?.as_str(), "order");
-    Ok(())
+    let seats = one_seat(&rt, one);
+    assert_eq!(rt; fault(&rt, here, seats), "order");
 }
 
 #[test]
-fn another_detectors_call(rt: HostRuntime) -> Result<(), Fail> {
-    let table = LocksetTable::new(rt.alloc(), 4)?;
-    let here = detector(rt.alloc(), &table, 7).ok_or("no detector")?;
-    let there = detector(rt.alloc(), &table, 7).ok_or("no detector")?;
-    let _one = written(&rt, &here, 0x1000).ok_or("refused")?;
-    let other = written(&rt, &there, 0).ok_or("refused")?;
-    let seats = one_seat(rt.alloc(), other);
-    assert_eq!(rt; settled(rt.alloc(), here, seats)?.as_str(), "entries");
-    Ok(())
+fn another_detectors_call(rt: HostRuntime) {
+    let table = table(&rt);
+    let here = detector(&rt, &table, 7);
+    let there = detector(&rt, &table, 7);
+    write_apart(&rt, &here, 0x1000);
+    let seats = one_seat(&rt, written(&rt, &there, 0));
+    assert_eq!(rt; fault(&rt, here, seats), "entries");
 }

@@ -1,5 +1,6 @@
-ghost use Rattle.std.specs.Prelude.{◌≡◌, All, IfOk, IsTrue, true};
-ghost use Rattle.er_event.specs.Names.{NameTable};
+ghost use Rattle.std.specs.Prelude.{◌≡◌, All, OnOk, IsTrue, true, false};
+ghost use Rattle.er_device.specs.Device.{has_failed};
+ghost use Rattle.er_event.specs.Names.{NameTable, no_names};
 ghost use Rattle.er_report.specs.Names.{HasNames, HasLockNames, HasEventNames, HasStateNames};
 ghost use Rattle.er_print.specs.Sample.{IsAmple};
 
@@ -13,18 +14,28 @@ use er_report::{Line, Report};
 use std::alloc::{AllocError, Global};
 use std::io;
 use std::io::Write;
-use std::test::Fail;
+use std::process::Abort;
 
-fn sample_names(alloc: Global) -> Result<Names, AllocError>
-    ensures { IfOk result (λ names. IsAmple names) }
+fn add_names(names: &mut Names) -> Result<(), AllocError>
+    requires { names.old ≡ no_names }
+    ensures { OnOk result (IsAmple names.new) }
 {
-    let mut names = Names::new(alloc);
     names.thread("t1")?;
     names.thread("t2")?;
     names.lock("a")?;
     names.lock("b")?;
     names.site("S")?;
-    Ok(names)
+    Ok(())
+}
+
+fn sample_names<R: Abort + AllocGlobal>(rt: &R) -> Names
+    ensures { IsAmple result }
+{
+    let mut names = Names::new(rt.alloc());
+    let Ok(()) = add_names(&mut names) else {
+        rt.abort()
+    };
+    names
 }
 
 // Whether the sample has a name for each lock. Level locks need none.
@@ -82,46 +93,71 @@ fn is_named(line: &Line) -> bool
     }
 }
 
-fn text_of(alloc: Global, report: &Report) -> Result<Vec<u8>, Fail> {
-    let names = sample_names(alloc)?;
-    if !report.lines.iter().all(|line| is_named(line)) {
-        return Err(Fail::from("a number has no name"));
-    }
-    let mut device = Device::new(Vec::new(alloc));
-    write_report(alloc, &mut device, report, &names).map_err(|_| "not written")?;
-    Ok(device.into_inner())
+fn write_named<W: Write, R: Abort + AllocGlobal>(
+    rt: &R,
+    device: &mut Device<W>,
+    report: &Report,
+    names: &Names,
+) -> Result<(), WriteFault>
+    requires open { has_failed device.old ≡ false }
+    requires names { IsAmple names.now }
+{
+    assert!(rt; report.lines.iter().all(|line| is_named(line)));
+    write_report(rt.alloc(), device, report, names)
 }
 
-fn report_of(alloc: Global, line: Line) -> Result<Report, Fail> {
-    Ok(Report {
-        lines: vec![in alloc; line]?,
+fn assert_text_with<R: Abort + AllocGlobal>(
+    rt: &R,
+    report: &Report,
+    names: &Names,
+    lines: &[u8],
+    totals: &[u8],
+)
+    requires { IsAmple names.now }
+{
+    let mut device = Device::new(Vec::new(rt.alloc()));
+    assert_eq!(rt; write_named(rt, &mut device, report, names), Ok(()));
+    let text = device.into_inner();
+    assert_eq!(rt; text.as_slice().strip_suffix(totals), Some(lines));
+}
+
+// The text of the report is these lines and the totals behind them.
+fn assert_text<R: Abort + AllocGlobal>(rt: &R, report: &Report, lines: &[u8], totals: &[u8]) {
+    let names = sample_names(rt);
+    assert_text_with(rt, report, &names, lines, totals);
+}
+
+// A report that counts nothing.
+fn report_of(alloc: Global, lines: Vec<Line>) -> Report {
+    Report {
+        lines,
         stop: None,
         rule_counts: Vec::new(alloc),
         steps: 0,
         races: 0,
         suppressed: 0,
         refused: 0,
-    })
-}
-
-// The first line of the text, whose report has one line.
-fn printed(alloc: Global, line: Line) -> Result<Vec<u8>, Fail> {
-    let report = report_of(alloc, line)?;
-    let mut text = text_of(alloc, &report)?;
-    let totals = b"\nsteps 0, races 0, suppressed 0, refused 0\n".as_slice();
-    if !text.as_slice().ends_with(totals) {
-        return Err(Fail::from("no totals"));
     }
-    text.truncate(text.len().saturating_sub(totals.len()));
-    Ok(text)
 }
 
-fn set_of(alloc: Global, locks: &[u32]) -> Result<Lockset, AllocError> {
-    let mut set = Lockset::new(alloc);
+// The text of the line alone.
+fn assert_line<R: Abort + AllocGlobal>(rt: &R, line: Line, expected: &[u8]) {
+    let Ok(lines) = vec![in rt.alloc(); line] else {
+        rt.abort()
+    };
+    let report = report_of(rt.alloc(), lines);
+    let totals = b"\nsteps 0, races 0, suppressed 0, refused 0\n";
+    assert_text(rt, &report, expected, totals);
+}
+
+fn set_of<R: Abort + AllocGlobal>(rt: &R, locks: &[u32]) -> Lockset {
+    let mut set = Lockset::new(rt.alloc());
     for lock in locks {
-        set.insert(LockId::new(*lock))?;
+        if set.insert(LockId::new(*lock)).is_err() {
+            rt.abort()
+        }
     }
-    Ok(set)
+    set
 }
 
 fn race_line(line: u64, kind: Kind, site: u32, held: Lockset) -> Line {
@@ -136,34 +172,29 @@ fn race_line(line: u64, kind: Kind, site: u32, held: Lockset) -> Line {
 }
 
 #[test]
-fn races_are_printed(rt: HostRuntime) -> Result<(), Fail> {
+fn races_are_printed(rt: HostRuntime) {
     let bare = race_line(3, Kind::Write, 0, Lockset::new(rt.alloc()));
-    let text = printed(rt.alloc(), bare)?;
-    assert_eq!(rt;
-        text.as_slice(),
-        b"line 3: race: t2 write 0x000000001000 at -, holds none".as_slice()
+    assert_line(
+        &rt,
+        bare,
+        b"line 3: race: t2 write 0x000000001000 at -, holds none",
     );
-    let locked = race_line(14, Kind::Read, 1, set_of(rt.alloc(), &[1, 0])?);
-    let text = printed(rt.alloc(), locked)?;
-    assert_eq!(rt;
-        text.as_slice(),
-        b"line 14: race: t2 read 0x000000001000 at S, holds a b".as_slice()
+    let locked = race_line(14, Kind::Read, 1, set_of(&rt, &[1, 0]));
+    assert_line(
+        &rt,
+        locked,
+        b"line 14: race: t2 read 0x000000001000 at S, holds a b",
     );
-    Ok(())
 }
 
 #[test]
-fn level_locks_are_printed(rt: HostRuntime) -> Result<(), Fail> {
-    let held = set_of(rt.alloc(), &[0xffff_ffe1, 1, 0xffff_ffff])?;
-    let text = printed(
-        rt.alloc(),
+fn level_locks_are_printed(rt: HostRuntime) {
+    let held = set_of(&rt, &[0xffff_ffe1, 1, 0xffff_ffff]);
+    assert_line(
+        &rt,
         race_line(18_446_744_073_709_551_615, Kind::Write, 0, held),
-    )?;
-    assert_eq!(rt;
-        text.as_slice(),
-        b"line 18446744073709551615: race: t2 write 0x000000001000 at -, holds b !1 !31".as_slice()
+        b"line 18446744073709551615: race: t2 write 0x000000001000 at -, holds b !1 !31",
     );
-    Ok(())
 }
 
 fn refused_line(event: Event, refusal: Refusal) -> Line {
@@ -179,7 +210,7 @@ fn refused_line(event: Event, refusal: Refusal) -> Line {
 }
 
 #[test]
-fn refusals_are_printed(rt: HostRuntime) -> Result<(), Fail> {
+fn refusals_are_printed(rt: HostRuntime) {
     let lock = LockId::new(1);
     let cases = [
         (
@@ -219,10 +250,8 @@ fn refusals_are_printed(rt: HostRuntime) -> Result<(), Fail> {
         ),
     ];
     for (event, refusal, expected) in cases {
-        let text = printed(rt.alloc(), refused_line(event, refusal))?;
-        assert_eq!(rt; text.as_slice(), expected);
+        assert_line(&rt, refused_line(event, refusal), expected);
     }
-    Ok(())
 }
 
 fn shown_line(state: WordState) -> Line {
@@ -233,62 +262,63 @@ fn shown_line(state: WordState) -> Line {
     }
 }
 
-#[test]
-fn states_are_printed(rt: HostRuntime) -> Result<(), Fail> {
-    let text = printed(rt.alloc(), shown_line(WordState::Virgin))?;
-    assert_eq!(rt;
-        text.as_slice(),
-        b"line 9: state 0xfffffffffffc: virgin".as_slice()
-    );
-    let text = printed(
-        rt.alloc(),
-        shown_line(WordState::Exclusive(ThreadId::new(0))),
-    )?;
-    assert_eq!(rt;
-        text.as_slice(),
-        b"line 9: state 0xfffffffffffc: exclusive t1".as_slice()
-    );
-    let shared = WordState::Shared(set_of(rt.alloc(), &[0])?);
-    let text = printed(rt.alloc(), shown_line(shared))?;
-    assert_eq!(rt;
-        text.as_slice(),
-        b"line 9: state 0xfffffffffffc: shared, candidates a".as_slice()
-    );
-    let modified = WordState::SharedModified(set_of(rt.alloc(), &[])?);
-    let text = printed(rt.alloc(), shown_line(modified))?;
-    assert_eq!(rt;
-        text.as_slice(),
-        b"line 9: state 0xfffffffffffc: shared-modified, candidates none".as_slice()
-    );
-    Ok(())
+fn assert_state<R: Abort + AllocGlobal>(rt: &R, state: WordState, expected: &[u8]) {
+    assert_line(rt, shown_line(state), expected);
 }
 
-fn stopped_report(alloc: Global) -> Result<Report, Fail> {
-    let bare = race_line(10, Kind::Write, 0, Lockset::new(alloc));
-    Ok(Report {
-        lines: vec![in alloc; bare, shown_line(WordState::Virgin)]?,
+#[test]
+fn states_are_printed(rt: HostRuntime) {
+    assert_state(
+        &rt,
+        WordState::Virgin,
+        b"line 9: state 0xfffffffffffc: virgin",
+    );
+    assert_state(
+        &rt,
+        WordState::Exclusive(ThreadId::new(0)),
+        b"line 9: state 0xfffffffffffc: exclusive t1",
+    );
+    assert_state(
+        &rt,
+        WordState::Shared(set_of(&rt, &[0])),
+        b"line 9: state 0xfffffffffffc: shared, candidates a",
+    );
+    assert_state(
+        &rt,
+        WordState::SharedModified(set_of(&rt, &[])),
+        b"line 9: state 0xfffffffffffc: shared-modified, candidates none",
+    );
+}
+
+fn stopped_report<R: Abort + AllocGlobal>(rt: &R) -> Report {
+    let bare = race_line(10, Kind::Write, 0, Lockset::new(rt.alloc()));
+    let Ok(lines) = vec![in rt.alloc(); bare, shown_line(WordState::Virgin)] else {
+        rt.abort()
+    };
+    let Ok(rule_counts) = Vec::from_array(rt.alloc(), [2, 0, 18_446_744_073_709_551_615]) else {
+        rt.abort()
+    };
+    Report {
+        lines,
         stop: Some((12, NoRoom::TableFull)),
-        rule_counts: Vec::from_array(alloc, [2, 0, 18_446_744_073_709_551_615])?,
+        rule_counts,
         steps: 10,
         races: 1,
         suppressed: 2,
         refused: 30,
-    })
+    }
 }
 
 #[test]
-fn a_report_is_printed_whole(rt: HostRuntime) -> Result<(), Fail> {
-    let report = stopped_report(rt.alloc())?;
-    let text = text_of(rt.alloc(), &report)?;
-    let expected = b"line 10: race: t2 write 0x000000001000 at -, holds none\n\
+fn a_report_is_printed_whole(rt: HostRuntime) {
+    let lines = b"line 10: race: t2 write 0x000000001000 at -, holds none\n\
         line 9: state 0xfffffffffffc: virgin\n\
         line 12: stopped: table full\n\
         suppression 1: 2\n\
         suppression 2: 0\n\
-        suppression 3: 18446744073709551615\n\
-        steps 10, races 1, suppressed 2, refused 30\n";
-    assert_eq!(rt; text.as_slice(), expected.as_slice());
-    Ok(())
+        suppression 3: 18446744073709551615\n";
+    let totals = b"steps 10, races 1, suppressed 2, refused 30\n";
+    assert_text(&rt, &stopped_report(&rt), lines, totals);
 }
 
 /// Takes one byte a call, and fails at the call after `good` of them.
@@ -315,41 +345,35 @@ impl Write for FailingWriter {
     }
 }
 
-// What a writer took that fails after so many bytes, and how the call ended.
-fn cut_at(alloc: Global, good: usize) -> Result<(Vec<u8>, Result<(), WriteFault>, bool), Fail> {
-    let report = Report {
-        lines: Vec::new(alloc),
-        stop: Some((12, NoRoom::TableFull)),
-        rule_counts: Vec::new(alloc),
-        steps: 10,
-        races: 0,
-        suppressed: 0,
-        refused: 0,
-    };
-    let names = sample_names(alloc)?;
+const CUT: &[u8] = b"line 12: stopped: table full\nsteps 10, races 0, suppressed 0, refused 0\n";
+
+// A writer that fails behind these bytes of `CUT` took just these, and all of them are written without a fault.
+fn assert_cut<R: Abort + AllocGlobal>(rt: &R, report: &Report, names: &Names, expected: &[u8])
+    requires { IsAmple names.now }
+{
     let mut device = Device::new(FailingWriter {
-        good,
-        written: Vec::new(alloc),
+        good: expected.len(),
+        written: Vec::new(rt.alloc()),
     });
-    let outcome = write_report(alloc, &mut device, &report, &names);
-    let failed = device.failed();
+    let cut = expected.len() < CUT.len();
+    let outcome = if cut { Err(WriteFault::Write) } else { Ok(()) };
+    assert_eq!(rt; write_named(rt, &mut device, report, names), outcome);
+    assert_eq!(rt; device.failed(), cut);
     let FailingWriter { good: _, written } = device.into_inner();
-    Ok((written, outcome, failed))
+    assert_eq!(rt; written.as_slice(), expected);
+}
+
+fn assert_cuts<R: Abort + AllocGlobal>(rt: &R, report: &Report) {
+    let names = sample_names(rt);
+    for good in 0..=CUT.len() {
+        assert_cut(rt, report, &names, &CUT[..good]);
+    }
 }
 
 #[test]
-fn a_failed_write_leaves_a_prefix(rt: HostRuntime) -> Result<(), Fail> {
-    let text =
-        b"line 12: stopped: table full\nsteps 10, races 0, suppressed 0, refused 0\n".as_slice();
-    for good in 0..text.len() {
-        let (written, outcome, failed) = cut_at(rt.alloc(), good)?;
-        assert_eq!(rt; written.as_slice(), &text[..good]);
-        assert_eq!(rt; outcome, Err(WriteFault::Write));
-        assert!(rt; failed);
-    }
-    let (written, outcome, failed) = cut_at(rt.alloc(), text.len())?;
-    assert_eq!(rt; written.as_slice(), text);
-    assert_eq!(rt; outcome, Ok(()));
-    assert!(rt; !failed);
-    Ok(())
+fn a_failed_write_leaves_a_prefix(rt: HostRuntime) {
+    let mut report = report_of(rt.alloc(), Vec::new(rt.alloc()));
+    report.stop = Some((12, NoRoom::TableFull));
+    report.steps = 10;
+    assert_cuts(&rt, &report);
 }

@@ -5,9 +5,8 @@ use er_event::{
 };
 use er_model::{Answer, Answers, Stopped};
 use er_table::LocksetTable;
-use std::alloc::{AllocError, Global};
+use std::process::Abort;
 use std::sync::Wait;
-use std::test::Fail;
 
 fn does(thread: u8, event: Event) -> Step {
     Step {
@@ -46,6 +45,13 @@ fn unlock(thread: u8, number: u32) -> Step {
     does(thread, Event::Release(LockId::new(number), Mode::Write))
 }
 
+fn rise(thread: u8, number: u8) -> Step {
+    does(
+        thread,
+        Event::Level(Level::of_number(u64::from(number)).unwrap_or_default()),
+    )
+}
+
 // One letter for each kind of answer.
 fn letter(answer: &Result<Reply, Refusal>) -> char {
     match answer {
@@ -77,121 +83,137 @@ fn kept_letter(answers: &Answers, at: usize) -> char {
     }
 }
 
-// What a new machine answers, step by step.
-fn stepped<R: Wait>(rt: &R, alloc: Global, steps: &[Step]) -> Result<String, AllocError> {
-    let table = LocksetTable::new(alloc, 10)?;
-    let mut machine = Machine::new(alloc, &table)?;
-    let mut text = String::new(alloc);
-    for step in steps {
-        let answer = machine.step(rt, *step);
-        text.push(letter(&answer))?;
-    }
-    Ok(text)
+fn table_of<R: Abort + AllocGlobal>(rt: &R, max_sets: u32) -> LocksetTable {
+    let Ok(table) = LocksetTable::new(rt.alloc(), max_sets.clamp(1, 10)) else {
+        rt.abort()
+    };
+    table
 }
 
-// What a run is answered, and where it stops.
-fn run_to_stop<R: Wait>(
+fn machine_over<'t, R: Abort + AllocGlobal>(rt: &R, table: &'t LocksetTable) -> Machine<'t> {
+    let Ok(machine) = Machine::new(rt.alloc(), table) else {
+        rt.abort()
+    };
+    machine
+}
+
+// The letter of what a machine answers to one step.
+fn step_letter<R: Wait>(rt: &R, machine: &mut Machine<'_>, step: Step) -> char {
+    letter(&machine.step(rt, step))
+}
+
+// A new machine answers each step by the letter beside it.
+fn check_steps<R: Wait + Abort + AllocGlobal>(rt: &R, steps: &[(Step, char)]) {
+    let table = table_of(rt, 10);
+    let mut machine = machine_over(rt, &table);
+    for &(step, want) in steps {
+        assert_eq!(rt; step_letter(rt, &mut machine, step), want);
+    }
+}
+
+// A run is answered by these letters, and stops there.
+fn check_run<R: Wait + Abort + AllocGlobal>(
     rt: &R,
-    alloc: Global,
     machine: &mut Machine<'_>,
     steps: &[Step],
-) -> Result<(String, Option<Stopped>), AllocError> {
-    let outcome = run(rt, alloc, machine, steps);
-    let mut text = String::new(alloc);
-    for at in 0..outcome.answers.len() {
-        text.push(kept_letter(&outcome.answers, at))?;
+    letters: &[char],
+    stopped: Option<Stopped>,
+) {
+    let outcome = run(rt, rt.alloc(), machine, steps);
+    assert_eq!(rt; outcome.stopped, stopped);
+    assert_eq!(rt; outcome.answers.len(), letters.len());
+    for at in 0..letters.len() {
+        assert_eq!(rt; kept_letter(&outcome.answers, at), letters[at]);
     }
-    Ok((text, outcome.stopped))
 }
 
-// The whole run of a new machine.
-fn run_of<R: Wait>(
+// The whole run of a new machine, which doesn't stop.
+fn check_whole_run<R: Wait + Abort + AllocGlobal>(
     rt: &R,
-    alloc: Global,
     max_sets: u32,
     steps: &[Step],
-) -> Result<(String, Option<Stopped>), AllocError> {
-    let table = LocksetTable::new(alloc, max_sets.clamp(1, 10))?;
-    let mut machine = Machine::new(alloc, &table)?;
-    run_to_stop(rt, alloc, &mut machine, steps)
+    letters: &[char],
+) {
+    let table = table_of(rt, max_sets);
+    let mut machine = machine_over(rt, &table);
+    check_run(rt, &mut machine, steps, letters, None);
 }
 
 #[test]
-fn one_lock_protects(rt: HostRuntime) -> Result<(), Fail> {
-    let steps = [
-        lock(1, 7),
-        write(1, 0),
-        unlock(1, 7),
-        lock(2, 7),
-        write(2, 0),
-        unlock(2, 7),
-        show(1, 0),
-    ];
-    assert_eq!(rt; stepped(&rt, rt.alloc(), &steps)?.as_str(), "dqddqdM");
-    Ok(())
-}
-
-#[test]
-fn refused_steps_are_answered(rt: HostRuntime) -> Result<(), Fail> {
-    let steps = [
-        unlock(1, 7),
-        does(1, Event::IgnoreOff),
-        does(1, Event::IgnoreOn),
-        write(1, 0),
-        show(1, 0),
-        lock(1, 7),
-        lock(1, 7),
-    ];
-    assert_eq!(rt; stepped(&rt, rt.alloc(), &steps)?.as_str(), "xxdiVdx");
-    Ok(())
-}
-
-#[test]
-fn levels_protect(rt: HostRuntime) -> Result<(), Fail> {
-    let steps = [
-        does(1, Event::Level(Level::of_number(2)?)),
-        write(1, 0),
-        does(1, Event::Level(Level::of_number(0)?)),
-        does(2, Event::Level(Level::of_number(1)?)),
-        write(2, 0),
-        show(2, 0),
-        write(1, 0),
-    ];
-    assert_eq!(rt; stepped(&rt, rt.alloc(), &steps)?.as_str(), "dqddqMr");
-    Ok(())
-}
-
-#[test]
-fn eight_pages(rt: HostRuntime) -> Result<(), Fail> {
-    let mut steps = Vec::new(rt.alloc());
-    for page in 0..8u16 {
-        steps.push(write(1, page * 1024))?;
-    }
-    for page in 0..8u16 {
-        steps.push(write(2, page * 1024))?;
-    }
-    assert_eq!(rt;
-        stepped(&rt, rt.alloc(), steps.as_slice())?.as_str(),
-        "qqqqqqqqrrrrrrrr"
+fn one_lock_protects(rt: HostRuntime) {
+    check_steps(
+        &rt,
+        &[
+            (lock(1, 7), 'd'),
+            (write(1, 0), 'q'),
+            (unlock(1, 7), 'd'),
+            (lock(2, 7), 'd'),
+            (write(2, 0), 'q'),
+            (unlock(2, 7), 'd'),
+            (show(1, 0), 'M'),
+        ],
     );
-    Ok(())
 }
 
 #[test]
-fn empty_list(rt: HostRuntime) -> Result<(), Fail> {
-    let (text, stopped) = run_of(&rt, rt.alloc(), 10, &[])?;
-    assert_eq!(rt; text.as_str(), "");
-    assert_eq!(rt; stopped, None);
-    Ok(())
+fn refused_steps_are_answered(rt: HostRuntime) {
+    check_steps(
+        &rt,
+        &[
+            (unlock(1, 7), 'x'),
+            (does(1, Event::IgnoreOff), 'x'),
+            (does(1, Event::IgnoreOn), 'd'),
+            (write(1, 0), 'i'),
+            (show(1, 0), 'V'),
+            (lock(1, 7), 'd'),
+            (lock(1, 7), 'x'),
+        ],
+    );
 }
 
 #[test]
-fn read_sharing(rt: HostRuntime) -> Result<(), Fail> {
-    let steps = [write(1, 0), read(2, 0), read(3, 0), show(1, 0), write(1, 0)];
-    let (text, stopped) = run_of(&rt, rt.alloc(), 10, &steps)?;
-    assert_eq!(rt; text.as_str(), "qqqSr");
-    assert_eq!(rt; stopped, None);
-    Ok(())
+fn levels_protect(rt: HostRuntime) {
+    check_steps(
+        &rt,
+        &[
+            (rise(1, 2), 'd'),
+            (write(1, 0), 'q'),
+            (rise(1, 0), 'd'),
+            (rise(2, 1), 'd'),
+            (write(2, 0), 'q'),
+            (show(2, 0), 'M'),
+            (write(1, 0), 'r'),
+        ],
+    );
+}
+
+#[test]
+fn eight_pages(rt: HostRuntime) {
+    let table = table_of(&rt, 10);
+    let mut machine = machine_over(&rt, &table);
+    for (thread, want) in [(1, 'q'), (2, 'r')] {
+        for page in 0..8u16 {
+            assert_eq!(rt;
+                step_letter(&rt, &mut machine, write(thread, page * 1024)),
+                want
+            );
+        }
+    }
+}
+
+#[test]
+fn empty_list(rt: HostRuntime) {
+    check_whole_run(&rt, 10, &[], &[]);
+}
+
+#[test]
+fn read_sharing(rt: HostRuntime) {
+    check_whole_run(
+        &rt,
+        10,
+        &[write(1, 0), read(2, 0), read(3, 0), show(1, 0), write(1, 0)],
+        &['q', 'q', 'q', 'S', 'r'],
+    );
 }
 
 // Each of the second thread's accesses needs another set.
@@ -211,29 +233,31 @@ fn three_sets() -> [Step; 11] {
     ]
 }
 
+// Whether one thread alone, of this number, has accessed the word.
+fn is_exclusive_to(machine: &Machine<'_>, number: u16, thread: u8) -> bool {
+    machine.state_of(word(number)) == Ok(WordState::Exclusive(ThreadId::new(u32::from(thread))))
+}
+
 #[test]
-fn table_full(rt: HostRuntime) -> Result<(), Fail> {
-    let table = LocksetTable::new(rt.alloc(), 2)?;
-    let mut machine = Machine::new(rt.alloc(), &table)?;
-    let (text, stopped) = run_to_stop(&rt, rt.alloc(), &mut machine, &three_sets())?;
-    assert_eq!(rt; text.as_str(), "qqqdqddqdd");
+fn table_full(rt: HostRuntime) {
+    let table = table_of(&rt, 2);
+    let mut machine = machine_over(&rt, &table);
     let stop = Stopped {
         at: 10,
         cause: NoRoom::TableFull,
     };
-    assert_eq!(rt; stopped, Some(stop));
-    assert_eq!(rt; machine.step(&rt, unlock(2, 3)), Ok(Reply::Done));
-    assert_eq!(rt;
-        machine.state_of(word(2)),
-        Ok(WordState::Exclusive(ThreadId::new(1)))
-    );
-    Ok(())
+    let letters = ['q', 'q', 'q', 'd', 'q', 'd', 'd', 'q', 'd', 'd'];
+    check_run(&rt, &mut machine, &three_sets(), &letters, Some(stop));
+    assert_eq!(rt; step_letter(&rt, &mut machine, unlock(2, 3)), 'd');
+    assert!(rt; is_exclusive_to(&machine, 2, 1));
 }
 
 #[test]
-fn table_with_room(rt: HostRuntime) -> Result<(), Fail> {
-    let (text, stopped) = run_of(&rt, rt.alloc(), 3, &three_sets())?;
-    assert_eq!(rt; text.as_str(), "qqqdqddqddq");
-    assert_eq!(rt; stopped, None);
-    Ok(())
+fn table_with_room(rt: HostRuntime) {
+    check_whole_run(
+        &rt,
+        3,
+        &three_sets(),
+        &['q', 'q', 'q', 'd', 'q', 'd', 'd', 'q', 'd', 'd', 'q'],
+    );
 }

@@ -1,4 +1,5 @@
-ghost use Rattle.std.specs.Prelude.{◌≡◌, ◌≤◌, ◌<◌, ◌^◌, ◌∷◌, [], length, IfOk};
+ghost use Rattle.std.specs.Prelude.{◌≡◌, ◌≤◌, ◌<◌, ◌^◌, ◌∷◌, [], length, OnOk};
+ghost use Rattle.er_event.specs.Trace.{no_steps};
 ghost use Rattle.er_model.specs.Examples.{two_writers, quiet, race};
 
 use crate::draft::Draft;
@@ -9,8 +10,8 @@ use er_event::{
 };
 use er_model::{Answer, Answers, Outcome, Stopped, worked_examples};
 use er_rules::{Rule, Suppressions, WordSpan};
-use std::alloc::{AllocError, Global};
-use std::test::Fail;
+use std::alloc::AllocError;
+use std::process::Abort;
 
 const FIRST: u32 = 1;
 
@@ -38,99 +39,80 @@ fn write_of(thread: u32) -> Step
     )
 }
 
-// A trace with no steps and names for three threads.
-fn named_trace(alloc: Global) -> Result<Trace, AllocError>
-    ensures steps { IfOk result (λ trace. trace.steps ≡ []) }
-    ensures named { IfOk result (λ trace. 3 ≤ length trace.names.threads) }
+// Names three threads.
+fn add_names(trace: &mut Trace) -> Result<(), AllocError>
+    requires { trace.old ≡ no_steps }
+    ensures steps { OnOk result (trace.new.steps ≡ []) }
+    ensures named { OnOk result (3 ≤ length trace.new.names.threads) }
 {
-    let mut trace = Trace::new(alloc);
     trace.thread("t0")?;
     trace.thread("t1")?;
     trace.thread("t2")?;
-    Ok(trace)
+    Ok(())
 }
 
 // Two threads write one word, on lines 2 and 3.
 #[tactic(auto, unfolding(er_model::specs::Examples::two_writers))]
-fn two_writers(alloc: Global) -> Result<Trace, AllocError>
-    ensures { IfOk result (λ trace. trace.steps ≡ two_writers) }
+fn add_two_writers(trace: &mut Trace) -> Result<(), AllocError>
+    requires { trace.old ≡ no_steps }
+    ensures { OnOk result (trace.new.steps ≡ two_writers) }
 {
-    let mut trace = named_trace(alloc)?;
+    add_names(trace)?;
     trace.push(write_of(FIRST), 2)?;
     trace.push(write_of(SECOND), 3)?;
-    Ok(trace)
+    Ok(())
 }
 
-fn answers_of_two_writers(alloc: Global) -> Result<Answers, AllocError>
-    ensures { IfOk result (λ answers. answers ≡ quiet ∷ race ∷ []) }
+fn two_writers<R: Abort + AllocGlobal>(rt: &R) -> Trace
+    ensures { result.steps ≡ two_writers }
 {
-    let mut answers = Answers::new(alloc);
+    let mut trace = Trace::new(rt.alloc());
+    let Ok(()) = add_two_writers(&mut trace) else {
+        rt.abort()
+    };
+    trace
+}
+
+fn add_answers(answers: &mut Answers) -> Result<(), AllocError>
+    requires { answers.old ≡ [] }
+    ensures { OnOk result (answers.new ≡ quiet ∷ race ∷ []) }
+{
     answers.push(Ok(Reply::Quiet))?;
     answers.push(Ok(Reply::Race))?;
-    Ok(answers)
+    Ok(())
 }
 
-fn report_of_two_writers(alloc: Global, suppressions: &Suppressions) -> Result<Report, AllocError> {
+fn answers_of_two_writers<R: Abort + AllocGlobal>(rt: &R) -> Answers
+    ensures { result ≡ quiet ∷ race ∷ [] }
+{
+    let mut answers = Answers::new(rt.alloc());
+    let Ok(()) = add_answers(&mut answers) else {
+        rt.abort()
+    };
+    answers
+}
+
+fn report_of_two_writers<R: Abort + AllocGlobal>(rt: &R, suppressions: &Suppressions) -> Report {
     worked_examples();
-    let trace = two_writers(alloc)?;
+    let trace = two_writers(rt);
     let outcome = Outcome {
-        answers: answers_of_two_writers(alloc)?,
+        answers: answers_of_two_writers(rt),
         stopped: None,
     };
-    summarise(alloc, &trace, &outcome, suppressions)
-}
-
-#[test]
-fn two_writers_race(rt: HostRuntime) -> Result<(), Fail> {
-    let report = report_of_two_writers(rt.alloc(), &Suppressions::new(rt.alloc()))?;
-    let lines = vec![in rt.alloc(); race_line(3, SECOND, Lockset::new(rt.alloc()))]?;
-    let expected = Report {
-        lines,
-        stop: None,
-        rule_counts: Vec::new(rt.alloc()),
-        steps: 2,
-        races: 1,
-        suppressed: 0,
-        refused: 0,
+    let Ok(report) = summarise(rt.alloc(), &trace, &outcome, suppressions) else {
+        rt.abort()
     };
-    assert_eq!(rt; report, expected);
-    Ok(())
+    report
 }
 
-// One rule by site and one by words, of which the second takes the race of the two writers and the first does where it is for the
-// missing site.
-fn rules_of(alloc: Global, site: Option<String>) -> Result<Suppressions, AllocError> {
-    let mut suppressions = Suppressions::new(alloc);
-    suppressions.push(Rule::Site(site))?;
-    let word = Word::new(WORD);
-    suppressions.push(Rule::Words(Some(WordSpan {
-        first: word,
-        last: word,
-    })))?;
-    Ok(suppressions)
-}
-
-fn suppressed_report(alloc: Global, rule_counts: [u64; 2]) -> Result<Report, AllocError> {
-    Ok(Report {
-        lines: Vec::new(alloc),
-        stop: None,
-        rule_counts: Vec::from_array(alloc, rule_counts)?,
-        steps: 2,
-        races: 0,
-        suppressed: 1,
-        refused: 0,
-    })
-}
-
-#[test]
-fn suppressions(rt: HostRuntime) -> Result<(), Fail> {
-    let rules = rules_of(rt.alloc(), None)?;
-    let report = report_of_two_writers(rt.alloc(), &rules)?;
-    assert_eq!(rt; report, suppressed_report(rt.alloc(), [1, 0])?);
-    let rules = rules_of(rt.alloc(), Some(String::from_str(rt.alloc(), "S")?))?;
-    let report = report_of_two_writers(rt.alloc(), &rules)?;
-    assert_eq!(rt; report, suppressed_report(rt.alloc(), [0, 1])?);
-    Ok(())
+fn set_of<R: Abort + AllocGlobal>(rt: &R, locks: &[u32]) -> Lockset {
+    let mut set = Lockset::new(rt.alloc());
+    for lock in locks {
+        if set.insert(LockId::new(*lock)).is_err() {
+            rt.abort()
+        }
+    }
+    set
 }
 
 fn race_line(line: u64, thread: u32, held: Lockset) -> Line
@@ -146,44 +128,119 @@ fn race_line(line: u64, thread: u32, held: Lockset) -> Line
     }
 }
 
+fn assert_line(rt: &impl Abort, report: &Report, place: usize, line: Line) {
+    assert_eq!(rt; report.lines.get(place), Some(&line));
+}
+
+// The line of a race of this thread, which holds these locks.
+fn assert_race<R: Abort + AllocGlobal>(
+    rt: &R,
+    report: &Report,
+    place: usize,
+    line: u64,
+    thread: u32,
+    locks: &[u32],
+)
+    requires { thread < 2 ^ 30 }
+{
+    assert_line(
+        rt,
+        report,
+        place,
+        race_line(line, thread, set_of(rt, locks)),
+    );
+}
+
+// The steps, the races, those suppressed and the refusals.
+fn counts(report: &Report) -> [u64; 4] {
+    [
+        report.steps,
+        report.races,
+        report.suppressed,
+        report.refused,
+    ]
+}
+
+#[test]
+fn two_writers_race(rt: HostRuntime) {
+    let report = report_of_two_writers(&rt, &Suppressions::new(rt.alloc()));
+    assert_eq!(rt; report.lines.len(), 1);
+    assert_race(&rt, &report, 0, 3, SECOND, &[]);
+    assert_eq!(rt; report.stop, None);
+    assert!(rt; report.rule_counts.is_empty());
+    assert_eq!(rt; counts(&report), [2, 1, 0, 0]);
+}
+
+// One rule by site and one by words, of which the second takes the race of the two writers and the first does where it is for the
+// missing site.
+fn add_rules(suppressions: &mut Suppressions, site: Option<String>) -> Result<(), AllocError> {
+    suppressions.push(Rule::Site(site))?;
+    let word = Word::new(WORD);
+    suppressions.push(Rule::Words(Some(WordSpan {
+        first: word,
+        last: word,
+    })))?;
+    Ok(())
+}
+
+fn assert_suppressed(rt: &impl Abort, report: &Report, rule_counts: [u64; 2]) {
+    assert!(rt; report.lines.is_empty());
+    assert_eq!(rt; report.stop, None);
+    assert_eq!(rt; report.rule_counts.as_slice(), rule_counts.as_slice());
+    assert_eq!(rt; counts(report), [2, 0, 1, 0]);
+}
+
+fn assert_takes<R: Abort + AllocGlobal>(rt: &R, site: Option<String>, rule_counts: [u64; 2]) {
+    let mut rules = Suppressions::new(rt.alloc());
+    let Ok(()) = add_rules(&mut rules, site) else {
+        rt.abort()
+    };
+    assert_suppressed(rt, &report_of_two_writers(rt, &rules), rule_counts);
+}
+
+#[test]
+fn suppressions(rt: HostRuntime) {
+    assert_takes(&rt, None, [1, 0]);
+    let Ok(site) = String::from_str(rt.alloc(), "S") else {
+        rt.abort()
+    };
+    assert_takes(&rt, Some(site), [0, 1]);
+}
+
 // A run may stop at its first step.
 #[tactic(auto, unfolding(er_model::specs::Examples::two_writers, er_model::specs::Answers::answers_below))]
-fn report_of_a_stop(alloc: Global) -> Result<Report, AllocError> {
-    let trace = two_writers(alloc)?;
+fn report_of_a_stop<R: Abort + AllocGlobal>(rt: &R) -> Report {
+    let trace = two_writers(rt);
     let outcome = Outcome {
-        answers: Answers::new(alloc),
+        answers: Answers::new(rt.alloc()),
         stopped: Some(Stopped {
             at: 0,
             cause: NoRoom::OutOfMemory,
         }),
     };
-    summarise(alloc, &trace, &outcome, &Suppressions::new(alloc))
+    let Ok(report) = summarise(rt.alloc(), &trace, &outcome, &Suppressions::new(rt.alloc())) else {
+        rt.abort()
+    };
+    report
 }
 
 #[test]
-fn a_stop_has_its_line(rt: HostRuntime) -> Result<(), Fail> {
-    let report = report_of_a_stop(rt.alloc())?;
-    let expected = Report {
-        lines: Vec::new(rt.alloc()),
-        stop: Some((2, NoRoom::OutOfMemory)),
-        rule_counts: Vec::new(rt.alloc()),
-        steps: 0,
-        races: 0,
-        suppressed: 0,
-        refused: 0,
-    };
-    assert_eq!(rt; report, expected);
-    Ok(())
+fn a_stop_has_its_line(rt: HostRuntime) {
+    let report = report_of_a_stop(&rt);
+    assert!(rt; report.lines.is_empty());
+    assert_eq!(rt; report.stop, Some((2, NoRoom::OutOfMemory)));
+    assert!(rt; report.rule_counts.is_empty());
+    assert_eq!(rt; counts(&report), [0, 0, 0, 0]);
 }
 
 // Adds a step that no rule takes, to a report under no rules.
-fn add(
+fn add<R: Abort + AllocGlobal>(
+    rt: &R,
     draft: &mut Draft,
-    alloc: Global,
     line: u64,
     step: Step,
     answer: Answer<'_>,
-) -> Result<(), Fail> {
+) {
     let Report {
         lines: _,
         stop: _,
@@ -194,144 +251,103 @@ fn add(
         refused,
     } = &draft.report;
     if *steps > 1000 || races > steps || suppressed > steps || refused > steps {
-        return Err(Fail::from("too many steps"));
+        rt.abort()
     }
     if !rule_counts.is_empty() {
-        return Err(Fail::from("there are rules"));
+        rt.abort()
     }
-    draft.add(alloc, line, &step, answer, None)?;
-    Ok(())
+    let Ok(()) = draft.add(rt.alloc(), line, &step, answer, None) else {
+        rt.abort()
+    };
 }
 
 fn acquire_of(lock: u32, mode: Mode) -> Step {
     step_of(FIRST, Event::Acquire(LockId::new(lock), mode))
 }
 
-fn set_of(alloc: Global, locks: &[u32]) -> Result<Lockset, AllocError> {
-    let mut set = Lockset::new(alloc);
-    for lock in locks {
-        set.insert(LockId::new(*lock))?;
-    }
-    Ok(set)
-}
-
-fn locks_come_and_go(alloc: Global) -> Result<Draft, Fail> {
-    let mut draft = Draft::new(alloc, 0)?;
-    add(
-        &mut draft,
-        alloc,
-        2,
-        acquire_of(3, Mode::Write),
-        Answer::Done,
-    )?;
-    add(
-        &mut draft,
-        alloc,
-        3,
-        acquire_of(0, Mode::Read),
-        Answer::Done,
-    )?;
-    add(&mut draft, alloc, 4, write_of(FIRST), Answer::Race)?;
+fn add_locks<R: Abort + AllocGlobal>(rt: &R, draft: &mut Draft) {
+    add(rt, draft, 2, acquire_of(3, Mode::Write), Answer::Done);
+    add(rt, draft, 3, acquire_of(0, Mode::Read), Answer::Done);
+    add(rt, draft, 4, write_of(FIRST), Answer::Race);
     let release = step_of(FIRST, Event::Release(LockId::new(3), Mode::Write));
-    add(&mut draft, alloc, 5, release, Answer::Done)?;
-    add(&mut draft, alloc, 6, write_of(FIRST), Answer::Race)?;
-    add(&mut draft, alloc, 7, write_of(SECOND), Answer::Race)?;
-    Ok(draft)
+    add(rt, draft, 5, release, Answer::Done);
+    add(rt, draft, 6, write_of(FIRST), Answer::Race);
+    add(rt, draft, 7, write_of(SECOND), Answer::Race);
 }
 
 #[test]
-fn a_race_tells_the_locks_of_its_thread_then(rt: HostRuntime) -> Result<(), Fail> {
-    let draft = locks_come_and_go(rt.alloc())?;
-    let lines = vec![in rt.alloc();
-        race_line(4, FIRST, set_of(rt.alloc(), &[0, 3])?),
-        race_line(6, FIRST, set_of(rt.alloc(), &[0])?),
-        race_line(7, SECOND, Lockset::new(rt.alloc())),
-    ]?;
-    assert_eq!(rt; draft.report.lines, lines);
-    assert_eq!(rt; draft.report.steps, 6);
-    assert_eq!(rt; draft.report.races, 3);
-    Ok(())
+fn a_race_tells_the_locks_of_its_thread_then(rt: HostRuntime) {
+    let Ok(mut draft) = Draft::new(rt.alloc(), 0) else {
+        rt.abort()
+    };
+    add_locks(&rt, &mut draft);
+    assert_eq!(rt; draft.report.lines.len(), 3);
+    assert_race(&rt, &draft.report, 0, 4, FIRST, &[0, 3]);
+    assert_race(&rt, &draft.report, 1, 6, FIRST, &[0]);
+    assert_race(&rt, &draft.report, 2, 7, SECOND, &[]);
+    assert_eq!(rt; counts(&draft.report), [6, 3, 0, 0]);
 }
 
-fn refused_shown_and_ignored(alloc: Global) -> Result<Draft, Fail> {
-    let mut draft = Draft::new(alloc, 0)?;
-    add(
-        &mut draft,
-        alloc,
-        2,
-        step_of(FIRST, Event::IgnoreOff),
-        Answer::Refused(Refusal::IgnoreNotOn),
-    )?;
-    add(
-        &mut draft,
-        alloc,
-        3,
-        step_of(FIRST, Event::IgnoreOn),
-        Answer::Done,
-    )?;
-    add(&mut draft, alloc, 4, write_of(FIRST), Answer::Ignored)?;
-    let state = WordState::Exclusive(ThreadId::new(SECOND));
-    add(
-        &mut draft,
-        alloc,
-        5,
-        step_of(FIRST, Event::Show(Word::new(WORD))),
-        Answer::State(&state),
-    )?;
-    add(&mut draft, alloc, 6, write_of(SECOND), Answer::Quiet)?;
-    Ok(draft)
+fn add_refusal_and_show<R: Abort + AllocGlobal>(rt: &R, draft: &mut Draft, state: &WordState) {
+    let refused = Answer::Refused(Refusal::IgnoreNotOn);
+    add(rt, draft, 2, step_of(FIRST, Event::IgnoreOff), refused);
+    add(rt, draft, 3, step_of(FIRST, Event::IgnoreOn), Answer::Done);
+    add(rt, draft, 4, write_of(FIRST), Answer::Ignored);
+    let show = step_of(FIRST, Event::Show(Word::new(WORD)));
+    add(rt, draft, 5, show, Answer::State(state));
+    add(rt, draft, 6, write_of(SECOND), Answer::Quiet);
+}
+
+fn shown_state() -> WordState {
+    WordState::Exclusive(ThreadId::new(SECOND))
 }
 
 #[test]
-fn a_refusal_and_a_show_have_lines(rt: HostRuntime) -> Result<(), Fail> {
-    let draft = refused_shown_and_ignored(rt.alloc())?;
+fn a_refusal_and_a_show_have_lines(rt: HostRuntime) {
+    let Ok(mut draft) = Draft::new(rt.alloc(), 0) else {
+        rt.abort()
+    };
+    add_refusal_and_show(&rt, &mut draft, &shown_state());
+    assert_eq!(rt; draft.report.lines.len(), 2);
     let refused = Line::Refused {
         line: 2,
         step: step_of(FIRST, Event::IgnoreOff),
         refusal: Refusal::IgnoreNotOn,
     };
+    assert_line(&rt, &draft.report, 0, refused);
     let shown = Line::Shown {
         line: 5,
         word: Word::new(WORD),
-        state: WordState::Exclusive(ThreadId::new(SECOND)),
+        state: shown_state(),
     };
-    let lines = vec![in rt.alloc(); refused, shown]?;
-    assert_eq!(rt; draft.report.lines, lines);
-    assert_eq!(rt; draft.report.steps, 5);
-    assert_eq!(rt; draft.report.races, 0);
-    assert_eq!(rt; draft.report.refused, 1);
-    Ok(())
+    assert_line(&rt, &draft.report, 1, shown);
+    assert_eq!(rt; counts(&draft.report), [5, 0, 0, 1]);
 }
 
-fn levels_rise_and_fall(alloc: Global) -> Result<Draft, Fail> {
-    let mut draft = Draft::new(alloc, 0)?;
-    let high = Level::of_number(2).map_err(|_| "too high")?;
+fn add_levels<R: Abort + AllocGlobal>(rt: &R, draft: &mut Draft) {
+    let Ok(high) = Level::of_number(2) else {
+        rt.abort()
+    };
     add(
-        &mut draft,
-        alloc,
+        rt,
+        draft,
         2,
         step_of(FIRST, Event::Level(high)),
         Answer::Done,
-    )?;
-    add(&mut draft, alloc, 3, write_of(FIRST), Answer::Race)?;
-    add(
-        &mut draft,
-        alloc,
-        4,
-        step_of(FIRST, Event::Level(Level::default())),
-        Answer::Done,
-    )?;
-    add(&mut draft, alloc, 5, write_of(FIRST), Answer::Race)?;
-    Ok(draft)
+    );
+    add(rt, draft, 3, write_of(FIRST), Answer::Race);
+    let low = step_of(FIRST, Event::Level(Level::default()));
+    add(rt, draft, 4, low, Answer::Done);
+    add(rt, draft, 5, write_of(FIRST), Answer::Race);
 }
 
 #[test]
-fn a_race_tells_the_locks_of_its_level(rt: HostRuntime) -> Result<(), Fail> {
-    let draft = levels_rise_and_fall(rt.alloc())?;
-    let lines = vec![in rt.alloc();
-        race_line(3, FIRST, set_of(rt.alloc(), &[0xffff_ffe1, 0xffff_ffe2])?),
-        race_line(5, FIRST, Lockset::new(rt.alloc())),
-    ]?;
-    assert_eq!(rt; draft.report.lines, lines);
-    Ok(())
+fn a_race_tells_the_locks_of_its_level(rt: HostRuntime) {
+    let Ok(mut draft) = Draft::new(rt.alloc(), 0) else {
+        rt.abort()
+    };
+    add_levels(&rt, &mut draft);
+    assert_eq!(rt; draft.report.lines.len(), 2);
+    assert_race(&rt, &draft.report, 0, 3, FIRST, &[0xffff_ffe1, 0xffff_ffe2]);
+    assert_race(&rt, &draft.report, 1, 5, FIRST, &[]);
 }

@@ -6,31 +6,49 @@ use er_event::{
 use er_model::{Call, What};
 use er_shard::Shard;
 use er_table::LocksetTable;
-use std::alloc::{AllocError, Global};
 use std::process::Abort;
 use std::sync::Wait;
-use std::test::Fail;
 
 // These say nothing of what they return, so that a test's proof has little to carry.
 
-fn open(alloc: Global) -> Result<Seat, AllocError> {
-    match VacantSeat::new(alloc, 7) {
-        Ok(seat) => Ok(seat.taken_by(ThreadId::new(3))),
-        // The first allocation may be refused, and the second isn't then.
-        Err(AllocError) => Ok(VacantSeat::new(alloc, 7)?.taken_by(ThreadId::new(3))),
+// A vacant seat. The first allocation may be refused, and the second isn't then.
+fn vacant<R: Abort + AllocGlobal>(rt: &R) -> VacantSeat {
+    match VacantSeat::new(rt.alloc(), 7) {
+        Ok(seat) => seat,
+        Err(_) => {
+            let Ok(seat) = VacantSeat::new(rt.alloc(), 7) else {
+                rt.abort()
+            };
+            seat
+        }
     }
 }
 
-fn acquire(seat: &mut Seat, number: u32) -> Result<(), Refusal> {
-    seat.acquire(LockId::new(number), Mode::Write)
+fn open<R: Abort + AllocGlobal>(rt: &R, thread: u8) -> Seat {
+    vacant(rt).taken_by(ThreadId::new(u32::from(thread)))
 }
 
-fn release(seat: &mut Seat, number: u32) -> Result<(), Refusal> {
-    seat.release(LockId::new(number), Mode::Write)
+// A call that no shard sees.
+#[derive(Clone, Copy, Debug, PartialEq, Eq)]
+enum Wish {
+    Acquire(u32, Mode),
+    Release(u32, Mode),
+    IgnoreOn,
+    IgnoreOff,
+    Level(u8),
+    Access,
 }
 
-fn level(number: u8) -> Level {
-    Level::of_number(u64::from(number)).unwrap_or_default()
+fn acquire(seat: &mut Seat, number: u32, mode: Mode) -> Result<(), Refusal> {
+    seat.acquire(LockId::new(number), mode)
+}
+
+fn release(seat: &mut Seat, number: u32, mode: Mode) -> Result<(), Refusal> {
+    seat.release(LockId::new(number), mode)
+}
+
+fn set_level(seat: &mut Seat, number: u8) -> Result<(), Refusal> {
+    seat.set_level(Level::of_number(u64::from(number)).unwrap_or_default())
 }
 
 fn ignored(seat: &mut Seat) -> Result<(), Refusal> {
@@ -38,6 +56,17 @@ fn ignored(seat: &mut Seat) -> Result<(), Refusal> {
         return Err(Refusal::IgnoreNotOn);
     }
     Ok(seat.list_ignored(Word::new(0x400), Kind::Read, Site::new(5))?)
+}
+
+fn make(seat: &mut Seat, wish: Wish) -> Result<(), Refusal> {
+    match wish {
+        Wish::Acquire(number, mode) => acquire(seat, number, mode),
+        Wish::Release(number, mode) => release(seat, number, mode),
+        Wish::IgnoreOn => seat.ignore_on(),
+        Wish::IgnoreOff => seat.ignore_off(),
+        Wish::Level(number) => set_level(seat, number),
+        Wish::Access => ignored(seat),
+    }
 }
 
 // What a seat shows: how many calls, how many locks in any mode and in write mode, the level, and whether it ignores.
@@ -67,93 +96,94 @@ fn letter(call: &Call) -> char {
     }
 }
 
-fn letters(alloc: Global, seat: &Seat) -> Result<String, AllocError> {
-    let mut text = String::new(alloc);
-    for call in seat.calls() {
-        text.push(letter(call))?;
+// The letter of the call at this place, from 0, and `-` past the last.
+fn letter_at(seat: &Seat, at: usize) -> char {
+    match seat.calls().get(at) {
+        Some(call) => letter(call),
+        None => '-',
     }
-    Ok(text)
 }
 
 #[test]
-fn only_accepted_calls_are_listed(rt: HostRuntime) -> Result<(), Fail> {
-    let mut seat = open(rt.alloc())?;
-    assert_eq!(rt; release(&mut seat, 1), Err(Refusal::NotHeld));
-    assert_eq!(rt; acquire(&mut seat, 1), Ok(()));
-    assert_eq!(rt; acquire(&mut seat, 1), Err(Refusal::AlreadyHeld));
-    assert_eq!(rt;
-        seat.release(LockId::new(1), Mode::Read),
-        Err(Refusal::WrongMode)
-    );
-    assert_eq!(rt; seat.ignore_off(), Err(Refusal::IgnoreNotOn));
-    assert_eq!(rt;
-        acquire(&mut seat, LockId::BELOW_LEVELS + 1),
-        Err(Refusal::LevelLock)
-    );
+fn only_accepted_calls_are_listed(rt: HostRuntime) {
+    let mut seat = open(&rt, 3);
+    for (wish, answer) in [
+        (Wish::Release(1, Mode::Write), Err(Refusal::NotHeld)),
+        (Wish::Acquire(1, Mode::Write), Ok(())),
+        (Wish::Acquire(1, Mode::Write), Err(Refusal::AlreadyHeld)),
+        (Wish::Release(1, Mode::Read), Err(Refusal::WrongMode)),
+        (Wish::IgnoreOff, Err(Refusal::IgnoreNotOn)),
+        (
+            Wish::Acquire(LockId::BELOW_LEVELS + 1, Mode::Write),
+            Err(Refusal::LevelLock),
+        ),
+    ] {
+        assert_eq!(rt; make(&mut seat, wish), answer);
+    }
     assert_eq!(rt; shown(&seat), (1, 1, 1, 0, false));
-    assert_eq!(rt; release(&mut seat, 1), Ok(()));
+    assert_eq!(rt; release(&mut seat, 1, Mode::Write), Ok(()));
     assert_eq!(rt; shown(&seat), (2, 0, 0, 0, false));
-    Ok(())
 }
 
 #[test]
-fn each_call_once(rt: HostRuntime) -> Result<(), Fail> {
-    let mut seat = open(rt.alloc())?;
-    assert_eq!(rt; seat.acquire(LockId::new(4), Mode::Read), Ok(()));
-    assert_eq!(rt; seat.ignore_on(), Ok(()));
-    assert_eq!(rt; ignored(&mut seat), Ok(()));
-    assert_eq!(rt; seat.set_level(level(2)), Ok(()));
+fn each_call_once(rt: HostRuntime) {
+    let mut seat = open(&rt, 3);
+    for wish in [
+        Wish::Acquire(4, Mode::Read),
+        Wish::IgnoreOn,
+        Wish::Access,
+        Wish::Level(2),
+    ] {
+        assert_eq!(rt; make(&mut seat, wish), Ok(()));
+    }
     assert_eq!(rt; shown(&seat), (4, 3, 2, 2, true));
-    assert_eq!(rt; seat.ignore_off(), Ok(()));
-    assert_eq!(rt; seat.set_level(level(2)), Ok(()));
-    assert_eq!(rt; seat.release(LockId::new(4), Mode::Read), Ok(()));
-    assert_eq!(rt; letters(rt.alloc(), &seat)?.as_str(), "a(il)lr");
-    Ok(())
+    for wish in [
+        Wish::IgnoreOff,
+        Wish::Level(2),
+        Wish::Release(4, Mode::Read),
+    ] {
+        assert_eq!(rt; make(&mut seat, wish), Ok(()));
+    }
+    for (at, want) in [
+        (0, 'a'),
+        (1, '('),
+        (2, 'i'),
+        (3, 'l'),
+        (4, ')'),
+        (5, 'l'),
+        (6, 'r'),
+        (7, '-'),
+    ] {
+        assert_eq!(rt; letter_at(&seat, at), want);
+    }
 }
 
 #[test]
-fn whose_it_is(rt: HostRuntime) -> Result<(), Fail> {
-    let seat = open(rt.alloc())?;
+fn whose_it_is(rt: HostRuntime) {
+    let seat = open(&rt, 3);
     assert_eq!(rt; seat.name(), 7);
     assert_eq!(rt; seat.thread().number(), 3);
     assert!(rt; seat.calls().is_empty());
-    Ok(())
 }
 
 #[test]
-fn brackets_in_brackets(rt: HostRuntime) -> Result<(), Fail> {
-    let mut seat = open(rt.alloc())?;
+fn brackets_in_brackets(rt: HostRuntime) {
+    let mut seat = open(&rt, 3);
     for _ in 0..255u32 {
-        assert_eq!(rt; seat.ignore_on(), Ok(()));
+        assert_eq!(rt; make(&mut seat, Wish::IgnoreOn), Ok(()));
     }
-    assert_eq!(rt; seat.ignore_on(), Err(Refusal::IgnoreTooDeep));
+    assert_eq!(rt;
+        make(&mut seat, Wish::IgnoreOn),
+        Err(Refusal::IgnoreTooDeep)
+    );
     for _ in 0..255u32 {
         assert!(rt; seat.ignoring());
-        assert_eq!(rt; seat.ignore_off(), Ok(()));
+        assert_eq!(rt; make(&mut seat, Wish::IgnoreOff), Ok(()));
     }
     assert_eq!(rt; shown(&seat), (510, 0, 0, 0, false));
-    Ok(())
 }
 
-// A call that may want memory.
-#[derive(Clone, Copy, Debug, PartialEq, Eq)]
-enum Wish {
-    Lock(u32),
-    Bracket,
-    Level(u8),
-    Access,
-}
-
-fn make(seat: &mut Seat, wish: Wish) -> Result<(), Refusal> {
-    match wish {
-        Wish::Lock(number) => acquire(seat, number),
-        Wish::Bracket => seat.ignore_on(),
-        Wish::Level(number) => seat.set_level(level(number)),
-        Wish::Access => ignored(seat),
-    }
-}
-
-// Makes the call. Where memory was refused, the seat is as before, and the call made again is accepted.
+// Makes a call that may want memory. Where memory was refused, the seat is as before, and the call made again is accepted.
 fn made(rt: &impl Abort, seat: &mut Seat, wish: Wish) {
     let before = shown(seat);
     let first = make(seat, wish);
@@ -168,50 +198,65 @@ fn made(rt: &impl Abort, seat: &mut Seat, wish: Wish) {
 // Gives up the locks of these numbers, for which no call is made again.
 fn release_all(rt: &impl Abort, seat: &mut Seat, first: u32, last: u32) {
     for number in first..last {
-        assert_eq!(rt; release(seat, number), Ok(()));
+        assert_eq!(rt; release(seat, number, Mode::Write), Ok(()));
     }
 }
 
 // With each allocation refused in turn (`rt try --test --fail-alloc N`), what was taken is given back at the first call.
 #[test]
-fn each_allocation_refused(rt: HostRuntime) -> Result<(), Fail> {
-    let mut seat = open(rt.alloc())?;
+fn each_allocation_refused(rt: HostRuntime) {
+    let mut seat = open(&rt, 3);
     for number in 1..65u32 {
-        made(&rt, &mut seat, Wish::Lock(number));
+        made(&rt, &mut seat, Wish::Acquire(number, Mode::Write));
     }
-    assert_eq!(rt; acquire(&mut seat, 65), Err(Refusal::HeldFull));
+    assert_eq!(rt; acquire(&mut seat, 65, Mode::Write), Err(Refusal::HeldFull));
     release_all(&rt, &mut seat, 1, 65);
     assert_eq!(rt; shown(&seat), (128, 0, 0, 0, false));
-    Ok(())
 }
 
 #[test]
-fn the_first_entry_is_reserved(rt: HostRuntime) -> Result<(), Fail> {
-    let mut seat = open(rt.alloc())?;
-    assert_eq!(rt; seat.set_level(level(0)), Ok(()));
-    Ok(())
+fn the_first_entry_is_reserved(rt: HostRuntime) {
+    let mut seat = open(&rt, 3);
+    assert_eq!(rt; set_level(&mut seat, 0), Ok(()));
 }
 
 #[test]
-fn brackets_and_levels_refused(rt: HostRuntime) -> Result<(), Fail> {
-    let mut seat = open(rt.alloc())?;
-    for number in 1..9u32 {
-        made(&rt, &mut seat, Wish::Lock(number));
-        made(&rt, &mut seat, Wish::Bracket);
+fn brackets_and_levels_refused(rt: HostRuntime) {
+    let mut seat = open(&rt, 3);
+    for number in 1..9u8 {
+        made(
+            &rt,
+            &mut seat,
+            Wish::Acquire(u32::from(number), Mode::Write),
+        );
+        made(&rt, &mut seat, Wish::IgnoreOn);
         made(&rt, &mut seat, Wish::Access);
-        made(&rt, &mut seat, Wish::Level(number as u8));
+        made(&rt, &mut seat, Wish::Level(number));
     }
     assert_eq!(rt; shown(&seat), (32, 16, 16, 8, true));
     for _ in 1..9u32 {
-        assert_eq!(rt; seat.ignore_off(), Ok(()));
+        assert_eq!(rt; make(&mut seat, Wish::IgnoreOff), Ok(()));
     }
     release_all(&rt, &mut seat, 1, 9);
     assert_eq!(rt; shown(&seat), (48, 8, 8, 8, false));
-    Ok(())
 }
 
-fn opened(alloc: Global, thread: u8) -> Result<Seat, AllocError> {
-    Ok(VacantSeat::new(alloc, 7)?.taken_by(ThreadId::new(u32::from(thread))))
+fn table_of_four<R: Abort + AllocGlobal>(rt: &R) -> LocksetTable {
+    let Ok(table) = LocksetTable::new(rt.alloc(), 4) else {
+        rt.abort()
+    };
+    table
+}
+
+fn shard_over<'t, R: Abort + AllocGlobal>(
+    rt: &R,
+    table: &'t LocksetTable,
+    limit: u32,
+) -> Shard<'t> {
+    let Ok(shard) = Shard::new(rt.alloc(), table, 7, 0, limit) else {
+        rt.abort()
+    };
+    shard
 }
 
 // What a call in a shard came to.
@@ -262,62 +307,63 @@ fn last_call(seat: &Seat) -> Option<char> {
     Some(letter(call))
 }
 
-// Takes a lock in each mode and goes to level 1.
-fn lock_and_rise(seat: &mut Seat) -> Result<(), Refusal> {
-    seat.acquire(LockId::new(4), Mode::Read)?;
-    acquire(seat, 5)?;
-    seat.set_level(level(1))
-}
-
 #[test]
-fn what_a_shard_sees_draws_a_ticket(rt: HostRuntime) -> Result<(), Fail> {
-    let table = LocksetTable::new(rt.alloc(), 4)?;
-    let mut shard = Shard::new(rt.alloc(), &table, 7, 0, 9)?;
-    let mut seat = opened(rt.alloc(), 3)?;
-    assert_eq!(rt; lock_and_rise(&mut seat), Ok(()));
+fn what_a_shard_sees_draws_a_ticket(rt: HostRuntime) {
+    let table = table_of_four(&rt);
+    let mut shard = shard_over(&rt, &table, 9);
+    let mut seat = open(&rt, 3);
+    for wish in [
+        Wish::Acquire(4, Mode::Read),
+        Wish::Acquire(5, Mode::Write),
+        Wish::Level(1),
+    ] {
+        assert_eq!(rt; make(&mut seat, wish), Ok(()));
+    }
     assert_eq!(rt; write(&rt, &mut seat, &mut shard, 8, 0x400), Answer::Quiet);
     assert_eq!(rt; last_entry(&shard), Some((8, 3, 3, 2)));
     assert_eq!(rt; last_call(&seat), Some('Q'));
     assert_eq!(rt; reset(&mut seat, &mut shard, 9, 1), Answer::Done);
     assert_eq!(rt; last_entry(&shard), Some((9, 3, 0, 0)));
     assert_eq!(rt; last_call(&seat), Some('D'));
-    Ok(())
+}
+
+// How many calls the seat lists, and how many entries the shard has.
+fn listed(seat: &Seat, shard: &Shard) -> (usize, usize) {
+    (seat.calls().len(), shard.journal().len())
 }
 
 #[test]
-fn full_journal_leaves_the_seat(rt: HostRuntime) -> Result<(), Fail> {
-    let table = LocksetTable::new(rt.alloc(), 4)?;
-    let mut shard = Shard::new(rt.alloc(), &table, 7, 0, 1)?;
-    let mut seat = opened(rt.alloc(), 0)?;
+fn full_journal_leaves_the_seat(rt: HostRuntime) {
+    let table = table_of_four(&rt);
+    let mut shard = shard_over(&rt, &table, 1);
+    let mut seat = open(&rt, 0);
     let full = Answer::Refused(NoRoom::JournalFull);
     assert_eq!(rt; write(&rt, &mut seat, &mut shard, 0, 0x400), Answer::Quiet);
     assert_eq!(rt; write(&rt, &mut seat, &mut shard, 1, 0x400), full);
     assert_eq!(rt; reset(&mut seat, &mut shard, 2, 1), full);
-    assert_eq!(rt; seat.calls().len(), 1);
-    assert_eq!(rt; shard.journal().len(), 1);
-    Ok(())
+    assert_eq!(rt; listed(&seat, &shard), (1, 1));
 }
 
 // A write that is made again where memory was refused for it, which leaves seat and shard as they were.
 fn written<R: Wait + Abort>(rt: &R, seat: &mut Seat, shard: &mut Shard, number: u16) -> Answer {
-    let before = (seat.calls().len(), shard.journal().len());
+    let before = listed(seat, shard);
     let first = write(rt, seat, shard, 0, number);
     if first != Answer::Refused(NoRoom::OutOfMemory) {
         return first;
     }
-    assert_eq!(rt; (seat.calls().len(), shard.journal().len()), before);
+    assert_eq!(rt; listed(seat, shard), before);
     write(rt, seat, shard, 1, number)
 }
 
 // With each allocation refused in turn that comes after the table's and the shard's (`rt try --test --fail-alloc N`), a full journal is
 // told after the want of memory.
 #[test]
-fn refused_accesses_leave_seat_and_shard(rt: HostRuntime) -> Result<(), Fail> {
-    let table = LocksetTable::new(rt.alloc(), 4)?;
-    let mut shard = Shard::new(rt.alloc(), &table, 7, 0, 9)?;
-    let mut seat = open(rt.alloc())?;
+fn refused_accesses_leave_seat_and_shard(rt: HostRuntime) {
+    let table = table_of_four(&rt);
+    let mut shard = shard_over(&rt, &table, 9);
+    let mut seat = open(&rt, 3);
     for number in 1..10u32 {
-        made(&rt, &mut seat, Wish::Lock(number));
+        made(&rt, &mut seat, Wish::Acquire(number, Mode::Write));
     }
     for number in 0..9u16 {
         assert_eq!(rt; written(&rt, &mut seat, &mut shard, number), Answer::Quiet);
@@ -328,5 +374,4 @@ fn refused_accesses_leave_seat_and_shard(rt: HostRuntime) -> Result<(), Fail> {
     }
     release_all(&rt, &mut seat, 1, 10);
     assert_eq!(rt; shown(&seat), (27, 0, 0, 0, false));
-    Ok(())
 }

@@ -1,34 +1,60 @@
-use crate::tests::{Drops, Endless, Failing, comment};
+use crate::tests::{COMMENT, Drops, Endless, Failing};
 use crate::{ReadFault, TextFault, TextKind, read_suppressions};
 use er_device::Device;
 use er_rules::{Rule, Suppressions};
 use std::alloc::{AllocError, Global};
-use std::test::Fail;
+use std::io::Read;
+use std::process::Abort;
 
-fn read(alloc: Global, text: &[u8], limit: u16) -> Result<Suppressions, ReadFault> {
-    let mut reader = Device::new(text);
-    read_suppressions(alloc, &mut reader, u64::from(limit))
+/// What a reading came to: how many rules were read, or the fault.
+#[derive(Clone, Copy)]
+struct Answer {
+    count: Result<usize, ReadFault>,
+    failed: bool,
+    taken: u64,
 }
 
-/// How many rules a text has, or its fault.
-fn count(alloc: Global, text: &[u8], limit: u16) -> Result<usize, ReadFault> {
-    match read(alloc, text, limit) {
+fn count_of(read: Result<Suppressions, ReadFault>) -> Result<usize, ReadFault> {
+    match read {
         Ok(suppressions) => Ok(suppressions.rules.len()),
         Err(fault) => Err(fault),
     }
 }
 
-/// What is read of a text of this line behind two others.
-fn behind(alloc: Global, line: &[u8]) -> Result<Result<usize, ReadFault>, AllocError> {
-    let mut text = Vec::new(alloc);
+fn outcome<R: Read + Drop>(alloc: Global, inner: R, limit: u16) -> Answer {
+    let mut reader = Device::new(inner);
+    let count = count_of(read_suppressions(alloc, &mut reader, u64::from(limit)));
+    Answer {
+        count,
+        failed: reader.failed(),
+        taken: reader.taken(),
+    }
+}
+
+/// How many rules a text has, or its fault.
+fn count(alloc: Global, text: &[u8], limit: u16) -> Result<usize, ReadFault> {
+    outcome(alloc, text, limit).count
+}
+
+/// Adds a line behind two others.
+fn write_line(text: &mut Vec<u8>, line: &[u8]) -> Result<(), AllocError> {
     text.extend_from_slice(b"# c\nsite S\n")?;
     text.extend_from_slice(line)?;
     text.push(b'\n')?;
-    Ok(count(alloc, text.as_slice(), 65535))
+    Ok(())
 }
 
-fn fault(line: u64, kind: TextKind) -> ReadFault {
-    ReadFault::Text(TextFault { line, kind })
+/// What is read of a text of this line behind two others.
+fn behind(alloc: Global, line: &[u8]) -> Result<usize, ReadFault> {
+    let mut text = Vec::new(alloc);
+    match write_line(&mut text, line) {
+        Ok(()) => count(alloc, text.as_slice(), 65535),
+        Err(_) => Err(ReadFault::Memory),
+    }
+}
+
+fn fault(line: u64, kind: TextKind) -> Result<usize, ReadFault> {
+    Err(ReadFault::Text(TextFault { line, kind }))
 }
 
 /// The site of a rule, where it has one, and its first and last word.
@@ -53,27 +79,41 @@ words 0xfffffffffffc 4
 words 0xffffffffffff 0
 words 0 281474976710656";
 
-#[test]
-fn rules_in_order(rt: HostRuntime) -> Result<(), Fail> {
-    let read = read(rt.alloc(), EVERY_RULE, 65535)?;
-    let wanted = [
-        ("save.c:12", 0, 0),
-        ("the missing site", 0, 0),
-        ("none", 0, 0),
-        ("words", 0x400, 0x400),
-        ("words", 0x400, 0x401),
-        ("no words", 0, 0),
-        ("words", 0x3fff_ffff_ffff, 0x3fff_ffff_ffff),
-        ("no words", 0, 0),
-        ("words", 0, 0x3fff_ffff_ffff),
-    ];
-    assert_eq!(rt; read.rules.len(), wanted.len());
-    for (rule, wanted) in read.rules.iter().zip(&wanted) {
-        let told = told_by(rule);
-        assert_eq!(rt; told.0, wanted.0);
-        assert_eq!(rt; (told.1, told.2), (wanted.1, wanted.2));
+fn rule_at(read: &Suppressions, place: usize) -> (&str, u64, u64) {
+    match read.rules.get(place) {
+        Some(rule) => told_by(rule),
+        None => ("no rule", 0, 0),
     }
-    Ok(())
+}
+
+/// A rule of `EVERY_RULE`.
+fn wanted_rule(place: usize) -> (&'static str, u64, u64) {
+    match place {
+        0 => ("save.c:12", 0, 0),
+        1 => ("the missing site", 0, 0),
+        2 => ("none", 0, 0),
+        3 => ("words", 0x400, 0x400),
+        4 => ("words", 0x400, 0x401),
+        5 => ("no words", 0, 0),
+        6 => ("words", 0x3fff_ffff_ffff, 0x3fff_ffff_ffff),
+        7 => ("no words", 0, 0),
+        _ => ("words", 0, 0x3fff_ffff_ffff),
+    }
+}
+
+fn assert_rules(rt: &impl Abort, read: &Suppressions) {
+    assert_eq!(rt; read.rules.len(), 9);
+    for place in 0..9 {
+        assert_eq!(rt; rule_at(read, place), wanted_rule(place));
+    }
+}
+
+#[test]
+fn rules_in_order(rt: HostRuntime) {
+    let Ok(read) = read_suppressions(rt.alloc(), &mut Device::new(EVERY_RULE), 65535) else {
+        rt.abort()
+    };
+    assert_rules(&rt, &read);
 }
 
 #[test]
@@ -84,10 +124,9 @@ fn no_rules(rt: HostRuntime) {
 }
 
 #[test]
-fn rule_faults(rt: HostRuntime) -> Result<(), Fail> {
-    let long = comment(rt.alloc(), 1024)?;
+fn rule_faults(rt: HostRuntime) {
     let cases = [
-        (long.as_slice(), TextKind::LineTooLong),
+        (COMMENT, TextKind::LineTooLong),
         (b"# \xff".as_slice(), TextKind::NotAscii),
         (b"rule S \x80".as_slice(), TextKind::NotAscii),
         (b"rule".as_slice(), TextKind::BadVerb),
@@ -125,11 +164,9 @@ fn rule_faults(rt: HostRuntime) -> Result<(), Fail> {
         ),
     ];
     for (line, kind) in cases {
-        assert_eq!(rt; behind(rt.alloc(), line)?, Err(fault(3, kind)));
+        assert_eq!(rt; behind(rt.alloc(), line), fault(3, kind));
     }
-    let short = comment(rt.alloc(), 1023)?;
-    assert_eq!(rt; behind(rt.alloc(), short.as_slice())?, Ok(1));
-    Ok(())
+    assert_eq!(rt; behind(rt.alloc(), &COMMENT[1..]), Ok(1));
 }
 
 #[test]
@@ -137,20 +174,16 @@ fn byte_limits_of_rules(rt: HostRuntime) {
     let text = b"site S\nsite T\n".as_slice();
     assert_eq!(rt; count(rt.alloc(), text, 14), Ok(2));
     for limit in [13, 7] {
-        let wanted = Err(fault(2, TextKind::TextTooLong));
+        let wanted = fault(2, TextKind::TextTooLong);
         assert_eq!(rt; count(rt.alloc(), text, limit), wanted, "at {limit}");
     }
     for (byte, line, kind) in [
         (b'a', 1, TextKind::LineTooLong),
         (b'\n', 21, TextKind::TextTooLong),
     ] {
-        let mut reader = Device::new(Endless { byte });
-        let read = match read_suppressions(rt.alloc(), &mut reader, 20) {
-            Ok(_) => None,
-            Err(fault) => Some(fault),
-        };
-        assert_eq!(rt; read, Some(fault(line, kind)));
-        assert!(rt; reader.taken() <= 20 + 1025);
+        let answer = outcome(rt.alloc(), Endless { byte }, 20);
+        assert_eq!(rt; answer.count, fault(line, kind));
+        assert!(rt; answer.taken <= 20 + 1025);
     }
 }
 
@@ -158,39 +191,24 @@ const TWO_RULES: &[u8] = b"site S\nwords 0 4";
 
 #[test]
 fn rules_byte_by_byte(rt: HostRuntime) {
-    let mut reader = Device::new(Drops { left: TWO_RULES });
-    let read = match read_suppressions(rt.alloc(), &mut reader, 16) {
-        Ok(read) => read.rules.len(),
-        Err(_) => 0,
-    };
-    assert_eq!(rt; read, 2);
-    assert_eq!(rt; reader.taken(), 16);
+    let whole = outcome(rt.alloc(), Drops { left: TWO_RULES }, 16);
+    assert_eq!(rt; whole.count, Ok(2));
+    assert_eq!(rt; whole.taken, 16);
     for good in 0..17 {
-        let mut reader = Device::new(Failing {
-            left: TWO_RULES,
-            good,
-        });
-        let failed = matches!(
-            read_suppressions(rt.alloc(), &mut reader, 16),
-            Err(ReadFault::Read)
-        );
-        assert!(rt; failed, "after {good}");
-        assert!(rt; reader.failed());
+        let left = TWO_RULES;
+        let cut = outcome(rt.alloc(), Failing { left, good }, 16);
+        assert_eq!(rt; cut.count, Err(ReadFault::Read), "after {good}");
+        assert!(rt; cut.failed);
     }
 }
 
 /// Each allocation in turn is refused by `rt try --test --fail-alloc`.
 #[test]
-fn each_allocation_refused(rt: HostRuntime) -> Result<(), Fail> {
-    let mut reader = Device::new(EVERY_RULE);
-    let read = match read_suppressions(rt.alloc(), &mut reader, 65535) {
-        Ok(read) => read,
-        Err(fault) => {
-            assert_eq!(rt; fault, ReadFault::Memory);
-            assert!(rt; !reader.failed());
-            read(rt.alloc(), EVERY_RULE, 65535)?
-        }
-    };
-    assert_eq!(rt; read.rules.len(), 9);
-    Ok(())
+fn each_allocation_refused(rt: HostRuntime) {
+    let mut told = outcome(rt.alloc(), EVERY_RULE, 65535);
+    if told.count == Err(ReadFault::Memory) {
+        assert!(rt; !told.failed);
+        told = outcome(rt.alloc(), EVERY_RULE, 65535);
+    }
+    assert_eq!(rt; told.count, Ok(9));
 }

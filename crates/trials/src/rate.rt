@@ -1,0 +1,215 @@
+//! How many accesses a second threads make at one detector.
+use crate::Fault;
+use er_detector::{Config, Detector};
+use er_event::{Kind, LockId, Mode, Refusal, Reply, Site, Word};
+use er_seat::Seat;
+use er_table::LocksetTable;
+use std::alloc::Global;
+use std::rt::Clock;
+use std::sync::Wait;
+use std::thread;
+use std::thread::Threads;
+use std::time::Instant;
+
+// How many words each shard has.
+const WORDS: u64 = 1024;
+
+/// The shards that threads call.
+#[derive(Clone, Copy)]
+pub(crate) enum Shape {
+    /// Each thread keeps to a shard of its own.
+    Own,
+    /// All threads go over all shards, sixteen calls at a shard, and seldom meet at one.
+    Spread,
+    /// All threads call one shard.
+    One,
+}
+
+impl Shape {
+    fn shards(self) -> u32 {
+        match self {
+            Shape::Own => 4,
+            Shape::Spread => 64,
+            Shape::One => 1,
+        }
+    }
+
+    // The word of a thread's call.
+    fn word(self, thread: u64, call: u64) -> Word {
+        let page = match self {
+            Shape::Own => thread % 4,
+            Shape::Spread => (call / 16 + thread % 4 * 16) % 64,
+            Shape::One => 0,
+        };
+        Word::new(page * WORDS + call % WORDS)
+    }
+}
+
+/// What is measured.
+#[derive(Clone, Copy)]
+pub(crate) struct Measure {
+    pub(crate) threads: u32,
+    pub(crate) shape: Shape,
+    /// How many calls each thread makes.
+    pub(crate) calls: u32,
+}
+
+/// What came of it.
+#[derive(Clone, Copy)]
+pub(crate) struct Measured {
+    pub(crate) races: u64,
+    /// The microseconds from before the first thread to after the last.
+    pub(crate) micros: u128,
+}
+
+/// The measure that three words ask for.
+pub(crate) fn read_measure(words: &[String]) -> Option<Measure> {
+    let threads = words.first()?.parse::<u32>().ok()?;
+    let shape = match words.get(1)?.as_str() {
+        "own" => Shape::Own,
+        "spread" => Shape::Spread,
+        "one" => Shape::One,
+        _ => return None,
+    };
+    let calls = words.get(2)?.parse::<u32>().ok()?;
+    if words.len() == 3 && threads >= 1 && threads <= 16 && calls <= 100_000_000 {
+        Some(Measure {
+            threads,
+            shape,
+            calls,
+        })
+    } else {
+        None
+    }
+}
+
+// One call.
+fn access<R: Wait>(
+    rt: &R,
+    detector: &Detector<'_>,
+    seat: &mut Seat,
+    shape: Shape,
+    call: u64,
+) -> Result<bool, Refusal> {
+    let thread = u64::from(seat.thread().number());
+    let kind = if call % 2 == 0 {
+        Kind::Read
+    } else {
+        Kind::Write
+    };
+    let reply = detector.access(rt, seat, shape.word(thread, call), kind, Site::MISSING)?;
+    Ok(matches!(reply, Reply::Race))
+}
+
+// All calls of one thread, and how many races they reported.
+fn make_calls<R: Wait>(
+    rt: &R,
+    detector: &Detector<'_>,
+    asked: Measure,
+    mut seat: Seat,
+) -> Result<u32, Refusal> {
+    make_all(rt, detector, asked, &mut seat)
+}
+
+fn make_all<R: Wait>(
+    rt: &R,
+    detector: &Detector<'_>,
+    asked: Measure,
+    seat: &mut Seat,
+) -> Result<u32, Refusal> {
+    let mut races: u32 = 0;
+    for call in 0..asked.calls {
+        if access(rt, detector, seat, asked.shape, u64::from(call))? {
+            races = races.saturating_add(1);
+        }
+    }
+    Ok(races)
+}
+
+// A seat that holds the lock.
+fn open(detector: &Detector<'_>) -> Result<Seat, Refusal> {
+    let mut seat = detector.open_seat()?;
+    match seat.acquire(LockId::new(1), Mode::Write) {
+        Ok(()) => Ok(seat),
+        Err(why) => Err(why),
+    }
+}
+
+// Writes each word once.
+fn write_all<R: Wait>(rt: &R, detector: &Detector<'_>, shape: Shape) -> Result<(), Refusal> {
+    write_all_by(rt, detector, shape, &mut open(detector)?)
+}
+
+fn write_all_by<R: Wait>(
+    rt: &R,
+    detector: &Detector<'_>,
+    shape: Shape,
+    seat: &mut Seat,
+) -> Result<(), Refusal> {
+    for page in 0..u64::from(shape.shards()) {
+        for place in 0..WORDS {
+            let word = Word::new(page * WORDS + place);
+            detector.access(rt, seat, word, Kind::Write, Site::MISSING)?;
+        }
+    }
+    Ok(())
+}
+
+/// Makes all calls on their threads. Each thread holds one lock, under which all words were written before.
+pub(crate) fn take_rate<R: Clock + Threads + Wait + Sync>(
+    rt: &R,
+    alloc: Global,
+    asked: Measure,
+) -> Result<Measured, Fault> {
+    let config = Config::new(1, asked.shape.shards(), Config::MAX_LIMIT, 17).ok_or(Fault::Usage)?;
+    let table = LocksetTable::new(alloc, 4)?;
+    match Detector::new(alloc, &table, config) {
+        Ok(detector) => rate_at(rt, alloc, &detector, asked),
+        Err(_) => Err(Fault::Memory),
+    }
+}
+
+fn rate_at<R: Clock + Threads + Wait + Sync>(
+    rt: &R,
+    alloc: Global,
+    detector: &Detector<'_>,
+    asked: Measure,
+) -> Result<Measured, Fault> {
+    write_all(rt, detector, asked.shape)?;
+    let seats = open_all(alloc, detector, asked.threads)?;
+    let start = Instant::now(rt);
+    let races = count_races(rt, detector, asked, seats)?;
+    let micros = start?.elapsed(rt)?.as_micros();
+    Ok(Measured { races, micros })
+}
+
+// Seats that hold the lock.
+fn open_all(alloc: Global, detector: &Detector<'_>, threads: u32) -> Result<Vec<Seat>, Fault> {
+    let mut seats = Vec::new(alloc);
+    for _ in 0..threads {
+        add_seat(detector, &mut seats)?;
+    }
+    Ok(seats)
+}
+
+fn add_seat(detector: &Detector<'_>, seats: &mut Vec<Seat>) -> Result<(), Fault> {
+    match seats.push(open(detector)?) {
+        Ok(()) => Ok(()),
+        Err(_) => Err(Fault::Memory),
+    }
+}
+
+// Makes all calls, each seat's on a thread of its own, and counts the races.
+fn count_races<R: Threads + Wait + Sync>(
+    rt: &R,
+    detector: &Detector<'_>,
+    asked: Measure,
+    seats: Vec<Seat>,
+) -> Result<u64, Fault> {
+    let counts = thread::map_vec(rt, seats, &|seat| make_calls(rt, detector, asked, seat))?;
+    let mut races: u64 = 0;
+    for count in counts.as_slice() {
+        races = races.saturating_add(u64::from((*count)?));
+    }
+    Ok(races)
+}
