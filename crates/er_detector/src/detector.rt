@@ -13,6 +13,7 @@ ghost use Rattle.er_detector.specs.Races.{IsRace};
 
 use crate::Config;
 use crate::races::add_races;
+use crossbeam_utils::CachePadded;
 use er_event::{Kind, PageRange, Refusal, Reply, Site, ThreadId, Word, WordRange};
 use er_model::Entry;
 use er_seat::{Seat, VacantSeat};
@@ -28,8 +29,9 @@ use std::sync::{Mutex, MutexGuard, Wait};
 #[derive(Drop)]
 pub struct Detector<'t> {
     config: Config,
-    shards: Vec<Mutex<Shard<'t>>>,
-    tickets: AtomicU64,
+    // What one thread writes must not share a cache line with what another reads.
+    shards: Vec<CachePadded<Mutex<Shard<'t>>>>,
+    tickets: CachePadded<AtomicU64>,
     opened: AtomicU64,
     alloc: Global,
 }
@@ -78,12 +80,12 @@ impl<'t> Detector<'t> {
         let mut shards = Vec::with_capacity(alloc, config.shards as usize)?;
         for number in 0..config.shards {
             let shard = Shard::new(alloc, table, config.name, number, config.journal_limit)?;
-            shards.push(Mutex::new(shard))?;
+            shards.push(CachePadded::new(Mutex::new(shard)))?;
         }
         Ok(Detector {
             config,
             shards,
-            tickets: AtomicU64::new(0),
+            tickets: CachePadded::new(AtomicU64::new(0)),
             opened: AtomicU64::new(0),
             alloc,
         })
@@ -244,7 +246,7 @@ impl<'t> Detector<'t> {
         } = self;
         let mut shards = Vec::with_capacity(alloc, locks.len())?;
         for lock in locks {
-            shards.push(lock.into_inner())?;
+            shards.push(lock.into_inner().into_inner())?;
         }
         Ok(Parts {
             name: config.name,

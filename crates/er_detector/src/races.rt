@@ -21,7 +21,7 @@ pub(crate) fn add_races(races: &mut Vec<Entry>, journal: &[Entry]) -> Result<(),
 fn is_race(entry: &Entry) -> bool
     ensures { result ≡ is_race entry.now }
 {
-    matches!(entry.reply, Reply::Race)
+    matches!(entry.reply.reply(), Reply::Race)
 }
 
 fn copy_of(entry: &Entry) -> Result<Entry, AllocError>
@@ -31,7 +31,7 @@ fn copy_of(entry: &Entry) -> Result<Entry, AllocError>
         ticket: entry.ticket,
         thread: entry.thread,
         what: copy_of_what(&entry.what)?,
-        reply: entry.reply.copy()?,
+        reply: entry.reply.copy(),
     })
 }
 

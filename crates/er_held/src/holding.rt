@@ -1,7 +1,7 @@
 //! `Held`, what one thread holds.
 ghost use Rattle.std.specs.Prelude.{◌≡◌, ◌+◌, ◌-◌, ◌<◌, ◌≤◌, ◌↔◌, ◌++◌, ℕ, IsTrue, IsFalse, IsOk, IfOk, IfErr, IsOkUnless, OnOk, OnErr, length, None, Some};
 ghost use Rattle.er_event.specs.Lockset.{has, level_locks, is_level_lock};
-ghost use Rattle.er_model.specs.Holdings.{acquired_among, refused_by, changed_by};
+ghost use Rattle.er_model.specs.Holdings.{acquired_among, refused_by, changed_by, changed_unless};
 ghost use Rattle.er_held.specs.Held.{nothing_held, mode_of};
 
 use er_event::{Event, Level, LockId, Lockset, Mode, Refusal};
@@ -224,6 +224,25 @@ impl Held {
             self.raise_level(level)?;
         }
         Ok(())
+    }
+
+    /// Makes the change of one event, unless the definitions refuse it (own). An access, a reuse and a show change nothing.
+    pub fn follow(&mut self, event: Event) -> Result<(), AllocError>
+        ensures ok { OnOk result (self.new ≡ changed_unless (refused_by self.old event) self.old event) }
+        ensures err { OnErr result (self.new ≡ self.old) }
+    {
+        let answer = match event {
+            Event::Acquire(lock, mode) => self.acquire(lock, mode),
+            Event::Release(lock, mode) => self.release(lock, mode),
+            Event::IgnoreOn => self.ignore_on(),
+            Event::IgnoreOff => self.ignore_off(),
+            Event::Level(level) => self.set_level(level),
+            Event::Access(..) | Event::Reuse(_) | Event::Show(_) => Ok(()),
+        };
+        match answer {
+            Err(Refusal::OutOfMemory) => Err(AllocError),
+            _ => Ok(()),
+        }
     }
 
     fn lower_level(&mut self, level: Level)

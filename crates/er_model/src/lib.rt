@@ -30,11 +30,13 @@ pub use laws::{
     an_empty_list_is_the_start, an_era_only_narrows, held_locks_rise, level_locks_come_last,
     refused_steps_change_nothing, searches_decide,
 };
+pub use replies::BriefReply;
 pub use stamps::{Call, Entry, Stamp, What};
 pub use worked::{worked_examples, worked_explanations, worked_limits};
 
 mod answers;
 mod laws;
+mod replies;
 mod stamps;
 #[cfg(test)]
 mod tests;

@@ -1,9 +1,9 @@
 //! What each thread holds as steps go by. A thread's refused steps change nothing, so its holdings follow from its steps alone.
 ghost use Rattle.std.specs.Prelude.{◌≡◌, ◌<◌, ℕ, [], length, OnOk, IfOk};
-ghost use Rattle.er_model.specs.Holdings.{after_step, changed_unless, refused_by};
+ghost use Rattle.er_model.specs.Holdings.{after_step};
 ghost use Rattle.er_report.specs.Holders.{held_by, changes_holdings};
 
-use er_event::{Event, Lockset, Refusal, Step, ThreadId};
+use er_event::{Event, Lockset, Step, ThreadId};
 use er_held::Held;
 use std::alloc::{AllocError, Global};
 use std::marker::Model;
@@ -52,7 +52,7 @@ impl Holders {
         }
         let place = step.thread.number() as usize;
         reach(alloc, &mut self.by_thread, place)?;
-        change(&mut self.by_thread[place], step.event)
+        self.by_thread[place].follow(step.event)
     }
 }
 
@@ -65,24 +65,6 @@ fn reach(alloc: Global, by_thread: &mut Vec<Held>, place: usize) -> Result<(), A
         by_thread.push(Held::new(alloc))?;
     }
     Ok(())
-}
-
-// Makes the change of one event, unless it is refused.
-fn change(held: &mut Held, event: Event) -> Result<(), AllocError>
-    ensures { OnOk result (held.new ≡ changed_unless (refused_by held.old event) held.old event) }
-{
-    let answer = match event {
-        Event::Acquire(lock, mode) => held.acquire(lock, mode),
-        Event::Release(lock, mode) => held.release(lock, mode),
-        Event::IgnoreOn => held.ignore_on(),
-        Event::IgnoreOff => held.ignore_off(),
-        Event::Level(level) => held.set_level(level),
-        Event::Access(..) | Event::Reuse(_) | Event::Show(_) => Ok(()),
-    };
-    match answer {
-        Err(Refusal::OutOfMemory) => Err(AllocError),
-        _ => Ok(()),
-    }
 }
 
 // Whether an event of this sort can change what its thread holds.

@@ -37,7 +37,7 @@ whole None limit rules old new recording names report same read run written = tt
 whole (Some text) limit rules old new recording names report same read run written = record {
   recording = recording;
   stop = run.stop;
-  run = record { trace = read; within = run.within };
+  run = record { trace = read; within = run.within; cause = run.cause };
   written = subst (λ (s : Summary). Appends old new (report_text recording.names s)) run.says
       (subst (λ (n : NameTable). Appends old new (report_text n (summary report))) same written);
   verdict = verdict_from recording rules run.stop (summary report) run.says;
@@ -54,7 +54,7 @@ part (Some text) limit rules old new recording names report writing.Write same r
   recording = recording;
   stop = run.stop;
   count = written.0;
-  run = record { trace = read; within = run.within };
+  run = record { trace = read; within = run.within; cause = run.cause };
   written = subst (λ (s : Summary). Appends old new (take written.0 (report_text recording.names s))) run.says
       (subst (λ (n : NameTable). Appends old new (take written.0 (report_text n (summary report)))) same written.1);
 }

@@ -8,6 +8,7 @@ use Rattle.er_model.specs.declared.answers.Outcome.{Outcome}
 use Rattle.er_model.specs.declared.answers.Stopped.{Stopped}
 use Rattle.er_print.specs.Printed.{output_of}
 use Rattle.er_print.specs.declared.fault.WriteFault.TheVariants as writing
+use Rattle.er_replay.specs.Stops.{MayStop}
 use Rattle.er_report.specs.Report.{report_of, told as summary, answered_steps}
 use Rattle.er_report.specs.declared.report.Report.{Report}
 use Rattle.er_rules.specs.Rules.{Target}
@@ -18,10 +19,11 @@ use Rattle.er_run.specs.declared.fault.Verdict.TheVariants as verdict
 use Rattle.er_text.specs.Trace.{IsTrace, IsFault}
 use Rattle.er_text.specs.declared.faults.ReadFault.TheVariants as reading
 
--- a run of the text's trace, which stopped at one of its steps or not at all
+-- a run of the text's trace, which stopped at one of its steps for want of room that it may want, or not at all
 pub record IsRunOf (text : List ℕ) (limit : ℕ) (recording : Recording) (stop : Option Stopped) : Type 0 where
   pub trace : IsTrace text limit recording
   pub within : IfSome stop (λ s. s.at < length recording.steps)
+  pub cause : IfSome stop (λ s. MayStop recording.steps s)
 
 -- stopped where the run stopped, and else whether a race is printed
 abbrev pub verdict_of : Recording → List Target → Option Stopped → Verdict
@@ -61,15 +63,17 @@ WritesNothing old new (Write writing.Memory) = Keeps old new
 WritesNothing old new (Write writing.Write) = Unit {0}
 WritesNothing old new Memory = Keeps old new
 
--- the answers of a run of the recording's steps up to its stop, which is at one of them
+-- the answers of a run of the recording's steps up to its stop, which is at one of them that may want what it lacked
 pub record HasRun (recording : Recording) (outcome : Outcome) : Type 0 where
   pub answers : outcome.answers ≡ answers (answered_steps recording.steps outcome.stopped)
   pub within : IfSome outcome.stopped (λ s. s.at < length recording.steps)
+  pub cause : IfSome outcome.stopped (λ s. MayStop recording.steps s)
 
 -- the report of a run of the recording's steps under these rules
 pub record IsReportOfRun (recording : Recording) (rules : List Target) (report : Report) : Type 0 where
   pub stop : Option Stopped
   pub within : IfSome stop (λ s. s.at < length recording.steps)
+  pub cause : IfSome stop (λ s. MayStop recording.steps s)
   pub says : summary report ≡ report_of recording rules stop
 
 -- what a report's numbers come to

@@ -15,7 +15,7 @@ use er_event::{
     Word,
 };
 use er_held::Held;
-use er_model::{Call, Stamp, What};
+use er_model::{BriefReply, Call, Stamp, What};
 use er_shard::Shard;
 use std::alloc::{AllocError, Global};
 use std::marker::Model;
@@ -234,7 +234,7 @@ impl Seat {
         self.calls.reserve(1 + owed(&self.held))?;
         self.calls.push_reserved(Call {
             event: Event::Access(kind, word, site),
-            reply: Reply::Ignored,
+            reply: BriefReply::ignored(),
             ticket: None,
         });
         Ok(())
@@ -291,7 +291,7 @@ impl Seat {
         shard.reset(ticket, self.thread, *range)?;
         self.calls.push_reserved(Call {
             event: Event::Reuse(*range),
-            reply: Reply::Done,
+            reply: BriefReply::done(),
             ticket: Some(ticket),
         });
         Ok(())
@@ -318,14 +318,11 @@ fn stamp(
     })
 }
 
-// The same reply again, of those that a counted access is given.
-fn same_reply(reply: &Reply) -> Reply
+// The same reply in brief, of those that a counted access is given.
+fn same_reply(reply: &Reply) -> BriefReply
     ensures { (reported : Bool) → reply.now ≡ cond reported Reply.Race Reply.Quiet → result ≡ reply.now }
 {
-    match reply {
-        Reply::Race => Reply::Race,
-        _ => Reply::Quiet,
-    }
+    BriefReply::of_access(matches!(reply, Reply::Race))
 }
 
 // A call that no shard sees, and that is done.
@@ -334,7 +331,7 @@ fn done(event: Event) -> Call
 {
     Call {
         event,
-        reply: Reply::Done,
+        reply: BriefReply::done(),
         ticket: None,
     }
 }

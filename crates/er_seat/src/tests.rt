@@ -82,7 +82,7 @@ fn shown(seat: &Seat) -> (usize, usize, usize, u8, bool) {
 
 // One letter for each call: what it is, in capitals where it drew a ticket.
 fn letter(call: &Call) -> char {
-    match (call.event, &call.reply, call.ticket) {
+    match (call.event, call.reply.reply(), call.ticket) {
         (Event::Acquire(..), Reply::Done, None) => 'a',
         (Event::Release(..), Reply::Done, None) => 'r',
         (Event::IgnoreOn, Reply::Done, None) => '(',

@@ -71,7 +71,7 @@ fn run_of(alloc: Global, turns: &[Turn<'_>]) -> Result<Run, AllocError>
             thread: turn.thread(),
             event: call.event,
         })?;
-        replies.push(call.reply.copy()?)?;
+        replies.push(call.reply.reply())?;
     }
     Ok(Run { steps, replies })
 }

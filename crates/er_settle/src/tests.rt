@@ -4,13 +4,18 @@ ghost use Rattle.er_model.specs.Journals.{IsLegalJournal};
 ghost use Rattle.er_settle.specs.Seats.{IsSeatList};
 
 use crate::{JournalView, Run, SeatView, Unsettled, settle_lists};
-use er_event::{Event, Kind, Lockset, Reply, Site, ThreadId, Word};
-use er_model::{Call, Entry, Stamp, What};
+use er_event::{Event, Kind, Lockset, Site, ThreadId, Word};
+use er_model::{BriefReply, Call, Entry, Stamp, What};
 use std::alloc::{AllocError, Global};
 use std::test::Fail;
 
 // One counted write.
-fn one_write(alloc: Global, word: u64, ticket: u64, reply: Reply) -> Result<Vec<Call>, AllocError>
+fn one_write(
+    alloc: Global,
+    word: u64,
+    ticket: u64,
+    reply: BriefReply,
+) -> Result<Vec<Call>, AllocError>
     requires { word < 2 ^ 46 }
     ensures { IfOk result (λ calls. (t : ℕ) → IsSeatList t calls.items) }
 {
@@ -31,22 +36,22 @@ fn write_among_brackets(alloc: Global, word: u64, ticket: u64) -> Result<Vec<Cal
     let mut calls = Vec::new(alloc);
     calls.push(Call {
         event: Event::IgnoreOn,
-        reply: Reply::Done,
+        reply: BriefReply::done(),
         ticket: None,
     })?;
     calls.push(Call {
         event: Event::IgnoreOff,
-        reply: Reply::Done,
+        reply: BriefReply::done(),
         ticket: None,
     })?;
     calls.push(Call {
         event: Event::Access(Kind::Write, Word::new(word), Site::MISSING),
-        reply: Reply::Quiet,
+        reply: BriefReply::of_access(false),
         ticket: Some(ticket),
     })?;
     calls.push(Call {
         event: Event::IgnoreOn,
-        reply: Reply::Done,
+        reply: BriefReply::done(),
         ticket: None,
     })?;
     Ok(calls)
@@ -70,7 +75,7 @@ fn one_entry(alloc: Global, thread: u32, word: u64, ticket: u64) -> Result<Vec<E
             held: Lockset::new(alloc),
             write_held: Lockset::new(alloc),
         }),
-        reply: Reply::Quiet,
+        reply: BriefReply::of_access(false),
     })?;
     Ok(entries)
 }
@@ -130,7 +135,7 @@ fn letter(event: Event) -> char {
 
 #[test]
 fn lists_that_agree_settle(rt: HostRuntime) -> Result<(), Fail> {
-    let calls = one_write(rt.alloc(), 1024, 0, Reply::Quiet)?;
+    let calls = one_write(rt.alloc(), 1024, 0, BriefReply::of_access(false))?;
     let entries = one_entry(rt.alloc(), 0, 1024, 0)?;
     let none = no_entry(rt.alloc());
     let seats = [seat(7, 0, &calls)];
@@ -195,7 +200,7 @@ fn ticket_in_two_journals(rt: HostRuntime) -> Result<(), Fail> {
 
 #[test]
 fn call_without_its_entry(rt: HostRuntime) -> Result<(), Fail> {
-    let calls = one_write(rt.alloc(), 1024, 0, Reply::Quiet)?;
+    let calls = one_write(rt.alloc(), 1024, 0, BriefReply::of_access(false))?;
     let none = no_entry(rt.alloc());
     let run = settle_lists(rt.alloc(), 7, 1, &[seat(7, 0, &calls)], &[journal(&none)]);
     assert_eq!(rt; told(rt.alloc(), &run)?.as_str(), "entries");
@@ -204,7 +209,7 @@ fn call_without_its_entry(rt: HostRuntime) -> Result<(), Fail> {
 
 #[test]
 fn entry_of_another_shard(rt: HostRuntime) -> Result<(), Fail> {
-    let calls = one_write(rt.alloc(), 1024, 0, Reply::Quiet)?;
+    let calls = one_write(rt.alloc(), 1024, 0, BriefReply::of_access(false))?;
     let entries = one_entry(rt.alloc(), 0, 1024, 0)?;
     let none = no_entry(rt.alloc());
     let journals = [journal(&entries), journal(&none)];
@@ -215,7 +220,7 @@ fn entry_of_another_shard(rt: HostRuntime) -> Result<(), Fail> {
 
 #[test]
 fn other_reply_than_the_entry(rt: HostRuntime) -> Result<(), Fail> {
-    let calls = one_write(rt.alloc(), 1024, 0, Reply::Race)?;
+    let calls = one_write(rt.alloc(), 1024, 0, BriefReply::of_access(true))?;
     let entries = one_entry(rt.alloc(), 0, 1024, 0)?;
     let run = settle_lists(
         rt.alloc(),

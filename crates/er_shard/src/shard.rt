@@ -7,7 +7,7 @@ ghost use Rattle.er_shadow.specs.Shadows.{needs_set};
 ghost use Rattle.er_shard.specs.Journaled.{entry_of};
 
 use er_event::{NoRoom, PageRange, Reply, ThreadId, Word, WordState};
-use er_model::{Entry, Stamp, What};
+use er_model::{BriefReply, Entry, Stamp, What};
 use er_shadow::ShadowMap;
 use er_table::LocksetTable;
 use std::alloc::{AllocError, Global};
@@ -108,7 +108,7 @@ impl<'t> Shard<'t> {
             ticket,
             thread: stamp.thread,
             what: What::Access(stamp),
-            reply: reply_to(reported),
+            reply: BriefReply::of_access(reported),
         });
         Ok(reply_to(reported))
     }
@@ -129,7 +129,7 @@ impl<'t> Shard<'t> {
             ticket,
             thread,
             what: What::Reset(*range),
-            reply: Reply::Done,
+            reply: BriefReply::done(),
         });
         Ok(())
     }

@@ -102,7 +102,7 @@ fn brief(entry: &Entry) -> (u64, u32, bool, Answer) {
         entry.ticket,
         entry.thread.number(),
         access,
-        told(&entry.reply),
+        told(&entry.reply.reply()),
     )
 }
 

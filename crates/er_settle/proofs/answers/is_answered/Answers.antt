@@ -31,7 +31,7 @@ returns-then-not-is_alike c =
 pub loop-call-preserved : goal.loop-call-preserved
 loop-call-preserved c =
     let here = rw c.calls-call-items.ensures.calls at (slice_get_read c.calls-call-items.result.now _ _ c.call-item.result refl c.loop-call-test.true c.call-item.is) in
-    let held = c.in_ok-follow.ensures ∙ sym (rw (← c.loop-call.invariant.held) at (holdings-next c.args.seat.now.thread c.args.seat.now.calls c.loop-call.call-index c.call-item.result here)) in
+    let held = c.in_ok-follow.ensures.ok ∙ sym (rw (← c.loop-call.invariant.held) at (holdings-next c.args.seat.now.thread c.args.seat.now.calls c.loop-call.call-index c.call-item.result here)) in
     elim c.if-is_some.branch [
       | then-is_some+else-prove+else-not-is_alike w ↦ (
           let some = sym c.is_some.ensures ∙ w.if-is_some.true in

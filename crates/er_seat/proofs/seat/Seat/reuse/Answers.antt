@@ -9,4 +9,4 @@ owed-requires c = ends-now c.self.inside.thread c.self.inside.calls.items c.self
 pub invariant_of-self-2 : goal.invariant_of-self-2
 invariant_of-self-2 c =
     seat-reused c.self.inside.thread c.self.inside.calls.items _ _ c.self.inside.held _ _ c.args.ticket c.args.range c.self.invariant
-    c.reserve.ensures.items c.push_reserved.ensures.items (omega (arith, c.in_ok-reserve.ensures.ok, c.owed.ensures.owed, c.push_reserved.ensures.capacity))
+    c.reserve.ensures.items (rw c.done.ensures at c.push_reserved.ensures.items) (omega (arith, c.in_ok-reserve.ensures.ok, c.owed.ensures.owed, c.push_reserved.ensures.capacity))
