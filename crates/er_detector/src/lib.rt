@@ -29,5 +29,3 @@ mod config;
 mod detector;
 mod gate;
 mod races;
-#[cfg(test)]
-mod tests;

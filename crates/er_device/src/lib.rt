@@ -18,5 +18,3 @@
 pub use device::{Device, Failed};
 
 mod device;
-#[cfg(test)]
-mod tests;

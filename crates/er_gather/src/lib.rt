@@ -24,5 +24,3 @@ pub use er_settle::{Run, Unsettled};
 pub use gathering::{settle, settle_parts};
 
 mod gathering;
-#[cfg(test)]
-mod tests;

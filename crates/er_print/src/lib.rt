@@ -26,5 +26,3 @@ mod lines;
 mod naming;
 mod numbers;
 mod report;
-#[cfg(test)]
-mod tests;

@@ -20,6 +20,4 @@ pub use runs::run;
 
 mod machine;
 mod runs;
-#[cfg(test)]
-mod tests;
 mod threads;

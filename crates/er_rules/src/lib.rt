@@ -20,5 +20,3 @@
 pub use rules::{Rule, Suppressions, WordSpan};
 
 mod rules;
-#[cfg(test)]
-mod tests;

@@ -23,5 +23,3 @@ pub use replay::replay_text;
 mod fault;
 mod options;
 mod replay;
-#[cfg(test)]
-mod tests;

@@ -21,5 +21,3 @@
 pub use seat::{Seat, VacantSeat};
 
 mod seat;
-#[cfg(test)]
-mod tests;

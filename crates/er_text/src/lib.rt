@@ -31,14 +31,10 @@ mod laws;
 mod naming;
 mod numbers;
 mod reading;
-#[cfg(test)]
-mod rule_tests;
 mod rules;
 mod saying;
 mod suppressions;
 mod telling;
-#[cfg(test)]
-mod tests;
 mod usual;
 mod verbs;
 mod windows;

@@ -1,5 +1,8 @@
+ghost use Rattle.std.specs.Prelude.{◌≤◌};
+
 use super::*;
 use er_event::LockId;
+use std::process::Abort;
 use std::test::*;
 
 // These say nothing of what they return, so that a test's proof has little to carry.
@@ -10,6 +13,23 @@ fn set_from(alloc: Global, locks: &[u32]) -> Result<Lockset, AllocError> {
         set.insert(LockId::new(lock))?;
     }
     Ok(set)
+}
+
+fn table<R: Abort + AllocGlobal>(rt: &R, max_sets: u32) -> LocksetTable
+    requires some { 1 ≤ max_sets }
+    requires few { max_sets ≤ 1000 }
+{
+    match LocksetTable::new(rt.alloc(), max_sets) {
+        Ok(table) => table,
+        Err(_) => rt.abort(),
+    }
+}
+
+fn known<'t, R: Abort + AllocGlobal>(rt: &R, table: &'t LocksetTable) -> Known<'t> {
+    match Known::new(rt.alloc(), table) {
+        Ok(known) => known,
+        Err(_) => rt.abort(),
+    }
 }
 
 fn number<R: Wait + AllocGlobal>(rt: &R, known: &mut Known, locks: &[u32]) -> Result<u32, NoRoom> {
@@ -32,9 +52,9 @@ fn has_locks<R: AllocGlobal>(rt: &R, known: &Known, number: u32, locks: &[u32]) 
 }
 
 #[test]
-fn locksets_and_known(rt: HostRuntime) -> Result<(), Fail> {
-    let table = LocksetTable::new(rt.alloc(), 4)?;
-    let mut known = Known::new(rt.alloc(), &table)?;
+fn locksets_and_known(rt: HostRuntime) {
+    let table = table(&rt, 4);
+    let mut known = known(&rt, &table);
     assert_eq!(rt; number(&rt, &mut known, &[]), Ok(0));
     assert_eq!(rt; number(&rt, &mut known, &[1, 3, 5]), Ok(1));
     assert_eq!(rt; number(&rt, &mut known, &[3, 4, 5]), Ok(2));
@@ -44,21 +64,19 @@ fn locksets_and_known(rt: HostRuntime) -> Result<(), Fail> {
     assert!(rt; has_locks(&rt, &known, 3, &[3, 5]));
     assert!(rt; has_locks(&rt, &known, 0, &[]));
     assert_eq!(rt; known.count(), 4);
-    Ok(())
 }
 
 // What is plain is not remembered, and of the rest each pair is remembered once.
 #[test]
-fn a_pair_is_remembered_once(rt: HostRuntime) -> Result<(), Fail> {
-    let table = LocksetTable::new(rt.alloc(), 4)?;
-    let mut known = Known::new(rt.alloc(), &table)?;
+fn a_pair_is_remembered_once(rt: HostRuntime) {
+    let table = table(&rt, 4);
+    let mut known = known(&rt, &table);
     assert_eq!(rt; number(&rt, &mut known, &[1, 2]), Ok(1));
     assert_eq!(rt; number(&rt, &mut known, &[2, 3]), Ok(2));
     for (first, second, want) in [(1, 1, 0), (0, 1, 0), (1, 2, 1), (1, 2, 1), (2, 1, 2)] {
         assert!(rt; meet(&rt, &mut known, first, second).is_some());
         assert_eq!(rt; known.meets.len(), want);
     }
-    Ok(())
 }
 
 // Whether the sets of one lock each, {0} to {399}, get the numbers 1 to 400.
@@ -84,15 +102,14 @@ fn all_apart<R: Wait>(rt: &R, known: &mut Known) -> bool {
 }
 
 #[test]
-fn memory_of_meets_is_bounded(rt: HostRuntime) -> Result<(), Fail> {
-    let table = LocksetTable::new(rt.alloc(), 400)?;
-    let mut known = Known::new(rt.alloc(), &table)?;
+fn memory_of_meets_is_bounded(rt: HostRuntime) {
+    let table = table(&rt, 400);
+    let mut known = known(&rt, &table);
     assert!(rt; number_each(&rt, &mut known));
     assert_eq!(rt; number(&rt, &mut known, &[400]), Err(NoRoom::TableFull));
     assert!(rt; all_apart(&rt, &mut known));
     assert_eq!(rt; known.count(), 401);
     assert_eq!(rt; known.meets.len(), 65536);
-    Ok(())
 }
 
 // Asks again after a refusal for want of memory, which is to leave the numbers as they were.
@@ -117,9 +134,9 @@ fn meet_again<R: Wait>(rt: &R, known: &mut Known, first: u32, second: u32) -> Op
 
 // Each allocation past the constructors may be refused once: `rt try --test --fail-alloc N`.
 #[test]
-fn a_refusal_changes_nothing(rt: HostRuntime) -> Result<(), Fail> {
-    let table = LocksetTable::new(rt.alloc(), 4)?;
-    let mut known = Known::new(rt.alloc(), &table)?;
+fn a_refusal_changes_nothing(rt: HostRuntime) {
+    let table = table(&rt, 4);
+    let mut known = known(&rt, &table);
     for lock in 0..3u32 {
         assert_eq!(rt; number_again(&rt, &mut known, lock), Some(lock + 1));
     }
@@ -127,5 +144,4 @@ fn a_refusal_changes_nothing(rt: HostRuntime) -> Result<(), Fail> {
     assert_eq!(rt; meet_again(&rt, &mut known, 3, 2), Some(0));
     assert_eq!(rt; known.count(), 4);
     assert_eq!(rt; table.sets(&rt), 3);
-    Ok(())
 }

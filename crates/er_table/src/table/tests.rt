@@ -1,8 +1,9 @@
-ghost use Rattle.std.specs.Prelude.{◌≡◌, IfOk};
+ghost use Rattle.std.specs.Prelude.{◌≡◌, ◌≤◌, IfOk};
 ghost use Rattle.er_table.specs.SetRef.{IsOf, set_of};
 
 use super::*;
 use er_event::LockId;
+use std::process::Abort;
 use std::test::*;
 use std::thread;
 use std::thread::Threads;
@@ -13,6 +14,16 @@ fn set_from(alloc: Global, locks: &[u32]) -> Result<Lockset, AllocError> {
         set.insert(LockId::new(lock))?;
     }
     Ok(set)
+}
+
+fn table<R: Abort + AllocGlobal>(rt: &R, max_sets: u32) -> LocksetTable
+    requires some { 1 ≤ max_sets }
+    requires few { max_sets ≤ 1000 }
+{
+    match LocksetTable::new(rt.alloc(), max_sets) {
+        Ok(table) => table,
+        Err(_) => rt.abort(),
+    }
 }
 
 // Whether what the table gives for the set is the set.
@@ -40,14 +51,13 @@ fn is_given_back_after<R: Wait + AllocGlobal>(
 }
 
 #[test]
-fn a_full_table_still_gives_what_it_has(rt: HostRuntime) -> Result<(), Fail> {
-    let table = LocksetTable::new(rt.alloc(), 2)?;
+fn a_full_table_still_gives_what_it_has(rt: HostRuntime) {
+    let table = table(&rt, 2);
     assert_eq!(rt; is_given_back(&rt, &table, &[1, 3]), Ok(true));
     assert_eq!(rt; is_given_back(&rt, &table, &[2]), Ok(true));
     assert_eq!(rt; is_given_back_after(&rt, &table, &[1, 3], &[4]), Ok(true));
     assert_eq!(rt; table.sets(&rt), 2);
     assert_eq!(rt; table.max_sets(), 2);
-    Ok(())
 }
 
 // Two threads name one set, and each name stands for it.
@@ -78,19 +88,19 @@ fn store_all_twice<R: Threads + Wait + AllocGlobal + Sync>(rt: &R, table: &Locks
 }
 
 #[test]
-fn two_threads_store_each_set_once(rt: HostRuntime) -> Result<(), Fail> {
-    let table = LocksetTable::new(rt.alloc(), 1000)?;
+fn two_threads_store_each_set_once(rt: HostRuntime) {
+    let table = table(&rt, 1000);
     assert!(rt; store_all_twice(&rt, &table));
     assert_eq!(rt; table.sets(&rt), 100);
     assert_eq!(rt; table.sets.count(), 100);
-    Ok(())
 }
 
 #[test]
-fn two_threads_name_one_set(rt: HostRuntime) -> Result<(), Fail> {
-    let table = LocksetTable::new(rt.alloc(), 1000)?;
-    let set = set_from(rt.alloc(), &[7])?;
+fn two_threads_name_one_set(rt: HostRuntime) {
+    let table = table(&rt, 1000);
+    let Ok(set) = set_from(rt.alloc(), &[7]) else {
+        rt.abort()
+    };
     assert!(rt; named_by_two(&rt, &table, &set).is_ok());
     assert_eq!(rt; table.sets.count(), 1);
-    Ok(())
 }

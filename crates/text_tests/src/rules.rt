@@ -1,4 +1,4 @@
-use crate::{Rule, Suppressions, WordSpan};
+use er_rules::{Rule, Suppressions, WordSpan};
 use er_event::Word;
 use std::alloc::{AllocError, Global};
 use std::test::Fail;

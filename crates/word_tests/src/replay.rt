@@ -1,5 +1,5 @@
 //! Worked cases of machines and runs.
-use crate::{Machine, run};
+use er_replay::{Machine, run};
 use er_event::{
     Event, Kind, Level, LockId, Mode, NoRoom, Refusal, Reply, Site, Step, ThreadId, Word, WordState,
 };

@@ -1,5 +1,6 @@
 //! Worked cases of one thread's seat.
-use crate::{Seat, VacantSeat};
+use crate::fixtures::table_of_four;
+use er_seat::{Seat, VacantSeat};
 use er_event::{
     Event, Kind, Level, LockId, Mode, NoRoom, PageRange, Refusal, Reply, Site, ThreadId, Word,
 };
@@ -239,13 +240,6 @@ fn brackets_and_levels_refused(rt: HostRuntime) {
     }
     release_all(&rt, &mut seat, 1, 9);
     assert_eq!(rt; shown(&seat), (48, 8, 8, 8, false));
-}
-
-fn table_of_four<R: Abort + AllocGlobal>(rt: &R) -> LocksetTable {
-    let Ok(table) = LocksetTable::new(rt.alloc(), 4) else {
-        rt.abort()
-    };
-    table
 }
 
 fn shard_over<'t, R: Abort + AllocGlobal>(

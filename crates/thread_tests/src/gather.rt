@@ -1,6 +1,7 @@
 //! Detectors that threads are done with, settled with seats of their own and of others.
-use crate::{Run, settle, settle_parts};
-use er_detector::{Config, Detector, Parts};
+use crate::fixtures::{config, detector, open, parts, table_of_four};
+use er_gather::{Run, settle, settle_parts};
+use er_detector::{Detector, Parts};
 use er_event::{Event, Kind, LockId, Mode, Reply, Site, Step, Word};
 use er_seat::Seat;
 use er_shard::Shard;
@@ -12,44 +13,13 @@ use std::test::*;
 
 // These say nothing of what they return, so that a test's proof has little to carry. A test ends where one of them cannot answer.
 
-fn table<R: Abort + AllocGlobal>(rt: &R) -> LocksetTable {
-    match LocksetTable::new(rt.alloc(), 4) {
-        Ok(table) => table,
-        Err(_) => rt.abort(),
-    }
-}
-
-fn config<R: Abort>(rt: &R, name: u64) -> Config {
-    match Config::new(name, 2, 100, 2) {
-        Some(config) => config,
-        None => rt.abort(),
-    }
-}
-
 // A detector of two shards.
-fn detector<'t, R: Abort + AllocGlobal>(
+fn two_shards<'t, R: Abort + AllocGlobal>(
     rt: &R,
     table: &'t LocksetTable,
     name: u64,
 ) -> Detector<'t> {
-    match Detector::new(rt.alloc(), table, config(rt, name)) {
-        Ok(detector) => detector,
-        Err(_) => rt.abort(),
-    }
-}
-
-fn parts<'t, R: Abort>(rt: &R, detector: Detector<'t>) -> Parts<'t> {
-    match detector.into_parts() {
-        Ok(parts) => parts,
-        Err(_) => rt.abort(),
-    }
-}
-
-fn open<R: Abort>(rt: &R, detector: &Detector) -> Seat {
-    match detector.open_seat() {
-        Ok(seat) => seat,
-        Err(_) => rt.abort(),
-    }
+    detector(rt, table, config(rt, name, 2, 100))
 }
 
 fn word<R: Abort>(rt: &R, address: u64) -> Word {
@@ -177,8 +147,8 @@ fn fault<R: AllocGlobal>(rt: &R, detector: Detector, seats: Vec<Seat>) -> &'stat
 
 #[test]
 fn two_threads_race(rt: HostRuntime) {
-    let table = table(&rt);
-    let detector = detector(&rt, &table, 7);
+    let table = table_of_four(&rt);
+    let detector = two_shards(&rt, &table, 7);
     let one = written(&rt, &detector, 0x1000);
     let two = written(&rt, &detector, 0x1000);
     let seats = two_seats(&rt, one, two);
@@ -188,8 +158,8 @@ fn two_threads_race(rt: HostRuntime) {
 // The second seat came first, and is given last.
 #[test]
 fn turns_go_by_ticket(rt: HostRuntime) {
-    let table = table(&rt);
-    let detector = detector(&rt, &table, 7);
+    let table = table_of_four(&rt);
+    let detector = two_shards(&rt, &table, 7);
     let mut one = open(&rt, &detector);
     let mut two = open(&rt, &detector);
     write_locked(&rt, &detector, &mut two, 0x1000);
@@ -202,8 +172,8 @@ fn turns_go_by_ticket(rt: HostRuntime) {
 
 #[test]
 fn a_seat_is_missing(rt: HostRuntime) {
-    let table = table(&rt);
-    let detector = detector(&rt, &table, 7);
+    let table = table_of_four(&rt);
+    let detector = two_shards(&rt, &table, 7);
     let one = written(&rt, &detector, 0x1000);
     write_apart(&rt, &detector, 0x1004);
     let seats = one_seat(&rt, one);
@@ -212,18 +182,18 @@ fn a_seat_is_missing(rt: HostRuntime) {
 
 #[test]
 fn a_seat_is_given_twice(rt: HostRuntime) {
-    let table = table(&rt);
-    let here = detector(&rt, &table, 7);
-    let there = detector(&rt, &table, 7);
+    let table = table_of_four(&rt);
+    let here = two_shards(&rt, &table, 7);
+    let there = two_shards(&rt, &table, 7);
     let seats = two_seats(&rt, open(&rt, &here), open(&rt, &there));
     assert_eq!(rt; fault(&rt, here, seats), "seat twice");
 }
 
 #[test]
 fn a_seat_is_foreign(rt: HostRuntime) {
-    let table = table(&rt);
-    let here = detector(&rt, &table, 7);
-    let there = detector(&rt, &table, 8);
+    let table = table_of_four(&rt);
+    let here = two_shards(&rt, &table, 7);
+    let there = two_shards(&rt, &table, 8);
     let seats = one_seat(&rt, open(&rt, &there));
     assert_eq!(rt; fault(&rt, here, seats), "foreign seat");
 }
@@ -231,9 +201,9 @@ fn a_seat_is_foreign(rt: HostRuntime) {
 // The second seat wrote the same word at the other detector, where it was a race.
 #[test]
 fn another_answer(rt: HostRuntime) {
-    let table = table(&rt);
-    let here = detector(&rt, &table, 7);
-    let there = detector(&rt, &table, 7);
+    let table = table_of_four(&rt);
+    let here = two_shards(&rt, &table, 7);
+    let there = two_shards(&rt, &table, 7);
     let one = written(&rt, &here, 0x1000);
     write_apart(&rt, &here, 0x1004);
     write_apart(&rt, &there, 0x1004);
@@ -257,9 +227,9 @@ fn swap_with_first_shard<'t, R: Abort + Wait>(rt: &R, shard: &mut Shard<'t>, the
 // Each journal has one entry, and both have the same ticket.
 #[test]
 fn shards_are_swapped(rt: HostRuntime) {
-    let table = table(&rt);
-    let here = detector(&rt, &table, 7);
-    let there = detector(&rt, &table, 7);
+    let table = table_of_four(&rt);
+    let here = two_shards(&rt, &table, 7);
+    let there = two_shards(&rt, &table, 7);
     let one = written(&rt, &here, 0x1000);
     write_apart(&rt, &there, 0);
     swap_first_shards(&rt, &here, &there);
@@ -269,9 +239,9 @@ fn shards_are_swapped(rt: HostRuntime) {
 
 #[test]
 fn another_detectors_call(rt: HostRuntime) {
-    let table = table(&rt);
-    let here = detector(&rt, &table, 7);
-    let there = detector(&rt, &table, 7);
+    let table = table_of_four(&rt);
+    let here = two_shards(&rt, &table, 7);
+    let there = two_shards(&rt, &table, 7);
     write_apart(&rt, &here, 0x1000);
     let seats = one_seat(&rt, written(&rt, &there, 0));
     assert_eq!(rt; fault(&rt, here, seats), "entries");

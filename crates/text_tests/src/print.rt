@@ -2,9 +2,9 @@ ghost use Rattle.std.specs.Prelude.{◌≡◌, All, OnOk, IsTrue, true, false};
 ghost use Rattle.er_device.specs.Device.{has_failed};
 ghost use Rattle.er_event.specs.Names.{NameTable, no_names};
 ghost use Rattle.er_report.specs.Names.{HasNames, HasLockNames, HasEventNames, HasStateNames};
-ghost use Rattle.er_print.specs.Sample.{IsAmple};
+ghost use Rattle.text_tests.specs.Sample.{IsAmple};
 
-use crate::{WriteFault, write_report};
+use er_print::{WriteFault, write_report};
 use er_device::Device;
 use er_event::{
     Event, Kind, LockId, Lockset, Mode, Names, NoRoom, Refusal, Site, Step, ThreadId, Word,

@@ -1,4 +1,4 @@
-use crate::{ReadFault, TextFault, TextKind, read_trace};
+use er_text::{ReadFault, TextFault, TextKind, read_trace};
 use er_device::Device;
 use er_event::{Event, Kind, Mode, Trace};
 use std::alloc::{AllocError, Global};

@@ -1,4 +1,4 @@
-use crate::{Device, Failed};
+use er_device::{Device, Failed};
 use std::io;
 use std::io::{Read, Write};
 use std::test::Fail;

@@ -1,5 +1,5 @@
-use crate::tests::{COMMENT, Drops, Endless, Failing};
-use crate::{ReadFault, TextFault, TextKind, read_suppressions};
+use crate::text::{COMMENT, Drops, Endless, Failing};
+use er_text::{ReadFault, TextFault, TextKind, read_suppressions};
 use er_device::Device;
 use er_rules::{Rule, Suppressions};
 use std::alloc::{AllocError, Global};

@@ -1,5 +1,5 @@
 //! Worked cases from bytes to bytes.
-use crate::{Options, Verdict, replay_text};
+use er_run::{Options, Verdict, replay_text};
 use er_device::Device;
 use er_event::Word;
 use er_rules::{Rule, Suppressions, WordSpan};
