@@ -17,5 +17,3 @@
 pub use holding::Held;
 
 mod holding;
-#[cfg(test)]
-mod tests;

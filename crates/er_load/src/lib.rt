@@ -25,6 +25,4 @@ mod plays;
 mod runs;
 mod scripts;
 mod stages;
-#[cfg(test)]
-mod tests;
 mod workloads;

@@ -25,5 +25,3 @@ pub use table::{a_numbered_state_follows_the_table, advance, need};
 mod shadow;
 mod states;
 mod table;
-#[cfg(test)]
-mod tests;

@@ -7,4 +7,3 @@ pub mod TurnLemmas
 pub mod RestLemmas
 pub mod MergeLemmas
 pub mod FirstLemmas
-pub mod SampleLemmas

@@ -34,7 +34,5 @@ mod orders;
 mod pairs;
 mod rising;
 mod settling;
-#[cfg(test)]
-mod tests;
 mod turns;
 mod views;

@@ -20,5 +20,3 @@ pub use map::ShadowMap;
 mod map;
 mod page;
 mod refining;
-#[cfg(test)]
-mod tests;

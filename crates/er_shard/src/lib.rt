@@ -21,5 +21,3 @@
 pub use shard::Shard;
 
 mod shard;
-#[cfg(test)]
-mod tests;

@@ -4,12 +4,12 @@ ghost use Rattle.er_event.specs.Names.{NameTable, no_names};
 ghost use Rattle.er_report.specs.Names.{HasNames, HasLockNames, HasEventNames, HasStateNames};
 ghost use Rattle.text_tests.specs.Sample.{IsAmple};
 
-use er_print::{WriteFault, write_report};
 use er_device::Device;
 use er_event::{
     Event, Kind, LockId, Lockset, Mode, Names, NoRoom, Refusal, Site, Step, ThreadId, Word,
     WordState,
 };
+use er_print::{WriteFault, write_report};
 use er_report::{Line, Report};
 use std::alloc::{AllocError, Global};
 use std::io;

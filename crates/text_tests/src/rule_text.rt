@@ -1,7 +1,7 @@
 use crate::text::{COMMENT, Drops, Endless, Failing};
-use er_text::{ReadFault, TextFault, TextKind, read_suppressions};
 use er_device::Device;
 use er_rules::{Rule, Suppressions};
+use er_text::{ReadFault, TextFault, TextKind, read_suppressions};
 use std::alloc::{AllocError, Global};
 use std::io::Read;
 use std::process::Abort;

@@ -1,5 +1,5 @@
-use er_rules::{Rule, Suppressions, WordSpan};
 use er_event::Word;
+use er_rules::{Rule, Suppressions, WordSpan};
 use std::alloc::{AllocError, Global};
 use std::test::Fail;
 

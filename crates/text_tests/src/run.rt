@@ -1,8 +1,8 @@
 //! Worked cases from bytes to bytes.
-use er_run::{Options, Verdict, replay_text};
 use er_device::Device;
 use er_event::Word;
 use er_rules::{Rule, Suppressions, WordSpan};
+use er_run::{Options, Verdict, replay_text};
 use std::alloc::{AllocError, Global};
 use std::test::Fail;
 

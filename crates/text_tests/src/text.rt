@@ -1,6 +1,6 @@
-use er_text::{ReadFault, TextFault, TextKind, read_trace};
 use er_device::Device;
 use er_event::{Event, Kind, Mode, Trace};
+use er_text::{ReadFault, TextFault, TextKind, read_trace};
 use std::alloc::{AllocError, Global};
 use std::io;
 use std::io::Read;

@@ -1,8 +1,8 @@
 //! Detectors that threads are done with, settled with seats of their own and of others.
 use crate::fixtures::{config, detector, open, parts, table_of_four};
-use er_gather::{Run, settle, settle_parts};
 use er_detector::{Detector, Parts};
 use er_event::{Event, Kind, LockId, Mode, Reply, Site, Step, Word};
+use er_gather::{Run, settle, settle_parts};
 use er_seat::Seat;
 use er_shard::Shard;
 use er_table::LocksetTable;

@@ -8,4 +8,10 @@ mod fixtures;
 #[cfg(test)]
 mod gather;
 #[cfg(test)]
+mod load;
+#[cfg(test)]
 mod seat;
+#[cfg(test)]
+mod settle;
+#[cfg(test)]
+mod shard;

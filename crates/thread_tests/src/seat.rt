@@ -1,10 +1,10 @@
 //! Worked cases of one thread's seat.
 use crate::fixtures::table_of_four;
-use er_seat::{Seat, VacantSeat};
 use er_event::{
     Event, Kind, Level, LockId, Mode, NoRoom, PageRange, Refusal, Reply, Site, ThreadId, Word,
 };
 use er_model::{Call, What};
+use er_seat::{Seat, VacantSeat};
 use er_shard::Shard;
 use er_table::LocksetTable;
 use std::process::Abort;

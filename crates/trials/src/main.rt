@@ -32,8 +32,11 @@ use tables::{Filled, fill_table};
 #[derive(Clone, Copy)]
 pub(crate) enum Fault {
     Memory,
+    /// The words of the command line ask for nothing.
     Usage,
     System,
+    /// What came of a trial is none of the outcomes that it tells of.
+    Unexpected,
     Refused(Refusal),
 }
 
@@ -43,6 +46,7 @@ impl Fault {
             Fault::Memory => "out of memory",
             Fault::Usage => "usage: trials [rate THREADS own|spread|one CALLS]",
             Fault::System => "no clock, or standard output takes nothing",
+            Fault::Unexpected => "a trial went otherwise than it may",
             Fault::Refused(why) => why.text(),
         }
     }

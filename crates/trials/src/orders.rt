@@ -1,4 +1,8 @@
 //! Which refusal comes first where two apply.
+ghost use Rattle.std.specs.Prelude.{◌≡◌, ◌≢◌, ◌≤◌, ◌↔◌, ◌⊎◌, ◌+◌, ◌-◌, ◌^◌, min, IsOk, IfOk, IfSome, IfNone, OnOk, OnSome};
+ghost use Rattle.trials.specs.Grown.{HasMade};
+ghost use Rattle.trials.specs.Refused.{IsDue};
+
 use crate::Fault;
 use crate::stages::Trial;
 use er_detector::{Config, Detector};
@@ -22,21 +26,23 @@ impl Counts {
         first: Option<Refusal>,
         again: Option<Refusal>,
         own: Refusal,
-    ) -> Result<Counts, Fault> {
-        let Counts { memory, own: owns } = self;
+    ) -> Result<Counts, Fault>
+        ensures due { IsOk result ↔ IsDue first again own }
+        ensures own { IfOk result (λ counts. counts.own ≡ min (self.own + 1) (2 ^ 32 - 1)) }
+        ensures at_once { first ≡ Some own → IfOk result (λ counts. counts.memory ≡ self.memory) }
+        ensures again { first ≢ Some own → IfOk result (λ counts. counts.memory ≡ min (self.memory + 1) (2 ^ 32 - 1)) }
+    {
+        let more = self.own.saturating_add(1);
         if first == Some(own) {
-            return Ok(Counts {
-                memory,
-                own: owns.saturating_add(1),
-            });
+            Ok(Counts { own: more, ..self })
+        } else if first == Some(Refusal::OutOfMemory) && again == Some(own) {
+            Ok(Counts {
+                memory: self.memory.saturating_add(1),
+                own: more,
+            })
+        } else {
+            Err(Fault::Unexpected)
         }
-        if first == Some(Refusal::OutOfMemory) && again == Some(own) {
-            return Ok(Counts {
-                memory: memory.saturating_add(1),
-                own: owns.saturating_add(1),
-            });
-        }
-        Err(Fault::Usage)
     }
 }
 
@@ -57,7 +63,12 @@ impl Trial<Counts> for FullJournal {
     }
 }
 
-fn full_by<R: Wait>(rt: &R, detector: &Detector<'_>, seat: &mut Seat) -> Result<Counts, Fault> {
+// All refused calls, of which each leaves the seat's list as it was.
+fn full_by<R: Wait>(rt: &R, detector: &Detector<'_>, seat: &mut Seat) -> Result<Counts, Fault>
+    ensures own { IfOk result (λ counts. counts.own ≡ CALLS) }
+    ensures memory { IfOk result (λ counts. counts.memory ≤ CALLS) }
+    ensures made { OnOk result (HasMade seat.old seat.new (1 + CALLS)) }
+{
     if let Some(why) = access(rt, detector, seat) {
         return Err(Fault::Refused(why));
     }
@@ -68,7 +79,7 @@ fn full_by<R: Wait>(rt: &R, detector: &Detector<'_>, seat: &mut Seat) -> Result<
         let first = access(rt, detector, seat);
         let again = access(rt, detector, seat);
         if seat.calls().len() != calls {
-            return Err(Fault::Usage);
+            return Err(Fault::Unexpected);
         }
         counts = counts.add(first, again, Refusal::JournalFull)?;
     }
@@ -76,7 +87,10 @@ fn full_by<R: Wait>(rt: &R, detector: &Detector<'_>, seat: &mut Seat) -> Result<
 }
 
 // One more call of the seat's list, made again where there was no memory for it.
-fn lengthen(seat: &mut Seat) -> Result<(), Fault> {
+#[tactic(auto, unfolding(er_seat::specs::Seats::with_call))]
+fn lengthen(seat: &mut Seat) -> Result<(), Fault>
+    ensures { OnOk result (HasMade seat.old seat.new 1) }
+{
     let level = Level::of_number(0)?;
     if seat.set_level(level).is_err() {
         seat.set_level(level)?;
@@ -84,7 +98,11 @@ fn lengthen(seat: &mut Seat) -> Result<(), Fault> {
     Ok(())
 }
 
-fn access<R: Wait>(rt: &R, detector: &Detector<'_>, seat: &mut Seat) -> Option<Refusal> {
+// Why a write is refused, if it is. Where it isn't, the seat lists it.
+fn access<R: Wait>(rt: &R, detector: &Detector<'_>, seat: &mut Seat) -> Option<Refusal>
+    ensures refused { OnSome result (seat.new ≡ seat.old) }
+    ensures made { IfNone result (HasMade seat.old seat.new 1) }
+{
     detector
         .access(rt, seat, Word::new(0x400), Kind::Write, Site::MISSING)
         .err()
@@ -114,6 +132,8 @@ impl Trial<Counts> for AllOpen {
 }
 
 // Why a seat isn't opened, if it isn't.
-fn open(detector: &Detector<'_>) -> Option<Refusal> {
+fn open(detector: &Detector<'_>) -> Option<Refusal>
+    ensures { IfSome result (λ why. (why ≡ Refusal.OutOfMemory) ⊎ (why ≡ Refusal.TooManyThreads)) }
+{
     detector.open_seat().err()
 }

@@ -1,4 +1,10 @@
 //! How many accesses a second threads make at one detector.
+ghost use Rattle.std.specs.Prelude.{◌≡◌, ◌<◌, ◌≤◌, ◌+◌, ◌*◌, ◌/◌, [], ◌∷◌, length, vec_len, IsSome, IfSome, IfOk, OnOk, OnErr};
+ghost use Rattle.er_event.specs.declared.steps.Event.TheVariants.{Acquire};
+ghost use Rattle.er_seat.specs.Seats.{done};
+ghost use Rattle.trials.specs.Grown.{HasMade};
+ghost use Rattle.trials.specs.Measures.{shard_count, ReadsAs};
+
 use crate::Fault;
 use er_detector::{Config, Detector};
 use er_event::{Kind, LockId, Mode, Refusal, Reply, Site, Word};
@@ -26,7 +32,10 @@ pub(crate) enum Shape {
 }
 
 impl Shape {
-    fn shards(self) -> u32 {
+    // How many shards are called.
+    fn shards(self) -> u32
+        ensures { result ≡ shard_count self }
+    {
         match self {
             Shape::Own => 4,
             Shape::Spread => 64,
@@ -34,8 +43,10 @@ impl Shape {
         }
     }
 
-    // The word of a thread's call.
-    fn word(self, thread: u64, call: u64) -> Word {
+    // The word of a thread's call, on a page that was written before.
+    fn word(self, thread: u64, call: u64) -> Word
+        ensures { result / WORDS < shard_count self }
+    {
         let page = match self {
             Shape::Own => thread % 4,
             Shape::Spread => (call / 16 + thread % 4 * 16) % 64,
@@ -63,7 +74,12 @@ pub(crate) struct Measured {
 }
 
 /// The measure that three words ask for.
-pub(crate) fn read_measure(words: &[String]) -> Option<Measure> {
+pub(crate) fn read_measure(words: &[String]) -> Option<Measure>
+    ensures count { IsSome result → length words.now ≡ 3 }
+    ensures read { IfSome result (ReadsAs words.now) }
+    ensures threads { IfSome result (λ asked. (1 ≤ asked.threads) × (asked.threads ≤ 16)) }
+    ensures calls { IfSome result (λ asked. asked.calls ≤ 100000000) }
+{
     let threads = words.first()?.parse::<u32>().ok()?;
     let shape = match words.get(1)?.as_str() {
         "own" => Shape::Own,
@@ -90,7 +106,10 @@ fn access<R: Wait>(
     seat: &mut Seat,
     shape: Shape,
     call: u64,
-) -> Result<bool, Refusal> {
+) -> Result<bool, Refusal>
+    ensures made { OnOk result (HasMade seat.old seat.new 1) }
+    ensures err { OnErr result (seat.new ≡ seat.old) }
+{
     let thread = u64::from(seat.thread().number());
     let kind = if call % 2 == 0 {
         Kind::Read
@@ -107,16 +126,23 @@ fn make_calls<R: Wait>(
     detector: &Detector<'_>,
     asked: Measure,
     mut seat: Seat,
-) -> Result<u32, Refusal> {
+) -> Result<u32, Refusal>
+    ensures { IfOk result (λ races. races ≤ asked.calls) }
+{
     make_all(rt, detector, asked, &mut seat)
 }
 
+// The same at a seat that the caller keeps.
 fn make_all<R: Wait>(
     rt: &R,
     detector: &Detector<'_>,
     asked: Measure,
     seat: &mut Seat,
-) -> Result<u32, Refusal> {
+) -> Result<u32, Refusal>
+    ensures made { OnOk result (HasMade seat.old seat.new asked.calls) }
+    ensures stopped { OnErr result (length seat.new.calls < length seat.old.calls + asked.calls) }
+    ensures races { IfOk result (λ races. races ≤ asked.calls) }
+{
     let mut races: u32 = 0;
     for call in 0..asked.calls {
         if access(rt, detector, seat, asked.shape, u64::from(call))? {
@@ -127,7 +153,10 @@ fn make_all<R: Wait>(
 }
 
 // A seat that holds the lock.
-fn open(detector: &Detector<'_>) -> Result<Seat, Refusal> {
+#[tactic(auto, unfolding(er_seat::specs::Seats::with_call))]
+fn open(detector: &Detector<'_>) -> Result<Seat, Refusal>
+    ensures { IfOk result (λ seat. seat.calls ≡ done (Acquire 1 Mode.Write) ∷ []) }
+{
     let mut seat = detector.open_seat()?;
     match seat.acquire(LockId::new(1), Mode::Write) {
         Ok(()) => Ok(seat),
@@ -145,7 +174,9 @@ fn write_all_by<R: Wait>(
     detector: &Detector<'_>,
     shape: Shape,
     seat: &mut Seat,
-) -> Result<(), Refusal> {
+) -> Result<(), Refusal>
+    ensures { OnOk result (HasMade seat.old seat.new (WORDS * shard_count shape)) }
+{
     for page in 0..u64::from(shape.shards()) {
         for place in 0..WORDS {
             let word = Word::new(page * WORDS + place);
@@ -161,7 +192,8 @@ pub(crate) fn take_rate<R: Clock + Threads + Wait + Sync>(
     alloc: Global,
     asked: Measure,
 ) -> Result<Measured, Fault> {
-    let config = Config::new(1, asked.shape.shards(), Config::MAX_LIMIT, 17).ok_or(Fault::Usage)?;
+    let shards = asked.shape.shards();
+    let config = Config::new(1, shards, Config::MAX_LIMIT, 17).ok_or(Fault::Unexpected)?;
     let table = LocksetTable::new(alloc, 4)?;
     match Detector::new(alloc, &table, config) {
         Ok(detector) => rate_at(rt, alloc, &detector, asked),
@@ -183,8 +215,10 @@ fn rate_at<R: Clock + Threads + Wait + Sync>(
     Ok(Measured { races, micros })
 }
 
-// Seats that hold the lock.
-fn open_all(alloc: Global, detector: &Detector<'_>, threads: u32) -> Result<Vec<Seat>, Fault> {
+// Seats that hold the lock, one of each thread.
+fn open_all(alloc: Global, detector: &Detector<'_>, threads: u32) -> Result<Vec<Seat>, Fault>
+    ensures { IfOk result (λ seats. vec_len seats ≡ threads) }
+{
     let mut seats = Vec::new(alloc);
     for _ in 0..threads {
         add_seat(detector, &mut seats)?;
@@ -192,7 +226,9 @@ fn open_all(alloc: Global, detector: &Detector<'_>, threads: u32) -> Result<Vec<
     Ok(seats)
 }
 
-fn add_seat(detector: &Detector<'_>, seats: &mut Vec<Seat>) -> Result<(), Fault> {
+fn add_seat(detector: &Detector<'_>, seats: &mut Vec<Seat>) -> Result<(), Fault>
+    ensures { OnOk result (vec_len seats.new ≡ vec_len seats.old + 1) }
+{
     match seats.push(open(detector)?) {
         Ok(()) => Ok(()),
         Err(_) => Err(Fault::Memory),

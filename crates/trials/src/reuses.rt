@@ -52,7 +52,7 @@ fn resume_by<R: Wait>(
     let stopped = reuse_from(rt, detector, seat, START)?;
     let calls_then = seat.calls().len();
     if let Some(word) = stopped {
-        let address = word.checked_mul(4).ok_or(Fault::Usage)?;
+        let address = word.checked_mul(4).ok_or(Fault::Unexpected)?;
         if reuse_from(rt, detector, seat, address)?.is_some() {
             return Err(Fault::Memory);
         }
@@ -71,8 +71,8 @@ fn reuse_from<R: Wait>(
     seat: &mut Seat,
     address: u64,
 ) -> Result<Option<u64>, Fault> {
-    let size = END.checked_sub(address).ok_or(Fault::Usage)?;
-    let range = WordRange::of_bytes(address, size)?.ok_or(Fault::Usage)?;
+    let size = END.checked_sub(address).ok_or(Fault::Unexpected)?;
+    let range = WordRange::of_bytes(address, size)?.ok_or(Fault::Unexpected)?;
     match detector.reuse(rt, seat, &range) {
         Ok(()) => Ok(None),
         Err(stopped) if stopped.cause == Refusal::OutOfMemory => {

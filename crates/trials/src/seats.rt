@@ -1,4 +1,8 @@
 //! What a seat's access finds: the entry of a thread at a level, and shards that were swapped.
+ghost use Rattle.std.specs.Prelude.{◌≡◌, ℕ, Some, IfSome, IfNone, OnSome};
+ghost use Rattle.trials.specs.Entered.{HoldsOne};
+ghost use Rattle.trials.specs.Grown.{HasMade};
+
 use crate::Fault;
 use crate::stages::Trial;
 use er_detector::{Config, Detector};
@@ -24,7 +28,7 @@ impl Trial<u32> for LevelEntry {
     fn play<R: Wait>(&self, rt: &R, detector: &Detector<'_>) -> Result<u32, Fault> {
         write_once(rt, detector, Level::of_number(0)?)?;
         write_once(rt, detector, Level::of_number(1)?)?;
-        last_lock(rt, detector).ok_or(Fault::Usage)
+        last_lock(rt, detector).ok_or(Fault::Unexpected)
     }
 }
 
@@ -42,7 +46,7 @@ fn write_at<R: Wait>(
     seat.set_level(level)?;
     match detector.access(rt, seat, Word::new(WORD), Kind::Write, Site::MISSING)? {
         Reply::Quiet => Ok(()),
-        _ => Err(Fault::Usage),
+        _ => Err(Fault::Unexpected),
     }
 }
 
@@ -59,7 +63,11 @@ fn last_lock_of(shard: &Shard<'_>) -> Option<u32> {
     one_lock(shard.journal().last()?)
 }
 
-fn one_lock(entry: &Entry) -> Option<u32> {
+// The one lock that the entry's thread held, in write mode.
+fn one_lock(entry: &Entry) -> Option<u32>
+    ensures one { IfSome result (HoldsOne entry.now.what) }
+    ensures found { (lock : ℕ) → HoldsOne entry.now.what lock → result ≡ Some lock }
+{
     let What::Access(stamp) = &entry.what else {
         return None;
     };
@@ -93,7 +101,7 @@ impl Trial<Swapped> for SwappedShards {
 }
 
 fn swapped_by<R: Wait>(rt: &R, detector: &Detector<'_>, seat: &mut Seat) -> Result<Swapped, Fault> {
-    let why = refused(rt, detector, seat).ok_or(Fault::Usage)?;
+    let why = refused(rt, detector, seat).ok_or(Fault::Unexpected)?;
     Ok(Swapped {
         why,
         calls: seat.calls().len(),
@@ -101,7 +109,11 @@ fn swapped_by<R: Wait>(rt: &R, detector: &Detector<'_>, seat: &mut Seat) -> Resu
     })
 }
 
-fn refused<R: Wait>(rt: &R, detector: &Detector<'_>, seat: &mut Seat) -> Option<Refusal> {
+// Why a write is refused, if it is. Where it isn't, the seat lists it.
+fn refused<R: Wait>(rt: &R, detector: &Detector<'_>, seat: &mut Seat) -> Option<Refusal>
+    ensures refused { OnSome result (seat.new ≡ seat.old) }
+    ensures made { IfNone result (HasMade seat.old seat.new 1) }
+{
     detector
         .access(rt, seat, Word::new(WORD), Kind::Write, Site::MISSING)
         .err()

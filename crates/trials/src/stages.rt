@@ -20,7 +20,7 @@ pub(crate) fn play_trial<T: Copy, P: Trial<T>, R: Wait>(
     alloc: Global,
     trial: &P,
 ) -> Result<T, Fault> {
-    let config = trial.config().ok_or(Fault::Usage)?;
+    let config = trial.config().ok_or(Fault::Unexpected)?;
     let table = LocksetTable::new(alloc, 4)?;
     match Detector::new(alloc, &table, config) {
         Ok(detector) => trial.play(rt, &detector),

@@ -32,7 +32,7 @@ const WORDS: [u64; 2] = [0x400, 0x800];
 
 /// Lets two threads fill the table.
 pub(crate) fn fill_table<R: Threads + Wait + Sync>(rt: &R, alloc: Global) -> Result<Filled, Fault> {
-    let config = Config::new(7, 2, 100, 3).ok_or(Fault::Usage)?;
+    let config = Config::new(7, 2, 100, 3).ok_or(Fault::Unexpected)?;
     let table = LocksetTable::new(alloc, 1)?;
     match Detector::new(alloc, &table, config) {
         Ok(detector) => fill(rt, alloc, &table, detector),
@@ -51,7 +51,7 @@ fn fill<R: Threads + Wait + Sync>(
     match settle(alloc, detector, seats) {
         Ok(run) => Ok(filled.with_run(sets, &run)),
         Err(Unsettled::Memory) => Err(Fault::Memory),
-        Err(_) => Err(Fault::Usage),
+        Err(_) => Err(Fault::Unexpected),
     }
 }
 
@@ -98,7 +98,7 @@ fn write_both<R: Wait>(rt: &R, detector: &Detector<'_>, seat: &mut Seat) -> Resu
 // All seats, and what came of all writes.
 fn gathered(
     alloc: Global,
-    played: Vec<(Seat, Result<Filled, Refusal>)>,
+    played: Vec<(Seat, Result<Filled, Fault>)>,
 ) -> Result<(Vec<Seat>, Filled), Fault> {
     let mut seats = Vec::new(alloc);
     let mut all: Result<Filled, Fault> = Ok(Filled::NONE);
@@ -106,7 +106,7 @@ fn gathered(
         all = match (all, filled, seats.push(seat)) {
             (Ok(before), Ok(filled), Ok(())) => Ok(before.and(filled)),
             (Err(why), _, _) => Err(why),
-            (_, Err(why), _) => Err(Fault::Refused(why)),
+            (_, Err(why), _) => Err(why),
             (_, _, Err(_)) => Err(Fault::Memory),
         };
     }
@@ -156,7 +156,7 @@ fn write_own<R: Wait>(
     rt: &R,
     detector: &Detector<'_>,
     mut seat: Seat,
-) -> (Seat, Result<Filled, Refusal>) {
+) -> (Seat, Result<Filled, Fault>) {
     let filled = match seat.thread().number() {
         0 => Ok(Filled::NONE),
         lock => write_under(rt, detector, &mut seat, lock),
@@ -169,7 +169,7 @@ fn write_under<R: Wait>(
     detector: &Detector<'_>,
     seat: &mut Seat,
     lock: u32,
-) -> Result<Filled, Refusal> {
+) -> Result<Filled, Fault> {
     let word = Word::new(if lock == 1 { WORDS[0] } else { WORDS[1] });
     seat.acquire(LockId::new(lock), Mode::Write)?;
     match detector.access(rt, seat, word, Kind::Write, Site::MISSING) {
@@ -183,8 +183,8 @@ fn write_under<R: Wait>(
             exclusive: u32::from(is_first_threads(rt, detector, word)),
             ..Filled::NONE
         }),
-        Ok(_) => Err(Refusal::ForeignSeat),
-        Err(why) => Err(why),
+        Ok(_) => Err(Fault::Unexpected),
+        Err(why) => Err(Fault::Refused(why)),
     }
 }
 

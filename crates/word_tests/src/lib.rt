@@ -4,4 +4,12 @@
 #[cfg(test)]
 mod event;
 #[cfg(test)]
+mod held;
+#[cfg(test)]
+mod model;
+#[cfg(test)]
+mod owner;
+#[cfg(test)]
 mod replay;
+#[cfg(test)]
+mod shadow;

@@ -1,9 +1,9 @@
 //! Worked cases of machines and runs.
-use er_replay::{Machine, run};
 use er_event::{
     Event, Kind, Level, LockId, Mode, NoRoom, Refusal, Reply, Site, Step, ThreadId, Word, WordState,
 };
 use er_model::{Answer, Answers, Stopped};
+use er_replay::{Machine, run};
 use er_table::LocksetTable;
 use std::process::Abort;
 use std::sync::Wait;

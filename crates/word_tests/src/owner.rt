@@ -1,5 +1,5 @@
-use super::*;
 use er_event::{Kind, ThreadId};
+use er_owner::{Need, NumberedState, Shadow, advance, need};
 use std::test::*;
 
 const LIMIT: u32 = 1 << 30;

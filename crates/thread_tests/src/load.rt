@@ -1,8 +1,8 @@
 //! The workloads on threads.
-use crate::{LoadFault, Unsettled, Workload, run_workload};
 use er_detector::{Gate, OpenGate, PairGate};
 use er_event::{Refusal, Reply};
 use er_gather::Run;
+use er_load::{LoadFault, Unsettled, Workload, run_workload};
 use std::alloc::Global;
 use std::process::Abort;
 use std::sync::Wait;

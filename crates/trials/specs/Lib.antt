@@ -1,0 +1,4 @@
+pub mod Entered
+pub mod Grown
+pub mod Measures
+pub mod Refused
