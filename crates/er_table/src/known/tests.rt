@@ -1,99 +1,102 @@
-ghost use Rattle.std.specs.Prelude.{◌≤◌};
-
 use super::*;
-use er_event::LockId;
+use crate::fixtures::{lockset, table_taking};
 use std::process::Abort;
 use std::test::*;
 
-// These say nothing of what they return, so that a test's proof has little to carry.
-
-fn set_from(alloc: Global, locks: &[u32]) -> Result<Lockset, AllocError> {
-    let mut set = Lockset::new(alloc);
-    for &lock in locks {
-        set.insert(LockId::new(lock))?;
-    }
-    Ok(set)
+// What an owner is asked.
+#[derive(Clone, Copy)]
+enum Ask<'a> {
+    // The number of the set of these locks.
+    Number(&'a [u32]),
+    // The number of what two sets have in common.
+    Meet(u32, u32),
+    // The same two, made again where memory was refused for them.
+    NumberAgain(&'a [u32]),
+    MeetAgain(u32, u32),
+    // Whether the set of this number is this.
+    Has(u32, &'a [u32]),
+    // Whether the sets {0} to {399} get the numbers 1 to 400, and no two of these have a lock in common.
+    NumberEach,
+    AllApart,
+    // How many sets it has numbered, and how many pairs it remembers.
+    Count,
+    Remembered,
 }
 
-fn table<R: Abort + AllocGlobal>(rt: &R, max_sets: u32) -> LocksetTable
-    requires some { 1 ≤ max_sets }
-    requires few { max_sets ≤ 1000 }
-{
-    match LocksetTable::new(rt.alloc(), max_sets) {
-        Ok(table) => table,
-        Err(_) => rt.abort(),
-    }
+#[derive(Clone, Copy, Debug, PartialEq, Eq)]
+enum Answer {
+    Is(usize),
+    Yes,
+    No,
+    Refused(NoRoom),
+    NotNumbered,
 }
 
-fn known<'t, R: Abort + AllocGlobal>(rt: &R, table: &'t LocksetTable) -> Known<'t> {
+fn known_over<'t, R: Abort + AllocGlobal>(rt: &R, table: &'t LocksetTable) -> Known<'t> {
     match Known::new(rt.alloc(), table) {
         Ok(known) => known,
         Err(_) => rt.abort(),
     }
 }
 
-fn number<R: Wait + AllocGlobal>(rt: &R, known: &mut Known, locks: &[u32]) -> Result<u32, NoRoom> {
-    let set = set_from(rt.alloc(), locks)?;
-    known.number_of(rt, &set)
+fn told(answer: Result<u32, NoRoom>) -> Answer {
+    match answer {
+        Ok(number) => Answer::Is(number as usize),
+        Err(why) => Answer::Refused(why),
+    }
 }
 
-fn meet<R: Wait>(rt: &R, known: &mut Known, first: u32, second: u32) -> Option<u32> {
+fn yes_or_no(is: bool) -> Answer {
+    if is { Answer::Yes } else { Answer::No }
+}
+
+fn number<R: Wait + Abort + AllocGlobal>(rt: &R, known: &mut Known, locks: &[u32]) -> Answer {
+    told(known.number_of(rt, &lockset(rt, locks)))
+}
+
+fn meet<R: Wait>(rt: &R, known: &mut Known, first: u32, second: u32) -> Answer {
     if first >= known.count() || second >= known.count() {
-        return None;
+        return Answer::NotNumbered;
     }
-    known.intersect(rt, first, second).ok()
+    told(known.intersect(rt, first, second))
 }
 
-fn has_locks<R: AllocGlobal>(rt: &R, known: &Known, number: u32, locks: &[u32]) -> bool {
-    match set_from(rt.alloc(), locks) {
-        Ok(set) => number < known.count() && known.set(number) == &set,
-        Err(_) => false,
-    }
+fn has<R: Abort + AllocGlobal>(rt: &R, known: &Known, number: u32, locks: &[u32]) -> bool {
+    number < known.count() && known.set(number) == &lockset(rt, locks)
 }
 
-#[test]
-fn locksets_and_known(rt: HostRuntime) {
-    let table = table(&rt, 4);
-    let mut known = known(&rt, &table);
-    assert_eq!(rt; number(&rt, &mut known, &[]), Ok(0));
-    assert_eq!(rt; number(&rt, &mut known, &[1, 3, 5]), Ok(1));
-    assert_eq!(rt; number(&rt, &mut known, &[3, 4, 5]), Ok(2));
-    for (first, second, want) in [(1, 2, 3), (1, 2, 3), (1, 0, 0), (0, 2, 0), (2, 2, 2)] {
-        assert_eq!(rt; meet(&rt, &mut known, first, second), Some(want));
-    }
-    assert!(rt; has_locks(&rt, &known, 3, &[3, 5]));
-    assert!(rt; has_locks(&rt, &known, 0, &[]));
-    assert_eq!(rt; known.count(), 4);
-}
-
-// What is plain is not remembered, and of the rest each pair is remembered once.
-#[test]
-fn a_pair_is_remembered_once(rt: HostRuntime) {
-    let table = table(&rt, 4);
-    let mut known = known(&rt, &table);
-    assert_eq!(rt; number(&rt, &mut known, &[1, 2]), Ok(1));
-    assert_eq!(rt; number(&rt, &mut known, &[2, 3]), Ok(2));
-    for (first, second, want) in [(1, 1, 0), (0, 1, 0), (1, 2, 1), (1, 2, 1), (2, 1, 2)] {
-        assert!(rt; meet(&rt, &mut known, first, second).is_some());
-        assert_eq!(rt; known.meets.len(), want);
+// Asks again after a refusal for want of memory, which is to leave the numbers as they were.
+fn number_again<R: Wait + Abort + AllocGlobal>(rt: &R, known: &mut Known, locks: &[u32]) -> Answer {
+    let count = known.count();
+    match number(rt, known, locks) {
+        Answer::Refused(NoRoom::OutOfMemory) if known.count() == count => number(rt, known, locks),
+        answer => answer,
     }
 }
 
-// Whether the sets of one lock each, {0} to {399}, get the numbers 1 to 400.
-fn number_each<R: Wait + AllocGlobal>(rt: &R, known: &mut Known) -> bool {
+fn meet_again<R: Wait>(rt: &R, known: &mut Known, first: u32, second: u32) -> Answer {
+    let count = known.count();
+    match meet(rt, known, first, second) {
+        Answer::Refused(NoRoom::OutOfMemory) if known.count() == count => {
+            meet(rt, known, first, second)
+        }
+        answer => answer,
+    }
+}
+
+fn number_each<R: Wait + Abort + AllocGlobal>(rt: &R, known: &mut Known) -> bool {
     for lock in 0..400u32 {
-        if number(rt, known, &[lock]) != Ok(lock + 1) {
+        if number(rt, known, &[lock]) != Answer::Is(lock as usize + 1) {
             return false;
         }
     }
     true
 }
 
-// Whether no two of these sets have a lock in common.
 fn all_apart<R: Wait>(rt: &R, known: &mut Known) -> bool {
     for first in 1..401u32 {
         for second in 1..401u32 {
-            if first != second && meet(rt, known, first, second) != Some(0) {
+            if first != second && meet(rt, known, first, second) != Answer::Is(0) {
                 return false;
             }
         }
@@ -101,47 +104,108 @@ fn all_apart<R: Wait>(rt: &R, known: &mut Known) -> bool {
     true
 }
 
+fn answered<R: Wait + Abort + AllocGlobal>(rt: &R, known: &mut Known, ask: Ask<'_>) -> Answer {
+    match ask {
+        Ask::Number(locks) => number(rt, known, locks),
+        Ask::Meet(first, second) => meet(rt, known, first, second),
+        Ask::NumberAgain(locks) => number_again(rt, known, locks),
+        Ask::MeetAgain(first, second) => meet_again(rt, known, first, second),
+        Ask::Has(number, locks) => yes_or_no(has(rt, known, number, locks)),
+        Ask::NumberEach => yes_or_no(number_each(rt, known)),
+        Ask::AllApart => yes_or_no(all_apart(rt, known)),
+        Ask::Count => Answer::Is(known.count() as usize),
+        Ask::Remembered => Answer::Is(known.meets.len()),
+    }
+}
+
+// A new owner, at a table that takes so many sets, gives each answer in turn. How many sets the table has then.
+fn check_answers<R: Wait + Abort + AllocGlobal>(
+    rt: &R,
+    max_sets: u16,
+    asks: &[(Ask<'_>, Answer)],
+) -> usize {
+    let table = table_taking(rt, u32::from(max_sets).clamp(1, 1000));
+    let mut known = known_over(rt, &table);
+    for &(ask, want) in asks {
+        assert_eq!(rt; answered(rt, &mut known, ask), want);
+    }
+    table.sets(rt)
+}
+
+#[test]
+fn locksets_and_known(rt: HostRuntime) {
+    let sets = check_answers(
+        &rt,
+        4,
+        &[
+            (Ask::Number(&[]), Answer::Is(0)),
+            (Ask::Number(&[1, 3, 5]), Answer::Is(1)),
+            (Ask::Number(&[3, 4, 5]), Answer::Is(2)),
+            (Ask::Meet(1, 2), Answer::Is(3)),
+            (Ask::Meet(1, 2), Answer::Is(3)),
+            (Ask::Meet(1, 0), Answer::Is(0)),
+            (Ask::Meet(0, 2), Answer::Is(0)),
+            (Ask::Meet(2, 2), Answer::Is(2)),
+            (Ask::Has(3, &[3, 5]), Answer::Yes),
+            (Ask::Has(0, &[]), Answer::Yes),
+            (Ask::Count, Answer::Is(4)),
+        ],
+    );
+    assert_eq!(rt; sets, 3);
+}
+
+// What is plain is not remembered, and of the rest each pair is remembered once.
+#[test]
+fn a_pair_is_remembered_once(rt: HostRuntime) {
+    let sets = check_answers(
+        &rt,
+        4,
+        &[
+            (Ask::Number(&[1, 2]), Answer::Is(1)),
+            (Ask::Number(&[2, 3]), Answer::Is(2)),
+            (Ask::Meet(1, 1), Answer::Is(1)),
+            (Ask::Meet(0, 1), Answer::Is(0)),
+            (Ask::Remembered, Answer::Is(0)),
+            (Ask::Meet(1, 2), Answer::Is(3)),
+            (Ask::Meet(1, 2), Answer::Is(3)),
+            (Ask::Remembered, Answer::Is(1)),
+            (Ask::Meet(2, 1), Answer::Is(3)),
+            (Ask::Remembered, Answer::Is(2)),
+        ],
+    );
+    assert_eq!(rt; sets, 3);
+}
+
 #[test]
 fn memory_of_meets_is_bounded(rt: HostRuntime) {
-    let table = table(&rt, 400);
-    let mut known = known(&rt, &table);
-    assert!(rt; number_each(&rt, &mut known));
-    assert_eq!(rt; number(&rt, &mut known, &[400]), Err(NoRoom::TableFull));
-    assert!(rt; all_apart(&rt, &mut known));
-    assert_eq!(rt; known.count(), 401);
-    assert_eq!(rt; known.meets.len(), 65536);
-}
-
-// Asks again after a refusal for want of memory, which is to leave the numbers as they were.
-fn number_again<R: Wait + AllocGlobal>(rt: &R, known: &mut Known, lock: u32) -> Option<u32> {
-    let count = known.count();
-    match number(rt, known, &[lock]) {
-        Ok(number) => Some(number),
-        Err(NoRoom::OutOfMemory) if known.count() == count => number(rt, known, &[lock]).ok(),
-        Err(_) => None,
-    }
-}
-
-// The same for what two sets have in common.
-fn meet_again<R: Wait>(rt: &R, known: &mut Known, first: u32, second: u32) -> Option<u32> {
-    let count = known.count();
-    match meet(rt, known, first, second) {
-        Some(number) => Some(number),
-        None if known.count() == count => meet(rt, known, first, second),
-        None => None,
-    }
+    let sets = check_answers(
+        &rt,
+        400,
+        &[
+            (Ask::NumberEach, Answer::Yes),
+            (Ask::Number(&[400]), Answer::Refused(NoRoom::TableFull)),
+            (Ask::AllApart, Answer::Yes),
+            (Ask::Count, Answer::Is(401)),
+            (Ask::Remembered, Answer::Is(65536)),
+        ],
+    );
+    assert_eq!(rt; sets, 400);
 }
 
 // Each allocation past the constructors may be refused once: `rt try --test --fail-alloc N`.
 #[test]
 fn a_refusal_changes_nothing(rt: HostRuntime) {
-    let table = table(&rt, 4);
-    let mut known = known(&rt, &table);
-    for lock in 0..3u32 {
-        assert_eq!(rt; number_again(&rt, &mut known, lock), Some(lock + 1));
-    }
-    assert_eq!(rt; meet_again(&rt, &mut known, 1, 2), Some(0));
-    assert_eq!(rt; meet_again(&rt, &mut known, 3, 2), Some(0));
-    assert_eq!(rt; known.count(), 4);
-    assert_eq!(rt; table.sets(&rt), 3);
+    let sets = check_answers(
+        &rt,
+        4,
+        &[
+            (Ask::NumberAgain(&[0]), Answer::Is(1)),
+            (Ask::NumberAgain(&[1]), Answer::Is(2)),
+            (Ask::NumberAgain(&[2]), Answer::Is(3)),
+            (Ask::MeetAgain(1, 2), Answer::Is(0)),
+            (Ask::MeetAgain(3, 2), Answer::Is(0)),
+            (Ask::Count, Answer::Is(4)),
+        ],
+    );
+    assert_eq!(rt; sets, 3);
 }
