@@ -1,0 +1,100 @@
+/* What a program says of itself: by record/eraser.h, by the annotations that ThreadSanitizer's library takes, and by those of Valgrind's
+ * family. Of the latter two only what a lockset detector can use has an effect; ownership that passes from thread to thread in order
+ * (happens-before) has none. */
+#include "emit.h"
+
+/* ---- record/eraser.h ---- */
+
+HOOK void eraser_reuse(const volatile void *address, size_t size) { emit_reuse(address, size); }
+HOOK void eraser_ignore_on(void) { emit(EVENT_IGNORE_ON, 0, 0, 0); }
+HOOK void eraser_ignore_off(void) { emit(EVENT_IGNORE_OFF, 0, 0, 0); }
+HOOK void eraser_read_lock(const volatile void *lock) { emit(EVENT_READ_LOCK, LOCK_USER, (uintptr_t)lock, 0); }
+HOOK void eraser_write_lock(const volatile void *lock) { emit(EVENT_LOCK, LOCK_USER, (uintptr_t)lock, 0); }
+HOOK void eraser_unlock(const volatile void *lock) { emit(EVENT_UNLOCK, 0, (uintptr_t)lock, 0); }
+
+/* ---- ThreadSanitizer's interface for locks of the program's own ---- */
+
+#define TSAN_READ_LOCK (1u << 3)
+#define TSAN_TRY_LOCK_FAILED (1u << 5)
+
+HOOK void __tsan_mutex_create(void *lock, unsigned how) { (void)how; emit(EVENT_LOCK_BEGIN, 0, (uintptr_t)lock, 0); }
+HOOK void __tsan_mutex_destroy(void *lock, unsigned how) { (void)how; emit(EVENT_LOCK_END, 0, (uintptr_t)lock, 0); }
+HOOK void __tsan_mutex_pre_lock(void *lock, unsigned how) { (void)lock; (void)how; }
+
+HOOK void __tsan_mutex_post_lock(void *lock, unsigned how, int depth)
+{
+    (void)depth;
+    if (!(how & TSAN_TRY_LOCK_FAILED))
+        emit(how & TSAN_READ_LOCK ? EVENT_READ_LOCK : EVENT_LOCK, LOCK_USER, (uintptr_t)lock, 0);
+}
+
+HOOK int __tsan_mutex_pre_unlock(void *lock, unsigned how)
+{
+    (void)how;
+    emit(EVENT_UNLOCK, 0, (uintptr_t)lock, 0);
+    return 0;
+}
+
+HOOK void __tsan_mutex_post_unlock(void *lock, unsigned how) { (void)lock; (void)how; }
+HOOK void __tsan_mutex_pre_signal(void *lock, unsigned how) { (void)lock; (void)how; }
+HOOK void __tsan_mutex_post_signal(void *lock, unsigned how) { (void)lock; (void)how; }
+HOOK void __tsan_mutex_pre_divert(void *lock, unsigned how) { (void)lock; (void)how; }
+HOOK void __tsan_mutex_post_divert(void *lock, unsigned how) { (void)lock; (void)how; }
+HOOK void __tsan_ignore_thread_begin(void) { emit(EVENT_IGNORE_ON, 0, 0, 0); }
+HOOK void __tsan_ignore_thread_end(void) { emit(EVENT_IGNORE_OFF, 0, 0, 0); }
+
+/* ---- Annotations of Valgrind's family ---- */
+
+HOOK void AnnotateRWLockCreate(const char *file, int line, const volatile void *lock)
+{
+    (void)file;
+    (void)line;
+    emit(EVENT_LOCK_BEGIN, 0, (uintptr_t)lock, 0);
+}
+
+HOOK void AnnotateRWLockCreateStatic(const char *file, int line, const volatile void *lock)
+{
+    AnnotateRWLockCreate(file, line, lock);
+}
+
+HOOK void AnnotateRWLockDestroy(const char *file, int line, const volatile void *lock)
+{
+    (void)file;
+    (void)line;
+    emit(EVENT_LOCK_END, 0, (uintptr_t)lock, 0);
+}
+
+HOOK void AnnotateRWLockAcquired(const char *file, int line, const volatile void *lock, long is_write)
+{
+    (void)file;
+    (void)line;
+    emit(is_write ? EVENT_LOCK : EVENT_READ_LOCK, LOCK_USER, (uintptr_t)lock, 0);
+}
+
+HOOK void AnnotateRWLockReleased(const char *file, int line, const volatile void *lock, long is_write)
+{
+    (void)file;
+    (void)line;
+    (void)is_write;
+    emit(EVENT_UNLOCK, 0, (uintptr_t)lock, 0);
+}
+
+HOOK void AnnotateNewMemory(const char *file, int line, const volatile void *address, size_t size)
+{
+    (void)file;
+    (void)line;
+    emit_reuse(address, size);
+}
+
+#define IGNORE(name, change)                     \
+    HOOK void Annotate##name(const char *file, int line) \
+    {                                            \
+        (void)file;                              \
+        (void)line;                              \
+        change;                                  \
+    }
+
+IGNORE(IgnoreReadsBegin, self.reads_ignored++)
+IGNORE(IgnoreReadsEnd, self.reads_ignored -= self.reads_ignored > 0)
+IGNORE(IgnoreWritesBegin, self.writes_ignored++)
+IGNORE(IgnoreWritesEnd, self.writes_ignored -= self.writes_ignored > 0)

@@ -1,0 +1,231 @@
+/* Finds the ring, and does what an event needs besides its slot: room to wait for, numbers of threads, repairs. */
+#include "emit.h"
+
+#include <dlfcn.h>
+#include <errno.h>
+#include <fcntl.h>
+#include <pthread.h>
+#include <signal.h>
+#include <string.h>
+#include <sys/mman.h>
+#include <sys/syscall.h>
+#include <time.h>
+#include <unistd.h>
+
+static struct attachment no_attachment;
+struct attachment *attached = &no_attachment;
+__thread struct self self __attribute__((tls_model("initial-exec")));
+
+/* ---- Events that need more than a slot ---- */
+
+void emit_lost(struct ring *ring, struct self *me)
+{
+    atomic_fetch_add_explicit(&ring->lost[me->number % LOST_COUNTERS].count, 1, memory_order_relaxed);
+}
+
+/* True if this thread is in a signal handler that runs on a stack of its own. */
+static bool is_on_other_stack(void)
+{
+    stack_t now;
+    return syscall(SYS_sigaltstack, NULL, &now) == 0 && (now.ss_flags & SS_ONSTACK);
+}
+
+/* Publishes an empty event for a ticket that will get no other. If its number was not noted yet, the writer is told to look out. */
+static void give_up(struct ring *ring, struct self *me, uint64_t ticket)
+{
+    if (ticket == PENDING_DRAWING) {
+        uint64_t tail = atomic_load(&ring->tail), before = atomic_load(&ring->abandoned);
+        while (before < tail && !atomic_compare_exchange_weak(&ring->abandoned, &before, tail))
+            ;
+    } else if (ticket != PENDING_NONE) {
+        struct slot *slot = &ring->slots[ring_place(ticket)];
+        slot->thread = me->number;
+        slot->kind = EVENT_VOID;
+        atomic_store_explicit(&slot->published, ring_round(ticket), memory_order_release);
+    }
+    set_pending(me, PENDING_NONE);
+    emit_lost(ring, me);
+}
+
+/* What seldom has to be done before an event. False if the event cannot be recorded. */
+bool emit_prepare(struct ring *ring, struct self *me, uint64_t outer, void *frame)
+{
+    if (atomic_load_explicit(&ring->stop, memory_order_relaxed)) {
+        emit_lost(ring, me);
+        return false;
+    }
+    if (me->number == 0)
+        me->number = atomic_fetch_add_explicit(&ring->threads, 1, memory_order_relaxed) + 1;
+    /* An event is pending. Either this is a signal handler that interrupted it, whose frame is lower; or a handler left the event for
+     * good by longjmp. */
+    int error = errno;
+    if (outer != PENDING_NONE && (char *)frame >= (char *)me->pending_frame && !is_on_other_stack())
+        give_up(ring, me, outer);
+    errno = error;
+    return true;
+}
+
+/* Waits until the ring has room. False if there will be none: the writer stopped, or it waits for the event that this signal handler
+ * has interrupted. */
+bool emit_wait(struct ring *ring, struct self *me, uint64_t outer)
+{
+    int error = errno;
+    bool has_room = false;
+    for (unsigned turn = 0;; turn++) {
+        me->head_seen = atomic_load_explicit(&ring->head, memory_order_acquire);
+        uint64_t used = atomic_load_explicit(&ring->tail, memory_order_relaxed) - me->head_seen;
+        bool is_awaited = outer != PENDING_NONE && (outer == PENDING_DRAWING || me->head_seen >= outer);
+        if (used <= (is_awaited ? RING_ROOM_FOR_HANDLERS : RING_ROOM)) {
+            has_room = true;
+            break;
+        }
+        if (is_awaited || atomic_load_explicit(&ring->stop, memory_order_relaxed))
+            break;
+        struct timespec pause = {0, 50000};
+        syscall(SYS_nanosleep, &pause, NULL);
+        if (turn % 1024 == 1023 && syscall(SYS_kill, ring->writer, 0) != 0 && errno == ESRCH)
+            atomic_store(&ring->stop, 1);
+    }
+    errno = error;
+    if (!has_room)
+        emit_lost(ring, me);
+    return has_room;
+}
+
+/* A thread that ends leaves no ticket open, even if it was cancelled in the middle of an event. */
+void emit_end_of_thread(void)
+{
+    struct ring *ring = attached->ring;
+    if (ring && pending_of(&self) != PENDING_NONE)
+        give_up(ring, &self, pending_of(&self));
+}
+
+void emit_range(enum event_kind kind, const volatile void *address, uint64_t size, uint64_t site)
+{
+    const uint64_t most = UINT64_C(1) << 31;
+    uint64_t at = (uintptr_t)address;
+    if (kind == EVENT_READ ? self.reads_ignored : self.writes_ignored)
+        return;
+    for (; size > most; at += most, size -= most)
+        emit(kind, (uint32_t)most, at, site);
+    if (size)
+        emit(kind, (uint32_t)size, at, site);
+}
+
+/* ---- Start ---- */
+
+/* Where the program's files are mapped, for the source lines. Read from the kernel, since this takes no lock and no memory. */
+void emit_maps(void)
+{
+    if (!is_recording())
+        return;
+    int error = errno;
+    int file = (int)syscall(SYS_openat, AT_FDCWD, "/proc/self/maps", O_RDONLY | O_CLOEXEC);
+    emit(EVENT_MAPS_BEGIN, 0, 0, 0);
+    char text[4096];
+    long got;
+    while (file >= 0 && (got = syscall(SYS_read, file, text, sizeof text)) > 0)
+        for (long at = 0; at < got; at += 16) {
+            uint64_t part[2] = {0, 0};
+            uint32_t size = got - at < 16 ? (uint32_t)(got - at) : 16;
+            __builtin_memcpy(part, text + at, size);
+            emit(EVENT_MAPS_TEXT, size, part[0], part[1]);
+        }
+    if (file >= 0)
+        syscall(SYS_close, file);
+    emit(EVENT_MAPS_END, 0, 0, 0);
+    errno = error;
+}
+
+/* Finds the value of RING_VARIABLE. The C library's environment is not there yet when the first hook is called. */
+static bool read_setting(char *value, size_t room)
+{
+    static const char name[] = RING_VARIABLE "=";
+    int file = (int)syscall(SYS_openat, AT_FDCWD, "/proc/self/environ", O_RDONLY | O_CLOEXEC);
+    char text[4096];
+    size_t matched = 0, used = 0; /* matched: bytes of the name; SIZE_MAX: this variable is another one */
+    long got;
+    while (file >= 0 && used < room && (got = syscall(SYS_read, file, text, sizeof text)) > 0)
+        for (long i = 0; i < got && used < room; i++) {
+            if (matched == sizeof name - 1)
+                value[used++] = text[i];
+            else if (matched != SIZE_MAX && text[i] == name[matched])
+                matched++;
+            else
+                matched = SIZE_MAX;
+            if (text[i] == 0) {
+                if (used)
+                    break;
+                matched = 0;
+            }
+        }
+    if (file >= 0)
+        syscall(SYS_close, file);
+    return used && used < room && value[used - 1] == 0;
+}
+
+static struct ring *map_ring(const char *path)
+{
+    int file = (int)syscall(SYS_openat, AT_FDCWD, path, O_RDWR | O_CLOEXEC);
+    if (file < 0)
+        return NULL;
+    void *ring = mmap(NULL, sizeof(struct ring), PROT_READ | PROT_WRITE, MAP_SHARED, file, 0);
+    syscall(SYS_close, file);
+    return ring == MAP_FAILED || ((struct ring *)ring)->magic != RING_MAGIC ? NULL : ring;
+}
+
+/* A page that a forked child finds cleared. */
+static struct attachment *map_attachment(void)
+{
+    void *page = mmap(NULL, 4096, PROT_READ | PROT_WRITE, MAP_PRIVATE | MAP_ANONYMOUS, -1, 0);
+    return page == MAP_FAILED || madvise(page, 4096, MADV_WIPEONFORK) != 0 ? NULL : page;
+}
+
+/* Begins to record if `record/run` started this program and none was recorded before it. */
+void attach(void)
+{
+    static atomic_int was_called;
+    char path[64];
+    if (atomic_exchange(&was_called, 1))
+        return;
+    int error = errno;
+    struct ring *ring = read_setting(path, sizeof path) ? map_ring(path) : NULL;
+    if (ring) {
+        struct attachment *page = map_attachment();
+        uint32_t nobody = 0;
+        if (page && atomic_compare_exchange_strong(&ring->owner, &nobody, (uint32_t)syscall(SYS_getpid))) {
+            page->ring = ring;
+            attached = page;
+            emit(EVENT_THREAD, 0, (uint64_t)pthread_self(), 0);
+        } else {
+            atomic_fetch_add(&ring->others, 1);
+            syscall(SYS_munmap, ring, sizeof *ring);
+        }
+    }
+    errno = error;
+}
+
+static __attribute__((constructor)) void begin(void)
+{
+    attach();
+}
+
+/* ---- Functions behind this library ---- */
+
+static int is_missing(void)
+{
+    return ENOSYS;
+}
+
+/* `dlsym` finds the newest version of a name. A program that was linked with ThreadSanitizer's library asks for no version, and would
+ * get the oldest from the C library itself. */
+void *find_real(void **place, const char *name)
+{
+    int error = errno;
+    void *found = dlsym(RTLD_NEXT, name);
+    if (!found)
+        found = (void *)(uintptr_t)is_missing;
+    __atomic_store_n(place, found, __ATOMIC_RELEASE);
+    errno = error;
+    return found;
+}

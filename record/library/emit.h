@@ -1,0 +1,140 @@
+/* How the hooks of the library put an event into the ring. */
+#ifndef ERASER_EMIT_H
+#define ERASER_EMIT_H
+
+#ifndef _GNU_SOURCE
+#define _GNU_SOURCE
+#endif
+#include <stdbool.h>
+#include <stddef.h>
+#include <stdint.h>
+
+#include "../ring.h"
+
+/* The library is built with hidden visibility; a hook is what a program may call. */
+#define HOOK __attribute__((visibility("default")))
+#define LIKELY(condition) __builtin_expect(!!(condition), 1)
+#define UNLIKELY(condition) __builtin_expect(!!(condition), 0)
+#define CALLER ((uint64_t)(uintptr_t)__builtin_return_address(0))
+
+/* Where this process records. It stands in a page that the kernel clears in a forked child, which so records nothing, however it was
+ * forked. */
+struct attachment {
+    struct ring *ring;
+};
+extern struct attachment *attached;
+
+/* Values of `pending` that are no tickets. */
+#define PENDING_NONE UINT64_MAX
+#define PENDING_DRAWING (UINT64_MAX - 1)
+
+/* What a thread knows of itself. */
+struct self {
+    uint32_t number;  /* 0 before its first event */
+    uint32_t reads_ignored, writes_ignored;
+    uint64_t head_seen;
+    uint64_t pending; /* the ticket that this thread has drawn and not yet published, stored as its complement */
+    void *pending_frame;
+};
+/* Of the initial-exec model, since the dynamic loader calls in before it could make room for any other. */
+extern __thread struct self self __attribute__((tls_model("initial-exec")));
+
+bool emit_prepare(struct ring *ring, struct self *me, uint64_t outer, void *frame);
+bool emit_wait(struct ring *ring, struct self *me, uint64_t outer);
+void emit_lost(struct ring *ring, struct self *me);
+void emit_end_of_thread(void);
+void emit_maps(void);
+void attach(void);
+
+static inline bool is_recording(void)
+{
+    return attached->ring != NULL;
+}
+
+/* `pending` is kept as a complement so that a thread's zeroed storage says that nothing is pending. */
+static inline uint64_t pending_of(const struct self *me)
+{
+    return ~__atomic_load_n(&me->pending, __ATOMIC_RELAXED);
+}
+
+static inline void set_pending(struct self *me, uint64_t ticket)
+{
+    __atomic_store_n(&me->pending, ~ticket, __ATOMIC_RELAXED);
+    __atomic_signal_fence(__ATOMIC_SEQ_CST);
+}
+
+/* The writer and the other threads take turns at the tail: asks for its cache line to write from the start. */
+static inline void expect_to_write(void *line)
+{
+#if defined(__x86_64__)
+    __asm__ volatile("prefetchw %0" : : "m"(*(char *)line));
+#else
+    __builtin_prefetch(line, 1);
+#endif
+}
+
+/* Records one event. A signal handler may come in between anywhere and record events of its own: they take later tickets, and
+ * `pending` tells them of the ticket that waits for this thread. */
+static inline __attribute__((always_inline)) void emit(enum event_kind kind, uint32_t size, uint64_t first, uint64_t second)
+{
+    struct ring *ring = attached->ring;
+    if (LIKELY(!ring))
+        return;
+    struct self *me = &self;
+    uint64_t outer = pending_of(me);
+    void *outer_frame = me->pending_frame;
+    expect_to_write(&ring->tail);
+    if (UNLIKELY(me->number == 0 || outer != PENDING_NONE || atomic_load_explicit(&ring->stop, memory_order_relaxed))) {
+        if (!emit_prepare(ring, me, outer, __builtin_frame_address(0)))
+            return;
+        outer = pending_of(me);
+    }
+    if (UNLIKELY(atomic_load_explicit(&ring->tail, memory_order_relaxed) - me->head_seen > RING_ROOM) && !emit_wait(ring, me, outer))
+        return;
+    me->pending_frame = __builtin_frame_address(0);
+    set_pending(me, PENDING_DRAWING);
+    uint64_t ticket = atomic_fetch_add_explicit(&ring->tail, 1, memory_order_seq_cst);
+    set_pending(me, ticket);
+    struct slot *slot = &ring->slots[ring_place(ticket)];
+    slot->thread = me->number;
+    slot->kind = (uint32_t)kind;
+    slot->size = size;
+    slot->first = first;
+    slot->second = second;
+    atomic_store_explicit(&slot->published, ring_round(ticket), memory_order_release);
+    __atomic_signal_fence(__ATOMIC_SEQ_CST);
+    set_pending(me, outer);
+    me->pending_frame = outer_frame;
+}
+
+static inline __attribute__((always_inline)) void emit_read(const volatile void *address, uint32_t size, uint64_t site)
+{
+    if (LIKELY(!self.reads_ignored))
+        emit(EVENT_READ, size, (uintptr_t)address, site);
+}
+
+static inline __attribute__((always_inline)) void emit_write(const volatile void *address, uint32_t size, uint64_t site)
+{
+    if (LIKELY(!self.writes_ignored))
+        emit(EVENT_WRITE, size, (uintptr_t)address, site);
+}
+
+static inline void emit_reuse(const volatile void *address, uint64_t size)
+{
+    if (size)
+        emit(EVENT_REUSE, 0, (uintptr_t)address, size);
+}
+
+/* An access of any number of bytes. */
+void emit_range(enum event_kind kind, const volatile void *address, uint64_t size, uint64_t site);
+
+/* The next definition of a function behind this library's own: the C library's, as a rule. */
+void *find_real(void **place, const char *name);
+#define REAL(function)                                                                            \
+    (__extension__({                                                                              \
+        static void *place_of_##function;                                                         \
+        void *found = __atomic_load_n(&place_of_##function, __ATOMIC_ACQUIRE);                    \
+        (__typeof__(&function))(LIKELY(found != NULL) ? found : find_real(&place_of_##function, #function)); \
+    }))
+
+#endif

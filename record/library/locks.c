@@ -1,0 +1,153 @@
+/* Locks of the C library. An acquire is recorded after it succeeded, a release before it happens, so that the events of a lock come in
+ * the order in which it was held. Which of them are the outermost ones of a recursive lock, and what a lock is called, the writer finds
+ * out: it sees all events in order, and this library keeps nothing for each lock. */
+#include "emit.h"
+
+#include <errno.h>
+#include <pthread.h>
+#include <threads.h>
+#include <time.h>
+
+/* A mutex whose owner died is acquired, too. */
+static bool is_acquired(int result)
+{
+    return result == 0 || result == EOWNERDEAD;
+}
+
+static void emit_lock(enum lock_kind kind, volatile void *lock)
+{
+    emit(EVENT_LOCK, kind, (uintptr_t)lock, 0);
+}
+
+static void emit_read_lock(enum lock_kind kind, volatile void *lock)
+{
+    emit(EVENT_READ_LOCK, kind, (uintptr_t)lock, 0);
+}
+
+static void emit_unlock(volatile void *lock)
+{
+    emit(EVENT_UNLOCK, 0, (uintptr_t)lock, 0);
+}
+
+static void emit_begin(volatile void *lock)
+{
+    emit(EVENT_LOCK_BEGIN, 0, (uintptr_t)lock, 0);
+}
+
+static void emit_end(volatile void *lock)
+{
+    emit(EVENT_LOCK_END, 0, (uintptr_t)lock, 0);
+}
+
+/* The forms in which a lock of one kind is acquired: NAME PARAMETERS calls the real one with ARGUMENTS. */
+#define ACQUIRE(emit_it, kind, name, parameters, arguments)  \
+    HOOK int name parameters                                 \
+    {                                                        \
+        int result = REAL(name) arguments;                   \
+        if (is_acquired(result))                             \
+            emit_it(kind, lock);                             \
+        return result;                                       \
+    }
+
+#define RELEASE(name, type)                                  \
+    HOOK int name(type *lock)                                \
+    {                                                        \
+        emit_unlock(lock);                                   \
+        return REAL(name)(lock);                             \
+    }
+
+/* Before it happens, since the memory may be another lock's right after. The writer leaves a lock alone that is held, and can't be
+ * destroyed. */
+#define DESTROY(name, type)                                  \
+    HOOK int name(type *lock)                                \
+    {                                                        \
+        emit_end(lock);                                      \
+        return REAL(name)(lock);                             \
+    }
+
+#define INITIALISE(name, parameters, arguments)              \
+    HOOK int name parameters                                 \
+    {                                                        \
+        int result = REAL(name) arguments;                   \
+        if (result == 0)                                     \
+            emit_begin(lock);                                \
+        return result;                                       \
+    }
+
+/* ---- Mutexes ---- */
+
+typedef const struct timespec *until;
+
+INITIALISE(pthread_mutex_init, (pthread_mutex_t *lock, const pthread_mutexattr_t *how), (lock, how))
+DESTROY(pthread_mutex_destroy, pthread_mutex_t)
+ACQUIRE(emit_lock, LOCK_MUTEX, pthread_mutex_lock, (pthread_mutex_t *lock), (lock))
+ACQUIRE(emit_lock, LOCK_MUTEX, pthread_mutex_trylock, (pthread_mutex_t *lock), (lock))
+ACQUIRE(emit_lock, LOCK_MUTEX, pthread_mutex_timedlock, (pthread_mutex_t *restrict lock, until restrict when), (lock, when))
+ACQUIRE(emit_lock, LOCK_MUTEX, pthread_mutex_clocklock, (pthread_mutex_t *restrict lock, clockid_t clock, until restrict when), (lock, clock, when))
+RELEASE(pthread_mutex_unlock, pthread_mutex_t)
+
+/* Older programs call the same functions by these names. */
+HOOK int __pthread_mutex_lock(pthread_mutex_t *lock) { return pthread_mutex_lock(lock); }
+HOOK int __pthread_mutex_unlock(pthread_mutex_t *lock) { return pthread_mutex_unlock(lock); }
+
+/* ---- Reader-writer locks ---- */
+
+INITIALISE(pthread_rwlock_init, (pthread_rwlock_t *restrict lock, const pthread_rwlockattr_t *restrict how), (lock, how))
+DESTROY(pthread_rwlock_destroy, pthread_rwlock_t)
+ACQUIRE(emit_read_lock, LOCK_RWLOCK, pthread_rwlock_rdlock, (pthread_rwlock_t *lock), (lock))
+ACQUIRE(emit_read_lock, LOCK_RWLOCK, pthread_rwlock_tryrdlock, (pthread_rwlock_t *lock), (lock))
+ACQUIRE(emit_read_lock, LOCK_RWLOCK, pthread_rwlock_timedrdlock, (pthread_rwlock_t *restrict lock, until restrict when), (lock, when))
+ACQUIRE(emit_read_lock, LOCK_RWLOCK, pthread_rwlock_clockrdlock, (pthread_rwlock_t *restrict lock, clockid_t clock, until restrict when), (lock, clock, when))
+ACQUIRE(emit_lock, LOCK_RWLOCK, pthread_rwlock_wrlock, (pthread_rwlock_t *lock), (lock))
+ACQUIRE(emit_lock, LOCK_RWLOCK, pthread_rwlock_trywrlock, (pthread_rwlock_t *lock), (lock))
+ACQUIRE(emit_lock, LOCK_RWLOCK, pthread_rwlock_timedwrlock, (pthread_rwlock_t *restrict lock, until restrict when), (lock, when))
+ACQUIRE(emit_lock, LOCK_RWLOCK, pthread_rwlock_clockwrlock, (pthread_rwlock_t *restrict lock, clockid_t clock, until restrict when), (lock, clock, when))
+RELEASE(pthread_rwlock_unlock, pthread_rwlock_t)
+
+/* ---- Spin locks ---- */
+
+INITIALISE(pthread_spin_init, (pthread_spinlock_t *lock, int is_shared), (lock, is_shared))
+DESTROY(pthread_spin_destroy, pthread_spinlock_t)
+ACQUIRE(emit_lock, LOCK_SPIN, pthread_spin_lock, (pthread_spinlock_t *lock), (lock))
+ACQUIRE(emit_lock, LOCK_SPIN, pthread_spin_trylock, (pthread_spinlock_t *lock), (lock))
+RELEASE(pthread_spin_unlock, pthread_spinlock_t)
+
+/* ---- Mutexes of C11 ---- */
+
+INITIALISE(mtx_init, (mtx_t *lock, int kind), (lock, kind))
+ACQUIRE(emit_lock, LOCK_MUTEX, mtx_lock, (mtx_t *lock), (lock))
+ACQUIRE(emit_lock, LOCK_MUTEX, mtx_trylock, (mtx_t *lock), (lock))
+ACQUIRE(emit_lock, LOCK_MUTEX, mtx_timedlock, (mtx_t *restrict lock, until restrict when), (lock, when))
+RELEASE(mtx_unlock, mtx_t)
+
+HOOK void mtx_destroy(mtx_t *lock)
+{
+    emit_end(lock);
+    REAL(mtx_destroy)(lock);
+}
+
+/* ---- Condition variables ---- */
+
+/* A wait that is cancelled ends with the mutex held again, and its caller's clean-up runs under it. */
+static void lock_after_cancel(void *lock)
+{
+    emit_lock(LOCK_MUTEX, lock);
+}
+
+#define WAIT(type, lock_type, name, parameters, arguments)   \
+    HOOK int name parameters                                 \
+    {                                                        \
+        int result;                                          \
+        emit_unlock(lock);                                   \
+        pthread_cleanup_push(lock_after_cancel, lock);       \
+        result = REAL(name) arguments;                       \
+        pthread_cleanup_pop(0);                              \
+        emit_lock(LOCK_MUTEX, lock);                         \
+        return result;                                       \
+    }
+
+WAIT(pthread_cond_t, pthread_mutex_t, pthread_cond_wait, (pthread_cond_t *restrict wakes, pthread_mutex_t *restrict lock), (wakes, lock))
+WAIT(pthread_cond_t, pthread_mutex_t, pthread_cond_timedwait, (pthread_cond_t *restrict wakes, pthread_mutex_t *restrict lock, until restrict when), (wakes, lock, when))
+WAIT(pthread_cond_t, pthread_mutex_t, pthread_cond_clockwait, (pthread_cond_t *restrict wakes, pthread_mutex_t *restrict lock, clockid_t clock, until restrict when), (wakes, lock, clock, when))
+WAIT(cnd_t, mtx_t, cnd_wait, (cnd_t *wakes, mtx_t *lock), (wakes, lock))
+WAIT(cnd_t, mtx_t, cnd_timedwait, (cnd_t *restrict wakes, mtx_t *restrict lock, until restrict when), (wakes, lock, when))

@@ -1,0 +1,120 @@
+/* Threads: their names and stacks. */
+#include "emit.h"
+
+#include <errno.h>
+#include <limits.h>
+#include <pthread.h>
+#include <stdlib.h>
+#include <string.h>
+#include <threads.h>
+
+/* The stack of a thread, with its thread-local storage at the upper end. */
+static __thread struct { void *begin; size_t size; int rounds; } stack __attribute__((tls_model("initial-exec")));
+static pthread_key_t ends;
+static pthread_once_t made_ends = PTHREAD_ONCE_INIT;
+
+/* The C library calls this up to four times, among the destructors of the program's own keys. The last time is the thread's end. */
+static void end_thread(void *again)
+{
+    if (++stack.rounds < PTHREAD_DESTRUCTOR_ITERATIONS) {
+        pthread_setspecific(ends, again);
+        return;
+    }
+    emit_end_of_thread();
+    emit_reuse(stack.begin, stack.size);
+}
+
+static void make_ends(void)
+{
+    if (pthread_key_create(&ends, end_thread) != 0)
+        ends = (pthread_key_t)-1;
+}
+
+/* A new thread may have the stack of an old one. */
+static void begin_thread(void)
+{
+    pthread_attr_t found;
+    if (!is_recording())
+        return;
+    emit(EVENT_THREAD, 0, (uint64_t)pthread_self(), 0);
+    if (pthread_getattr_np(pthread_self(), &found) != 0)
+        return;
+    if (pthread_attr_getstack(&found, &stack.begin, &stack.size) == 0)
+        emit_reuse(stack.begin, stack.size);
+    pthread_attr_destroy(&found);
+    if (ends != (pthread_key_t)-1)
+        pthread_setspecific(ends, &stack);
+}
+
+struct start {
+    void *(*body)(void *);
+    int (*c11_body)(void *);
+    void *argument;
+};
+
+static struct start *make_start(void *(*body)(void *), int (*c11_body)(void *), void *argument)
+{
+    struct start *start = malloc(sizeof *start);
+    pthread_once(&made_ends, make_ends);
+    if (start)
+        *start = (struct start){body, c11_body, argument};
+    return start;
+}
+
+static struct start take_start(void *given)
+{
+    struct start start = *(struct start *)given;
+    free(given);
+    begin_thread();
+    return start;
+}
+
+static void *run_thread(void *given)
+{
+    struct start start = take_start(given);
+    return start.body(start.argument);
+}
+
+static int run_c11_thread(void *given)
+{
+    struct start start = take_start(given);
+    return start.c11_body(start.argument);
+}
+
+HOOK int pthread_create(pthread_t *restrict thread, const pthread_attr_t *restrict how, void *(*body)(void *), void *restrict argument)
+{
+    if (!is_recording())
+        return REAL(pthread_create)(thread, how, body, argument);
+    struct start *start = make_start(body, NULL, argument);
+    if (!start)
+        return EAGAIN;
+    int result = REAL(pthread_create)(thread, how, run_thread, start);
+    if (result != 0)
+        free(start);
+    return result;
+}
+
+HOOK int thrd_create(thrd_t *thread, thrd_start_t body, void *argument)
+{
+    if (!is_recording())
+        return REAL(thrd_create)(thread, body, argument);
+    struct start *start = make_start(NULL, body, argument);
+    if (!start)
+        return thrd_nomem;
+    int result = REAL(thrd_create)(thread, run_c11_thread, start);
+    if (result != thrd_success)
+        free(start);
+    return result;
+}
+
+HOOK int pthread_setname_np(pthread_t thread, const char *name)
+{
+    int result = REAL(pthread_setname_np)(thread, name);
+    if (result == 0 && is_recording()) {
+        uint64_t text[2] = {0, 0};
+        memcpy(text, name, strnlen(name, sizeof text));
+        emit(EVENT_NAME_WHOM, 0, (uint64_t)thread, 0);
+        emit(EVENT_NAME, 0, text[0], text[1]);
+    }
+    return result;
+}

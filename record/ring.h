@@ -1,0 +1,94 @@
+/* The memory that a recorded program and the writer of its trace share: a ring of events in one order.
+ *
+ * The program draws a ticket for each event, fills the slot of that ticket and publishes it. The writer takes the slots in the order of
+ * their tickets. The ring is a file without a name that both have mapped, so that an event is safe once it is published, whatever
+ * becomes of the program. */
+#ifndef ERASER_RING_H
+#define ERASER_RING_H
+
+#include <stdatomic.h>
+#include <stdint.h>
+
+#define RING_MAGIC 0x31676e6972617265u /* "eraring1" in memory */
+#define RING_BITS 18
+#define RING_SLOTS (1u << RING_BITS)
+#define RING_MASK (RING_SLOTS - 1)
+
+/* A thread waits for room before it draws a ticket, never after. Between its look at the room and its draw every other thread may draw
+ * one ticket, so as many slots as there may be threads stay free. Half of them are for signal handlers that must not wait. */
+#define RING_SPARE 8192u
+#define RING_ROOM (RING_SLOTS - RING_SPARE)
+#define RING_ROOM_FOR_HANDLERS (RING_SLOTS - RING_SPARE / 2)
+
+/* Threads add to one of these counters what they cannot record. */
+#define LOST_COUNTERS 64
+
+/* Name of the ring's file, as it stands in /proc/PID/maps, and of the variable that tells the program where it is. */
+#define RING_FILE_NAME "eraser-record"
+#define RING_VARIABLE "ERASER_RECORD"
+
+enum event_kind {
+    EVENT_VOID,       /* nothing: the slot of an event that was given up */
+    EVENT_READ,       /* first: address, size: bytes, second: program counter */
+    EVENT_WRITE,      /* the same */
+    EVENT_LOCK,       /* first: lock, acquired in write mode, size: enum lock_kind */
+    EVENT_READ_LOCK,  /* first: lock, acquired in read mode, size: enum lock_kind */
+    EVENT_UNLOCK,     /* first: lock, released in whichever mode the thread holds it */
+    EVENT_LOCK_BEGIN, /* first: lock that begins a new life */
+    EVENT_LOCK_END,   /* first: lock whose life ends */
+    EVENT_REUSE,      /* first: address, second: bytes that are put to a new use */
+    EVENT_IGNORE_ON,
+    EVENT_IGNORE_OFF,
+    EVENT_THREAD,     /* first: the thread's pthread_t */
+    EVENT_NAME_WHOM,  /* first: pthread_t of the thread that the next EVENT_NAME of this thread names */
+    EVENT_NAME,       /* first and second: 16 bytes of text */
+    EVENT_MAPS_BEGIN, /* the text of /proc/self/maps follows */
+    EVENT_MAPS_TEXT,  /* size: bytes, first and second: up to 16 bytes of text */
+    EVENT_MAPS_END,
+};
+
+enum lock_kind { LOCK_MUTEX, LOCK_RWLOCK, LOCK_SPIN, LOCK_USER };
+
+struct slot {
+    _Atomic uint32_t published; /* ring_round() of its ticket once the rest is filled */
+    uint32_t thread;
+    uint32_t kind;
+    uint32_t size;
+    uint64_t first;
+    uint64_t second;
+};
+
+struct lost_counter {
+    _Alignas(64) _Atomic uint64_t count;
+};
+
+struct ring {
+    /* Read by every event, written hardly ever. */
+    uint64_t magic;
+    uint32_t writer; /* process id */
+    _Atomic uint32_t stop;       /* the writer takes no more events */
+    _Atomic uint32_t owner;      /* process id of the program that is recorded, 0 before there is one */
+    _Atomic uint32_t others;     /* programs that found another one recorded already */
+    _Atomic uint32_t threads;    /* numbers given to threads */
+    _Atomic uint64_t abandoned;  /* some ticket below this one may never be published */
+    _Alignas(128) _Atomic uint64_t tail; /* next ticket */
+    _Alignas(128) _Atomic uint64_t head; /* first ticket that the writer has not taken */
+    _Alignas(128) struct lost_counter lost[LOST_COUNTERS];
+    _Alignas(4096) struct slot slots[RING_SLOTS];
+};
+
+/* What a slot's `published` says once the event of this ticket is in it: never 0, and another value in each round through the ring. */
+static inline uint32_t ring_round(uint64_t ticket)
+{
+    return (uint32_t)(ticket >> RING_BITS) + 1;
+}
+
+/* Neighbouring tickets lie in different cache lines, so that threads that draw one after the other don't write to one line. Within
+ * 256 tickets, ticket i and ticket i + 128 share a line. */
+static inline uint32_t ring_place(uint64_t ticket)
+{
+    uint32_t low = (uint32_t)ticket & 255;
+    return ((uint32_t)ticket & RING_MASK & ~255u) | (low & 127) << 1 | low >> 7;
+}
+
+#endif

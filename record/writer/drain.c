@@ -1,0 +1,194 @@
+#define _GNU_SOURCE
+#include "drain.h"
+
+#include <stdlib.h>
+#include <string.h>
+
+#include "locks.h"
+#include "pages.h"
+#include "sites.h"
+#include "trace.h"
+
+/* The producers see the head once in so many events. */
+#define HEAD_STEP 512
+/* What goes to a reader that waits for it: at most so many events are kept back. */
+#define FLUSH_STEP 65536
+
+/* A text that comes in parts of 16 bytes from one thread, with other threads' events in between. */
+struct text {
+    struct text *next;
+    uint32_t thread;
+    size_t bytes, room;
+    char *content;
+};
+static struct text *texts;
+
+/* pthread_t of the threads that live, by their number, and whom each thread is about to name. */
+struct identity {
+    uint64_t self, named;
+};
+static struct identity *identities;
+static uint32_t identity_room;
+
+static struct identity *get_identity(uint32_t number)
+{
+    if (number >= identity_room) {
+        uint32_t room = number < 1024 ? 2048 : 2 * number;
+        identities = get_memory(identities, room * sizeof *identities);
+        memset(identities + identity_room, 0, (room - identity_room) * sizeof *identities);
+        identity_room = room;
+    }
+    return &identities[number];
+}
+
+/* ---- Names of threads ---- */
+
+/* A pthread_t is used again when its thread has ended: the newest thread has it. */
+static void name_thread(const struct slot *slot)
+{
+    char name[17];
+    memcpy(name, &slot->first, 8);
+    memcpy(name + 8, &slot->second, 8);
+    name[16] = 0;
+    uint64_t whom = get_identity(slot->thread)->named;
+    /* Nearly every thread names itself. */
+    if (get_identity(slot->thread)->self == whom) {
+        trace_thread_name(trace_thread(slot->thread), name);
+        return;
+    }
+    for (uint32_t number = identity_room; number-- > 0;)
+        if (identities[number].self == whom) {
+            trace_thread_name(trace_thread(number), name);
+            return;
+        }
+}
+
+/* ---- Maps ---- */
+
+static struct text *find_text(uint32_t thread)
+{
+    struct text *text = texts;
+    while (text && text->thread != thread)
+        text = text->next;
+    return text;
+}
+
+static void begin_text(uint32_t thread)
+{
+    struct text *text = find_text(thread);
+    if (!text) {
+        text = get_memory(NULL, sizeof *text);
+        *text = (struct text){texts, thread, 0, 0, NULL};
+        texts = text;
+    }
+    text->bytes = 0;
+}
+
+static void add_text(const struct slot *slot)
+{
+    struct text *text = find_text(slot->thread);
+    if (!text)
+        return;
+    if (text->bytes + 16 > text->room) {
+        text->room = text->room ? 2 * text->room : 16384;
+        text->content = get_memory(text->content, text->room);
+    }
+    memcpy(text->content + text->bytes, &slot->first, 8);
+    memcpy(text->content + text->bytes + 8, &slot->second, 8);
+    text->bytes += slot->size <= 16 ? slot->size : 16;
+}
+
+static void end_text(uint32_t thread)
+{
+    struct text **place = &texts;
+    while (*place && (*place)->thread != thread)
+        place = &(*place)->next;
+    struct text *text = *place;
+    if (!text)
+        return;
+    sites_set_maps(text->content, text->bytes);
+    *place = text->next;
+    free(text->content);
+    free(text);
+}
+
+/* ---- Events ---- */
+
+static void change_ignoring(uint32_t number, bool begins)
+{
+    struct thread *thread = trace_thread(number);
+    if (begins ? thread->ignoring++ == 0 : thread->ignoring == 1)
+        trace_ignore(thread, begins ? "ignore-on" : "ignore-off");
+    if (!begins && thread->ignoring)
+        thread->ignoring--;
+}
+
+static void take_rare(const struct slot *slot)
+{
+    switch (slot->kind) {
+    case EVENT_LOCK_BEGIN:
+    case EVENT_LOCK_END: locks_renew(slot->first); break;
+    case EVENT_IGNORE_ON: change_ignoring(slot->thread, true); break;
+    case EVENT_IGNORE_OFF: change_ignoring(slot->thread, false); break;
+    case EVENT_THREAD:
+        get_identity(slot->thread)->self = slot->first;
+        trace_thread(slot->thread);
+        break;
+    case EVENT_NAME_WHOM: get_identity(slot->thread)->named = slot->first; break;
+    case EVENT_NAME: name_thread(slot); break;
+    case EVENT_MAPS_BEGIN: begin_text(slot->thread); break;
+    case EVENT_MAPS_TEXT: add_text(slot); break;
+    case EVENT_MAPS_END: end_text(slot->thread); break;
+    default: break;
+    }
+}
+
+static void take(const struct slot *slot)
+{
+    switch (slot->kind) {
+    case EVENT_READ:
+    case EVENT_WRITE:
+        pages_mark(slot->first, slot->size);
+        trace_access(trace_thread(slot->thread), slot->kind == EVENT_WRITE, slot->first, slot->size, slot->second);
+        break;
+    case EVENT_LOCK:
+    case EVENT_READ_LOCK:
+        locks_acquire(slot->thread, slot->first, (enum lock_kind)(slot->size & 3), slot->kind == EVENT_READ_LOCK);
+        break;
+    case EVENT_UNLOCK: locks_release(slot->thread, slot->first); break;
+    case EVENT_REUSE: pages_reuse(trace_thread(slot->thread), slot->first, slot->second); break;
+    default: take_rare(slot); break;
+    }
+}
+
+static const struct slot *next_slot(struct ring *ring, uint64_t head)
+{
+    const struct slot *slot = &ring->slots[ring_place(head)];
+    return atomic_load_explicit(&slot->published, memory_order_acquire) == ring_round(head) ? slot : NULL;
+}
+
+bool drain(struct ring *ring)
+{
+    uint64_t begin = atomic_load_explicit(&ring->head, memory_order_relaxed), head = begin;
+    const struct slot *slot;
+    while ((slot = next_slot(ring, head)) != NULL) {
+        take(slot);
+        head++;
+        if (head % HEAD_STEP == 0)
+            atomic_store_explicit(&ring->head, head, memory_order_release);
+        if (head - begin == FLUSH_STEP)
+            break;
+    }
+    atomic_store_explicit(&ring->head, head, memory_order_release);
+    return head != begin;
+}
+
+bool drain_is_behind(struct ring *ring)
+{
+    return atomic_load(&ring->head) != atomic_load(&ring->tail);
+}
+
+void drain_skip(struct ring *ring)
+{
+    atomic_fetch_add(&ring->head, 1);
+}

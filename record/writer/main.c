@@ -1,0 +1,455 @@
+/* Runs a program, takes its events out of the ring and makes a trace of them, in a file or for a replay that runs beside it. */
+#define _GNU_SOURCE
+#include <errno.h>
+#include <fcntl.h>
+#include <getopt.h>
+#include <signal.h>
+#include <stdio.h>
+#include <stdlib.h>
+#include <string.h>
+#include <sys/mman.h>
+#include <sys/wait.h>
+#include <time.h>
+#include <unistd.h>
+
+#include "drain.h"
+#include "sites.h"
+#include "trace.h"
+
+/* Exit statuses of its own, as env and timeout have them. */
+#define STATUS_FAILED 125
+#define STATUS_NOT_EXECUTABLE 126
+#define STATUS_NOT_FOUND 127
+/* A replay takes at most so many bytes of text. */
+#define REPLAY_LIMIT 268435456u
+
+struct options {
+    const char *trace;
+    const char *report;
+    const char *rules;
+    bool replays;
+    bool explains;
+    bool ends_as_report;
+    bool is_quiet;
+};
+static struct options options;
+
+static struct ring *ring;
+static int ring_file = -1;
+static pid_t program, replay;
+static int program_status, replay_status;
+static bool has_program_ended, has_replay_ended;
+static volatile sig_atomic_t replay_to_stop;
+
+static const char usage[] =
+    "Usage: record/run [OPTIONS] PROGRAM [ARGUMENTS..]\n"
+    "\n"
+    "Runs a program that was built with -fsanitize=thread, records what its threads do, and reports its races.\n"
+    "\n"
+    "  -o, --output FILE       keep the trace in FILE, and replay nothing\n"
+    "      --replay            with -o: replay as well\n"
+    "      --report FILE       write the report to FILE instead of standard output\n"
+    "      --suppress RULES    leave out the races that these rules take (docs/FORMATS.md)\n"
+    "      --explain           name the accesses that make each race\n"
+    "      --exit-status WHOSE end with the status of the `program` (the default) or of the `report`\n"
+    "      --limit BYTES       record at most so much text; 0: no limit. The default is what a replay takes, 268435456\n"
+    "      --paths             name sites by their whole path\n"
+    "  -q, --quiet             say nothing on standard error, unless something went wrong\n"
+    "  -h, --help              print this\n"
+    "\n"
+    "It ends with the program's exit status, or 128 and the number of the signal that ended it; 125 if the recorder failed, 126 or 127\n"
+    "if the program cannot be started. The report comes on standard output when the program has ended.\n";
+
+static void fail(const char *what, const char *name)
+{
+    fprintf(stderr, "record: %s%s%s: %s\n", what, name ? " " : "", name ? name : "", strerror(errno));
+    exit(STATUS_FAILED);
+}
+
+/* ---- Options ---- */
+
+static uint64_t read_bytes(const char *text)
+{
+    char *end;
+    errno = 0;
+    unsigned long long value = strtoull(text, &end, 10);
+    if (errno || *end || end == text || *text == '-') {
+        fprintf(stderr, "record: --limit wants a number of bytes, not '%s'\n", text);
+        exit(STATUS_FAILED);
+    }
+    return value;
+}
+
+static bool is_report(const char *text)
+{
+    if (strcmp(text, "report") != 0 && strcmp(text, "program") != 0) {
+        fprintf(stderr, "record: --exit-status is 'program' or 'report', not '%s'\n", text);
+        exit(STATUS_FAILED);
+    }
+    return *text == 'r';
+}
+
+static void read_options(int count, char **words)
+{
+    enum { REPLAY = 256, REPORT, SUPPRESS, EXPLAIN, EXIT_STATUS, LIMIT, PATHS };
+    static const struct option names[] = {
+        {"output", 1, NULL, 'o'},         {"replay", 0, NULL, REPLAY}, {"report", 1, NULL, REPORT}, {"suppress", 1, NULL, SUPPRESS},
+        {"exit-status", 1, NULL, EXIT_STATUS}, {"limit", 1, NULL, LIMIT},   {"paths", 0, NULL, PATHS},   {"quiet", 0, NULL, 'q'},
+        {"explain", 0, NULL, EXPLAIN},    {"help", 0, NULL, 'h'},      {NULL, 0, NULL, 0},
+    };
+    output.limit = REPLAY_LIMIT;
+    for (int got; (got = getopt_long(count, words, "+o:qh", names, NULL)) != -1;)
+        switch (got) {
+        case 'o': options.trace = optarg; break;
+        case REPLAY: options.replays = true; break;
+        case REPORT: options.report = optarg; break;
+        case SUPPRESS: options.rules = optarg; break;
+        case EXPLAIN: options.explains = true; break;
+        case EXIT_STATUS: options.ends_as_report = is_report(optarg); break;
+        case LIMIT: output.limit = read_bytes(optarg); break;
+        case PATHS: sites_have_paths = true; break;
+        case 'q': options.is_quiet = true; break;
+        case 'h': fputs(usage, stdout); exit(0);
+        default: fputs("record: --help says what there is\n", stderr); exit(STATUS_FAILED);
+        }
+    if (optind == count) {
+        fputs(usage, stderr);
+        exit(STATUS_FAILED);
+    }
+    options.replays |= !options.trace || options.report || options.rules || options.explains || options.ends_as_report;
+}
+
+/* ---- Processes ---- */
+
+static void make_ring(void)
+{
+    ring_file = memfd_create(RING_FILE_NAME, MFD_CLOEXEC);
+    if (ring_file < 0 || ftruncate(ring_file, sizeof *ring) != 0)
+        fail("cannot make the ring", NULL);
+    ring = mmap(NULL, sizeof *ring, PROT_READ | PROT_WRITE, MAP_SHARED, ring_file, 0);
+    if (ring == MAP_FAILED)
+        fail("cannot map the ring", NULL);
+    ring->writer = (uint32_t)getpid();
+    ring->magic = RING_MAGIC;
+}
+
+/* A terminal sends its interrupt to all of them. The program decides what it does with it; the replay goes on, so that there is a report,
+ * and is stopped only if the program has ended already. */
+static void interrupt(int number)
+{
+    (void)number;
+    if (has_program_ended && replay > 0 && !has_replay_ended)
+        replay_to_stop = 1;
+}
+
+/* Who wants to end the recorder means the program. */
+static void pass_on(int number)
+{
+    if (program > 0 && !has_program_ended)
+        kill(program, number);
+    else if (replay > 0 && !has_replay_ended)
+        replay_to_stop = 1;
+}
+
+static void set_signals(void)
+{
+    struct sigaction action = {.sa_handler = interrupt};
+    sigaction(SIGINT, &action, NULL);
+    sigaction(SIGQUIT, &action, NULL);
+    action.sa_handler = pass_on;
+    sigaction(SIGTERM, &action, NULL);
+    sigaction(SIGHUP, &action, NULL);
+    signal(SIGPIPE, SIG_IGN);
+}
+
+/* The first call of ./eraser proves and builds the replay, which takes minutes: not while a program waits for it. */
+static void prepare_replay(void)
+{
+    const char *command = getenv("ERASER_RECORD_PREPARE");
+    int status;
+    if (!command)
+        return;
+    pid_t child = fork();
+    if (child == 0) {
+        int nowhere = open("/dev/null", O_WRONLY);
+        dup2(nowhere, 1);
+        execl(command, command, "--version", (char *)NULL);
+        _exit(STATUS_FAILED);
+    }
+    if (child < 0 || waitpid(child, &status, 0) != child || status != 0) {
+        fprintf(stderr, "record: %s cannot be run\n", command);
+        exit(STATUS_FAILED);
+    }
+}
+
+static void start_replay(void)
+{
+    int ends[2];
+    const char *command = getenv("ERASER");
+    char *words[7] = {(char *)(command ? command : "eraser"), "replay", NULL};
+    int count = 2;
+    if (options.rules) {
+        words[count++] = "--suppress";
+        words[count++] = (char *)options.rules;
+    }
+    if (options.explains)
+        words[count++] = "--explain";
+    words[count] = "-";
+    int report = options.report ? open(options.report, O_WRONLY | O_CREAT | O_TRUNC | O_CLOEXEC, 0666) : -1;
+    if (options.report && report < 0)
+        fail("cannot write", options.report);
+    if (pipe2(ends, O_CLOEXEC) != 0)
+        fail("cannot make a pipe", NULL);
+    fcntl(ends[1], F_SETPIPE_SZ, 1 << 20);
+    fflush(NULL);
+    replay = fork();
+    if (replay < 0)
+        fail("cannot start", words[0]);
+    if (replay == 0) {
+        signal(SIGINT, SIG_IGN);
+        signal(SIGQUIT, SIG_IGN);
+        signal(SIGPIPE, SIG_DFL);
+        dup2(ends[0], 0);
+        if (report >= 0)
+            dup2(report, 1);
+        execvp(words[0], words);
+        fprintf(stderr, "record: cannot start %s: %s\n", words[0], strerror(errno));
+        _exit(STATUS_FAILED);
+    }
+    close(ends[0]);
+    if (report >= 0)
+        close(report);
+    output.pipe = ends[1];
+}
+
+/* The program finds our libraries in front of the system's. */
+static void set_library_path(void)
+{
+    const char *ours = getenv("ERASER_RECORD_LIBRARIES"), *theirs = getenv("LD_LIBRARY_PATH");
+    char *path, *place;
+    unsetenv("ERASER_RECORD_LIBRARIES");
+    if (getenv("ERASER_RECORD_PREPARE"))
+        unsetenv("ERASER"); /* set by record/run, not by the user */
+    unsetenv("ERASER_RECORD_PREPARE");
+    if (!ours)
+        return;
+    if (asprintf(&path, "%s%s%s", ours, theirs && *theirs ? ":" : "", theirs && *theirs ? theirs : "") < 0 ||
+        asprintf(&place, "/proc/%ld/fd/%d", (long)getppid(), ring_file) < 0)
+        _exit(STATUS_FAILED);
+    setenv("LD_LIBRARY_PATH", path, 1);
+    setenv(RING_VARIABLE, place, 1);
+}
+
+static void start_program(char **words)
+{
+    program = fork();
+    if (program < 0)
+        fail("cannot start", words[0]);
+    if (program != 0)
+        return;
+    signal(SIGINT, SIG_DFL);
+    signal(SIGQUIT, SIG_DFL);
+    signal(SIGTERM, SIG_DFL);
+    signal(SIGHUP, SIG_DFL);
+    signal(SIGPIPE, SIG_DFL);
+    set_library_path();
+    execvp(words[0], words);
+    fprintf(stderr, "record: cannot start %s: %s\n", words[0], strerror(errno));
+    _exit(errno == ENOENT ? STATUS_NOT_FOUND : STATUS_NOT_EXECUTABLE);
+}
+
+static void reap(void)
+{
+    int status;
+    for (pid_t ended; (ended = waitpid(-1, &status, WNOHANG)) > 0;)
+        if (ended == program) {
+            program_status = status;
+            has_program_ended = true;
+        } else if (ended == replay) {
+            replay_status = status;
+            has_replay_ended = true;
+        }
+}
+
+/* ---- The recording ---- */
+
+/* True if the recorded program, as it was when it found the ring, is still there. It is not if it has ended or started another program
+ * in its place. */
+static bool has_owner(void)
+{
+    uint32_t owner = atomic_load(&ring->owner);
+    char path[64], line[512];
+    bool is_mapped = false;
+    if (!owner || (owner == (uint32_t)program && has_program_ended))
+        return false;
+    snprintf(path, sizeof path, "/proc/%u/maps", owner);
+    FILE *maps = fopen(path, "r");
+    while (maps && !is_mapped && fgets(line, sizeof line, maps))
+        is_mapped = strstr(line, "/memfd:" RING_FILE_NAME) != NULL;
+    if (maps)
+        fclose(maps);
+    return is_mapped;
+}
+
+static void sleep_for(long nanoseconds)
+{
+    struct timespec pause = {0, nanoseconds};
+    nanosleep(&pause, NULL);
+}
+
+static double seconds_now(void)
+{
+    struct timespec now;
+    clock_gettime(CLOCK_MONOTONIC, &now);
+    return (double)now.tv_sec + (double)now.tv_nsec / 1e9;
+}
+
+/* The ring waits for an event that was begun and not ended. Its thread will end it, unless it is gone. After so many seconds, it is given
+ * up, and sooner if a thread said that it left an event somewhere here. */
+#define PATIENCE 5.0
+#define PATIENCE_IF_ABANDONED 0.02
+
+static void wait_for_event(double *since)
+{
+    double now = seconds_now();
+    if (!*since)
+        *since = now;
+    double waited = now - *since;
+    bool is_abandoned = atomic_load(&ring->head) < atomic_load(&ring->abandoned) && waited > PATIENCE_IF_ABANDONED;
+    bool is_gone = waited > 0.2 && !has_owner(); /* then the step that it was to record was never made */
+    if (!is_abandoned && !is_gone && waited < PATIENCE)
+        return;
+    drain_skip(ring);
+    *since = is_gone ? *since : 0;
+    if (!is_abandoned && !is_gone)
+        trace_lost++; /* an abandoned event was counted by its thread */
+}
+
+/* Nobody takes the text any more: the program goes on without being recorded. */
+static void check_outputs(void)
+{
+    if (!trace_is_open())
+        atomic_store(&ring->stop, 1);
+}
+
+static void record(void)
+{
+    long pause = 100000;
+    double behind_since = 0;
+    for (;;) {
+        if (drain(ring)) {
+            pause = 100000;
+            behind_since = 0;
+            check_outputs();
+            continue;
+        }
+        trace_flush();
+        check_outputs();
+        bool had_ended = has_program_ended;
+        reap();
+        if (drain_is_behind(ring))
+            wait_for_event(&behind_since);
+        else {
+            behind_since = 0;
+            if (had_ended && !has_owner() && !drain_is_behind(ring))
+                return;
+        }
+        sleep_for(pause);
+        pause = pause < 5000000 ? 2 * pause : pause;
+    }
+}
+
+/* ---- The end ---- */
+
+static uint64_t count_lost(void)
+{
+    uint64_t lost = trace_lost;
+    for (unsigned i = 0; i < LOST_COUNTERS; i++)
+        lost += atomic_load(&ring->lost[i].count);
+    return lost;
+}
+
+static void end_replay(void)
+{
+    if (output.pipe >= 0)
+        close(output.pipe);
+    while (replay > 0 && !has_replay_ended) {
+        int status;
+        pid_t ended = waitpid(replay, &status, 0);
+        if (ended == replay) {
+            replay_status = status;
+            has_replay_ended = true;
+        } else if (errno == EINTR && replay_to_stop)
+            kill(replay, SIGTERM);
+        else if (errno != EINTR)
+            return;
+    }
+}
+
+static int exit_status(int status)
+{
+    return WIFSIGNALED(status) ? 128 + WTERMSIG(status) : WEXITSTATUS(status);
+}
+
+static void say_end_of_replay(void)
+{
+    int status = exit_status(replay_status);
+    bool was_early = output.pipe_error == EPIPE;
+    if (WIFSIGNALED(replay_status))
+        fprintf(stderr, "record: the replay was ended by signal %d (%s)\n", WTERMSIG(replay_status), strsignal(WTERMSIG(replay_status)));
+    else if (status > 1 || was_early)
+        fprintf(stderr, "record: the replay ended with status %d%s\n", status, was_early ? " before it had read the whole trace" : "");
+    if (was_early)
+        fprintf(stderr, "record: the program went on unharmed; the trace is%s recorded further\n", options.trace ? "" : " not");
+}
+
+static void say_end(uint64_t lost)
+{
+    uint32_t others = atomic_load(&ring->others);
+    if (!atomic_load(&ring->owner)) {
+        if (WIFEXITED(program_status) && WEXITSTATUS(program_status) >= STATUS_NOT_EXECUTABLE)
+            return; /* it did not start, and that was said */
+        fprintf(stderr, "record: nothing was recorded: the program does not use ThreadSanitizer's library, libtsan.so.2.\n"
+                        "record: build it with -g -fsanitize=thread, and without -static-libtsan; docs/RECORDING.md says how with clang\n");
+        return;
+    }
+    if (!options.is_quiet || lost)
+        fprintf(stderr, "record: %llu events recorded, %llu lost%s\n", (unsigned long long)trace_events, (unsigned long long)lost,
+                lost ? ": the trace is incomplete, and says so in its last line" : "");
+    if (output.is_full)
+        fprintf(stderr, "record: the trace reached its limit of %llu bytes (--limit)\n", (unsigned long long)output.limit);
+    if (output.file_error)
+        fprintf(stderr, "record: cannot write %s: %s\n", options.trace, strerror(output.file_error));
+    if (others)
+        fprintf(stderr, "record: %u further program%s started by it %s not recorded\n", others, others == 1 ? "" : "s", others == 1 ? "was" : "were");
+}
+
+int main(int count, char **words)
+{
+    read_options(count, words);
+    /* Looking for debug information is not to ask servers for it. */
+    unsetenv("DEBUGINFOD_URLS");
+    if (options.trace) {
+        output.file = open(options.trace, O_WRONLY | O_CREAT | O_TRUNC | O_CLOEXEC, 0666);
+        if (output.file < 0)
+            fail("cannot write", options.trace);
+    }
+    if (options.replays)
+        prepare_replay();
+    make_ring();
+    set_signals();
+    if (options.replays)
+        start_replay();
+    start_program(words + optind);
+    trace_begin(words[optind]);
+    record();
+    uint64_t lost = count_lost();
+    trace_end(lost);
+    end_replay();
+    say_end(lost);
+    if (options.replays)
+        say_end_of_replay();
+    if (WIFSIGNALED(program_status) && !options.is_quiet)
+        fprintf(stderr, "record: the program was ended by signal %d (%s)\n", WTERMSIG(program_status), strsignal(WTERMSIG(program_status)));
+    return exit_status(options.ends_as_report ? replay_status : program_status);
+}

@@ -1,0 +1,16 @@
+/* Which pages of the program's memory have words that were accessed, or locks. Memory that is put to a new use matters only there. */
+#ifndef ERASER_PAGES_H
+#define ERASER_PAGES_H
+
+#include <stdint.h>
+
+#include "trace.h"
+
+/* Words of these bytes are accessed. */
+void pages_mark(uint64_t address, uint64_t bytes);
+/* A lock is at this address. */
+void pages_mark_lock(uint64_t address);
+/* These bytes are put to a new use: writes the lines for it, and forgets the locks in them. */
+void pages_reuse(struct thread *thread, uint64_t address, uint64_t bytes);
+
+#endif

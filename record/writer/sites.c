@@ -1,0 +1,315 @@
+#define _GNU_SOURCE
+#include "sites.h"
+
+#include <ctype.h>
+#include <elfutils/libdwfl.h>
+#include <stdio.h>
+#include <stdlib.h>
+#include <string.h>
+
+#include "trace.h"
+
+bool sites_have_paths;
+
+static char *maps;
+static size_t maps_bytes;
+static Dwfl *files;
+
+/* Sites that were looked up, by open addressing, at most half full. */
+static struct site *table;
+static size_t table_room, table_count;
+/* Their texts stand in blocks of memory, each of which begins with a pointer to the one before. */
+#define BLOCK_BYTES 65536
+static char *block;
+static size_t block_used;
+
+/* ---- Files ---- */
+
+static int free_ranges(Dwfl_Module *file, void **place, const char *name, Dwarf_Addr begin, void *nothing);
+
+static char *debug_path;
+static const Dwfl_Callbacks callbacks = {
+    .find_elf = dwfl_linux_proc_find_elf,
+    .find_debuginfo = dwfl_standard_find_debuginfo,
+    .debuginfo_path = &debug_path,
+};
+
+/* Keeps the lines of files: a heap that grows changes none of them. */
+static size_t keep_files(char *text, size_t bytes)
+{
+    size_t kept = 0;
+    for (size_t at = 0; at < bytes;) {
+        char *end = memchr(text + at, '\n', bytes - at);
+        size_t length = end ? (size_t)(end - text) + 1 - at : bytes - at;
+        if (memchr(text + at, '/', length) && !memmem(text + at, length, "/memfd:", 7)) {
+            memmove(text + kept, text + at, length);
+            kept += length;
+        }
+        at += length;
+    }
+    return kept;
+}
+
+static void forget_sites(void)
+{
+    if (table)
+        memset(table, 0, table_room * sizeof *table);
+    table_count = 0;
+    while (block) {
+        char *before;
+        memcpy(&before, block, sizeof before);
+        free(block);
+        block = before;
+    }
+    block_used = 0;
+}
+
+void sites_set_maps(const char *text, size_t bytes)
+{
+    char *copy = get_memory(NULL, bytes + 1);
+    memcpy(copy, text, bytes);
+    bytes = keep_files(copy, bytes);
+    if (maps && bytes == maps_bytes && memcmp(copy, maps, bytes) == 0) {
+        free(copy);
+        return;
+    }
+    free(maps);
+    maps = copy;
+    maps_bytes = bytes;
+    forget_sites();
+    if (files) {
+        dwfl_getmodules(files, free_ranges, NULL, 0);
+        dwfl_end(files);
+    }
+    files = NULL;
+}
+
+/* The files are opened at the first look-up, and not at all by a program that has nothing to look up. */
+static Dwfl *get_files(void)
+{
+    if (files || !maps_bytes)
+        return files;
+    FILE *text = fmemopen(maps, maps_bytes, "r");
+    files = dwfl_begin(&callbacks);
+    if (!text || !files) {
+        fprintf(stderr, "record: no debug information can be read\n");
+        maps_bytes = 0;
+    } else {
+        dwfl_report_begin(files);
+        dwfl_linux_proc_maps_report(files, text);
+        dwfl_report_end(files, NULL, NULL);
+    }
+    if (text)
+        fclose(text);
+    return files;
+}
+
+/* ---- Program counters ---- */
+
+/* Which compilation unit of a file has which places. gcc writes a table for this, which libdw reads; clang leaves it out, so it is made
+ * here, once for each file, by rising begin. */
+struct range {
+    Dwarf_Addr begin, end, bias;
+    Dwarf_Die *unit;
+};
+struct ranges {
+    size_t count, room;
+    struct range *all;
+};
+
+static void add_range(struct ranges *ranges, struct range range)
+{
+    if (ranges->count == ranges->room) {
+        ranges->room = ranges->room ? 2 * ranges->room : 64;
+        ranges->all = get_memory(ranges->all, ranges->room * sizeof *ranges->all);
+    }
+    ranges->all[ranges->count++] = range;
+}
+
+static int compare_begins(const void *one, const void *other)
+{
+    Dwarf_Addr first = ((const struct range *)one)->begin, second = ((const struct range *)other)->begin;
+    return first < second ? -1 : first > second;
+}
+
+static struct ranges *get_ranges(Dwfl_Module *file)
+{
+    void **place;
+    dwfl_module_info(file, &place, NULL, NULL, NULL, NULL, NULL, NULL);
+    if (*place)
+        return *place;
+    struct ranges *ranges = get_memory(NULL, sizeof *ranges);
+    *ranges = (struct ranges){0, 0, NULL};
+    Dwarf_Addr base, begin, end, bias;
+    for (Dwarf_Die *unit = NULL; (unit = dwfl_module_nextcu(file, unit, &bias)) != NULL;)
+        for (ptrdiff_t at = 0; (at = dwarf_ranges(unit, at, &base, &begin, &end)) > 0;)
+            add_range(ranges, (struct range){begin + bias, end + bias, bias, unit});
+    qsort(ranges->all, ranges->count, sizeof *ranges->all, compare_begins);
+    *place = ranges;
+    return ranges;
+}
+
+static int free_ranges(Dwfl_Module *file, void **place, const char *name, Dwarf_Addr begin, void *nothing)
+{
+    (void)file, (void)name, (void)begin, (void)nothing;
+    struct ranges *ranges = *place;
+    if (ranges)
+        free(ranges->all);
+    free(ranges);
+    return DWARF_CB_OK;
+}
+
+static Dwarf_Die *unit_of(Dwfl_Module *file, uint64_t place, Dwarf_Addr *bias)
+{
+    Dwarf_Die *unit = dwfl_module_addrdie(file, place, bias);
+    if (unit)
+        return unit;
+    struct ranges *ranges = get_ranges(file);
+    size_t low = 0, high = ranges->count; /* all before `low` begin at or below the place, all from `high` on above it */
+    while (low < high) {
+        size_t middle = low + (high - low) / 2;
+        if (ranges->all[middle].begin <= place)
+            low = middle + 1;
+        else
+            high = middle;
+    }
+    if (low == 0 || place >= ranges->all[low - 1].end)
+        return NULL;
+    *bias = ranges->all[low - 1].bias;
+    return ranges->all[low - 1].unit;
+}
+
+/* Code that a compiler merged from several lines has line 0. Then the line before serves, which is that of the same function nearly
+ * always. */
+static const char *line_of(Dwfl_Module *file, uint64_t place, int *number)
+{
+    Dwarf_Addr bias = 0;
+    Dwarf_Die *unit = unit_of(file, place, &bias);
+    for (unsigned back = 0; unit && back < 64; back++) {
+        Dwarf_Line *line = dwarf_getsrc_die(unit, place - bias - back);
+        if (line && dwarf_lineno(line, number) == 0 && *number > 0)
+            return dwarf_linesrc(line, NULL, NULL);
+    }
+    return NULL;
+}
+
+static void describe(uint64_t place, char *text, size_t room)
+{
+    Dwfl *all = get_files();
+    Dwfl_Module *file = all ? dwfl_addrmodule(all, place) : NULL;
+    int number = 0;
+    /* The call stands before the place that it returns to. */
+    const char *name = file ? line_of(file, place - 1, &number) : NULL;
+    if (name) {
+        const char *base = strrchr(name, '/');
+        snprintf(text, room, "%s:%d", base && !sites_have_paths ? base + 1 : name, number);
+        return;
+    }
+    Dwarf_Addr begin = 0;
+    name = file ? dwfl_module_info(file, NULL, &begin, NULL, NULL, NULL, NULL, NULL) : NULL;
+    const char *base = name ? strrchr(name, '/') : NULL;
+    if (name)
+        snprintf(text, room, "%s_0x%llx", base ? base + 1 : name, (unsigned long long)(place - 1 - begin));
+    else
+        snprintf(text, room, "unknown_0x%llx", (unsigned long long)(place - 1));
+}
+
+static const char *keep_text(const char *text, size_t bytes)
+{
+    if (!block || block_used + bytes > BLOCK_BYTES) {
+        char *before = block;
+        block = get_memory(NULL, BLOCK_BYTES);
+        memcpy(block, &before, sizeof before);
+        block_used = sizeof before;
+    }
+    char *kept = block + block_used;
+    memcpy(kept, text, bytes);
+    block_used += bytes;
+    return kept;
+}
+
+static struct site *find(uint64_t place)
+{
+    size_t at = (size_t)((place * UINT64_C(0x9e3779b97f4a7c15)) >> 20) & (table_room - 1);
+    while (table[at].text && table[at].place != place)
+        at = (at + 1) & (table_room - 1);
+    return &table[at];
+}
+
+static void grow(void)
+{
+    struct site *old = table;
+    size_t count = table_room;
+    table_room = count ? 2 * count : 4096;
+    table = get_memory(NULL, table_room * sizeof *table);
+    memset(table, 0, table_room * sizeof *table);
+    for (size_t i = 0; i < count; i++)
+        if (old[i].text)
+            *find(old[i].place) = old[i];
+    free(old);
+}
+
+const struct site *site_of(uint64_t place)
+{
+    if (2 * table_count >= table_room)
+        grow();
+    struct site *site = find(place);
+    if (!site->text) {
+        char text[8192], name[NAME_BYTES + 2];
+        describe(place, text, sizeof text);
+        name[0] = ' ';
+        size_t bytes = 1 + legal_name(name + 1, text);
+        *site = (struct site){place, keep_text(name, bytes), (uint32_t)bytes};
+        table_count++;
+    }
+    return site;
+}
+
+/* ---- Names of variables ---- */
+
+/* One part of a mangled name: a number and as many bytes. Returns what stands behind it, or NULL. */
+static const char *put_part(const char *from, char *to, size_t *used, size_t room)
+{
+    char *text;
+    unsigned long bytes = isdigit((unsigned char)*from) ? strtoul(from, &text, 10) : 0;
+    if (!bytes || bytes > strlen(text) || *used + bytes + 3 > room)
+        return NULL;
+    *used += (size_t)snprintf(to + *used, room - *used, "%s%.*s", *used ? "::" : "", (int)bytes, text);
+    return text + bytes;
+}
+
+/* The plain cases of C++: `_ZL4lock` is lock, `_ZN4pool4lockE` is pool::lock. Anything else keeps the linker's name. */
+static void demangle(const char *symbol, char *name, size_t room)
+{
+    const char *from = symbol;
+    size_t used = 0;
+    bool is_nested = strncmp(symbol, "_ZN", 3) == 0;
+    if (strncmp(symbol, "_ZL", 3) == 0 || is_nested)
+        from += 3;
+    else
+        from = NULL;
+    do {
+        if (from && *from == 'L')
+            from++;
+        from = from ? put_part(from, name, &used, room) : NULL;
+    } while (from && is_nested && *from != 'E');
+    if (!from || strcmp(from, is_nested ? "E" : "") != 0)
+        snprintf(name, room, "%s", symbol);
+}
+
+bool symbol_of(uint64_t address, char *name, size_t room)
+{
+    Dwfl *all = get_files();
+    Dwfl_Module *file = all ? dwfl_addrmodule(all, address) : NULL;
+    GElf_Off offset;
+    GElf_Sym symbol;
+    const char *found = file ? dwfl_module_addrinfo(file, address, &offset, &symbol, NULL, NULL, NULL) : NULL;
+    if (!found || GELF_ST_TYPE(symbol.st_info) != STT_OBJECT || offset >= symbol.st_size)
+        return false;
+    demangle(found, name, room);
+    if (offset) {
+        size_t used = strlen(name);
+        snprintf(name + used, room - used, "_%llu", (unsigned long long)offset);
+    }
+    return true;
+}

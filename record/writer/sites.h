@@ -1,0 +1,26 @@
+/* Source lines of program counters and names of variables, from the debug information of the program's files. */
+#ifndef ERASER_SITES_H
+#define ERASER_SITES_H
+
+#include <stdbool.h>
+#include <stddef.h>
+#include <stdint.h>
+
+/* A site as it ends a line: a space and a legal name. */
+struct site {
+    uint64_t place;
+    const char *text;
+    uint32_t bytes;
+};
+
+/* If set before the first look-up, sites have their whole path. */
+extern bool sites_have_paths;
+
+/* The program's mapped files are those of this text, which has the form of /proc/PID/maps. */
+void sites_set_maps(const char *text, size_t bytes);
+/* The site of the call that returns to this place. It holds until the next call. */
+const struct site *site_of(uint64_t place);
+/* The name of the variable at an address, with an offset if the address lies inside it. False if it is none of a file's. */
+bool symbol_of(uint64_t address, char *name, size_t room);
+
+#endif

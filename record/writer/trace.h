@@ -1,0 +1,51 @@
+/* The text of a trace: a buffer, where it goes, and the lines of threads. */
+#ifndef ERASER_TRACE_H
+#define ERASER_TRACE_H
+
+#include <stdbool.h>
+#include <stddef.h>
+#include <stdint.h>
+
+/* A legal name has at most so many bytes. */
+#define NAME_BYTES 128
+
+/* Where the text goes. A place that fails is given up, and the other one goes on. */
+struct output {
+    int file;            /* -1: none */
+    int pipe;            /* -1: none */
+    int file_error;      /* errno of the failed write, or 0 */
+    int pipe_error;
+    uint64_t limit;      /* bytes of text, 0: no limit */
+    bool is_full;
+};
+
+struct thread {
+    char text[16];       /* "t12 " */
+    uint8_t bytes;       /* 0 before its first event */
+    uint32_t held;       /* locks that the trace says it holds */
+    uint32_t ignoring;   /* depth of its ignore brackets */
+};
+
+extern struct output output;
+extern uint64_t trace_events; /* lines of events written */
+extern uint64_t trace_lost;   /* events that were taken but could not be written */
+
+void trace_begin(const char *program);
+void trace_end(uint64_t lost);
+void trace_flush(void);
+/* True if text can still be written somewhere. */
+bool trace_is_open(void);
+
+struct thread *trace_thread(uint32_t number);
+void trace_access(struct thread *thread, bool is_write, uint64_t address, uint64_t bytes, uint64_t site);
+void trace_reuse(struct thread *thread, uint64_t address, uint64_t bytes);
+void trace_lock(struct thread *thread, const char *verb, const char *lock);
+void trace_ignore(struct thread *thread, const char *verb);
+void trace_thread_name(struct thread *thread, const char *name);
+
+/* Ends the writer: it has no memory. */
+void *get_memory(void *old, size_t bytes);
+/* Copies text into a legal name, whose end is kept if it is too long. Returns its length. */
+size_t legal_name(char *to, const char *text);
+
+#endif

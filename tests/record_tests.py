@@ -1,0 +1,426 @@
+"""Records the programs of tests/record, and compares what record/run and the replay say of them.
+
+A comment on a line of a program says what is expected there:
+- RACE: a race is reported at this line. The reported sites are these lines and no others
+- NEVER: the trace has no access of this line
+- READS n, WRITES n: the trace has so many words read or written at this line
+"""
+
+import concurrent.futures
+import os
+import pathlib
+import re
+import resource
+import shutil
+import signal
+import subprocess
+import sys
+import tempfile
+import threading
+import time
+
+TOP = pathlib.Path(__file__).resolve().parent.parent
+SOURCES = TOP / "tests/record"
+RUN = TOP / "record/run"
+# Each built program is run so often, and so many at a time.
+RUNS = int(os.environ.get("RECORD_RUNS", 20))
+WORKERS = 4
+# Seconds after which a run counts as hung. A busy machine takes a few.
+PATIENCE = 120
+LEVELS = ("-O0", "-O2")
+WARNINGS = ["-Wall", "-Wextra"]
+# What a program prints, and its exit status if it is not 0.
+PRINTED = {
+    "counter": "30\n",
+    "queue": "50\n",
+    "thread_pool": "same block 1\n",
+    "handover": "malloc 1 realloc 1 delete 1 munmap 1 stack 1 own stack 1\n",
+}
+STATUS = {"counter": 3}
+# How ends.c can end, with the exit status that is passed on.
+ENDS = {"abort": 134, "kill": 137, "fault": 139, "_exit": 5, "exit": 6, "exec": 7}
+
+
+class Findings:
+    """What failed, collected by any worker."""
+
+    def __init__(self, record):
+        self.record = record
+        self.lock = threading.Lock()
+
+    def check(self, name, is_right, detail=""):
+        with self.lock:
+            self.record(f"recorder: {name}", is_right, detail)
+
+
+def command(words, **more):
+    return subprocess.run([str(word) for word in words], capture_output=True, text=True, timeout=PATIENCE, **more)
+
+
+# ---- Expectations ----
+
+
+def marked(source, mark):
+    """The sites of a source's lines that have a mark."""
+    lines = source.read_text().splitlines()
+    return {f"{source.name}:{number}" for number, line in enumerate(lines, 1) if re.search(rf"/[/*].*\b{mark}\b", line)}
+
+
+def counts(source):
+    """How many words each marked line reads and writes."""
+    found = {}
+    for number, line in enumerate(source.read_text().splitlines(), 1):
+        for verb, mark in (("read", "READS"), ("write", "WRITES")):
+            match = re.search(rf"\b{mark} (\d+)", line)
+            if match:
+                found[verb, f"{source.name}:{number}"] = int(match[1])
+    return found
+
+
+def races(report):
+    return {match[1] for match in re.finditer(r"^line \d+: race: \S+ \S+ \S+ at (\S+), holds", report, re.M)}
+
+
+def lock_fault(trace):
+    """The first line at which a lock is taken that another thread holds, or released by a thread that doesn't hold it."""
+    holders = {}
+    for number, line in enumerate(trace.splitlines(), 1):
+        words = line.split()
+        if len(words) < 3 or words[1] not in ("lock", "unlock", "rlock", "runlock"):
+            continue
+        thread, verb, lock = words
+        held = holders.setdefault(lock, {})
+        if verb == "lock" and held or verb == "rlock" and (thread in held or "lock" in held.values()):
+            return f"line {number}: {line}"
+        if verb in ("lock", "rlock"):
+            held[thread] = verb
+        elif held.pop(thread, None) != verb.removeprefix("run").removeprefix("un") and held.get(thread) != "r" + verb[3:]:
+            if verb == "unlock":
+                return f"line {number}: {line}"
+    return None
+
+
+# ---- Building ----
+
+
+def build(folder, source, compiler, level):
+    """Builds a program as a user would: for gcc as for ThreadSanitizer, for clang by the wrapper."""
+    program = folder / f"{source.stem}-{compiler}{level}"
+    is_cpp = source.suffix == ".cpp"
+    if compiler == "gcc":
+        words = ["g++" if is_cpp else "gcc", "-g", "-fsanitize=thread"]
+        settings = os.environ
+    else:
+        words = [TOP / "record" / ("c++" if is_cpp else "cc")]
+        settings = {**os.environ, "ERASER_CC": "clang", "ERASER_CXX": "clang++"}
+    words += ["-std=c++17" if is_cpp else "-std=gnu11", level, *WARNINGS]
+    words += ["-shared", "-fPIC"] if source.stem == "plugin" else []
+    return program, command([*words, source, "-o", program], env=settings)
+
+
+def build_all(folder, findings):
+    """Every program as two compilers make it at two levels."""
+    made = {}
+    sources = sorted(SOURCES.glob("*.c")) + sorted(SOURCES.glob("*.cpp"))
+    jobs = [(source, compiler, level) for source in sources for compiler in ("gcc", "clang") for level in LEVELS]
+    with concurrent.futures.ThreadPoolExecutor(WORKERS) as pool:
+        for job, (program, done) in zip(jobs, pool.map(lambda job: build(folder, *job), jobs)):
+            findings.check(f"{program.name} is built", done.returncode == 0 and done.stderr == "", done.stderr)
+            made[job] = program
+    return made
+
+
+# ---- Runs ----
+
+
+class Recording:
+    """One run of a program under record/run, with its trace and its report."""
+
+    def __init__(self, folder, nth, program, *words):
+        trace, report = folder / f"{program.name}.{nth}.trace", folder / f"{program.name}.{nth}.report"
+        self.done = command([RUN, "-o", trace, "--replay", "--report", report, program, *words])
+        self.trace, self.report = trace.read_text(), report.read_text()
+        trace.unlink()
+        report.unlink()
+
+    def fault(self, status, printed, expected, may_lose=False):
+        """What is wrong with it, or None."""
+        if self.done.returncode != status or printed is not None and self.done.stdout != printed:
+            return f"status {self.done.returncode}, printed {self.done.stdout!r}, {self.done.stderr!r}"
+        if not re.search(r"^steps .*, refused 0$", self.report, re.M):
+            return f"report {self.report!r}"
+        if races(self.report) != expected:
+            return f"races {sorted(races(self.report))}, expected {sorted(expected)}"
+        if not may_lose and not (re.search(r"^record: \d+ events recorded, 0 lost$", self.done.stderr, re.M) and self.trace.endswith("none lost\n")):
+            return f"lost: {self.done.stderr!r}"
+        return lock_fault(self.trace)
+
+
+def run_often(folder, findings, program, source, words=(), status=0, printed=None, runs=RUNS, extra=None):
+    expected = marked(source, "RACE")
+    for nth in range(runs):
+        name = f"{program.name} {' '.join(words)}run {nth}" if not words else f"{program.name} {words[-1]} run {nth}"
+        try:
+            recording = Recording(folder, f"{'-'.join(pathlib.Path(word).name for word in words)}{nth}", program, *words)
+            fault = recording.fault(status, printed, expected, may_lose=source.stem == "jumps") or (extra and extra(recording.trace))
+        except subprocess.TimeoutExpired:
+            fault = "hung"
+        findings.check(name, fault is None, fault)
+
+
+# ---- What single programs must show besides ----
+
+
+def sizes_fault(trace):
+    """Whether each line has as many words as it says. A compiler may leave a copy of a few words to single accesses, but not others."""
+    wanted = counts(SOURCES / "sizes.c")
+    found = {key: len(re.findall(rf"^t1 {key[0]} \S+ {re.escape(key[1])}$", trace, re.M)) for key in wanted}
+    wrong = {key: (found[key], wanted[key]) for key in wanted if found[key] != wanted[key]}
+    return f"words {wrong}" if wrong else None
+
+
+def never_fault(trace):
+    sites = marked(SOURCES / "forks.c", "NEVER")
+    found = [line for line in trace.splitlines() if line.split()[-1] in sites]
+    return f"{found[0]}" if found or not sites else None
+
+
+def lives_fault(trace):
+    locks = list(dict.fromkeys(re.findall(r"^t1 lock (\S+)$", trace, re.M)))
+    return None if locks == ["again", "again:2", "mutex-1", "mutex-2"] else f"locks {locks}"
+
+
+def table_fault(trace):
+    """A lock that a thread holds twice in read mode is acquired once."""
+    taken = len(re.findall(r"^t\d+ rlock other$", trace, re.M))
+    return None if taken == 3 else f"{taken} acquires of other"
+
+
+def cancelled_fault(trace):
+    return None if "\n# t2 is named waiter\n" in trace else "no name of the thread"
+
+
+EXTRA = {"sizes": sizes_fault, "forks": never_fault, "lives": lives_fault, "table": table_fault, "cancelled": cancelled_fault}
+
+
+def programs(folder, findings, made):
+    jobs = []
+    for (source, compiler, level), program in made.items():
+        if source.stem == "ends":
+            jobs += [(program, source, (end,), status, None, max(1, RUNS // 5)) for end, status in ENDS.items()]
+        elif source.stem == "loads":
+            plugin = SOURCES / "plugin.c"
+            jobs.append((program, plugin, (str(made[plugin, compiler, level]),), 0, None, RUNS))
+        elif source.stem not in ("plugin", "busy"):
+            jobs.append((program, source, (), STATUS.get(source.stem, 0), PRINTED.get(source.stem), RUNS))
+    with concurrent.futures.ThreadPoolExecutor(WORKERS) as pool:
+        runs = [pool.submit(run_often, folder, findings, *job[:5], runs=job[5], extra=EXTRA.get(job[1].stem)) for job in jobs]
+        for run in runs:
+            run.result()
+
+
+# ---- record/run itself ----
+
+
+def ways_to_use(folder, findings, counter, queue):
+    """Its options, and what it passes on."""
+    trace = folder / "paths.trace"
+    found = command([RUN, "-o", trace, "--replay", "--paths", queue])
+    legal = re.search(r"^steps .* refused 0$", found.stdout, re.M) and " /usr/include/c__/" in trace.read_text()
+    findings.check("paths with characters that no name may have", legal, f"{found}")
+    found = command([RUN, counter])
+    findings.check("the report follows what the program prints", found.stdout.startswith("30\nline ") and "counter.c:" in found.stdout, f"{found}")
+    findings.check("the exit status of the report", command([RUN, "--exit-status", "report", counter]).returncode == 1)
+    findings.check("the exit status of the program", command([RUN, "--exit-status", "program", counter]).returncode == 3)
+    trace = folder / "kept.trace"
+    found = command([RUN, "-o", trace, counter])
+    findings.check("a trace alone", (found.stdout, found.returncode) == ("30\n", 3), f"{found}")
+    replayed = command([TOP / "eraser", "replay", trace])
+    findings.check("its replay", replayed.returncode == 1 and races(replayed.stdout) == marked(SOURCES / "counter.c", "RACE"), f"{replayed}")
+    rules = folder / "rules"
+    rules.write_text("".join(f"site {site}\n" for site in marked(SOURCES / "counter.c", "RACE")))
+    found = command([RUN, "--suppress", rules, "--exit-status", "report", counter])
+    findings.check("suppressions", found.returncode == 0 and "suppression 1: 1\n" in found.stdout, f"{found}")
+    found = command([RUN, "--explain", "--suppress", rules, counter])
+    findings.check("suppressions with --explain", found.returncode == 3 and "suppression 1: 1\n" in found.stdout, f"{found}")
+    found = command([RUN, "--explain", counter])
+    findings.check("reasons of a race", re.search(r"^line .* race: .*\n  first: line \d+, t\d ", found.stdout, re.M), f"{found}")
+    found = command([RUN, "-q", "--paths", counter])
+    findings.check("sites with paths, quietly", f"{SOURCES}/counter.c:" in found.stdout and found.stderr == "", f"{found}")
+    found = command([RUN, "sh", "-c", 'cat; echo "$0" "$@" >&2; exit 9', "one", "two words"], input="given\n")
+    passed_on = found.stdout.startswith("given\n") and found.stderr.startswith("one two words\n") and found.returncode == 9
+    findings.check("arguments, streams and status of any program", passed_on, f"{found}")
+    findings.check("a program without the library", "nothing was recorded" in found.stderr, f"{found}")
+    found = command([RUN, "-q", "sh", "-c", f"{counter}; {counter}; exit 0"])
+    findings.check("two programs, of which one is recorded", "record: 1 further program" in found.stderr and found.stdout.startswith("30\n30\n"), f"{found}")
+    findings.check("a program that is not there", command([RUN, folder / "nothing"]).returncode == 127)
+    findings.check("a program that can't be started", command([RUN, folder]).returncode == 126)
+    findings.check("an unknown option", command([RUN, "--wrong", counter]).returncode == 125)
+    findings.check("a trace that can't be written", command([RUN, "-o", folder / "no/where", counter]).returncode == 125)
+    found = command([RUN, "-o", "/dev/full", counter])
+    findings.check("a full disk", found.returncode == 3 and "cannot write /dev/full" in found.stderr, f"{found}")
+
+
+def as_script(folder, name, text):
+    path = folder / name
+    path.write_text("#!/bin/sh\n" + text)
+    path.chmod(0o755)
+    return str(path)
+
+
+def wait_for(path):
+    """True if the file is there in time."""
+    deadline = time.monotonic() + PATIENCE
+    while not path.exists() and time.monotonic() < deadline:
+        time.sleep(0.05)
+    return path.exists()
+
+
+def early_ends(folder, findings, busy):
+    """A replay that ends early, a limit, a recorder that is killed: the program goes on unharmed, and is told of where it can be."""
+    for name, text in (("fault", "head -c 100000 >/dev/null; exit 2"), ("killed", "head -c 100000 >/dev/null; kill -TERM $$"), ("absent", "exit 0")):
+        replay = as_script(folder, name, text)
+        found = command([RUN, busy, "300000"], env={**os.environ, "ERASER": replay})
+        lost = re.search(r"events recorded, (\d+) lost: the trace is incomplete", found.stderr)
+        unharmed = found.returncode == 0 and found.stdout == "done\n"
+        findings.check(f"a replay that ends early, {name}", unharmed and lost and int(lost[1]) > 0 and "record: the replay" in found.stderr, f"{found}")
+    trace = folder / "limited.trace"
+    found = command([RUN, "-o", trace, "--limit", "100000", "--replay", busy, "300000"])
+    text = trace.read_text()
+    limited = len(text) <= 100000 and re.search(r"\n# incomplete: \d+ events, [1-9]\d* lost\n\Z", text) and "limit of 100000 bytes" in found.stderr
+    findings.check("a limit", limited and found.returncode == 0 and "\nsteps " in found.stdout, f"{found} {text[-200:]}")
+    begun, went_on = folder / "begun", folder / "went-on"
+    recorder = subprocess.Popen([RUN, "-o", "/dev/null", "--limit", "0", busy, "3000000", begun, went_on], stdout=subprocess.DEVNULL, stderr=subprocess.DEVNULL)
+    is_begun = wait_for(begun)
+    recorder.kill()
+    recorder.wait()
+    findings.check("a recorder that is killed", is_begun and wait_for(went_on))
+
+
+def memory(folder, findings, busy):
+    """With the trace in a pipe, four times the events take no more memory."""
+    used = []
+    for rounds in ("200000", "800000"):
+        settings = {**os.environ, "ERASER": as_script(folder, "sink", "exec cat >/dev/null\n")}
+        recorder = subprocess.Popen([RUN, "-q", "--limit", "0", busy, rounds], env=settings, stdout=subprocess.DEVNULL)
+        _, status, spent = os.wait4(recorder.pid, 0)
+        recorder.returncode = status
+        used.append(spent.ru_maxrss)
+        findings.check(f"{rounds} rounds into a pipe", status == 0, f"{status}")
+    findings.check("the recorder's memory is constant", used[1] < used[0] + 4096, f"{used} KiB")
+
+
+def interrupts(folder, findings, busy):
+    """The signal of a terminal goes to all of them: the program ends by it, and its report comes."""
+    report, begun = folder / "interrupted.report", folder / "interrupted.begun"
+    recorder = subprocess.Popen([RUN, "--report", report, busy, "100000000", begun], stdout=subprocess.DEVNULL, stderr=subprocess.DEVNULL, start_new_session=True)
+    is_begun = wait_for(begun)
+    os.killpg(recorder.pid, signal.SIGINT)
+    status = recorder.wait(PATIENCE)
+    findings.check("an interrupt", is_begun and status == 128 + signal.SIGINT and "steps " in report.read_text(), f"{status}")
+
+
+def names(folder, findings):
+    """Every name of ThreadSanitizer's library that a compiler or a program may ask for, and the two that differ in clang."""
+    library = command(["gcc", "-print-file-name=libtsan.so"]).stdout.strip()
+    pattern = re.compile(r"^(__tsan_|__sanitizer_|Annotate|WTFAnnotate|RunningOnValgrind|ValgrindSlowdown)")
+
+    def exported(path):
+        lines = command(["nm", "-D", "--defined-only", path]).stdout.splitlines()
+        return {line.split()[-1].split("@")[0] for line in lines}
+
+    ours = exported(TOP / "record/out/libtsan.so.2")
+    theirs = {name for name in exported(library) if pattern.match(name)}
+    findings.check("every name of libtsan.so.2", len(theirs) > 100 and theirs <= ours, f"{sorted(theirs - ours)}")
+    both = exported(TOP / "record/out/liberaser_record.so")
+    findings.check("one library under two names", both == ours)
+
+
+def annotations_elsewhere(folder, findings):
+    """The header is nothing without -fsanitize=thread, and does nothing under ThreadSanitizer's own library."""
+    source, plain, watched = SOURCES / "annotations.c", folder / "plain", folder / "watched"
+    for compiler in ("gcc", "clang"):
+        done = command([compiler, "-std=gnu11", *WARNINGS, "-Werror", "-O1", source, "-o", plain])
+        findings.check(f"annotations without the recorder, {compiler}", done.returncode == 0 and command([plain]).returncode == 0, done.stderr)
+    done = command(["gcc", "-g", "-fsanitize=thread", source, "-o", watched])
+    found = command([watched], env={**os.environ, "TSAN_OPTIONS": "exitcode=66"})
+    findings.check("annotations under ThreadSanitizer", done.returncode == 0 and found.returncode in (0, 66), f"{found}")
+
+
+def linked_by_hand(folder, findings):
+    """clang as the documents say: compiled with -fsanitize=thread, linked without it."""
+    source, part, program = SOURCES / "counter.c", folder / "counter.o", folder / "by-hand"
+    compiled = command(["clang", "-g", "-fsanitize=thread", "-c", source, "-o", part])
+    linked = command(["clang", part, "-o", program, f"-L{TOP}/record/out", "-leraser_record"])
+    found = command([RUN, program])
+    findings.check("clang, linked by hand", compiled.returncode == linked.returncode == 0 and "counter.c:" in found.stdout, f"{linked} {found}")
+
+
+def fresh_copy(folder, findings):
+    """Without a compiler or libdw's headers, it says which package is missing; with them it is built without a warning."""
+    copy = folder / "copy"
+    shutil.copytree(TOP / "record", copy, ignore=shutil.ignore_patterns("out"), symlinks=True)
+    found = command([copy / "build"], env={**os.environ, "CC": "no-such-compiler"})
+    findings.check("no compiler", found.returncode == 125 and "apt-get install gcc" in found.stderr, f"{found}")
+    without = as_script(folder, "cc-without-libdw", 'case " $* " in *" -E "*) exit 1;; esac\nexec cc "$@"\n')
+    found = command([copy / "build"], env={**os.environ, "CC": without})
+    findings.check("no libdw", found.returncode == 125 and "apt-get install libdw-dev" in found.stderr, f"{found}")
+    for compiler in ("gcc", "clang"):
+        shutil.rmtree(copy / "out", ignore_errors=True)
+        found = command([copy / "build"], env={**os.environ, "CC": compiler})
+        made = sorted(path.name for path in (copy / "out").iterdir())
+        clean = (found.returncode, found.stdout, found.stderr) == (0, "", "")
+        findings.check(f"it is built by {compiler} without a warning", clean and made == ["liberaser_record.so", "libtsan.so.2", "lock", "writer"], f"{found} {made}")
+
+
+def as_the_readme_says(folder, findings):
+    """The README's first commands, and its report: the addresses and the lines' numbers differ, the rest doesn't."""
+    readme = (TOP / "README.md").read_text()
+    build, run = re.search(r"```sh\n(g\+\+ .*?) +#.*\n(record/run .*)\n```", readme).groups()
+    shown = re.search(r"```text\n(2000 of.*?)```", readme, re.S)[1]
+    built = command(["sh", "-c", f"cd {TOP} && {build.replace('-o pool', f'-o {folder}/pool')}"])
+    found = command(["sh", "-c", f"cd {folder} && {TOP}/{run} 2>&1"])
+
+    def plain(text):
+        return re.sub(r"0x[0-9a-f]+|\bline \d+|\bt\d+ |^\d+ of|\d+ events|steps \d+", "", text, flags=re.M).splitlines()
+
+    findings.check("as the README says", built.returncode == 0 and sorted(plain(found.stdout)) == sorted(plain(shown)), f"{found}")
+    trace = folder / "pool.trace"
+    kept = command([RUN, "-o", trace, folder / "pool", "--jobs", "4"])
+    replayed = command([TOP / "eraser", "replay", trace])
+    findings.check("a kept trace as the README says", kept.returncode == 0 and replayed.returncode == 1 and "at pool.cpp:19, holds none" in replayed.stdout, f"{replayed}")
+
+
+def tests(record):
+    """Runs them all, and reports each by `record(name, is_right, detail)`."""
+    findings = Findings(record)
+    command([TOP / "record/build"])
+    os.environ.setdefault("ERASER", str(TOP / "eraser"))
+    with tempfile.TemporaryDirectory() as name:
+        folder = pathlib.Path(name)
+        made = build_all(folder, findings)
+        counter, busy = made[SOURCES / "counter.c", "gcc", "-O2"], made[SOURCES / "busy.c", "gcc", "-O2"]
+        programs(folder, findings, made)
+        ways_to_use(folder, findings, counter, made[SOURCES / "queue.cpp", "gcc", "-O0"])
+        early_ends(folder, findings, busy)
+        memory(folder, findings, busy)
+        interrupts(folder, findings, busy)
+        names(folder, findings)
+        annotations_elsewhere(folder, findings)
+        linked_by_hand(folder, findings)
+        as_the_readme_says(folder, findings)
+        fresh_copy(folder, findings)
+
+
+if __name__ == "__main__":
+    totals = [0, 0]
+
+    def show(name, is_right, detail=""):
+        totals[not is_right] += 1
+        if not is_right:
+            print(f"FAILED {name} {detail}")
+
+    tests(show)
+    spent = resource.getrusage(resource.RUSAGE_CHILDREN)
+    print(f"{totals[0]} passed, {totals[1]} failed, {spent.ru_utime + spent.ru_stime:.0f} CPU seconds")
+    sys.exit(1 if totals[1] or not totals[0] else 0)
