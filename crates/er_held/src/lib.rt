@@ -1,7 +1,8 @@
 //! What one thread holds: its locks, each in a mode, its interrupt level and its open ignore brackets.
 //!
 //! Begin with [`Held`]. It is seen as the holdings of the model: the locks that are held in any mode, those that are held in
-//! write mode, the level, whose locks are among both, and the depth of the brackets.
+//! write mode, the level, whose locks are among both, and the depth of the brackets. [`ThreadLocks`] keeps the holdings of all
+//! threads as steps go by.
 //!
 //! What it promises, by the names of clauses: a call is refused exactly where and why the model refuses the event (`refused`,
 //! `accepted`), what it makes of the holdings is what the model makes of them (`ok`), a call that failed changed nothing
@@ -15,5 +16,7 @@
 #![tactic(auto)]
 
 pub use holding::Held;
+pub use thread_locks::ThreadLocks;
 
 mod holding;
+mod thread_locks;

@@ -1,0 +1,8 @@
+pub mod BookLemmas
+pub mod BookSteps
+pub mod BooksLemmas
+pub mod Explained
+pub mod Passes
+pub mod RaceLemmas
+pub mod RacyLemmas
+pub mod Told

@@ -1,0 +1,20 @@
+use Rattle.std.proofs.Common.{◌≡◌, ◌∙◌, ◌<◌, List, Some, slice_get, length, take, refl, arith}
+use Rattle.std.proofs.lemmas.List.{length-take-le, get_or-take}
+use Rattle.std.proofs.lemmas.Option.{slice_get_read}
+use Rattle.er_event.specs.declared.steps.Step.{Step}
+use Rattle.er_explain.proofs.Passes.{followed-start, followed-next}
+use Rattle.er_explain.proofs.one_access.book_of.Goals as goal
+
+pub loop-at-init : goal.loop-at-init
+loop-at-init c = followed-start c.args.steps.now c.args.word c.new-locks.result c.new-locks.ensures
+
+pub loop-at-preserved : goal.loop-at-preserved
+loop-at-preserved c =
+    let steps : List Step = c.args.steps.now in
+    let whole : length (take c.args.end steps) ≡ c.args.end = length-take-le c.args.end steps c.requires in
+    let small : c.loop-at.at < c.args.end = omega arith in
+    let here : slice_get steps c.loop-at.at ≡ Some c.step-item.result =
+    slice_get_read steps (length steps) c.loop-at.at c.step-item.result refl (omega arith)
+    (c.step-item.is ∙ get_or-take c.args.end steps c.loop-at.at c.step-item.result small) in
+    followed-next c.args.steps.now c.args.word c.loop-at.at c.step-item.result c.loop-at.locks c.follow-in-loop-at.new.self c.loop-at.book c.follow.new.self here
+    c.loop-at.invariant c.in_ok-follow.ensures c.in_ok-follow-2.ensures

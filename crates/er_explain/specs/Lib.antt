@@ -1,0 +1,6 @@
+pub mod Books
+pub mod Explaining
+pub mod Following
+pub mod Joined
+pub mod Racing
+pub mod RacyWords

@@ -1,0 +1,21 @@
+-- What each thread holds, in a list by thread number.
+use Rattle.std.specs.Prelude.{ℕ, Bool, true, false, List, slice_index_or}
+use Rattle.er_event.specs.declared.steps.Event.{Event}
+use Rattle.er_event.specs.declared.steps.Event.TheVariants.{Acquire, Release, Access, Reuse, IgnoreOn, IgnoreOff, Show, Level}
+use Rattle.er_held.specs.Held.{nothing_held}
+use Rattle.er_model.specs.Holdings.{Holdings}
+
+-- what the thread holds; past the end of the list nothing is held
+abbrev pub held_by : List Holdings → ℕ → Holdings
+held_by threads thread = slice_index_or threads thread nothing_held
+
+-- events of the other sorts leave all holdings
+abbrev pub changes_holdings : Event → Bool
+changes_holdings (Acquire lock mode) = true
+changes_holdings (Release lock mode) = true
+changes_holdings (Access kind word site) = false
+changes_holdings (Reuse range) = false
+changes_holdings IgnoreOn = true
+changes_holdings IgnoreOff = true
+changes_holdings (Show word) = false
+changes_holdings (Level level) = true

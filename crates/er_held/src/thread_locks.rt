@@ -1,0 +1,118 @@
+//! `ThreadLocks`, what each thread holds as steps go by. A refused step changes nothing, so what a thread holds follows from its
+//! steps alone.
+ghost use Rattle.std.specs.Prelude.{◌≡◌, ◌<◌, ℕ, nat_lt, [], length, OnOk, IfOk};
+ghost use Rattle.er_event.specs.Lockset.{has};
+ghost use Rattle.er_held.specs.ThreadLocks.{held_by, changes_holdings};
+ghost use Rattle.er_model.specs.Following.{locks_for};
+ghost use Rattle.er_model.specs.Holdings.{after_step};
+
+use crate::Held;
+use er_event::{Event, Kind, LockId, Lockset, Step, ThreadId};
+use std::alloc::{AllocError, Global};
+use std::marker::Model;
+
+/// What each thread holds (own). Contracts see it as a list of holdings by thread number; a thread past its end holds nothing.
+/// Threads are numbered by first appearance, so the list has few gaps, and memory goes by the greatest number of a thread that
+/// has taken a lock, a bracket or a level.
+#[derive(Drop)]
+pub struct ThreadLocks {
+    by_thread: Vec<Held>,
+}
+
+impl Model for ThreadLocks {
+    ghost use Rattle.std.specs.Prelude.{List};
+    ghost use Rattle.er_model.specs.Holdings.{Holdings};
+
+    ghost Value = { List Holdings };
+
+    ghost view = { λ h. h.by_thread.items };
+}
+
+impl ThreadLocks {
+    /// Nobody holds anything.
+    pub fn new(alloc: Global) -> Self
+        ensures { result ≡ [] }
+    {
+        ThreadLocks {
+            by_thread: Vec::new(alloc),
+        }
+    }
+
+    /// The locks that the thread holds, in any mode.
+    pub fn locks_of(&self, alloc: Global, thread: ThreadId) -> Result<Lockset, AllocError>
+        ensures { IfOk result (λ locks. locks ≡ (held_by self.now thread).held) }
+    {
+        match self.by_thread.get(thread.number() as usize) {
+            Some(held) => held.held().copy(),
+            None => Ok(Lockset::new(alloc)),
+        }
+    }
+
+    /// The locks that cover an access of this kind by the thread: those that it holds in any mode for a read, and those that it
+    /// holds in write mode for a write.
+    pub fn cover_of(
+        &self,
+        alloc: Global,
+        thread: ThreadId,
+        kind: Kind,
+    ) -> Result<Lockset, AllocError>
+        ensures { IfOk result (λ locks. locks ≡ locks_for (held_by self.now thread) kind) }
+    {
+        match (self.by_thread.get(thread.number() as usize), kind) {
+            (Some(held), Kind::Read) => held.held().copy(),
+            (Some(held), Kind::Write) => held.write_held().copy(),
+            (None, _) => Ok(Lockset::new(alloc)),
+        }
+    }
+
+    /// Whether the lock covers an access of this kind by the thread.
+    pub fn covers(&self, thread: ThreadId, kind: Kind, lock: LockId) -> bool
+        ensures { result ≡ has (locks_for (held_by self.now thread) kind) lock }
+    {
+        match (self.by_thread.get(thread.number() as usize), kind) {
+            (Some(held), Kind::Read) => held.held().contains(lock),
+            (Some(held), Kind::Write) => held.write_held().contains(lock),
+            (None, _) => false,
+        }
+    }
+
+    /// Whether the thread has an ignore bracket open.
+    pub fn is_ignoring(&self, thread: ThreadId) -> bool
+        ensures { result ≡ nat_lt 0 (held_by self.now thread).depth }
+    {
+        match self.by_thread.get(thread.number() as usize) {
+            Some(held) => held.ignoring(),
+            None => false,
+        }
+    }
+
+    /// Goes on by one step.
+    pub fn follow(&mut self, alloc: Global, step: &Step) -> Result<(), AllocError>
+        ensures { OnOk result ((t : ℕ) → held_by self.new t ≡ after_step (held_by self.old t) t step.now) }
+    {
+        if !changes_holdings(step.event) {
+            return Ok(());
+        }
+        let place = step.thread.number() as usize;
+        reach(alloc, &mut self.by_thread, place)?;
+        self.by_thread[place].follow(step.event)
+    }
+}
+
+// Makes a place for the thread of this number.
+fn reach(alloc: Global, by_thread: &mut Vec<Held>, place: usize) -> Result<(), AllocError>
+    ensures place { OnOk result (place < length by_thread.new.items) }
+    ensures same { (t : ℕ) → held_by by_thread.new.items t ≡ held_by by_thread.old.items t }
+{
+    while by_thread.len() <= place {
+        by_thread.push(Held::new(alloc))?;
+    }
+    Ok(())
+}
+
+// Whether an event of this sort can change what its thread holds.
+fn changes_holdings(event: Event) -> bool
+    ensures { result ≡ changes_holdings event }
+{
+    !matches!(event, Event::Access(..) | Event::Reuse(_) | Event::Show(_))
+}
