@@ -1,5 +1,5 @@
 -- The bytes of a report: each word here is the text of one thing, and a line ends with its LF.
-use Rattle.std.specs.Prelude.{ℕ, zero, suc, ◌+◌, ◌-◌, ◌*◌, ◌/◌, ◌%◌, cond, List, [], ◌∷◌, ◌++◌, flat_map, slice_index_or, Option, Some, None, codes, decimal}
+use Rattle.std.specs.Prelude.{ℕ, zero, suc, ◌+◌, ◌-◌, ◌*◌, ◌/◌, ◌%◌, Bool, cond, List, [], ◌∷◌, ◌++◌, flat_map, slice_index_or, Option, Some, None, codes, decimal}
 use Rattle.std.specs.Char.{digit_char}
 use Rattle.er_event.specs.Lockset.{is_level_lock}
 use Rattle.er_event.specs.Names.{NameTable}
@@ -16,8 +16,10 @@ use Rattle.er_event.specs.declared.steps.WordState.TheVariants.{Virgin, Exclusiv
 use Rattle.er_event.specs.Trace.{Recording}
 use Rattle.er_model.specs.declared.answers.Stopped.{Stopped}
 use Rattle.er_report.specs.Report.{Summary, report_of}
-use Rattle.er_report.specs.declared.report.Line.{Line}
-use Rattle.er_report.specs.declared.report.Line.TheVariants as line
+use Rattle.er_report.specs.Lines.{LineTold, RaceTold, RefusedTold, ShownTold}
+use Rattle.er_report.specs.declared.report.Because.{Because}
+use Rattle.er_report.specs.declared.report.Label.{Label}
+use Rattle.er_report.specs.declared.report.Label.TheVariants as label
 use Rattle.er_rules.specs.Rules.{Target}
 
 -- so many lower-case hexadecimal digits, of which the last is the lowest
@@ -87,15 +89,38 @@ state_text names (SharedModified locks) = codes "shared-modified" ++ candidates_
 abbrev pub place_text : ℕ → List ℕ
 place_text number = codes "line " ++ decimal number ++ codes ": "
 
-abbrev pub line_text : NameTable → Line → List ℕ
-line_text names (line.Race number thread kind word site held) =
+-- what an access has to do with a race; a lock that does not cover it is named
+abbrev pub label_text : NameTable → Label → List ℕ
+label_text names label.First = codes "first"
+label_text names label.Joined = codes "joined"
+label_text names label.Write = codes "write"
+label_text names (label.Uncovered lock) = lock_text names lock ++ codes " not covering"
+
+-- one of a race's reasons, on a line of its own
+abbrev pub reason_text : NameTable → Because → List ℕ
+reason_text names because =
+    codes "  " ++ label_text names because.label ++ codes ": line " ++ decimal because.line ++ codes ", "
+    ++ name_at names.threads because.thread ++ codes " " ++ kind_text because.kind ++ 10 ∷ []
+
+-- what a line says of its step
+abbrev pub own_text : NameTable → LineTold → List ℕ
+own_text names (RaceTold number thread kind word site held explained) =
     place_text number ++ codes "race: " ++ name_at names.threads thread ++ codes " " ++ kind_text kind
     ++ codes " " ++ address_text word ++ codes " at " ++ site_text names site ++ codes ", holds " ++ locks_text names held ++ 10 ∷ []
-line_text names (line.Refused number step refusal) =
+own_text names (RefusedTold number step refusal) =
     place_text number ++ codes "refused: " ++ name_at names.threads step.thread ++ codes " "
     ++ event_text names step.event ++ codes ": " ++ text_of refusal ++ 10 ∷ []
-line_text names (line.Shown number word state) =
+own_text names (ShownTold number word state) =
     place_text number ++ codes "state " ++ address_text word ++ codes ": " ++ state_text names state ++ 10 ∷ []
+
+-- and why it is a race
+abbrev pub reasons_text : NameTable → LineTold → List ℕ
+reasons_text names (RaceTold number thread kind word site held explained) = flat_map (reason_text names) explained
+reasons_text names (RefusedTold number step refusal) = []
+reasons_text names (ShownTold number word state) = []
+
+abbrev pub line_text : NameTable → LineTold → List ℕ
+line_text names line = own_text names line ++ reasons_text names line
 
 -- where the run stopped, if it did
 abbrev pub stop_text : Option (ℕ × NoRoom) → List ℕ
@@ -120,6 +145,6 @@ totals_text s =
 unfoldable pub report_text : NameTable → Summary → List ℕ
 report_text names s = flat_map (line_text names) s.lines ++ stop_text s.stop ++ counts_text 1 s.rule_counts ++ totals_text s
 
--- the text of the report of a run of the recording's steps under these rules, which stopped so or not at all
-abbrev pub output_of : Recording → List Target → Option Stopped → List ℕ
-output_of r rules stop = report_text r.names (report_of r rules stop)
+-- the text of the report of a run of the recording's steps under these rules, with reasons or without, which stopped so or not at all
+abbrev pub output_of : Recording → List Target → Bool → Option Stopped → List ℕ
+output_of r rules explain stop = report_text r.names (report_of r rules explain stop)

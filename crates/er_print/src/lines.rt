@@ -1,19 +1,32 @@
 //! The lines of a report.
-ghost use Rattle.std.specs.Prelude.{◌≡◌, ◌++◌, OnOk};
-ghost use Rattle.er_report.specs.Names.{HasNames};
+ghost use Rattle.std.specs.Prelude.{◌≡◌, ◌++◌, All, flat_map, OnOk};
+ghost use Rattle.er_report.specs.Lines.{line_told};
+ghost use Rattle.er_report.specs.Names.{HasNames, HasReasonNames};
 ghost use Rattle.er_report.specs.Report.{told};
-ghost use Rattle.er_print.specs.Printed.{place_text, line_text, stop_text, count_text, counts_text, totals_text};
+ghost use Rattle.er_print.specs.Printed.{place_text, reason_text, own_text, line_text, stop_text, count_text, counts_text, totals_text};
 
-use crate::naming::{put_event, put_kind, put_locks, put_site, put_state, put_thread};
+use crate::naming::{put_event, put_kind, put_label, put_locks, put_site, put_state, put_thread};
 use crate::numbers::{put_address, put_number};
 use er_event::{Names, NoRoom};
-use er_report::{Line, Report};
+use er_report::{Because, Line, Report};
 use std::alloc::AllocError;
 
-/// Puts one line.
+/// Puts one line. A race has a further line for each of its reasons.
 pub(crate) fn put_line(out: &mut Vec<u8>, names: &Names, line: &Line) -> Result<(), AllocError>
     requires { HasNames names.now line.now }
-    ensures { OnOk result (out.new.items ≡ out.old.items ++ line_text names.now line.now) }
+    ensures { OnOk result (out.new.items ≡ out.old.items ++ line_text names.now (line_told line.now)) }
+{
+    put_own_line(out, names, line)?;
+    match line {
+        Line::Race { explained, .. } => put_reasons(out, names, explained),
+        _ => Ok(()),
+    }
+}
+
+// Puts what a line says of its step.
+fn put_own_line(out: &mut Vec<u8>, names: &Names, line: &Line) -> Result<(), AllocError>
+    requires { HasNames names.now line.now }
+    ensures { OnOk result (out.new.items ≡ out.old.items ++ own_text names.now (line_told line.now)) }
 {
     match line {
         Line::Race {
@@ -23,6 +36,7 @@ pub(crate) fn put_line(out: &mut Vec<u8>, names: &Names, line: &Line) -> Result<
             word,
             site,
             held,
+            explained: _,
         } => {
             put_place(out, *line)?;
             out.extend_from_slice(b"race: ")?;
@@ -60,6 +74,32 @@ pub(crate) fn put_line(out: &mut Vec<u8>, names: &Names, line: &Line) -> Result<
             out.extend_from_slice(b"\n")
         }
     }
+}
+
+fn put_reasons(out: &mut Vec<u8>, names: &Names, explained: &[Because]) -> Result<(), AllocError>
+    requires { All (HasReasonNames names.now) explained.now }
+    ensures { OnOk result (out.new.items ≡ out.old.items ++ flat_map (reason_text names.now) explained.now) }
+{
+    for because in explained {
+        put_reason(out, names, because)?;
+    }
+    Ok(())
+}
+
+// Puts the line of one access that makes a race.
+fn put_reason(out: &mut Vec<u8>, names: &Names, because: &Because) -> Result<(), AllocError>
+    requires { HasReasonNames names.now because.now }
+    ensures { OnOk result (out.new.items ≡ out.old.items ++ reason_text names.now because.now) }
+{
+    out.extend_from_slice(b"  ")?;
+    put_label(out, names, because.label)?;
+    out.extend_from_slice(b": line ")?;
+    put_number(out, because.line)?;
+    out.extend_from_slice(b", ")?;
+    put_thread(out, names, because.thread)?;
+    out.extend_from_slice(b" ")?;
+    put_kind(out, because.kind)?;
+    out.extend_from_slice(b"\n")
 }
 
 /// Puts the line of the stop, if there is one.

@@ -1,6 +1,6 @@
 -- Each number in a report has a name where the recording's steps have names. By the laws that a thread follows its holdings and a
 -- word its state: step by step, every lock that a thread holds or that a word's state tells of was taken by a step, or is a level's.
-use Rattle.std.proofs.Common.{◌≡◌, ◌<◌, ◌==◌, ℕ, zero, suc, true, false, cond, not, nat_lt, List, [], ◌∷◌, length, slice_get, slice_index, Option, Some, None, is_some, refl, subst, arith}
+use Rattle.std.proofs.Common.{◌≡◌, ◌<◌, ◌==◌, ℕ, zero, suc, Bool, true, false, cond, not, nat_lt, List, [], ◌∷◌, length, map, flat_map, slice_get, slice_index, Option, Some, None, is_some, Result, Ok, refl, subst, arith}
 use Rattle.std.specs.List.{All}
 use Rattle.std.proofs.lemmas.Bool.Decides.{nat_tests}
 use Rattle.std.proofs.lemmas.Option.{slice_get_within, get_or_from_slice_get}
@@ -20,19 +20,26 @@ use Rattle.er_event.specs.declared.refusals.Refusal.{Refusal}
 use Rattle.er_model.specs.Holdings.{Holdings, acquired_among, at_level, refused_by, changed_by, changed_unless, after_step, holdings_at}
 use Rattle.er_model.specs.Table.{advanced, moved, shared_by, reports}
 use Rattle.er_event.specs.Trace.{Recording}
+use Rattle.er_event.specs.declared.steps.Reply.{Reply}
 use Rattle.er_event.specs.declared.steps.Reply.TheVariants.{Race, Quiet, Ignored}
-use Rattle.er_model.specs.Answers.{answer_unless, state_at, reading_of}
+use Rattle.er_model.specs.Answers.{answer, answer_unless, mark, mark_of, state_at, reading_of}
+use Rattle.er_model.specs.Explanations.{first_write, first_uncovered, word_of}
 use Rattle.er_model.specs.Following.{marked, locks_for, replied}
-use Rattle.er_model.specs.Threads.{accepted, held}
+use Rattle.er_model.specs.Threads.{accepted, held, write_held, is_ignoring}
 use Rattle.er_model.specs.Holdings.{holdings}
-use Rattle.er_model.specs.Words.{Counted, Nothing, is_within}
+use Rattle.er_model.specs.Words.{Reading, Counted, Nothing, is_within, cover_of, first, join}
 use Rattle.er_model.proofs.Threads.{holdings-step, accepted-past_end}
 use Rattle.er_model.proofs.AnswersLemmas.{state-step, state-moved, answer-step}
 use Rattle.er_model.proofs.Prefixes.{holdings-empty, state-start}
-use Rattle.er_report.specs.Names.{HasLockName, HasLockNames, HasStateNames, HasEventNames, HasSiteName, HasNames}
+use Rattle.er_report.specs.Names.{HasLockName, HasLockNames, HasStateNames, HasEventNames, HasSiteName, HasLabelName, HasReasonNames, HasToldNames}
 use Rattle.er_report.specs.Report.{reply_line, answer_line, line_of, line_at, lines_below, taker_at}
 use Rattle.er_rules.specs.Rules.{Target}
-use Rattle.er_report.specs.declared.report.Line.TheVariants as line
+use Rattle.er_report.specs.Lines.{RaceTold, RefusedTold, ShownTold}
+use Rattle.er_report.specs.Reasons.{access_reason, step_reason, reason_at, reasons_of, reasons_by, reasons_at}
+use Rattle.er_report.specs.declared.report.Because.{Because}
+use Rattle.er_report.specs.declared.report.Label.{Label}
+use Rattle.er_report.specs.declared.report.Label.TheVariants as label
+use Rattle.er_explain.specs.Explaining.{found, explanation_by, explanation_of, explanation_where, explanation_at}
 
 module _ (names : NameTable) where
   -- lists of locks
@@ -141,27 +148,27 @@ module _ (names : NameTable) where
   named_moved h before w t (Level n) own all old = old
 
   -- a line
-  named_reply : (number : ℕ) (locks : List ℕ) (h : Holdings) (states : ℕ → WordState) (t : ℕ) (e : Event) → t < length names.threads
-      → HasNumbersNamed names e → HasLockNames names locks → ((w : ℕ) → HasStateNames names (states w))
-      → All (HasNames names) (reply_line number locks t e (replied h states t e))
-  named_reply number locks h states t (Access kind w site) own new all shown =
-      elim (nat_lt 0 h.depth) as (λ b. All (HasNames names) (reply_line number locks t (Access kind w site)
+  named_reply : (number : ℕ) (locks : List ℕ) (reasons : List Because) (h : Holdings) (states : ℕ → WordState) (t : ℕ) (e : Event) → t < length names.threads
+      → HasNumbersNamed names e → HasLockNames names locks → All (HasReasonNames names) reasons → ((w : ℕ) → HasStateNames names (states w))
+      → All (HasToldNames names) (reply_line number locks reasons t e (replied h states t e))
+  named_reply number locks reasons h states t (Access kind w site) own new all because shown =
+      elim (nat_lt 0 h.depth) as (λ b. All (HasToldNames names) (reply_line number locks reasons t (Access kind w site)
       (cond b Ignored (cond (reports (states w) (advanced (states w) t kind (locks_for h kind))) Race Quiet)))) [
-        | true ↦ All-nil (HasNames names)
+        | true ↦ All-nil (HasToldNames names)
         | false ↦ elim (reports (states w) (advanced (states w) t kind (locks_for h kind))) as (λ b.
-            All (HasNames names) (reply_line number locks t (Access kind w site) (cond b Race Quiet))) [
-              | true ↦ All-cons (HasNames names) (line.Race number t kind w site locks) [] (own, new, all) (All-nil (HasNames names))
-              | false ↦ All-nil (HasNames names)
+            All (HasToldNames names) (reply_line number locks reasons t (Access kind w site) (cond b Race Quiet))) [
+              | true ↦ All-cons (HasToldNames names) (RaceTold number t kind w site locks reasons) [] (own, new, all, because) (All-nil (HasToldNames names))
+              | false ↦ All-nil (HasToldNames names)
             ]
       ]
-  named_reply number locks h states t (Show w) own new all shown =
-      All-cons (HasNames names) (line.Shown number w (states w)) [] (shown w) (All-nil (HasNames names))
-  named_reply number locks h states t (Acquire l m) own new all shown = All-nil (HasNames names)
-  named_reply number locks h states t (Release l m) own new all shown = All-nil (HasNames names)
-  named_reply number locks h states t (Reuse range) own new all shown = All-nil (HasNames names)
-  named_reply number locks h states t IgnoreOn own new all shown = All-nil (HasNames names)
-  named_reply number locks h states t IgnoreOff own new all shown = All-nil (HasNames names)
-  named_reply number locks h states t (Level n) own new all shown = All-nil (HasNames names)
+  named_reply number locks reasons h states t (Show w) own new all because shown =
+      All-cons (HasToldNames names) (ShownTold number w (states w)) [] (shown w) (All-nil (HasToldNames names))
+  named_reply number locks reasons h states t (Acquire l m) own new all because shown = All-nil (HasToldNames names)
+  named_reply number locks reasons h states t (Release l m) own new all because shown = All-nil (HasToldNames names)
+  named_reply number locks reasons h states t (Reuse range) own new all because shown = All-nil (HasToldNames names)
+  named_reply number locks reasons h states t IgnoreOn own new all because shown = All-nil (HasToldNames names)
+  named_reply number locks reasons h states t IgnoreOff own new all because shown = All-nil (HasToldNames names)
+  named_reply number locks reasons h states t (Level n) own new all because shown = All-nil (HasToldNames names)
 
   named_event : (e : Event) → HasNumbersNamed names e → HasEventNames names e
   named_event (Acquire l m) new = λ _. new
@@ -173,13 +180,13 @@ module _ (names : NameTable) where
   named_event (Show w) new = tt
   named_event (Level n) new = tt
 
-  named_answer : (number : ℕ) (locks : List ℕ) (h : Holdings) (states : ℕ → WordState) (step : Step) (o : Option Refusal) → IsNamed names step
-      → HasLockNames names locks → ((w : ℕ) → HasStateNames names (states w))
-      → All (HasNames names) (answer_line number locks step (answer_unless o (replied h states step.thread step.event)))
-  named_answer number locks h states step None new all shown =
-      named_reply number locks h states step.thread step.event new.thread new.event all shown
-  named_answer number locks h states step (Some why) new all shown =
-      All-cons (HasNames names) (line.Refused number step why) [] (new.thread, named_event step.event new.event) (All-nil (HasNames names))
+  named_answer : (number : ℕ) (locks : List ℕ) (reasons : List Because) (h : Holdings) (states : ℕ → WordState) (step : Step) (o : Option Refusal) → IsNamed names step
+      → HasLockNames names locks → All (HasReasonNames names) reasons → ((w : ℕ) → HasStateNames names (states w))
+      → All (HasToldNames names) (answer_line number locks reasons step (answer_unless o (replied h states step.thread step.event)))
+  named_answer number locks reasons h states step None new all because shown =
+      named_reply number locks reasons h states step.thread step.event new.thread new.event all because shown
+  named_answer number locks reasons h states step (Some why) new all because shown =
+      All-cons (HasToldNames names) (RefusedTold number step why) [] (new.thread, named_event step.event new.event) (All-nil (HasToldNames names))
 
   -- at each point of the list
   module _ (steps : List Step) (all : All (IsNamed names) steps) where
@@ -222,23 +229,93 @@ pub site_named : (names : NameTable) (steps : List Step) → All (IsNamed names)
 site_named names steps all k step is = site_in names step.event (named_step names steps all k step is).event
 
 module _ (r : Recording) (all : All (IsNamed r.names) r.steps) where
-  named_line_by : (k : ℕ) (o : Option Step) → slice_get r.steps k ≡ o → All (HasNames r.names) (line_of r k o)
+  -- the locks that cover an access
+  named_mark : (j t : ℕ) (e : Event) → HasLockNames r.names (cover_of (mark (accepted r.steps j) t e))
+  unfolding cover_of mark holdings
+  named_mark j t (Access reading w site) =
+      elim (is_ignoring (accepted r.steps j) t) as (λ b. HasLockNames r.names (cover_of (cond b Nothing (Counted t reading w (held (accepted r.steps j) t))))) [
+        | true ↦ All-nil (HasLockName r.names)
+        | false ↦ (named_holdings r.names r.steps all j t).any
+      ]
+  named_mark j t (Access writing w site) =
+      elim (is_ignoring (accepted r.steps j) t) as (λ b. HasLockNames r.names (cover_of (cond b Nothing (Counted t writing w (write_held (accepted r.steps j) t))))) [
+        | true ↦ All-nil (HasLockName r.names)
+        | false ↦ (named_holdings r.names r.steps all j t).write
+      ]
+  named_mark j t e = All-nil (HasLockName r.names)
+
+  named_cover_by : (j : ℕ) (o : Option Step) → HasLockNames r.names (cover_of (mark_of (accepted r.steps j) o))
+  unfolding cover_of
+  named_cover_by j None = All-nil (HasLockName r.names)
+  named_cover_by j (Some step) = named_mark j step.thread step.event
+
+  named_cover : (j : ℕ) → HasLockNames r.names (cover_of (reading_of r.steps j))
+  unfolding reading_of
+  named_cover j = named_cover_by j (slice_get r.steps j)
+
+  -- the reasons of a race
+  named_access : (name : Label) (number : ℕ) (step : Step) (e : Event) → step.thread < length r.names.threads → HasLabelName r.names name
+      → All (HasReasonNames r.names) (access_reason name number step.thread e)
+  named_access name number step (Access kind w site) own lock =
+      All-cons (HasReasonNames r.names) (record { label = name; line = number; thread = step.thread; kind = kind }) [] (own, lock) (All-nil (HasReasonNames r.names))
+  named_access name number step e own lock = All-nil (HasReasonNames r.names)
+
+  named_reason_by : (name : Label) (i : ℕ) (o : Option Step) → slice_get r.steps i ≡ o → HasLabelName r.names name
+      → All (HasReasonNames r.names) (step_reason name (slice_index r.lines i) o)
+  named_reason_by name i None is lock = All-nil (HasReasonNames r.names)
+  named_reason_by name i (Some step) is lock = named_access name (slice_index r.lines i) step step.event (named_step r.names r.steps all i step is).thread lock
+
+  named_reason : (name : Label) (i : ℕ) → HasLabelName r.names name → All (HasReasonNames r.names) (reason_at r name i)
+  named_reason name i lock = named_reason_by name i (slice_get r.steps i) refl lock
+
+  named_pairs : (at : ℕ → ℕ) (ls : List ℕ) → HasLockNames r.names ls
+      → All (HasReasonNames r.names) (flat_map (λ pair. reason_at r (label.Uncovered pair.0) pair.1) (map {B = ℕ × ℕ} (λ l. (l, at l)) ls))
+  named_pairs at [] locks = All-nil (HasReasonNames r.names)
+  named_pairs at (l ∷ ls) locks =
+      All-append (HasReasonNames r.names) (reason_at r (label.Uncovered l) (at l)) _
+      (named_reason (label.Uncovered l) (at l) (All-head (HasLockName r.names) l ls locks))
+      (named_pairs at ls (All-tail (HasLockName r.names) l ls locks))
+
+  named_explained : (w n j : ℕ) → All (HasReasonNames r.names) (reasons_of r (explanation_by (reading_of r.steps) w n j))
+  unfolding reasons_of explanation_by
+  named_explained w n j =
+      let s : Reading = reading_of r.steps in
+      All-append (HasReasonNames r.names) _ _
+      (All-append (HasReasonNames r.names) _ _
+      (All-append (HasReasonNames r.names) _ _ (named_reason label.First (found (first s w n)) tt) (named_reason label.Joined j tt))
+      (named_reason label.Write (found (first_write s w n j)) tt))
+      (named_pairs (λ l. found (first_uncovered s w n j l)) (cover_of (s j)) (named_cover j))
+
+  named_where : (k : ℕ) (a : Result Reply Refusal) → All (HasReasonNames r.names) (reasons_by r (explanation_where r.steps k a))
+  unfolding explanation_of
+  named_where k (Ok Race) =
+      let w : ℕ = found (word_of (slice_get r.steps k)) in
+      named_explained w (suc k) (found (join (reading_of r.steps) w (suc k)))
+  named_where k a = All-nil (HasReasonNames r.names)
+
+  named_reasons : (explain : Bool) (k : ℕ) → All (HasReasonNames r.names) (cond explain (reasons_at r k) [])
+  unfolding explanation_at
+  named_reasons true k = named_where k (answer r.steps k)
+  named_reasons false k = All-nil (HasReasonNames r.names)
+
+  named_line_by : (explain : Bool) (k : ℕ) (o : Option Step) → slice_get r.steps k ≡ o → All (HasToldNames r.names) (line_of r explain k o)
   unfolding holdings
-  named_line_by k None is = All-nil (HasNames r.names)
-  named_line_by k (Some step) is =
+  named_line_by explain k None is = All-nil (HasToldNames r.names)
+  named_line_by explain k (Some step) is =
       let h : Holdings = holdings_at r.steps step.thread k in
       rw (answer-step r.steps k step is)
-      (named_answer r.names (slice_index r.lines k) (held (accepted r.steps k) step.thread) h (λ w. state_at r.steps w k) step
+      (named_answer r.names (slice_index r.lines k) (held (accepted r.steps k) step.thread) (cond explain (reasons_at r k) []) h (λ w. state_at r.steps w k) step
       (refused_by h step.event) (named_step r.names r.steps all k step is) (named_holdings r.names r.steps all k step.thread).any
+      (named_reasons explain k)
       (named_state r.names r.steps all k))
 
   -- each line that the definitions give has its names
-  pub named_lines : (rules : List Target) (n : ℕ) → All (HasNames r.names) (lines_below r rules n)
+  pub named_lines : (rules : List Target) (explain : Bool) (n : ℕ) → All (HasToldNames r.names) (lines_below r rules explain n)
   unfolding lines_below line_at
-  named_lines rules zero = All-nil (HasNames r.names)
-  named_lines rules (suc n) =
-      All-append (HasNames r.names) (lines_below r rules n) (cond (is_some (taker_at r rules n)) [] (line_at r n)) (named_lines rules n)
-      (elim (is_some (taker_at r rules n)) as (λ b. All (HasNames r.names) (cond b [] (line_at r n))) [
-        | true ↦ All-nil (HasNames r.names)
-        | false ↦ named_line_by n (slice_get r.steps n) refl
+  named_lines rules explain zero = All-nil (HasToldNames r.names)
+  named_lines rules explain (suc n) =
+      All-append (HasToldNames r.names) (lines_below r rules explain n) (cond (is_some (taker_at r rules n)) [] (line_at r explain n)) (named_lines rules explain n)
+      (elim (is_some (taker_at r rules n)) as (λ b. All (HasToldNames r.names) (cond b [] (line_at r explain n))) [
+        | true ↦ All-nil (HasToldNames r.names)
+        | false ↦ named_line_by explain n (slice_get r.steps n) refl
       ])

@@ -1,4 +1,5 @@
 pub mod Draft
-pub mod Holders
+pub mod Lines
 pub mod Names
+pub mod Reasons
 pub mod Report

@@ -6,8 +6,11 @@ use Rattle.er_event.specs.declared.steps.Event.{Event}
 use Rattle.er_event.specs.declared.steps.Event.TheVariants.{Acquire, Release, Access, Reuse, IgnoreOn, IgnoreOff, Show, Level}
 use Rattle.er_event.specs.declared.steps.WordState.{WordState}
 use Rattle.er_event.specs.declared.steps.WordState.TheVariants.{Virgin, Exclusive, Shared, SharedModified}
+use Rattle.er_report.specs.Lines.{LineTold, RaceTold, RefusedTold, ShownTold, line_told}
+use Rattle.er_report.specs.declared.report.Because.{Because}
+use Rattle.er_report.specs.declared.report.Label.{Label}
+use Rattle.er_report.specs.declared.report.Label.TheVariants as label
 use Rattle.er_report.specs.declared.report.Line.{Line}
-use Rattle.er_report.specs.declared.report.Line.TheVariants as line
 
 -- the lock has a name; a level lock needs none
 abbrev pub HasLockName : NameTable → ℕ → Type 0
@@ -46,9 +49,23 @@ HasStateNames names (Exclusive thread) = thread < length names.threads
 HasStateNames names (Shared locks) = HasLockNames names locks
 HasStateNames names (SharedModified locks) = HasLockNames names locks
 
+-- the lock of a label has
+abbrev pub HasLabelName : NameTable → Label → Type 0
+HasLabelName names label.First = Unit {0}
+HasLabelName names label.Joined = Unit {0}
+HasLabelName names label.Write = Unit {0}
+HasLabelName names (label.Uncovered lock) = HasLockName names lock
+
+-- the thread and the lock of a reason have
+abbrev pub HasReasonNames : NameTable → Because → Type 0
+HasReasonNames names because = (because.thread < length names.threads) × HasLabelName names because.label
+
 -- each thread, lock and site of a line has; site 0 needs none
+abbrev pub HasToldNames : NameTable → LineTold → Type 0
+HasToldNames names (RaceTold number thread kind word site held explained) =
+    (thread < length names.threads) × (site ≤ length names.sites) × HasLockNames names held × All (HasReasonNames names) explained
+HasToldNames names (RefusedTold number step refusal) = (step.thread < length names.threads) × HasEventNames names step.event
+HasToldNames names (ShownTold number word state) = HasStateNames names state
+
 abbrev pub HasNames : NameTable → Line → Type 0
-HasNames names (line.Race number thread kind word site held) =
-    (thread < length names.threads) × (site ≤ length names.sites) × HasLockNames names held
-HasNames names (line.Refused number step refusal) = (step.thread < length names.threads) × HasEventNames names step.event
-HasNames names (line.Shown number word state) = HasStateNames names state
+HasNames names line = HasToldNames names (line_told line)

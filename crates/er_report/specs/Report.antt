@@ -13,14 +13,15 @@ use Rattle.er_event.specs.Trace.{Recording}
 use Rattle.er_model.specs.Answers.{answer}
 use Rattle.er_model.specs.Threads.{accepted, held}
 use Rattle.er_model.specs.declared.answers.Stopped.{Stopped}
-use Rattle.er_report.specs.declared.report.Line.{Line}
-use Rattle.er_report.specs.declared.report.Line.TheVariants as line
+use Rattle.er_report.specs.Lines.{LineTold, RaceTold, RefusedTold, ShownTold, line_told}
+use Rattle.er_report.specs.Reasons.{reasons_at}
+use Rattle.er_report.specs.declared.report.Because.{Because}
 use Rattle.er_report.specs.declared.report.Report.{Report}
 use Rattle.er_rules.specs.Rules.{Target, taker}
 
 -- a report, as contracts compare it
 pub record Summary : Type 0 where
-  pub lines : List Line
+  pub lines : List LineTold
   pub stop : Option (ℕ × NoRoom)
   pub rule_counts : List ℕ
   pub steps : ℕ
@@ -32,7 +33,7 @@ pub record Summary : Type 0 where
 abbrev pub told : Report → Summary
 told r =
     record {
-      lines = r.lines.items;
+      lines = map line_told r.lines.items;
       stop = r.stop;
       rule_counts = r.rule_counts.items;
       steps = r.steps;
@@ -41,25 +42,26 @@ told r =
       refused = r.refused;
     }
 
--- the line of a race or of a show, and none of another reply; these are the locks that the thread holds
-abbrev pub reply_line : ℕ → List ℕ → ℕ → Event → Reply → List Line
-reply_line number locks thread (Access kind word site) Race = line.Race number thread kind word site locks ∷ []
-reply_line number locks thread (Show word) (State state) = line.Shown number word state ∷ []
-reply_line number locks thread event reply = []
+-- the line of a race or of a show, and none of another reply; these are the locks that the thread holds, and why it is a race
+abbrev pub reply_line : ℕ → List ℕ → List Because → ℕ → Event → Reply → List LineTold
+reply_line number locks reasons thread (Access kind word site) Race = RaceTold number thread kind word site locks reasons ∷ []
+reply_line number locks reasons thread (Show word) (State state) = ShownTold number word state ∷ []
+reply_line number locks reasons thread event reply = []
 
 -- the line of a step that is answered so, if it has one
-abbrev pub answer_line : ℕ → List ℕ → Step → Result Reply Refusal → List Line
-answer_line number locks step (Ok reply) = reply_line number locks step.thread step.event reply
-answer_line number locks step (Err refusal) = line.Refused number step refusal ∷ []
+abbrev pub answer_line : ℕ → List ℕ → List Because → Step → Result Reply Refusal → List LineTold
+answer_line number locks reasons step (Ok reply) = reply_line number locks reasons step.thread step.event reply
+answer_line number locks reasons step (Err refusal) = RefusedTold number step refusal ∷ []
 
--- past the list's end there is nothing
-abbrev pub line_of : Recording → ℕ → Option Step → List Line
-line_of r k None = []
-line_of r k (Some step) = answer_line (slice_index r.lines k) (held (accepted r.steps k) step.thread) step (answer r.steps k)
+-- past the list's end there is nothing; reasons are given where they are asked for
+abbrev pub line_of : Recording → Bool → ℕ → Option Step → List LineTold
+line_of r explain k None = []
+line_of r explain k (Some step) =
+    answer_line (slice_index r.lines k) (held (accepted r.steps k) step.thread) (cond explain (reasons_at r k) []) step (answer r.steps k)
 
 -- the line of the step at position k, if it has one
-unfoldable pub line_at : Recording → ℕ → List Line
-line_at r k = line_of r k (slice_get r.steps k)
+unfoldable pub line_at : Recording → Bool → ℕ → List LineTold
+line_at r explain k = line_of r explain k (slice_get r.steps k)
 
 -- an answer that is a race, and one that is a refusal
 abbrev pub is_race : Result Reply Refusal → Bool
@@ -95,9 +97,9 @@ unfoldable pub taker_at : Recording → List Target → ℕ → Option ℕ
 taker_at r rules k = taker_of r rules k (slice_get r.steps k)
 
 -- the lines of the first n steps, but for the races that a rule takes
-unfoldable pub lines_below : Recording → List Target → ℕ → List Line
-lines_below r rules zero = []
-lines_below r rules (suc n) = lines_below r rules n ++ cond (is_some (taker_at r rules n)) [] (line_at r n)
+unfoldable pub lines_below : Recording → List Target → Bool → ℕ → List LineTold
+lines_below r rules explain zero = []
+lines_below r rules explain (suc n) = lines_below r rules explain n ++ cond (is_some (taker_at r rules n)) [] (line_at r explain n)
 
 -- how many positions below n pass the test
 unfoldable pub count_below : (ℕ → Bool) → ℕ → ℕ
@@ -131,12 +133,12 @@ abbrev pub stop_line : Recording → Option Stopped → Option (ℕ × NoRoom)
 stop_line r None = None
 stop_line r (Some stop) = Some (slice_index r.lines stop.at, stop.cause)
 
--- the report of a run of the recording's steps under these rules, which stopped so or not at all
-abbrev pub report_of : Recording → List Target → Option Stopped → Summary
-report_of r rules stop =
+-- the report of a run of the recording's steps under these rules, with reasons or without, which stopped so or not at all
+abbrev pub report_of : Recording → List Target → Bool → Option Stopped → Summary
+report_of r rules explain stop =
     let n = length (answered_steps r.steps stop) in
     record {
-      lines = lines_below r rules n;
+      lines = lines_below r rules explain n;
       stop = stop_line r stop;
       rule_counts = rule_counts r rules n;
       steps = n;

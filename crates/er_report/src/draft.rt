@@ -1,22 +1,23 @@
 //! A report that grows by one step after another.
-ghost use Rattle.std.specs.Prelude.{◌≡◌, ◌<◌, ℕ, [], length, Ok, OnOk, IfOk, IfSome};
+ghost use Rattle.std.specs.Prelude.{◌≡◌, ◌<◌, ℕ, [], length, map, Ok, OnOk, IfOk, IfSome};
 ghost use Rattle.er_model.specs.AnswerList.{shown};
 ghost use Rattle.er_model.specs.Holdings.{after_step};
 ghost use Rattle.er_report.specs.Draft.{nothing_told, with_answer, HasRoom};
-ghost use Rattle.er_report.specs.Holders.{held_by};
+ghost use Rattle.er_held.specs.ThreadLocks.{held_by};
+ghost use Rattle.er_report.specs.Lines.{line_told};
 ghost use Rattle.er_report.specs.Report.{told, answer_line};
 ghost use Rattle.std.specs.Option.{option_to_list};
 
-use crate::holders::Holders;
-use crate::{Line, Report};
+use crate::{Because, Line, Report};
 use er_event::{Event, Step};
+use er_held::ThreadLocks;
 use er_model::Answer;
 use std::alloc::{AllocError, Global};
 
 /// The report of the steps so far, and what their threads hold.
 #[derive(Drop)]
 pub(crate) struct Draft {
-    pub(crate) holders: Holders,
+    pub(crate) holders: ThreadLocks,
     pub(crate) report: Report,
 }
 
@@ -27,7 +28,7 @@ impl Draft {
         ensures report { IfOk result (λ draft. told draft.report ≡ nothing_told rules) }
     {
         Ok(Draft {
-            holders: Holders::new(alloc),
+            holders: ThreadLocks::new(alloc),
             report: Report {
                 lines: Vec::new(alloc),
                 stop: None,
@@ -40,7 +41,7 @@ impl Draft {
         })
     }
 
-    /// Adds a step of this line, its answer, and the rule that takes its race, if one does.
+    /// Adds a step of this line, its answer, the rule that takes its race, if one does, and why it is a race.
     pub(crate) fn add(
         &mut self,
         alloc: Global,
@@ -48,11 +49,12 @@ impl Draft {
         step: &Step,
         answer: Answer<'_>,
         taker: Option<usize>,
+        explained: Vec<Because>,
     ) -> Result<(), AllocError>
         requires room { HasRoom (told self.old.report) }
         requires rule { IfSome taker (λ rule. rule < length self.old.report.rule_counts.items) }
         ensures report { OnOk result (told self.new.report
-            ≡ with_answer (told self.old.report) number (held_by self.old.holders step.now.thread).held step.now (shown answer.entry) taker) }
+            ≡ with_answer (told self.old.report) number (held_by self.old.holders step.now.thread).held explained.items step.now (shown answer.entry) taker) }
         ensures holders { OnOk result ((t : ℕ) → held_by self.new.holders t ≡ after_step (held_by self.old.holders t) t step.now) }
     {
         match taker {
@@ -61,7 +63,14 @@ impl Draft {
                 self.report.suppressed += 1;
             }
             None => {
-                if let Some(line) = line_of(alloc, &self.holders, number, step, answer)? {
+                if let Some(line) = line_of(
+                    alloc,
+                    &self.holders,
+                    number,
+                    step,
+                    answer,
+                    explained,
+                )? {
                     self.report.lines.push(line)?;
                 }
                 match answer {
@@ -79,12 +88,13 @@ impl Draft {
 // The line of a step, if its answer gives it one. A set of locks is copied for a race alone.
 fn line_of(
     alloc: Global,
-    holders: &Holders,
+    holders: &ThreadLocks,
     number: u64,
     step: &Step,
     answer: Answer<'_>,
+    explained: Vec<Because>,
 ) -> Result<Option<Line>, AllocError>
-    ensures { IfOk result (λ line. option_to_list line ≡ answer_line number (held_by holders.now step.now.thread).held step.now (shown answer.entry)) }
+    ensures { IfOk result (λ line. map line_told (option_to_list line) ≡ answer_line number (held_by holders.now step.now.thread).held explained.items step.now (shown answer.entry)) }
 {
     Ok(match (answer, step.event) {
         (Answer::Race, Event::Access(kind, word, site)) => Some(Line::Race {
@@ -94,6 +104,7 @@ fn line_of(
             word,
             site,
             held: holders.locks_of(alloc, step.thread)?,
+            explained,
         }),
         (Answer::State(state), Event::Show(word)) => Some(Line::Shown {
             line: number,

@@ -1,5 +1,5 @@
 //! A report, as plain data.
-use er_event::{Kind, Lockset, NoRoom, Refusal, Site, Step, ThreadId, Word, WordState};
+use er_event::{Kind, LockId, Lockset, NoRoom, Refusal, Site, Step, ThreadId, Word, WordState};
 
 /// One line of a report. Each names the line of the text that its step came from.
 #[derive(Debug, PartialEq, Eq, Drop)]
@@ -18,6 +18,9 @@ pub enum Line {
         site: Site,
         /// The locks that the thread held then, in any mode.
         held: Lockset,
+        /// The accesses that make it a race: the first, the joining, a write, and one for each lock of the joining. Empty in a
+        /// report without explanations.
+        explained: Vec<Because>,
     },
     /// A step that was refused.
     Refused {
@@ -37,6 +40,32 @@ pub enum Line {
         /// What was known of it then.
         state: WordState,
     },
+}
+
+/// An earlier access, or the race's own, and what it has to do with the race.
+#[derive(Clone, Copy, Debug, PartialEq, Eq, Drop)]
+pub struct Because {
+    /// What it has to do with the race.
+    pub label: Label,
+    /// The line of the text that it came from, from 1.
+    pub line: u64,
+    /// Who made the access.
+    pub thread: ThreadId,
+    /// Whether it read or wrote.
+    pub kind: Kind,
+}
+
+/// What an access has to do with a race.
+#[derive(Clone, Copy, Debug, PartialEq, Eq, Drop)]
+pub enum Label {
+    /// It was the first since the word's last reuse.
+    First,
+    /// It was the first by a second thread: from it on the accesses must have a lock in common.
+    Joined,
+    /// It was the first write from the joining on.
+    Write,
+    /// It was the first after the joining that was made without this lock, which covered the joining.
+    Uncovered(LockId),
 }
 
 /// What a run of a trace came to.

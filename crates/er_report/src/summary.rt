@@ -7,6 +7,7 @@ ghost use Rattle.er_rules.specs.Rules.{targets_of};
 
 use crate::Report;
 use crate::draft::Draft;
+use crate::reasons::{explanations_if, next_reasons};
 use crate::takers::taker_of;
 use er_event::{NoRoom, Trace};
 use er_model::{Outcome, Stopped};
@@ -14,25 +15,29 @@ use er_rules::Suppressions;
 use std::alloc::{AllocError, Global};
 
 /// The report of a run of a trace's steps, which may have stopped at one of them (own). A race that a rule takes has no line and
-/// counts for the first such rule.
+/// counts for the first such rule. With `explain` each race that has a line has its reasons, for which the answered steps are
+/// gone over again.
 pub fn summarise(
     alloc: Global,
     trace: &Trace,
     outcome: &Outcome,
     suppressions: &Suppressions,
+    explain: bool,
 ) -> Result<Report, AllocError>
     requires stop { IfSome outcome.now.stopped (λ stop. stop.at < length trace.now.steps) }
     requires answers { outcome.now.answers ≡ answers (answered_steps trace.now.steps outcome.now.stopped) }
-    ensures report { IfOk result (λ report. told report ≡ report_of trace.now (targets_of suppressions.now) outcome.now.stopped) }
+    ensures report { IfOk result (λ report. told report ≡ report_of trace.now (targets_of suppressions.now) explain outcome.now.stopped) }
     ensures named { IfOk result (λ report. All (HasNames trace.now.names) report.lines.items) }
 {
+    let mut to_come = explanations_if(alloc, trace, outcome, explain)?.into_iter();
     let mut draft = Draft::new(alloc, suppressions.len())?;
     for (k, step) in trace.steps().iter().enumerate() {
         let Some(answer) = outcome.answers.get(k) else {
             break;
         };
         let taker = taker_of(suppressions, trace.names(), step.event, answer);
-        draft.add(alloc, trace.lines()[k], step, answer, taker)?;
+        let explained = next_reasons(alloc, trace, &mut to_come, answer, taker)?;
+        draft.add(alloc, trace.lines()[k], step, answer, taker, explained)?;
     }
     let Draft {
         holders: _,

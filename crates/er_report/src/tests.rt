@@ -3,7 +3,7 @@ ghost use Rattle.er_event.specs.Trace.{no_steps};
 ghost use Rattle.er_model.specs.Examples.{two_writers, quiet, race};
 
 use crate::draft::Draft;
-use crate::{Line, Report, summarise};
+use crate::{Because, Label, Line, Report, summarise};
 use er_event::{
     Event, Kind, Level, LockId, Lockset, Mode, NoRoom, Refusal, Reply, Site, Step, ThreadId, Trace,
     Word, WordState,
@@ -92,14 +92,18 @@ fn answers_of_two_writers<R: Abort + AllocGlobal>(rt: &R) -> Answers
     answers
 }
 
-fn report_of_two_writers<R: Abort + AllocGlobal>(rt: &R, suppressions: &Suppressions) -> Report {
+fn report_of_two_writers<R: Abort + AllocGlobal>(
+    rt: &R,
+    suppressions: &Suppressions,
+    explain: bool,
+) -> Report {
     worked_examples();
     let trace = two_writers(rt);
     let outcome = Outcome {
         answers: answers_of_two_writers(rt),
         stopped: None,
     };
-    let Ok(report) = summarise(rt.alloc(), &trace, &outcome, suppressions) else {
+    let Ok(report) = summarise(rt.alloc(), &trace, &outcome, suppressions, explain) else {
         rt.abort()
     };
     report
@@ -115,7 +119,7 @@ fn set_of<R: Abort + AllocGlobal>(rt: &R, locks: &[u32]) -> Lockset {
     set
 }
 
-fn race_line(line: u64, thread: u32, held: Lockset) -> Line
+fn race_line(line: u64, thread: u32, held: Lockset, explained: Vec<Because>) -> Line
     requires { thread < 2 ^ 30 }
 {
     Line::Race {
@@ -125,6 +129,7 @@ fn race_line(line: u64, thread: u32, held: Lockset) -> Line
         word: Word::new(WORD),
         site: Site::MISSING,
         held,
+        explained,
     }
 }
 
@@ -147,7 +152,7 @@ fn assert_race<R: Abort + AllocGlobal>(
         rt,
         report,
         place,
-        race_line(line, thread, set_of(rt, locks)),
+        race_line(line, thread, set_of(rt, locks), Vec::new(rt.alloc())),
     );
 }
 
@@ -163,11 +168,39 @@ fn counts(report: &Report) -> [u64; 4] {
 
 #[test]
 fn two_writers_race(rt: HostRuntime) {
-    let report = report_of_two_writers(&rt, &Suppressions::new(rt.alloc()));
+    let report = report_of_two_writers(&rt, &Suppressions::new(rt.alloc()), false);
     assert_eq!(rt; report.lines.len(), 1);
     assert_race(&rt, &report, 0, 3, SECOND, &[]);
     assert_eq!(rt; report.stop, None);
     assert!(rt; report.rule_counts.is_empty());
+    assert_eq!(rt; counts(&report), [2, 1, 0, 0]);
+}
+
+fn because(label: Label, line: u64, thread: u32) -> Because
+    requires { thread < 2 ^ 30 }
+{
+    Because {
+        label,
+        line,
+        thread: ThreadId::new(thread),
+        kind: Kind::Write,
+    }
+}
+
+#[test]
+fn a_race_explains_itself(rt: HostRuntime) {
+    let report = report_of_two_writers(&rt, &Suppressions::new(rt.alloc()), true);
+    let reasons = [
+        because(Label::First, 2, FIRST),
+        because(Label::Joined, 3, SECOND),
+        because(Label::Write, 3, SECOND),
+    ];
+    let Ok(explained) = Vec::from_slice(rt.alloc(), &reasons) else {
+        rt.abort()
+    };
+    assert_eq!(rt; report.lines.len(), 1);
+    let held = Lockset::new(rt.alloc());
+    assert_line(&rt, &report, 0, race_line(3, SECOND, held, explained));
     assert_eq!(rt; counts(&report), [2, 1, 0, 0]);
 }
 
@@ -195,7 +228,8 @@ fn assert_takes<R: Abort + AllocGlobal>(rt: &R, site: Option<String>, rule_count
     let Ok(()) = add_rules(&mut rules, site) else {
         rt.abort()
     };
-    assert_suppressed(rt, &report_of_two_writers(rt, &rules), rule_counts);
+    assert_suppressed(rt, &report_of_two_writers(rt, &rules, false), rule_counts);
+    assert_suppressed(rt, &report_of_two_writers(rt, &rules, true), rule_counts);
 }
 
 #[test]
@@ -218,7 +252,8 @@ fn report_of_a_stop<R: Abort + AllocGlobal>(rt: &R) -> Report {
             cause: NoRoom::OutOfMemory,
         }),
     };
-    let Ok(report) = summarise(rt.alloc(), &trace, &outcome, &Suppressions::new(rt.alloc())) else {
+    let rules = Suppressions::new(rt.alloc());
+    let Ok(report) = summarise(rt.alloc(), &trace, &outcome, &rules, true) else {
         rt.abort()
     };
     report
@@ -256,7 +291,7 @@ fn add<R: Abort + AllocGlobal>(
     if !rule_counts.is_empty() {
         rt.abort()
     }
-    let Ok(()) = draft.add(rt.alloc(), line, &step, answer, None) else {
+    let Ok(()) = draft.add(rt.alloc(), line, &step, answer, None, Vec::new(rt.alloc())) else {
         rt.abort()
     };
 }

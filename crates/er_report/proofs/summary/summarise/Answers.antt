@@ -14,8 +14,8 @@ use Rattle.er_rules.specs.Rules.{Target, targets_of}
 
 pub loop-k-init : goal.loop-k-init
 loop-k-init c =
-    at_start _ (targets_of c.args.suppressions.now) _ c.len.result _ _ c.in_ok-draft.ensures.report
-    c.len.ensures c.in_ok-draft.ensures.holders
+    at_start _ (targets_of c.args.suppressions.now) c.args.explain _ c.len.result _ _ _ c.in_ok-draft.ensures.report
+    c.len.ensures c.in_ok-draft.ensures.holders (c.into_iter-to_come.ensures.rest ∙ c.in_ok-explanations_if.ensures)
 
 pub taker_of-taker-requires : goal.taker_of-taker-requires
 taker_of-taker-requires c =
@@ -28,9 +28,9 @@ pub add-requires : goal.add-requires
 add-requires c =
     let rules : List Target = targets_of c.args.suppressions.now in
     let counts : length c.loop-k.draft.report.rule_counts.items ≡ length rules =
-    ap (λ (s : Summary). length s.rule_counts) c.loop-k.invariant.told ∙ draft_rules c.args.trace.now rules c.loop-k.k in
+    ap (λ (s : Summary). length s.rule_counts) c.loop-k.invariant.told ∙ draft_rules c.args.trace.now rules c.args.explain c.loop-k.k in
     record {
-      room = subst HasRoom (sym c.loop-k.invariant.told) (draft_room _ rules c.loop-k.k (omega arith));
+      room = subst HasRoom (sym c.loop-k.invariant.told) (draft_room _ rules c.args.explain c.loop-k.k (omega arith));
       rule = subst (λ (n : ℕ). IfSome c.taker_of-taker.result (λ rule. rule < n)) (sym counts) c.taker_of-taker.ensures.within;
     }
 
@@ -38,11 +38,12 @@ pub loop-k-preserved : goal.loop-k-preserved
 loop-k-preserved c =
     let steps : List Step = c.steps-step-items.result.now in
     let here : slice_get steps c.loop-k.k ≡ Some c.step-item.result = slice_get_read steps _ c.loop-k.k c.step-item.result refl (omega arith) c.step-item.is in
-    at_next c.args.trace.now (targets_of c.args.suppressions.now) c.args.outcome.now.stopped c.loop-k.k c.step-item.result _ _ c.taker_of-taker.result
-    c.args.outcome.now.answers _ _ _ _
+    at_next c.args.trace.now (targets_of c.args.suppressions.now) c.args.explain c.args.outcome.now.stopped c.loop-k.k c.step-item.result _ _ c.taker_of-taker.result
+    c.args.outcome.now.answers _ _ _ _ _ _ _
     c.loop-k.invariant c.requires.answers c.in-Some.ensures (rw c.steps-step-items.ensures.value at here)
     (ap (λ (numbers : List ℕ). slice_index numbers c.loop-k.k) c.lines.ensures.value)
     (rw (← c.names.ensures) c.taker_of-taker.ensures.value)
+    c.in_ok-explained.ensures.reasons c.next_reasons.ensures.taken
     c.in_ok-add.ensures.report c.in_ok-add.ensures.holders
 
 pub returns-clause-report : goal.returns-clause-report
@@ -54,10 +55,10 @@ returns-clause-report c =
     let all : length c.steps-step-items.result.now ≡ length r.steps = ap (λ (steps : List Step). length steps) c.steps-step-items.ensures.value in
     let end : length (answered_steps r.steps stop) ≤ c.loop-k.k =
     elim c.loop-k-test.branch [ else-loop-k-test w ↦ omega arith | then-loop-k-test+in_default w ↦ omega arith ] in
-    at_end r (targets_of c.args.suppressions.now) stop c.loop-k.k (told c.loop-k.draft.report) c.loop-k.draft.holders c.stop_line-report.result
+    at_end r (targets_of c.args.suppressions.now) c.args.explain stop c.loop-k.k (told c.loop-k.draft.report) c.loop-k.draft.holders _ c.stop_line-report.result
     c.loop-k.invariant end c.stop_line-report.ensures
 
 pub returns-clause-named : goal.returns-clause-named
 returns-clause-named c =
-    at_named c.args.trace.now (targets_of c.args.suppressions.now) c.args.outcome.now.stopped c.loop-k.k (told c.loop-k.draft.report)
-    c.loop-k.draft.holders c.loop-k.invariant c.steps-step-items.ensures.named
+    at_named c.args.trace.now (targets_of c.args.suppressions.now) c.args.explain c.args.outcome.now.stopped c.loop-k.k (told c.loop-k.draft.report)
+    c.loop-k.draft.holders _ c.loop-k.draft.report.lines.items refl c.loop-k.invariant c.steps-step-items.ensures.named

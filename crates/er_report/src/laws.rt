@@ -1,0 +1,23 @@
+//! The laws of reports: each function does nothing, and its contract is proved of the definitions. All are own.
+ghost use Rattle.std.specs.Prelude.{◌≡◌, ◌+◌, ◌∷◌, ℕ, Bool, List, Option, length, map, sum};
+ghost use Rattle.er_event.specs.Trace.{Recording};
+ghost use Rattle.er_explain.specs.Explaining.{explanation_at};
+ghost use Rattle.er_model.specs.Answers.{answer};
+ghost use Rattle.er_model.specs.Explanations.{Explanation};
+ghost use Rattle.er_model.specs.declared.answers.Stopped.{Stopped};
+ghost use Rattle.er_report.specs.Reasons.{reasons_at};
+ghost use Rattle.er_report.specs.Report.{report_of, count_below, is_race};
+ghost use Rattle.er_rules.specs.Rules.{Target};
+
+use crate::Label;
+
+/// The counts of the rules add up to the races that rules took, and these and the races that are printed are all races.
+pub fn the_counts_add_up()
+    ensures suppressed { (r : Recording) (rules : List Target) (explain : Bool) (stop : Option Stopped) → sum (report_of r rules explain stop).rule_counts ≡ (report_of r rules explain stop).suppressed }
+    ensures races { (r : Recording) (rules : List Target) (explain : Bool) (stop : Option Stopped) → (report_of r rules explain stop).races + (report_of r rules explain stop).suppressed ≡ count_below (λ k. is_race (answer r.steps k)) (report_of r rules explain stop).steps }
+{}
+
+/// Each access that an explanation names is told: the first, the joining, the write, and one for each lock, in this order.
+pub fn each_reason_is_told()
+    ensures { (r : Recording) (k : ℕ) (e : Explanation) → explanation_at r.steps k ≡ Option.Some e → map (λ because. because.label) (reasons_at r k) ≡ Label.First ∷ Label.Joined ∷ Label.Write ∷ map (λ pair. Label.Uncovered pair.0) e.uncovered }
+{}
