@@ -1,0 +1,10 @@
+-- The limits of a parallel replay.
+use Rattle.std.specs.Prelude.{ℕ, ◌≤◌}
+
+-- so many shards may be
+abbrev pub IsShardCount : ℕ → Type 0
+IsShardCount n = (1 ≤ n) × (n ≤ 64)
+
+-- so many sets of locks a table may take
+abbrev pub IsSetCount : ℕ → Type 0
+IsSetCount n = (1 ≤ n) × (n ≤ 1048576)

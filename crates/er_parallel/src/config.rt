@@ -1,0 +1,37 @@
+//! How a parallel replay is made.
+ghost use Rattle.std.specs.Prelude.{◌≡◌, IsSome, IfSome};
+ghost use Rattle.er_parallel.specs.Limits.{IsShardCount, IsSetCount};
+
+/// How a parallel replay is made (own). The numbers are in their limits.
+#[derive(Clone, Copy, Debug, PartialEq, Eq)]
+pub struct ReplayConfig {
+    /// In how many shards the words are, 1 to 64.
+    pub shards: u32,
+    /// How many sets of locks the table takes, 1 to 1,048,576.
+    pub max_sets: u32,
+    pub ghost shard_count: { IsShardCount shards },
+    pub ghost set_count: { IsSetCount max_sets },
+}
+
+impl ReplayConfig {
+    /// The greatest number of shards.
+    pub const MAX_SHARDS: u32 = 64;
+
+    /// The greatest number of sets of locks.
+    pub const MAX_SETS: u32 = 1_048_576;
+
+    /// The configuration with these numbers, or none where one is out of its limits.
+    pub fn new(shards: u32, max_sets: u32) -> Option<ReplayConfig>
+        ensures some { IsShardCount shards → IsSetCount max_sets → IsSome result }
+        ensures some_only { IsSome result → IsShardCount shards × IsSetCount max_sets }
+        ensures value { IfSome result (λ config. (config.shards ≡ shards) × (config.max_sets ≡ max_sets)) }
+    {
+        if shards < 1 || shards > ReplayConfig::MAX_SHARDS {
+            return None;
+        }
+        if max_sets < 1 || max_sets > ReplayConfig::MAX_SETS {
+            return None;
+        }
+        Some(ReplayConfig { shards, max_sets })
+    }
+}
