@@ -1,5 +1,5 @@
 //! A detector: shards under locks of their own, and the two counters.
-ghost use Rattle.std.specs.Prelude.{◌≡◌, ◌<◌, ◌≤◌, ◌⊎◌, ◌&&◌, ℕ, [], IsTrue, IsFalse, IfOk, IfErr, IsErrOf, IsErrAnd, OnOk, OnErr, Err, length, vec_len};
+ghost use Rattle.std.specs.Prelude.{◌≡◌, ◌<◌, ◌≤◌, ◌⊎◌, ◌&&◌, ℕ, [], IsTrue, IsFalse, IfOk, IfErr, IfSome, IsErrOf, IsErrAnd, OnOk, OnErr, Err, Some, None, length, vec_len};
 ghost use Rattle.std.specs.List.{All};
 ghost use Rattle.er_event.specs.Span.{page_count, part_lo, parts_below, parts_of};
 ghost use Rattle.er_held.specs.Held.{nothing_held};
@@ -79,7 +79,7 @@ impl<'t> Detector<'t> {
     {
         let mut shards = Vec::with_capacity(alloc, config.shards as usize)?;
         for number in 0..config.shards {
-            let shard = Shard::new(alloc, table, config.name, number, config.journal_limit)?;
+            let shard = empty_shard(alloc, table, config, number)?;
             shards.push(CachePadded::new(Mutex::new(shard)))?;
         }
         Ok(Detector {
@@ -102,10 +102,10 @@ impl<'t> Detector<'t> {
     {
         let vacant = VacantSeat::new(self.alloc, self.config.name)?;
         let number = self.opened.fetch_add(1, Ordering::SeqCst);
-        if number >= u64::from(self.config.max_threads) {
-            return Err(Refusal::TooManyThreads);
+        match thread_of(self.config, number) {
+            Some(thread) => Ok(vacant.taken_by(thread)),
+            None => Err(Refusal::TooManyThreads),
         }
-        Ok(vacant.taken_by(ThreadId::new(number as u32)))
     }
 
     /// How it was made.
@@ -143,6 +143,7 @@ impl<'t> Detector<'t> {
         site: Site,
     ) -> Result<Reply, Refusal>
         ensures counted { (holdings_of seat.old).depth ≡ 0 → IfOk result (λ reply. (ticket : ℕ) × (IsListed seat.old seat.new word kind site ticket reply × IsEntered seat.old shard.old shard.new word kind site ticket reply)) }
+        ensures race_or_quiet { (holdings_of seat.old).depth ≡ 0 → IfOk result (λ reply. (reply ≡ Reply.Race) ⊎ (reply ≡ Reply.Quiet)) }
         ensures ignored { 0 < (holdings_of seat.old).depth → IfOk result (λ reply. reply ≡ Reply.Ignored) }
         ensures listed { 0 < (holdings_of seat.old).depth → OnOk result (IsIgnored seat.old seat.new word kind site) }
         ensures unchanged { 0 < (holdings_of seat.old).depth → shard.new ≡ shard.old }
@@ -176,10 +177,14 @@ impl<'t> Detector<'t> {
         site: Site,
     ) -> Result<Reply, Refusal>
         ensures counted { (holdings_of seat.old).depth ≡ 0 → IfOk result (λ reply. (ticket : ℕ) × IsListed seat.old seat.new word kind site ticket reply) }
+        ensures race_or_quiet { (holdings_of seat.old).depth ≡ 0 → IfOk result (λ reply. (reply ≡ Reply.Race) ⊎ (reply ≡ Reply.Quiet)) }
         ensures ignored { 0 < (holdings_of seat.old).depth → IfOk result (λ reply. reply ≡ Reply.Ignored) }
         ensures listed { 0 < (holdings_of seat.old).depth → OnOk result (IsIgnored seat.old seat.new word kind site) }
         ensures err { OnErr result (seat.new ≡ seat.old) }
         ensures foreign { IsFalse (is_seat_of self.now seat.old) → result ≡ Err Refusal.ForeignSeat }
+
+        // Inside a bracket no shard is asked, so nothing else can be foreign.
+        ensures foreign_only { 0 < (holdings_of seat.old).depth → IsErrOf result Refusal.ForeignSeat → IsFalse (is_seat_of self.now seat.old) }
         ensures refusals { IfErr result (λ why. IsTrue (may_refuse (holdings_of seat.old).depth why)) }
     {
         if seat.name() != self.config.name {
@@ -291,6 +296,31 @@ impl<'t> Detector<'t> {
     // The next ticket.
     fn draw(&self) -> u64 {
         self.tickets.fetch_add(1, Ordering::SeqCst)
+    }
+}
+
+// The shard of this number, to which nothing was done.
+fn empty_shard<'t>(
+    alloc: Global,
+    table: &'t LocksetTable,
+    config: Config,
+    number: u32,
+) -> Result<Shard<'t>, AllocError>
+    ensures { IfOk result (λ shard. shard ≡ record { name = config.name; number = number; limit = config.journal_limit; journal = [] }) }
+{
+    Shard::new(alloc, table, config.name, number, config.journal_limit)
+}
+
+// The thread of the seat that is the next after so many, or none if all seats are taken.
+fn thread_of(config: Config, opened: u64) -> Option<ThreadId>
+    ensures next { opened < config.max_threads → result ≡ Some opened }
+    ensures none { config.max_threads ≤ opened → result ≡ None }
+    ensures within { IfSome result (λ thread. thread < config.max_threads) }
+{
+    if opened < u64::from(config.max_threads) {
+        Some(ThreadId::new(opened as u32))
+    } else {
+        None
     }
 }
 

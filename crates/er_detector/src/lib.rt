@@ -23,9 +23,8 @@
 
 pub use config::Config;
 pub use detector::{Detector, Parts, ReuseStopped};
-pub use gate::{Gate, OpenGate, PairGate};
+pub use er_gate::{Gate, OpenGate, PairGate};
 
 mod config;
 mod detector;
-mod gate;
 mod races;

@@ -255,6 +255,7 @@ impl Seat {
         requires { (holdings_of self.old).depth ≡ 0 }
         ensures call { IfOk result (λ reply. self.new ≡ with_call self.old (ticketed (Event.Access kind word site) ticket reply)) }
         ensures entry { IfOk result (λ reply. shard.new ≡ with_entry shard.old (entry_of ticket self.old.thread (What.Access (stamp_of self.old word kind site)) reply)) }
+        ensures race_or_quiet { IfOk result (λ reply. (reply ≡ Reply.Race) ⊎ (reply ≡ Reply.Quiet)) }
         ensures err { OnErr result (self.new ≡ self.old) }
         ensures err_shard { OnErr result (shard.new ≡ shard.old) }
         ensures full { shard.old.limit ≤ length shard.old.journal → IsErrAnd result (λ cause. (cause ≡ NoRoom.JournalFull) ⊎ (cause ≡ NoRoom.OutOfMemory)) }

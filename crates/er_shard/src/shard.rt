@@ -1,5 +1,5 @@
 //! A shard: its words, and the journal of which they are the replay.
-ghost use Rattle.std.specs.Prelude.{◌≡◌, ◌≤◌, ◌<◌, ◌+◌, [], Bool, length, IsTrue, IfOk, IsErrOf, OnOk, OnErr, vec_capacity};
+ghost use Rattle.std.specs.Prelude.{◌≡◌, ◌≤◌, ◌<◌, ◌⊎◌, ◌+◌, [], Bool, length, IsTrue, IfOk, IsErrOf, OnOk, OnErr, vec_capacity};
 ghost use Rattle.er_model.specs.Journals.{IsLegalJournal, journal_state, notes_of, mark_of_what};
 ghost use Rattle.er_model.specs.Parts.{FitsEnd};
 ghost use Rattle.er_shadow.specs.Replies.{reply_if};
@@ -95,6 +95,7 @@ impl<'t> Shard<'t> {
     pub fn apply<R: Wait>(&mut self, rt: &R, ticket: u64, stamp: Stamp) -> Result<Reply, NoRoom>
         ensures entry { IfOk result (λ reply. self.new ≡ with_entry self.old (entry_of ticket stamp.thread (What.Access stamp) reply)) }
         ensures reply { IfOk result (λ reply. FitsEnd (notes_of self.old.journal) (mark_of_what (What.Access stamp)) reply) }
+        ensures race_or_quiet { IfOk result (λ reply. (reply ≡ Reply.Race) ⊎ (reply ≡ Reply.Quiet)) }
         ensures err { OnErr result (self.new ≡ self.old) }
         ensures full { self.old.limit ≤ length self.old.journal → IsErrOf result NoRoom.JournalFull }
         ensures full_only { IsErrOf result NoRoom.JournalFull → self.old.limit ≤ length self.old.journal }
@@ -160,7 +161,8 @@ fn is_race(reply: &Reply) -> bool
 
 // What an access is answered.
 fn reply_to(reported: bool) -> Reply
-    ensures { result ≡ reply_if reported }
+    ensures reply { result ≡ reply_if reported }
+    ensures race_or_quiet { (result ≡ Reply.Race) ⊎ (result ≡ Reply.Quiet) }
 {
     if reported { Reply::Race } else { Reply::Quiet }
 }

@@ -17,7 +17,7 @@ pub(crate) fn lockset<R: Abort + AllocGlobal>(rt: &R, locks: &[u32]) -> Lockset 
 /// A table that takes so many sets.
 pub(crate) fn table_taking<R: Abort + AllocGlobal>(rt: &R, max_sets: u32) -> LocksetTable
     requires some { 1 ≤ max_sets }
-    requires few { max_sets ≤ 1000 }
+    requires few { max_sets ≤ 1048576 }
 {
     match LocksetTable::new(rt.alloc(), max_sets) {
         Ok(table) => table,

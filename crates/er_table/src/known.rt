@@ -34,15 +34,16 @@ pub struct Known<'t> {
 }
 
 impl<'t> Model for Known<'t> {
-    ghost use Rattle.std.specs.Prelude.{List, ℕ};
-    ghost use Rattle.std.specs.HashMap.{get};
+    ghost use Rattle.std.specs.Prelude.{◌≤◌, List, ℕ};
+    ghost use Rattle.std.specs.HashMap.{get, hash_map_len};
     ghost use Rattle.er_table.specs.Known.{RemembersMeets, same_pair};
+    ghost use Rattle.er_table.specs.declared.known.TheConstants.{MOST_REMEMBERED};
 
     ghost Value = { List (List ℕ) };
 
     ghost view = { λ k. k.numbers };
 
-    ghost invariant = { λ k. RemembersMeets k.numbers (get same_pair k.meets) };
+    ghost invariant = { λ k. RemembersMeets k.numbers (get same_pair k.meets) × (hash_map_len k.meets ≤ MOST_REMEMBERED) };
 }
 
 impl<'t> Known<'t> {

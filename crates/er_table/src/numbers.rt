@@ -1,5 +1,5 @@
 //! Numbers for the sets of a table, as one owner gives them.
-ghost use Rattle.std.specs.Prelude.{◌≡◌, ◌≢◌, ◌+◌, ◌<◌, ◌≤◌, [], ◌∷◌, ◌++◌, length, IsOk, IfOk, IfSome, OnOk, OnErr, IsErrOf, Contains};
+ghost use Rattle.std.specs.Prelude.{◌≡◌, ◌≢◌, ◌+◌, ◌<◌, ◌≤◌, [], ◌∷◌, ◌++◌, length, IsTrue, IsFalse, IsOk, IfOk, IfSome, OnOk, OnErr, IsErrOf, Contains};
 ghost use Rattle.er_event.specs.Lockset.{meet};
 ghost use Rattle.er_table.specs.Sets.{with_set, set_at, AreDistinct};
 
@@ -27,7 +27,7 @@ impl<'t> Model for Numbers<'t> {
 
     ghost view = { λ n. numbered n.others.keys };
 
-    ghost invariant = { λ n. (n.empty ≡ []) × AreNumbers n.limit (numbered n.others.keys) };
+    ghost invariant = { λ n. (n.empty ≡ []) × AreNumbers n.limit (numbered n.others.keys) × (n.limit ≡ n.table.now.limit) };
 }
 
 impl<'t> Numbers<'t> {
@@ -149,7 +149,7 @@ impl<'t> Numbers<'t> {
         ensures err { OnErr result (self.new ≡ self.old) }
         ensures refusals { ¬ IsErrOf result NoRoom.JournalFull }
     {
-        if self.others.len() >= self.limit as usize {
+        if self.has_all(self.limit) {
             return Err(NoRoom::TableFull);
         }
         self.others.reserve(1)?;
@@ -157,5 +157,12 @@ impl<'t> Numbers<'t> {
         let number = self.others.len() as u32 + 1;
         self.others.insert(self.table.get(&set_ref)).unwrap();
         Ok(number)
+    }
+    // Whether it has numbered so many sets, beside the empty one.
+    fn has_all(&self, max_sets: u32) -> bool
+        ensures all { IsTrue result → max_sets < length self.now }
+        ensures not_all { IsFalse result → length self.now ≤ max_sets }
+    {
+        self.others.len() >= max_sets as usize
     }
 }

@@ -1,4 +1,4 @@
-//! Worked cases of shards, seats, detectors, settling and workloads: nothing but tests.
+//! Worked cases of shards, seats, detectors, settling, workloads and parallel replays: nothing but tests.
 #![tactic(auto)]
 
 #[cfg(test)]
@@ -10,8 +10,12 @@ mod gather;
 #[cfg(test)]
 mod load;
 #[cfg(test)]
+mod parallel;
+#[cfg(test)]
 mod seat;
 #[cfg(test)]
 mod settle;
 #[cfg(test)]
 mod shard;
+#[cfg(test)]
+mod together;

@@ -1,8 +1,8 @@
 //! The workloads on threads.
 use er_detector::{Gate, OpenGate, PairGate};
-use er_event::{Refusal, Reply};
+use er_event::Reply;
 use er_gather::Run;
-use er_load::{LoadFault, Unsettled, Workload, run_workload};
+use er_load::{LoadFault, Workload, run_workload};
 use std::alloc::Global;
 use std::process::Abort;
 use std::sync::Wait;
@@ -22,7 +22,7 @@ fn counts(run: &Run) -> (usize, u32) {
     (run.steps.len(), races)
 }
 
-fn counted_once<G: Gate, R: Threads + Wait + Sync>(
+fn counted<G: Gate, R: Threads + Wait + Sync>(
     rt: &R,
     alloc: Global,
     workload: Workload,
@@ -31,20 +31,6 @@ fn counted_once<G: Gate, R: Threads + Wait + Sync>(
     match run_workload(rt, alloc, workload, gate) {
         Ok(run) => Ok(counts(&run)),
         Err(fault) => Err(fault),
-    }
-}
-
-// Once more where memory was refused (`rt try --test --fail-alloc`), since it is refused once.
-fn counted<G: Gate, R: Threads + Wait + Sync>(
-    rt: &R,
-    alloc: Global,
-    workload: Workload,
-    gate: &G,
-) -> Result<(usize, u32), LoadFault> {
-    match counted_once(rt, alloc, workload, gate) {
-        Err(LoadFault::Refused(Refusal::OutOfMemory)) => counted_once(rt, alloc, workload, gate),
-        Err(LoadFault::Unsettled(Unsettled::Memory)) => counted_once(rt, alloc, workload, gate),
-        found => found,
     }
 }
 
@@ -68,10 +54,10 @@ fn workloads(rt: HostRuntime) -> Result<(), Fail> {
     Ok(())
 }
 
-// The counts are the same in whatever order the threads come.
+// The counts are the same in whatever order the threads come. `tests/run` asks for ten times as many rounds of the built program.
 #[test]
 fn workloads_again_and_again(rt: HostRuntime) -> Result<(), Fail> {
-    for _ in 0..1000u32 {
+    for _ in 0..100u32 {
         for workload in Workload::ALL {
             let found = counted(&rt, rt.alloc(), workload, &OpenGate);
             assert_eq!(rt; found, Ok(expected(workload)));
@@ -97,12 +83,19 @@ fn names(rt: HostRuntime) -> Result<(), Fail> {
     Ok(())
 }
 
-// Both threads are at work at once, and there is one race all the same.
+// Both threads are at work at once, and there is one race all the same. A busy machine may run one behind the other, so one gate at
+// which they didn't meet says nothing.
 #[test]
 fn workers_run_side_by_side(rt: HostRuntime) -> Result<(), Fail> {
-    let gate = PairGate::new(0, 1);
-    let found = counted(&rt, rt.alloc(), Workload::RacyCounter, &gate);
-    assert_eq!(rt; found, Ok((4, 1)));
-    assert!(rt; gate.met());
+    let mut met = false;
+    for _ in 0..20u32 {
+        if !met {
+            let gate = PairGate::new(0, 1);
+            let found = counted(&rt, rt.alloc(), Workload::RacyCounter, &gate);
+            assert_eq!(rt; found, Ok((4, 1)));
+            met = gate.met();
+        }
+    }
+    assert!(rt; met);
     Ok(())
 }

@@ -12,17 +12,11 @@ use std::sync::Wait;
 
 // These say nothing of what they return, so that a test's proof has little to carry.
 
-// A vacant seat. The first allocation may be refused, and the second isn't then.
 fn vacant<R: Abort + AllocGlobal>(rt: &R) -> VacantSeat {
-    match VacantSeat::new(rt.alloc(), 7) {
-        Ok(seat) => seat,
-        Err(_) => {
-            let Ok(seat) = VacantSeat::new(rt.alloc(), 7) else {
-                rt.abort()
-            };
-            seat
-        }
-    }
+    let Ok(seat) = VacantSeat::new(rt.alloc(), 7) else {
+        rt.abort()
+    };
+    seat
 }
 
 fn open<R: Abort + AllocGlobal>(rt: &R, thread: u8) -> Seat {
@@ -184,28 +178,20 @@ fn brackets_in_brackets(rt: HostRuntime) {
     assert_eq!(rt; shown(&seat), (510, 0, 0, 0, false));
 }
 
-// Makes a call that may want memory. Where memory was refused, the seat is as before, and the call made again is accepted.
+// Makes a call that is accepted.
 fn made(rt: &impl Abort, seat: &mut Seat, wish: Wish) {
-    let before = shown(seat);
-    let first = make(seat, wish);
-    if first == Err(Refusal::OutOfMemory) {
-        assert_eq!(rt; shown(seat), before);
-        assert_eq!(rt; make(seat, wish), Ok(()));
-    } else {
-        assert_eq!(rt; first, Ok(()));
-    }
+    assert_eq!(rt; make(seat, wish), Ok(()));
 }
 
-// Gives up the locks of these numbers, for which no call is made again.
+// Gives up the locks from the first number to before the last.
 fn release_all(rt: &impl Abort, seat: &mut Seat, first: u32, last: u32) {
     for number in first..last {
         assert_eq!(rt; release(seat, number, Mode::Write), Ok(()));
     }
 }
 
-// With each allocation refused in turn (`rt try --test --fail-alloc N`), what was taken is given back at the first call.
 #[test]
-fn each_allocation_refused(rt: HostRuntime) {
+fn as_many_locks_as_a_thread_holds(rt: HostRuntime) {
     let mut seat = open(&rt, 3);
     for number in 1..65u32 {
         made(&rt, &mut seat, Wish::Acquire(number, Mode::Write));
@@ -222,7 +208,7 @@ fn the_first_entry_is_reserved(rt: HostRuntime) {
 }
 
 #[test]
-fn brackets_and_levels_refused(rt: HostRuntime) {
+fn brackets_and_levels(rt: HostRuntime) {
     let mut seat = open(&rt, 3);
     for number in 1..9u8 {
         made(
@@ -338,19 +324,7 @@ fn full_journal_leaves_the_seat(rt: HostRuntime) {
     assert_eq!(rt; listed(&seat, &shard), (1, 1));
 }
 
-// A write that is made again where memory was refused for it, which leaves seat and shard as they were.
-fn written<R: Wait + Abort>(rt: &R, seat: &mut Seat, shard: &mut Shard, number: u16) -> Answer {
-    let before = listed(seat, shard);
-    let first = write(rt, seat, shard, 0, number);
-    if first != Answer::Refused(NoRoom::OutOfMemory) {
-        return first;
-    }
-    assert_eq!(rt; listed(seat, shard), before);
-    write(rt, seat, shard, 1, number)
-}
-
-// With each allocation refused in turn that comes after the table's and the shard's (`rt try --test --fail-alloc N`), a full journal is
-// told after the want of memory.
+// A seat lists its calls for as long as a journal takes them, and none of those behind that.
 #[test]
 fn refused_accesses_leave_seat_and_shard(rt: HostRuntime) {
     let table = table_of_four(&rt);
@@ -360,12 +334,13 @@ fn refused_accesses_leave_seat_and_shard(rt: HostRuntime) {
         made(&rt, &mut seat, Wish::Acquire(number, Mode::Write));
     }
     for number in 0..9u16 {
-        assert_eq!(rt; written(&rt, &mut seat, &mut shard, number), Answer::Quiet);
+        assert_eq!(rt; write(&rt, &mut seat, &mut shard, 0, number), Answer::Quiet);
     }
     let full = Answer::Refused(NoRoom::JournalFull);
     for number in 0..9u16 {
-        assert_eq!(rt; written(&rt, &mut seat, &mut shard, number), full);
+        assert_eq!(rt; write(&rt, &mut seat, &mut shard, 1, number), full);
     }
+    assert_eq!(rt; listed(&seat, &shard), (18, 9));
     release_all(&rt, &mut seat, 1, 10);
     assert_eq!(rt; shown(&seat), (27, 0, 0, 0, false));
 }

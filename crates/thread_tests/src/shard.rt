@@ -75,12 +75,12 @@ type Brief = (u64, u32, bool, Answer);
 enum Act<'a> {
     // A write under this ticket, by this thread, at this word, with these locks.
     Write(u64, u8, u16, &'a [u32]),
-    // The same, made again where memory was refused for it.
-    WriteAgain(u64, u8, u16, &'a [u32]),
     // A reset under this ticket, by this thread, of this page.
     Reset(u64, u8, u8),
-    // Resets of page 0 by thread 1, made again so, under each of the tickets from the first to before the second.
-    ResetsAgain(u64, u64),
+    // Resets of page 0 by thread 1, under each of the tickets from the first to before the second.
+    ResetEach(u64, u64),
+    // A write without locks by thread 0 of the first word of each page from the first to before the second, under its number.
+    WriteEach(u32, u32),
     IsNamed(u64, u32),
     HasEntries(usize),
     HasEntry(usize, Brief),
@@ -167,41 +167,37 @@ fn is_exclusive(shard: &Shard, at: u16, who: u8) -> bool {
     shard.state_of(word(at)) == Ok(WordState::Exclusive(thread(who)))
 }
 
-// Writes again after a refusal for want of memory, which is to leave the journal as it was.
-fn write_again<R: Wait + Abort + AllocGlobal>(
-    rt: &R,
-    shard: &mut Shard,
-    ticket: u64,
-    who: u8,
-    at: u16,
-    locks: &[u32],
-) -> Answer {
-    let before = entries(shard);
-    match write(rt, shard, ticket, who, at, locks) {
-        Answer::OutOfMemory if entries(shard) == before => {
-            write(rt, shard, ticket, who, at, locks)
-        }
-        answer => answer,
-    }
-}
-
-// The same for a reset.
-fn reset_again(shard: &mut Shard, ticket: u64, who: u8, page: u8) -> Answer {
-    let before = entries(shard);
-    match reset(shard, ticket, who, page) {
-        Answer::OutOfMemory if entries(shard) == before => reset(shard, ticket, who, page),
-        answer => answer,
-    }
-}
-
 fn reset_each(shard: &mut Shard, first: u64, last: u64) -> Answer {
     for ticket in first..last {
-        let answer = reset_again(shard, ticket, 1, 0);
+        let answer = reset(shard, ticket, 1, 0);
         if answer != Answer::Done {
             return answer;
         }
     }
     Answer::Done
+}
+
+fn write_each<R: Wait + Abort + AllocGlobal>(
+    rt: &R,
+    shard: &mut Shard,
+    first: u32,
+    last: u32,
+) -> Answer {
+    for page in first..last {
+        let answer = write_page(rt, shard, page);
+        if answer != Answer::Quiet {
+            return answer;
+        }
+    }
+    Answer::Quiet
+}
+
+fn write_page<R: Wait + Abort + AllocGlobal>(rt: &R, shard: &mut Shard, page: u32) -> Answer {
+    let stamp = Stamp {
+        word: Word::new(1024 * u64::from(page)),
+        ..stamp(rt, 0, 0, &[])
+    };
+    answered(&shard.apply(rt, u64::from(page), stamp))
 }
 
 fn yes_or_no(is: bool) -> Answer {
@@ -211,9 +207,9 @@ fn yes_or_no(is: bool) -> Answer {
 fn act_on<R: Wait + Abort + AllocGlobal>(rt: &R, shard: &mut Shard, act: Act<'_>) -> Answer {
     match act {
         Act::Write(ticket, who, at, locks) => write(rt, shard, ticket, who, at, locks),
-        Act::WriteAgain(ticket, who, at, locks) => write_again(rt, shard, ticket, who, at, locks),
         Act::Reset(ticket, who, page) => reset(shard, ticket, who, page),
-        Act::ResetsAgain(first, last) => reset_each(shard, first, last),
+        Act::ResetEach(first, last) => reset_each(shard, first, last),
+        Act::WriteEach(first, last) => write_each(rt, shard, first, last),
         Act::IsNamed(name, number) => yes_or_no(named(shard) == (name, number)),
         Act::HasEntries(count) => yes_or_no(entries(shard) == count),
         Act::HasEntry(at, brief) => yes_or_no(entry_at(shard, at) == Some(brief)),
@@ -298,22 +294,52 @@ fn a_shard_has_its_name_and_number(rt: HostRuntime) {
     assert_eq!(rt; sets, 0);
 }
 
-// Each allocation past the constructors may be refused once: `rt try --test --fail-alloc N`.
 #[test]
-fn each_allocation_refused(rt: HostRuntime) {
+fn sets_of_locks_and_resets(rt: HostRuntime) {
     let sets = check_acts(
         &rt,
         4,
         40,
         &[
-            (Act::WriteAgain(0, 0, 3, &[1, 2]), Answer::Quiet),
-            (Act::WriteAgain(1, 1, 3, &[2, 5]), Answer::Quiet),
-            (Act::WriteAgain(2, 0, 3, &[1, 5]), Answer::Quiet),
-            (Act::WriteAgain(3, 1, 3, &[2]), Answer::Race),
-            (Act::ResetsAgain(4, 40), Answer::Done),
+            (Act::Write(0, 0, 3, &[1, 2]), Answer::Quiet),
+            (Act::Write(1, 1, 3, &[2, 5]), Answer::Quiet),
+            (Act::Write(2, 0, 3, &[1, 5]), Answer::Quiet),
+            (Act::Write(3, 1, 3, &[2]), Answer::Race),
+            (Act::ResetEach(4, 40), Answer::Done),
             (Act::HasEntries(40), Answer::Yes),
-            (Act::ResetsAgain(40, 41), Answer::JournalFull),
+            (Act::ResetEach(40, 41), Answer::JournalFull),
         ],
     );
     assert_eq!(rt; sets, 4);
+}
+
+#[test]
+fn words_of_five_thousand_pages(rt: HostRuntime) {
+    let sets = check_acts(
+        &rt,
+        1,
+        5000,
+        &[
+            (Act::WriteEach(0, 5000), Answer::Quiet),
+            (Act::HasEntries(5000), Answer::Yes),
+            (Act::WriteEach(5000, 5001), Answer::JournalFull),
+        ],
+    );
+    assert_eq!(rt; sets, 0);
+}
+
+// A journal takes as many entries as it was asked to, which is more than 16 bits count.
+#[test]
+fn a_long_journal(rt: HostRuntime) {
+    let sets = check_acts(
+        &rt,
+        1,
+        70_000,
+        &[
+            (Act::ResetEach(0, 70_000), Answer::Done),
+            (Act::HasEntries(70_000), Answer::Yes),
+            (Act::ResetEach(70_000, 70_001), Answer::JournalFull),
+        ],
+    );
+    assert_eq!(rt; sets, 0);
 }

@@ -1,4 +1,5 @@
-//! Plays what no proof of the detector shows: `trials` prints a line for each trial, and `trials rate THREADS SHARDS CALLS` measures.
+//! Plays what no proof of the detector shows: `trials` prints a line for each trial, `trials workloads ROUNDS` runs each workload so
+//! often, and `trials rate THREADS SHARDS CALLS` measures.
 //!
 //! The trials are made again where an allocation was refused, as `tests/run` does of each in turn, so that their lines say what a
 //! refused call leaves behind. SHARDS is `own` (each thread keeps to a shard of its own), `spread` (all threads go over all shards and
@@ -6,17 +7,23 @@
 //! error.
 #![tactic(auto)]
 
+mod again;
 mod orders;
 mod rate;
 mod reuses;
+mod rounds;
 mod seats;
 mod stages;
 mod tables;
 
+use again::{CallsAgain, Made};
 use er_event::Refusal;
+use er_gather::Unsettled;
+use er_load::Workload;
 use orders::{AllOpen, Counts, FullJournal};
 use rate::{read_measure, take_rate};
 use reuses::{Resumed, ReuseTrial};
+use rounds::{count_rounds, read_rounds};
 use seats::{LevelEntry, Swapped, SwappedShards};
 use stages::play_trial;
 use std::alloc::AllocError;
@@ -37,17 +44,22 @@ pub(crate) enum Fault {
     System,
     /// What came of a trial is none of the outcomes that it tells of.
     Unexpected,
+    /// A thread couldn't be started.
+    WorkerNotStarted,
     Refused(Refusal),
+    Unsettled(Unsettled),
 }
 
 impl Fault {
     fn text(self) -> &'static str {
         match self {
             Fault::Memory => "out of memory",
-            Fault::Usage => "usage: trials [rate THREADS own|spread|one CALLS]",
+            Fault::Usage => "usage: trials [workloads ROUNDS | rate THREADS own|spread|one CALLS]",
             Fault::System => "no clock, or standard output takes nothing",
             Fault::Unexpected => "a trial went otherwise than it may",
+            Fault::WorkerNotStarted => "worker not started",
             Fault::Refused(why) => why.text(),
+            Fault::Unsettled(why) => why.text(),
         }
     }
 }
@@ -84,12 +96,13 @@ fn main(rt: HostRuntime) -> ExitCode {
     }
 }
 
-// Plays the trials, or measures where the command line asks for that.
+// Plays the trials, or does what else the command line asks for.
 fn told<R: Runtime + AllocGlobal + Threads + Wait + Sync>(rt: &R) -> Result<(), Fault> {
     let words: Vec<String> = env::args(rt)?.collect(rt.alloc())?;
     match words.as_slice() {
         [_] => play(rt),
         [_, verb, rest @ ..] if verb.as_str() == "rate" => tell_rate(rt, rest),
+        [_, verb, rounds] if verb.as_str() == "workloads" => tell_rounds(rt, rounds.as_str()),
         _ => Err(Fault::Usage),
     }
 }
@@ -107,6 +120,7 @@ fn play<R: Runtime + AllocGlobal + Threads + Wait + Sync>(rt: &R) -> Result<(), 
     tell_order(rt, "all seats open", play_trial(rt, rt.alloc(), &AllOpen))?;
     tell_entry(rt, play_trial(rt, rt.alloc(), &LevelEntry))?;
     tell_swapped(rt, play_trial(rt, rt.alloc(), &SwappedShards))?;
+    tell_again(rt, play_trial(rt, rt.alloc(), &CallsAgain))?;
     tell_table(rt, fill_table(rt, rt.alloc()))
 }
 
@@ -149,15 +163,28 @@ fn tell_swapped<R: Runtime>(rt: &R, told: Result<Swapped, Fault>) -> Result<(), 
     match told {
         Ok(
             Swapped {
-                why,
+                access,
+                reuse,
                 calls,
                 entries,
             },
         ) => println!(rt;
-            "swapped shards: {}, calls {calls}, entries {entries}",
-            why.text()
+            "swapped shards: access {}, reuse {}, calls {calls}, entries {entries}",
+            access.text(),
+            reuse.text()
         )?,
         Err(why) => println!(rt; "swapped shards: {}", why.text())?,
+    }
+    Ok(())
+}
+
+fn tell_again<R: Runtime>(rt: &R, told: Result<Made, Fault>) -> Result<(), Fault> {
+    match told {
+        Ok(made) => println!(rt;
+            "calls made again: races {}, calls {}, entries {}, of them after a want of memory {}",
+            made.races, made.calls, made.entries, made.memory
+        )?,
+        Err(why) => println!(rt; "calls made again: {}", why.text())?,
     }
     Ok(())
 }
@@ -175,6 +202,24 @@ fn tell_table<R: Runtime>(rt: &R, told: Result<Filled, Fault>) -> Result<(), Fau
             )?;
         }
         Err(why) => println!(rt; "full table: {}", why.text())?,
+    }
+    Ok(())
+}
+
+// Runs each workload so often, and tells what it counts.
+fn tell_rounds<R: Runtime + AllocGlobal + Threads + Wait + Sync>(
+    rt: &R,
+    word: &str,
+) -> Result<(), Fault> {
+    let rounds = read_rounds(word).ok_or(Fault::Usage)?;
+    for workload in Workload::ALL {
+        let counted = count_rounds(rt, rt.alloc(), workload, rounds)?;
+        println!(rt;
+            "{}: steps {}, races {}",
+            workload.name(),
+            counted.steps,
+            counted.races
+        )?;
     }
     Ok(())
 }

@@ -6,7 +6,7 @@ ghost use Rattle.trials.specs.Grown.{HasMade};
 use crate::Fault;
 use crate::stages::Trial;
 use er_detector::{Config, Detector};
-use er_event::{Kind, Level, Refusal, Reply, Site, Word};
+use er_event::{Kind, Level, Refusal, Reply, Site, Word, WordRange};
 use er_model::{Entry, What};
 use er_seat::Seat;
 use er_shard::Shard;
@@ -77,15 +77,16 @@ fn one_lock(entry: &Entry) -> Option<u32>
     }
 }
 
-/// How an access is refused whose shard was swapped with another, and how many calls and entries there are then.
+/// How an access and a reuse are refused whose shard was swapped with another, and how many calls and entries there are then.
 #[derive(Clone, Copy)]
 pub(crate) struct Swapped {
-    pub(crate) why: Refusal,
+    pub(crate) access: Refusal,
+    pub(crate) reuse: Refusal,
     pub(crate) calls: usize,
     pub(crate) entries: usize,
 }
 
-/// An access whose shard was swapped with another.
+/// An access and a reuse whose shard was swapped with another.
 #[derive(Clone, Copy)]
 pub(crate) struct SwappedShards;
 
@@ -101,9 +102,11 @@ impl Trial<Swapped> for SwappedShards {
 }
 
 fn swapped_by<R: Wait>(rt: &R, detector: &Detector<'_>, seat: &mut Seat) -> Result<Swapped, Fault> {
-    let why = refused(rt, detector, seat).ok_or(Fault::Unexpected)?;
+    let access = refused(rt, detector, seat).ok_or(Fault::Unexpected)?;
+    let reuse = refused_reuse(rt, detector, seat)?.ok_or(Fault::Unexpected)?;
     Ok(Swapped {
-        why,
+        access,
+        reuse,
         calls: seat.calls().len(),
         entries: count_entries(rt, detector),
     })
@@ -117,6 +120,19 @@ fn refused<R: Wait>(rt: &R, detector: &Detector<'_>, seat: &mut Seat) -> Option<
     detector
         .access(rt, seat, Word::new(WORD), Kind::Write, Site::MISSING)
         .err()
+}
+
+// Why a reuse of the word's page is refused, if it is.
+fn refused_reuse<R: Wait>(
+    rt: &R,
+    detector: &Detector<'_>,
+    seat: &mut Seat,
+) -> Result<Option<Refusal>, Fault> {
+    let range = WordRange::of_bytes(4 * WORD, 4096)?.ok_or(Fault::Unexpected)?;
+    match detector.reuse(rt, seat, &range) {
+        Ok(()) => Ok(None),
+        Err(stopped) => Ok(Some(stopped.cause)),
+    }
 }
 
 fn swap_shards<R: Wait>(rt: &R, detector: &Detector<'_>) {

@@ -39,26 +39,29 @@ fn a_book_at_its_limit(rt: HostRuntime) {
     assert_eq!(rt; sets.count(), 1);
 }
 
-// Whether the book gives the set in both vectors, and how many sets the second has then, of which the book's place says nothing.
+// Whether the book gives a set in a vector where another set stands at the place that it noted, and gives it again from where it
+// then stands. How many sets the second vector has in the end.
 fn interned_in_both<R: Wait + Abort + AllocGlobal>(
     rt: &R,
     book: &mut Book,
     first: &Sets,
     second: &Sets,
-) -> (bool, bool, usize) {
-    let in_first = is_interned(rt, book, first, 7) == Ok(true);
-    let in_second = is_interned(rt, book, second, 7) == Ok(true);
-    (in_first, in_second, second.count())
+) -> (bool, usize) {
+    let mut given = true;
+    for (sets, lock) in [(first, 7), (second, 8), (second, 7), (second, 7)] {
+        given = given && is_interned(rt, book, sets, lock) == Ok(true);
+    }
+    (given, second.count())
 }
 
 #[test]
-fn another_vector_is_pushed_to(rt: HostRuntime) {
+fn another_vector_is_pushed_to_once(rt: HostRuntime) {
     let first = sets(&rt);
     let second = sets(&rt);
-    let mut book = Book::new(rt.alloc(), 1);
+    let mut book = Book::new(rt.alloc(), 2);
     assert_eq!(rt;
         interned_in_both(&rt, &mut book, &first, &second),
-        (true, true, 1)
+        (true, 2)
     );
-    assert_eq!(rt; book.len(), 1);
+    assert_eq!(rt; book.len(), 2);
 }

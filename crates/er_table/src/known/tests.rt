@@ -10,9 +10,6 @@ enum Ask<'a> {
     Number(&'a [u32]),
     // The number of what two sets have in common.
     Meet(u32, u32),
-    // The same two, made again where memory was refused for them.
-    NumberAgain(&'a [u32]),
-    MeetAgain(u32, u32),
     // Whether the set of this number is this.
     Has(u32, &'a [u32]),
     // Whether the sets {0} to {399} get the numbers 1 to 400, and no two of these have a lock in common.
@@ -65,25 +62,6 @@ fn has<R: Abort + AllocGlobal>(rt: &R, known: &Known, number: u32, locks: &[u32]
     number < known.count() && known.set(number) == &lockset(rt, locks)
 }
 
-// Asks again after a refusal for want of memory, which is to leave the numbers as they were.
-fn number_again<R: Wait + Abort + AllocGlobal>(rt: &R, known: &mut Known, locks: &[u32]) -> Answer {
-    let count = known.count();
-    match number(rt, known, locks) {
-        Answer::Refused(NoRoom::OutOfMemory) if known.count() == count => number(rt, known, locks),
-        answer => answer,
-    }
-}
-
-fn meet_again<R: Wait>(rt: &R, known: &mut Known, first: u32, second: u32) -> Answer {
-    let count = known.count();
-    match meet(rt, known, first, second) {
-        Answer::Refused(NoRoom::OutOfMemory) if known.count() == count => {
-            meet(rt, known, first, second)
-        }
-        answer => answer,
-    }
-}
-
 fn number_each<R: Wait + Abort + AllocGlobal>(rt: &R, known: &mut Known) -> bool {
     for lock in 0..400u32 {
         if number(rt, known, &[lock]) != Answer::Is(lock as usize + 1) {
@@ -108,8 +86,6 @@ fn answered<R: Wait + Abort + AllocGlobal>(rt: &R, known: &mut Known, ask: Ask<'
     match ask {
         Ask::Number(locks) => number(rt, known, locks),
         Ask::Meet(first, second) => meet(rt, known, first, second),
-        Ask::NumberAgain(locks) => number_again(rt, known, locks),
-        Ask::MeetAgain(first, second) => meet_again(rt, known, first, second),
         Ask::Has(number, locks) => yes_or_no(has(rt, known, number, locks)),
         Ask::NumberEach => yes_or_no(number_each(rt, known)),
         Ask::AllApart => yes_or_no(all_apart(rt, known)),
@@ -194,20 +170,29 @@ fn memory_of_meets_is_bounded(rt: HostRuntime) {
     assert_eq!(rt; sets, 400);
 }
 
-// Each allocation past the constructors may be refused once: `rt try --test --fail-alloc N`.
+// How many of the sets {0}, {1} and so on get the next number, one more than the table takes being asked for, and how the last is
+// refused.
+fn number_all<R: Wait + Abort + AllocGlobal>(
+    rt: &R,
+    known: &mut Known,
+    max_sets: u32,
+) -> (u32, Answer) {
+    for lock in 0..max_sets {
+        if number(rt, known, &[lock]) != Answer::Is(lock as usize + 1) {
+            return (lock, Answer::No);
+        }
+    }
+    (max_sets, number(rt, known, &[max_sets]))
+}
+
+// An owner numbers as many sets as its table takes, and is refused with the next one and not before.
 #[test]
-fn a_refusal_changes_nothing(rt: HostRuntime) {
-    let sets = check_answers(
-        &rt,
-        4,
-        &[
-            (Ask::NumberAgain(&[0]), Answer::Is(1)),
-            (Ask::NumberAgain(&[1]), Answer::Is(2)),
-            (Ask::NumberAgain(&[2]), Answer::Is(3)),
-            (Ask::MeetAgain(1, 2), Answer::Is(0)),
-            (Ask::MeetAgain(3, 2), Answer::Is(0)),
-            (Ask::Count, Answer::Is(4)),
-        ],
+fn more_sets_than_sixteen_bits_count(rt: HostRuntime) {
+    let table = table_taking(&rt, 65_537);
+    let mut known = known_over(&rt, &table);
+    assert_eq!(rt;
+        number_all(&rt, &mut known, 65_537),
+        (65_537, Answer::Refused(NoRoom::TableFull))
     );
-    assert_eq!(rt; sets, 3);
+    assert_eq!(rt; table.sets(&rt), 65_537);
 }

@@ -1,6 +1,4 @@
-use Rattle.std.proofs.Common.{◌≡◌, ◌∙◌, ℕ, List, [], ◌∷◌, ◌++◌, length, Contains, ap, sym, subst, arith, length-append}
-use Rattle.std.specs.Borrow.{Bor}
-use Rattle.std.proofs.lemmas.List.{length-map}
+use Rattle.std.proofs.Common.{◌≡◌, ◌∙◌, [], ◌∷◌, ◌++◌, length, Contains, ap, sym, subst, arith, length-append}
 use Rattle.std.proofs.lemmas.Result.{IfOk-at_ok}
 use Rattle.er_table.specs.Sets.{AreDistinct}
 use Rattle.er_table.specs.Numbers.{numbered}
@@ -19,13 +17,12 @@ pub invariant_of-self-2 : goal.invariant_of-self-2
 invariant_of-self-2 g c =
     let longer : numbered c.insert.new.self.keys ≡ c.args.self.now ++ c.args.set.now ∷ [] = returns-clause-ok g c in
     let old : AreDistinct c.args.self.now = subst AreDistinct c.self.view_is c.self.invariant.1.distinct in
-    let count = ap length longer ∙ length-append c.args.self.now (c.args.set.now ∷ []) in
-    let before = ap length c.self.view_is in
-    let others = length-map c.self.inside.others.keys (λ (s : Bor (List ℕ)). s.now) in (
+    let count = ap length longer ∙ length-append c.args.self.now (c.args.set.now ∷ []) in (
       c.self.invariant.0,
       record {
         distinct = subst AreDistinct (sym longer) (AreDistinct-push _ _ old c.requires);
-        within = omega (arith, count, before, others);
+        within = omega (arith, count, c.has_all.ensures.not_all c.if-has_all.false);
         small = c.self.invariant.1.small;
       },
+      c.self.invariant.2,
     )
