@@ -1,15 +1,22 @@
 -- Workers that are joined one by one.
-use Rattle.std.proofs.Common.{inl, inr, ◌≡◌, ◌∙◌, ℕ, zero, suc, ◌<◌, List, [], ◌∷◌, ◌++◌, length, refl, sym, ap, arith, append_assoc, length-append}
-use Rattle.std.specs.Option.{option_or}
-use Rattle.std.specs.Prelude.{Option, Some, None, slice_get}
+use Rattle.std.proofs.Common.{inl, inr, ◌≡◌, ◌∙◌, ℕ, zero, suc, ◌<◌, List, [], ◌∷◌, ◌++◌, length, map, refl, sym, ap, arith, append_assoc, length-append}
+use Rattle.std.specs.Prelude.{◌⊎◌, Some, slice_get, Result, Ok, Err, IfOk, IfErr, IsErrAnd, IsTrue}
+use Rattle.std.proofs.lemmas.List.{map-append, length-map}
 use Rattle.std.proofs.lemmas.Bool.{cases_lt}
 use Rattle.std.proofs.lemmas.Option.{slice_get_within}
 use Rattle.er_event.specs.declared.refusals.Refusal.{Refusal}
+use Rattle.er_event.specs.declared.refusals.Refusal.TheVariants.{OutOfMemory}
+use Rattle.er_event.specs.declared.steps.Event.{Event}
 use Rattle.er_seat.specs.Seats.{Seated}
+use Rattle.er_settle.proofs.PairLemmas.{to_map}
 use Rattle.er_load.specs.declared.stages.Worker.{Worker}
 use Rattle.er_load.specs.declared.workloads.Workload.{Workload}
 use Rattle.er_load.specs.declared.workloads.Stage.{Stage}
-use Rattle.er_load.specs.Parts.{IsSeatAt, AreSeatsAt, EndsAt, AreWorkers, done_after}
+use Rattle.er_load.specs.Accepted.{may_meet}
+use Rattle.er_load.specs.Faults.{MayFail}
+use Rattle.er_load.specs.declared.faults.LoadFault.{LoadFault}
+use Rattle.er_load.specs.declared.faults.LoadFault.TheVariants.{Refused}
+use Rattle.er_load.specs.Parts.{IsSeatAt, AreSeatsAt, EndsAt, AreWorkers, AreAnswersAt, AreMet, first_refusal, done_after}
 
 pub get_seam : {A : Type 0} (xs ys : List A) (y : A) → slice_get (xs ++ y ∷ ys) (length xs) ≡ Some y
 get_seam [] ys y = refl
@@ -33,45 +40,84 @@ placed-push {A = A} P xs y each last k x is = elim (cases_lt k (length xs)) [
       rw (at, ← whole) last)
 ]
 
--- the seats of those that are gone, unless one was refused
-pub record AreJoined (workers rest : List Worker) (seats : List Seated) (refused : Option Refusal) : Type 0 where
+-- the answers of those that are gone
+pub record AreJoined (workers rest : List Worker) (answers : List (Result Seated Refusal)) : Type 0 where
   pub gone : List Worker
   pub split : workers ≡ gone ++ rest
-  pub count : refused ≡ None → length seats ≡ length gone
-  pub joined : refused ≡ None → (workload : Workload) (stage : Stage) → AreWorkers workload stage workers → AreSeatsAt (done_after workload stage) seats
+  pub count : length answers ≡ length gone
+  pub answered : (workload : Workload) (stage : Stage) → AreWorkers workload stage workers → AreAnswersAt (done_after workload stage) answers
+  pub met : AreMet answers
 
-pub joined-none : (workers rest : List Worker) (seats : List Seated) → seats ≡ [] → rest ≡ workers → AreJoined workers rest seats None
-joined-none workers rest seats empty all = record {
+pub joined-none : (workers rest : List Worker) (answers : List (Result Seated Refusal)) → answers ≡ [] → rest ≡ workers → AreJoined workers rest answers
+joined-none workers rest answers empty all = record {
   gone = [];
   split = sym all;
-  count = λ none. ap length empty;
-  joined = λ none workload stage are t seat is. absurd (let nowhere : slice_get [] t ≡ Some seat = sym (ap (λ (xs : List Seated). slice_get xs t) empty) ∙ is in let within = slice_get_within [] t seat nowhere in omega arith);
+  count = ap length empty;
+  met = λ t answer is. absurd (let nowhere : slice_get [] t ≡ Some answer = sym (ap (λ (xs : List (Result Seated Refusal)). slice_get xs t) empty) ∙ is in let within = slice_get_within [] t answer nowhere in omega arith);
+  answered = λ workload stage are t answer is. absurd (let nowhere : slice_get [] t ≡ Some answer = sym (ap (λ (xs : List (Result Seated Refusal)). slice_get xs t) empty) ∙ is in let within = slice_get_within [] t answer nowhere in omega arith);
 }
 
-pub joined-more : (workers rest left : List Worker) (seats now : List Seated) (refused : Option Refusal) (w : Worker) (seat : Seated)
-    → AreJoined workers rest seats refused → rest ≡ w ∷ left → now ≡ seats ++ seat ∷ []
-    → ((workload : Workload) (stage : Stage) (t : ℕ) → EndsAt workload stage t w → IsSeatAt t (done_after workload stage t) seat)
-    → AreJoined workers left now refused
-joined-more workers rest left seats now refused w seat far next grown ends = record {
+pub joined-more : (workers rest left : List Worker) (answers now : List (Result Seated Refusal)) (w : Worker) (answer : Result Seated Refusal)
+    → AreJoined workers rest answers → rest ≡ w ∷ left → now ≡ answers ++ answer ∷ []
+    → ((workload : Workload) (stage : Stage) (t : ℕ) → EndsAt workload stage t w → IfOk answer (λ seat. IsSeatAt t (done_after workload stage t) seat))
+    → IfErr answer (λ why. IsTrue (may_meet why)) → AreJoined workers left now
+joined-more workers rest left answers now w answer far next grown ends meets = record {
+  met = rw grown (placed-push (λ t r. IfErr r (λ why. IsTrue (may_meet why))) answers answer far.met meets);
   gone = far.gone ++ w ∷ [];
   split = far.split ∙ (ap (λ (xs : List Worker). far.gone ++ xs) next ∙ sym (append_assoc far.gone (w ∷ []) left));
-  count = λ none. (let c = far.count none in let a = length-append seats (seat ∷ []) in let b = length-append far.gone (w ∷ []) in rw grown (omega arith));
-  joined = λ none workload stage are. (
+  count = (let c = far.count in let a = length-append answers (answer ∷ []) in let b = length-append far.gone (w ∷ []) in rw grown (omega arith));
+  answered = λ workload stage are. (
       let at : slice_get workers (length far.gone) ≡ Some w = ap (λ (xs : List Worker). slice_get xs (length far.gone)) (far.split ∙ ap (λ (xs : List Worker). far.gone ++ xs) next) ∙ get_seam far.gone left w in
-      let last : IsSeatAt (length far.gone) (done_after workload stage (length far.gone)) seat = ends workload stage (length far.gone) (are (length far.gone) w at) in
-      rw grown (placed-push (λ t s. IsSeatAt t (done_after workload stage t) s) seats seat (far.joined none workload stage are) (rw (far.count none) last)));
+      let last : IfOk answer (λ seat. IsSeatAt (length far.gone) (done_after workload stage (length far.gone)) seat) = ends workload stage (length far.gone) (are (length far.gone) w at) in
+      rw grown (placed-push (λ t r. IfOk r (λ seat. IsSeatAt t (done_after workload stage t) seat)) answers answer (far.answered workload stage are) (rw far.count last)));
 }
 
--- one that was refused, or whose seat found no room
-pub joined-refused : (workers rest left : List Worker) (seats now : List Seated) (refused then : Option Refusal) (w : Worker)
-    → AreJoined workers rest seats refused → rest ≡ w ∷ left → (then ≡ None → ⊥) → AreJoined workers left now then
-joined-refused workers rest left seats now refused then w far next some = record {
-  gone = far.gone ++ w ∷ [];
-  split = far.split ∙ (ap (λ (xs : List Worker). far.gone ++ xs) next ∙ sym (append_assoc far.gone (w ∷ []) left));
-  count = λ none. absurd (some none);
-  joined = λ none. absurd (some none);
-}
+-- the seats among the answers so far
+pub seats-more : (all rest left : List (Result Seated Refusal)) (seats now : List Seated) (seat : Seated)
+    → all ≡ map Ok seats ++ rest → rest ≡ Ok seat ∷ left → now ≡ seats ++ seat ∷ [] → all ≡ map Ok now ++ left
+seats-more all rest left seats now seat far next grown =
+    far ∙ ap (λ (xs : List (Result Seated Refusal)). map Ok seats ++ xs) next
+    ∙ sym (append_assoc (map Ok seats) (Ok seat ∷ []) left)
+    ∙ ap (λ (xs : List (Result Seated Refusal)). xs ++ left) (sym (map-append Ok seats (seat ∷ [])))
+    ∙ ap (λ (ss : List Seated). map Ok ss ++ left) (sym grown)
 
-pub or-some : (o : Option Refusal) (why : Refusal) → option_or o (Some why) ≡ None → ⊥
-or-some None why is = cc
-or-some (Some x) why is = cc
+first-behind : (seats : List Seated) (why : Refusal) (left : List (Result Seated Refusal)) → first_refusal (map Ok seats ++ Err why ∷ left) ≡ Some why
+first-behind [] why left = refl
+first-behind (s ∷ seats) why left = first-behind seats why left
+
+pub first-at : (all rest left : List (Result Seated Refusal)) (seats : List Seated) (answer : Result Seated Refusal) (why : Refusal)
+    → all ≡ map Ok seats ++ rest → rest ≡ answer ∷ left → answer ≡ Err why → first_refusal all ≡ Some why
+first-at all rest left seats answer why far next is = rw (far, next, is) (first-behind seats why left)
+
+-- where every answer is a seat, the seats are done as the answers are
+pub seats-are : (events : ℕ → List Event) (answers : List (Result Seated Refusal)) (seats : List Seated) → answers ≡ map Ok seats → AreAnswersAt events answers → AreSeatsAt events seats
+seats-are events answers seats all each t seat is = each t (Ok seat) (rw all (to_map Ok seats t seat is))
+
+pub seats-count : (answers : List (Result Seated Refusal)) (seats : List Seated) → answers ≡ map Ok seats → length seats ≡ length answers
+seats-count answers seats all = rw all (sym (length-map seats Ok))
+
+-- the error that a `?` hands on is the first refusal
+pub hands-first : {T : Type 0} (r : Result T Refusal) (G : Refusal → Type 0) (all : List (Result Seated Refusal)) → IsErrAnd r G → ((why : Refusal) → G why → first_refusal all ≡ Some why)
+    → IfErr r (λ why. (why ≡ OutOfMemory) ⊎ (first_refusal all ≡ Some why))
+hands-first (Ok seat) G all is first = absurd is
+hands-first (Err why) G all is first = inr (first why is)
+
+first-met-at : (answers : List (Result Seated Refusal)) (why : Refusal) → AreMet answers → first_refusal answers ≡ Some why → IsTrue (may_meet why)
+first-met-at [] why met is = absurd (cc)
+first-met-at (Ok seat ∷ later) why met is = first-met-at later why (λ t answer there. met (suc t) answer there) is
+first-met-at (Err other ∷ later) why met is = (let same : other ≡ why = cc in rw (← same) (met zero (Err other) refl))
+
+-- what all_seats refuses is such a refusal, too
+pub first-met : {T : Type 0} (r : Result T Refusal) (answers : List (Result Seated Refusal)) → AreMet answers → IfErr r (λ why. (why ≡ OutOfMemory) ⊎ (first_refusal answers ≡ Some why)) → IfErr r (λ why. IsTrue (may_meet why))
+first-met (Ok v) answers met told = tt
+first-met (Err why) answers met (inl memory) = rw memory refl
+first-met (Err why) answers met (inr first) = first-met-at answers why met first
+
+-- a refusal that a `?` makes a fault of
+pub no-value : {T : Type 0} (r : Result T LoadFault) (G : LoadFault → Type 0) (P : T → Type 0) → IsErrAnd r G → IfOk r P
+no-value (Ok v) G P is = absurd is
+no-value (Err fault) G P is = tt
+
+pub refused-fault : {T : Type 0} (r : Result T LoadFault) (why : Refusal) → IsErrAnd r (λ fault. fault ≡ Refused why) → IsTrue (may_meet why) → IfErr r MayFail
+refused-fault (Ok v) why is met = tt
+refused-fault (Err fault) why is met = rw is met

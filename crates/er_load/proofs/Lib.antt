@@ -1,4 +1,5 @@
 pub mod ScriptLemmas
+pub mod AcceptLemmas
 pub mod CallLemmas
 pub mod JoinLemmas
 pub mod StartLemmas

@@ -11,7 +11,14 @@ use Rattle.er_model.specs.Merges.{events_in}
 use Rattle.er_seat.specs.Seats.{Seated}
 use Rattle.er_settle.specs.Runs.{TurnShown, calls_of, steps_of, IsInTurn}
 use Rattle.er_settle.specs.Seats.{calls_by}
-use Rattle.er_gather.specs.Gathered.{seats_of}
+use Rattle.er_gather.specs.Gathered.{shown_of, seats_of, MayBeFirst}
+use Rattle.er_settle.specs.Faults.{AreOnce}
+use Rattle.er_settle.specs.declared.faults.Unsettled.{Unsettled}
+use Rattle.er_settle.specs.declared.faults.Unsettled.TheVariants.{ForeignSeat, SeatTwice, SeatMissing, Order, Entries, Answer, Memory}
+use Rattle.er_settle.specs.Seats.{SeatShown}
+use Rattle.er_settle.proofs.OrderLemmas.{mapped}
+use Rattle.er_load.specs.Faults.{MayFail}
+use Rattle.er_load.specs.declared.faults.LoadFault.TheVariants.{Unsettled as NotSettled}
 use Rattle.er_load.specs.declared.workloads.Workload.{Workload}
 use Rattle.er_load.specs.declared.workloads.Stage.TheVariants.{First, Second}
 use Rattle.er_load.specs.Parts.{IsSeatAt, AreSeatsAt, done_before, done_after}
@@ -207,3 +214,24 @@ run-count w steps each =
     let are : (t : ℕ) → own t steps ≡ workload_events w t = λ t. sym (events-own t steps) ∙ each t in
     let sum = length-own steps (λ t high. are t ∙ no-thread w t high) in
     sum ∙ (rw (are 0, are 1, are 2) (all-counted w))
+
+-- seats at their places have numbers of their own
+pub seats-once : (events : ℕ → List Event) (seats : List Seated) → AreSeatsAt events seats → AreOnce (seats_of seats)
+seats-once events seats are = record {
+  apart = λ j k x y below here there same. (
+      let a = mapped shown_of seats j x here in
+      let b = mapped shown_of seats k y there in
+      let p : x.thread ≡ j = ap (λ (s : SeatShown). s.thread) (sym a.2) ∙ (are j a.0 a.1).thread in
+      let q : y.thread ≡ k = ap (λ (s : SeatShown). s.thread) (sym b.2) ∙ (are k b.0 b.1).thread in
+      absurd (omega arith));
+}
+
+-- so none is given twice
+pub may-fail : (name most : ℕ) (seats : List SeatShown) (fault : Unsettled) → MayBeFirst name most seats fault → AreOnce seats → MayFail (NotSettled fault)
+may-fail name most seats ForeignSeat first once = tt
+may-fail name most seats SeatTwice first once = first.1 once
+may-fail name most seats SeatMissing first once = tt
+may-fail name most seats Order first once = tt
+may-fail name most seats Entries first once = tt
+may-fail name most seats Answer first once = tt
+may-fail name most seats Memory first once = tt

@@ -1,5 +1,6 @@
 -- How far threads are with their parts.
-use Rattle.std.specs.Prelude.{◌≡◌, ℕ, List, [], ◌++◌, slice_get, Some}
+use Rattle.std.specs.Prelude.{◌≡◌, ℕ, List, [], ◌∷◌, ◌++◌, slice_get, Option, Some, None, Result, Ok, Err, IfOk, IfErr, IsTrue}
+use Rattle.er_event.specs.declared.refusals.Refusal.{Refusal}
 use Rattle.er_event.specs.declared.steps.Event.{Event}
 use Rattle.er_model.specs.Merges.{events_in}
 use Rattle.er_seat.specs.Seats.{Seated}
@@ -8,6 +9,7 @@ use Rattle.er_load.specs.declared.workloads.Stage.{Stage}
 use Rattle.er_load.specs.declared.workloads.Stage.TheVariants.{First, Second}
 use Rattle.er_load.specs.declared.stages.Worker.{Worker}
 use Rattle.er_load.specs.declared.stages.Worker.TheVariants.{Idle, Started}
+use Rattle.er_load.specs.Accepted.{may_meet}
 use Rattle.er_load.specs.Workloads.{part}
 
 -- what a thread did before the stage
@@ -42,3 +44,17 @@ EndsAt workload stage t (Started handle) = handle.promise ≡ record { workload 
 -- the workers are those of the threads from 0 on
 abbrev pub AreWorkers : Workload → Stage → List Worker → Type 0
 AreWorkers workload stage workers = (t : ℕ) (worker : Worker) → slice_get workers t ≡ Some worker → EndsAt workload stage t worker
+
+-- the answers are those of the threads from 0 on, and each that is a seat is done with its part
+abbrev pub AreAnswersAt : (ℕ → List Event) → List (Result Seated Refusal) → Type 0
+AreAnswersAt events answers = (t : ℕ) (answer : Result Seated Refusal) → slice_get answers t ≡ Some answer → IfOk answer (λ seat. IsSeatAt t (events t) seat)
+
+-- each answer that is a refusal is one that no definition gives
+abbrev pub AreMet : List (Result Seated Refusal) → Type 0
+AreMet answers = (t : ℕ) (answer : Result Seated Refusal) → slice_get answers t ≡ Some answer → IfErr answer (λ why. IsTrue (may_meet why))
+
+-- the first refusal among the answers
+abbrev pub first_refusal : List (Result Seated Refusal) → Option Refusal
+first_refusal [] = None
+first_refusal (Ok seat ∷ later) = first_refusal later
+first_refusal (Err why ∷ later) = Some why

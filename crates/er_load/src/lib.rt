@@ -5,7 +5,7 @@
 //!
 //! What it promises, by the names of clauses: thread by thread the run's steps are the workload's (`events`), and so it has as many as
 //! all threads make (`count`); each reply is the one that the whole run gives (`replies`). So a run tells what a detector reports of
-//! threads that run at once, in whatever order they came.
+//! threads that run at once, in whatever order they came. A fault is never a refusal that the definitions give (`faults`).
 //!
 //! ```text
 //! for workload in Workload::ALL {

@@ -1,8 +1,10 @@
 //! One thread's calls: its script played at a detector.
-ghost use Rattle.std.specs.Prelude.{◌≡◌, ◌<◌, IfOk, OnOk};
+ghost use Rattle.std.specs.Prelude.{◌≡◌, ◌<◌, IsTrue, IfOk, IfErr, OnOk};
+ghost use Rattle.er_load.specs.Accepted.{accepts, may_meet};
 ghost use Rattle.er_load.specs.Parts.{HasMade, IsSeatAt, done_before, done_after};
 ghost use Rattle.er_load.specs.Scripts.{events_by, events_in_all};
 ghost use Rattle.er_load.specs.Workloads.{thread_count};
+ghost use Rattle.er_seat.specs.Seats.{holdings_of};
 
 use crate::scripts::{Action, script_of};
 use crate::workloads::Part;
@@ -25,7 +27,8 @@ pub(crate) trait Player: Sync {
     ) -> Result<Seat, Refusal>
         requires number { part.thread < thread_count part.workload }
         requires before { IsSeatAt part.thread (done_before part.workload part.stage part.thread) seat }
-        ensures { IfOk result (λ seat. IsSeatAt part.thread (done_after part.workload part.stage part.thread) seat) };
+        ensures seat { IfOk result (λ seat. IsSeatAt part.thread (done_after part.workload part.stage part.thread) seat) }
+        ensures refusals { IfErr result (λ why. IsTrue (may_meet why)) };
 }
 
 /// A detector, and the gate that each thread passes before its first call.
@@ -45,7 +48,8 @@ impl<'a, 't, G: Gate> Player for Stand<'a, 't, G> {
     ) -> Result<Seat, Refusal>
         requires number { part.thread < thread_count part.workload }
         requires before { IsSeatAt part.thread (done_before part.workload part.stage part.thread) seat }
-        ensures { IfOk result (λ seat. IsSeatAt part.thread (done_after part.workload part.stage part.thread) seat) }
+        ensures seat { IfOk result (λ seat. IsSeatAt part.thread (done_after part.workload part.stage part.thread) seat) }
+        ensures refusals { IfErr result (λ why. IsTrue (may_meet why)) }
     {
         let script = script_of(alloc, part)?;
         if seat.calls().is_empty() {
@@ -63,7 +67,9 @@ fn play<R: Wait>(
     seat: &mut Seat,
     script: &[Action],
 ) -> Result<(), Refusal>
-    ensures { OnOk result (HasMade seat.old seat.new (events_in_all script.now)) }
+    requires { IsTrue (accepts (holdings_of seat.old) (events_in_all script.now)) }
+    ensures made { OnOk result (HasMade seat.old seat.new (events_in_all script.now)) }
+    ensures refusals { IfErr result (λ why. IsTrue (may_meet why)) }
 {
     for action in script {
         make(rt, detector, seat, *action)?;
@@ -78,7 +84,9 @@ fn make<R: Wait>(
     seat: &mut Seat,
     action: Action,
 ) -> Result<(), Refusal>
-    ensures { OnOk result (HasMade seat.old seat.new (events_by action)) }
+    requires { IsTrue (accepts (holdings_of seat.old) (events_by action)) }
+    ensures made { OnOk result (HasMade seat.old seat.new (events_by action)) }
+    ensures refusals { IfErr result (λ why. IsTrue (may_meet why)) }
 {
     let lock = LockId::new(1);
     match action {
@@ -102,7 +110,8 @@ fn access<R: Wait>(
     kind: Kind,
     word: Word,
 ) -> Result<Reply, Refusal>
-    ensures { OnOk result (HasMade seat.old seat.new (events_by (Action.Access kind word))) }
+    ensures made { OnOk result (HasMade seat.old seat.new (events_by (Action.Access kind word))) }
+    ensures refusals { IfErr result (λ why. IsTrue (may_meet why)) }
 {
     detector.access(rt, seat, word, kind, Site::MISSING)
 }
@@ -114,7 +123,8 @@ fn reuse<R: Wait>(
     seat: &mut Seat,
     range: WordRange,
 ) -> Result<(), Refusal>
-    ensures { OnOk result (HasMade seat.old seat.new (events_by (Action.Reuse range))) }
+    ensures made { OnOk result (HasMade seat.old seat.new (events_by (Action.Reuse range))) }
+    ensures refusals { IfErr result (λ why. IsTrue (may_meet why)) }
 {
     match detector.reuse(rt, seat, &range) {
         Ok(()) => Ok(()),

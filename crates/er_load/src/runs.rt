@@ -1,9 +1,11 @@
 //! A whole workload: its detector, its seats, its stages, and the run that they make.
-ghost use Rattle.std.specs.Prelude.{◌≡◌, ℕ, IfOk, Ok, Some, length, slice_get, vec_len};
+ghost use Rattle.std.specs.Prelude.{◌≡◌, ◌≤◌, ℕ, IfOk, IfErr, Ok, Some, length, slice_get, vec_len};
 ghost use Rattle.er_event.specs.declared.steps.Step.{Step as StepShown};
 ghost use Rattle.er_model.specs.Answers.{answer};
 ghost use Rattle.er_model.specs.Locality.{events_of};
 ghost use Rattle.er_model.specs.Merges.{reply_at};
+ghost use Rattle.er_load.specs.declared.workloads.Workload.{Workload as WorkloadShown};
+ghost use Rattle.er_load.specs.Faults.{MayFail};
 ghost use Rattle.er_load.specs.Parts.{AreSeatsAt, done_before, done_after};
 ghost use Rattle.er_load.specs.Workloads.{workload_events, step_count, thread_count};
 
@@ -26,8 +28,11 @@ const MAX_SETS: u32 = 1024;
 /// Runs a workload, each of its threads on a thread of its own, and settles it (own). Each passes the gate under its number before its
 /// first call.
 ///
-/// Where a call is refused or there is no memory the fault is `Refused`, where a thread can't be started `WorkerNotStarted`, where the
-/// seats that are opened aren't numbered 0, 1 and so on `Unsettled(SeatMissing)`, and where the run doesn't settle `Unsettled`.
+/// If a call is refused or there is no memory the fault is `Refused`, if a thread can't be started `WorkerNotStarted`, if the seats
+/// that are opened aren't numbered 0, 1 and so on `Unsettled(SeatMissing)`, and if the run doesn't settle `Unsettled`. The scripts
+/// follow the rules, so a refusal is a want of room, a foreign seat or too many threads, and none that the definitions give. If
+/// several threads of a stage are refused, the fault has the refusal of the one with the least number, unless there is no memory
+/// for the list of their seats.
 pub fn run_workload<G: Gate, R: Threads + Wait + Sync>(
     rt: &R,
     alloc: Global,
@@ -37,6 +42,7 @@ pub fn run_workload<G: Gate, R: Threads + Wait + Sync>(
     ensures events { IfOk result (λ run. (t : ℕ) → events_of run.steps.items t (length run.steps.items) ≡ workload_events workload t) }
     ensures count { IfOk result (λ run. vec_len run.steps ≡ step_count workload) }
     ensures replies { IfOk result (λ run. (k : ℕ) (step : StepShown) → slice_get run.steps.items k ≡ Some step → answer run.steps.items k ≡ Ok (reply_at run.replies.items k)) }
+    ensures faults { IfErr result MayFail }
 {
     let table = LocksetTable::new(alloc, MAX_SETS)?;
     let detector = Detector::new(alloc, &table, config())?;
@@ -47,8 +53,11 @@ pub fn run_workload<G: Gate, R: Threads + Wait + Sync>(
     }
 }
 
-// The detector that a workload calls.
-fn config() -> Config {
+// The detector that a workload calls: it has a seat for each thread, and a journal that takes an entry for every step.
+fn config() -> Config
+    ensures seats { (workload : WorkloadShown) → thread_count workload ≤ result.max_threads }
+    ensures entries { (workload : WorkloadShown) → step_count workload ≤ result.journal_limit }
+{
     let config: Option<_> = Config::new(1, 8, 1024, 3);
     config.unwrap()
 }
@@ -63,6 +72,7 @@ fn play_all<G: Gate, R: Threads + Wait + Sync>(
 ) -> Result<Vec<Seat>, LoadFault>
     ensures count { IfOk result (λ seats. vec_len seats ≡ thread_count workload) }
     ensures seats { IfOk result (λ seats. AreSeatsAt (done_after workload Stage.Second) seats.items) }
+    ensures faults { IfErr result MayFail }
 {
     let stand = Stand { detector, gate };
     let seats = open_seats(alloc, detector, workload)?;
@@ -78,6 +88,7 @@ fn open_seats(
 ) -> Result<Vec<Seat>, LoadFault>
     ensures count { IfOk result (λ seats. vec_len seats ≡ thread_count workload) }
     ensures seats { IfOk result (λ seats. AreSeatsAt (done_before workload Stage.First) seats.items) }
+    ensures faults { IfErr result MayFail }
 {
     let mut seats = Vec::new(alloc);
     for number in 0..workload.threads() {

@@ -1,8 +1,10 @@
 //! The threads of one stage.
-ghost use Rattle.std.specs.Prelude.{◌≡◌, ◌<◌, ◌≤◌, ℕ, IfOk, vec_len};
+ghost use Rattle.std.specs.Prelude.{◌≡◌, ◌<◌, ◌≤◌, ◌⊎◌, [], ℕ, map, IsTrue, IfOk, IfErr, Ok, Some, vec_len, vec_capacity};
 ghost use Rattle.er_load.specs.declared.workloads.Stage.{Stage as StageShown};
 ghost use Rattle.er_load.specs.declared.workloads.Workload.{Workload as WorkloadShown};
-ghost use Rattle.er_load.specs.Parts.{IsSeatAt, AreSeatsAt, EndsAt, AreWorkers, done_before, done_after};
+ghost use Rattle.er_load.specs.Accepted.{may_meet};
+ghost use Rattle.er_load.specs.Faults.{MayFail};
+ghost use Rattle.er_load.specs.Parts.{IsSeatAt, AreSeatsAt, EndsAt, AreWorkers, AreAnswersAt, AreMet, first_refusal, done_before, done_after};
 ghost use Rattle.er_load.specs.Workloads.{thread_count};
 
 use crate::LoadFault;
@@ -15,12 +17,13 @@ use std::sync::Wait;
 use std::thread;
 use std::thread::{Promise, PromisedHandle, Threads};
 
-// What a thread promises: its seat, which is done with the part.
+// What a thread promises: its seat, which is done with the part, or a refusal that no definition gives.
 impl Promise<Result<Seat, Refusal>> for Part {
-    ghost use Rattle.std.specs.Prelude.{IfOk};
+    ghost use Rattle.std.specs.Prelude.{IsTrue, IfOk, IfErr};
+    ghost use Rattle.er_load.specs.Accepted.{may_meet};
     ghost use Rattle.er_load.specs.Parts.{IsSeatAt, done_after};
 
-    ghost kept_by = { λ p r. IfOk r (λ seat. IsSeatAt p.thread (done_after p.workload p.stage p.thread) seat) };
+    ghost kept_by = { λ p r. IfOk r (λ seat. IsSeatAt p.thread (done_after p.workload p.stage p.thread) seat) × IfErr r (λ why. IsTrue (may_meet why)) };
 }
 
 // The thread that plays a seat's part, or the seat where its part is nothing.
@@ -33,7 +36,8 @@ enum Worker {
 impl Worker {
     // The seat, once it is done with the stage.
     fn join<R: Threads>(self, rt: &R) -> Result<Seat, Refusal>
-        ensures { (workload : WorkloadShown) (stage : StageShown) (t : ℕ) → EndsAt workload stage t self → IfOk result (λ seat. IsSeatAt t (done_after workload stage t) seat) }
+        ensures seat { (workload : WorkloadShown) (stage : StageShown) (t : ℕ) → EndsAt workload stage t self → IfOk result (λ seat. IsSeatAt t (done_after workload stage t) seat) }
+        ensures refusals { IfErr result (λ why. IsTrue (may_meet why)) }
     {
         match self {
             Worker::Idle(seat) => Ok(seat),
@@ -55,6 +59,7 @@ pub(crate) fn play_stage<P: Player, R: Threads + Wait + Sync>(
     requires before { AreSeatsAt (done_before workload stage) seats.items }
     ensures count { IfOk result (λ after. vec_len after ≡ thread_count workload) }
     ensures after { IfOk result (λ after. AreSeatsAt (done_after workload stage) after.items) }
+    ensures faults { IfErr result MayFail }
 {
     thread::scope(
         thread::scope_env(),
@@ -63,7 +68,9 @@ pub(crate) fn play_stage<P: Player, R: Threads + Wait + Sync>(
             requires { (vec_len seats ≡ thread_count workload) × AreSeatsAt (done_before workload stage) seats.items }
             ensures count { IfOk result (λ after. vec_len after ≡ thread_count workload) }
             ensures after { IfOk result (λ after. AreSeatsAt (done_after workload stage) after.items) }
+            ensures faults { IfErr result MayFail }
         {
+            let room = Vec::with_capacity(alloc, seats.len())?;
             let mut workers = Vec::with_capacity(alloc, seats.len())?;
             for seat in seats {
                 let part = Part {
@@ -79,40 +86,48 @@ pub(crate) fn play_stage<P: Player, R: Threads + Wait + Sync>(
                     part,
                     move || -> Result<Seat, Refusal>
                         requires { (part.thread < thread_count part.workload) × IsSeatAt part.thread (done_before part.workload part.stage part.thread) seat }
-                        ensures { IfOk result (λ seat. IsSeatAt part.thread (done_after part.workload part.stage part.thread) seat) }
+                        ensures { IfOk result (λ seat. IsSeatAt part.thread (done_after part.workload part.stage part.thread) seat) × IfErr result (λ why. IsTrue (may_meet why)) }
                     { player.play_part(rt, alloc, part, seat) },
                 );
                 let Ok(handle) = started else {
                     // Those that were started are waited for all the same.
-                    drop(join_all(rt, alloc, workers));
+                    drop(join_all(rt, workers, room));
                     return Err(LoadFault::WorkerNotStarted);
                 };
                 workers.push_reserved(Worker::Started(handle));
             }
-            Ok(join_all(rt, alloc, workers)?)
+            let answers = join_all(rt, workers, room);
+            Ok(all_seats(alloc, answers)?)
         },
     )
 }
 
-// The seats of all workers, or why there is one without. All are joined either way.
-fn join_all<R: Threads>(rt: &R, alloc: Global, workers: Vec<Worker>) -> Result<Vec<Seat>, Refusal>
-    ensures count { IfOk result (λ seats. vec_len seats ≡ vec_len workers) }
-    ensures seats { IfOk result (λ seats. (workload : WorkloadShown) (stage : StageShown) → AreWorkers workload stage workers.items → AreSeatsAt (done_after workload stage) seats.items) }
+// What all workers answer, in their order, put into a list that has the room. All are joined.
+fn join_all<R: Threads>(
+    rt: &R,
+    workers: Vec<Worker>,
+    mut answers: Vec<Result<Seat, Refusal>>,
+) -> Vec<Result<Seat, Refusal>>
+    requires empty { answers.items ≡ [] }
+    requires room { vec_len workers ≤ vec_capacity answers }
+    ensures count { vec_len result ≡ vec_len workers }
+    ensures answers { (workload : WorkloadShown) (stage : StageShown) → AreWorkers workload stage workers.items → AreAnswersAt (done_after workload stage) result.items }
+    ensures refusals { AreMet result.items }
 {
-    let mut seats = Vec::new(alloc);
-    let mut refused = None;
     for worker in workers {
-        match worker.join(rt) {
-            Ok(seat) => {
-                if seats.push(seat).is_err() {
-                    refused = Some(Refusal::OutOfMemory);
-                }
-            }
-            Err(why) => refused = refused.or(Some(why)),
-        }
+        answers.push_reserved(worker.join(rt));
     }
-    match refused {
-        None => Ok(seats),
-        Some(why) => Err(why),
+    answers
+}
+
+// The seats of all workers, or the first refusal among their answers.
+fn all_seats(alloc: Global, answers: Vec<Result<Seat, Refusal>>) -> Result<Vec<Seat>, Refusal>
+    ensures seats { IfOk result (λ seats. answers.items ≡ map Ok seats.items) }
+    ensures first { IfErr result (λ why. (why ≡ Refusal.OutOfMemory) ⊎ (first_refusal answers.items ≡ Some why)) }
+{
+    let mut seats = Vec::with_capacity(alloc, answers.len())?;
+    for answer in answers {
+        seats.push_reserved(answer?);
     }
+    Ok(seats)
 }

@@ -39,6 +39,11 @@ pub err_from : {T E : Type 0} (r : Result T E) (G P : E → Type 0) → IsErrAnd
 err_from (Ok v) G P is f = tt
 err_from (Err e) G P is f = f e is
 
+-- and what it is
+pub err_is : {T E : Type 0} (r : Result T E) (G : E → Type 0) (why : E) → IsErrAnd r G → ((e : E) → G e → e ≡ why) → r ≡ Err why
+err_is (Ok v) G why is f = absurd is
+err_is (Err e) G why is f = ap Err (f e is)
+
 -- where no thread is there
 pub holding-empty : (threads : List (ℕ × Holdings)) (t : ℕ) → threads ≡ [] → holding_among threads t ≡ nothing_held
 unfolding holding_among

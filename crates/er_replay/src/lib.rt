@@ -4,8 +4,10 @@
 //! steps of a list in turn and stops where there is no room for one.
 //!
 //! What it promises, by the names of clauses: a machine that stands for a list of steps answers the next step as the definitions
-//! answer it at that list's end (`answer`), and then stands for the longer list (`goes_on`); a step for which there is no room
-//! leaves it standing for the list that it stood for (`stays`). A run's answers are those of the list up to its stop (`answers`).
+//! answer it at that list's end (`answer`), and then stands for the longer list (`goes_on`). Where the definitions refuse the
+//! step, the answer is that refusal and no other (`refused`); any other refusal says that there was no room, of a kind that the
+//! step may want (`room`, `table_full`, `ignored`). After a refusal the machine stands for the list that it stood for (`err`). A
+//! run's answers are those of the list up to its stop (`answers`), which the definitions don't refuse (`cause`).
 //!
 //! ```text
 //! let table = LocksetTable::new(alloc, 1_048_576)?;

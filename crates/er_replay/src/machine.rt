@@ -1,12 +1,12 @@
 //! The machine: every thread's holdings and every word's state.
-ghost use Rattle.std.specs.Prelude.{◌≡◌, ◌⊎◌, ◌++◌, ◌∷◌, [], ℕ, List, IsTrue, IsFalse, IfOk, IfErr, OnOk, OnErr, Some};
+ghost use Rattle.std.specs.Prelude.{◌≡◌, ◌<◌, ◌++◌, ◌∷◌, [], ℕ, List, IsTrue, IsFalse, IsOk, IfOk, IfErr, IsErrOf, OnOk, OnErr, Err, None, Some};
 ghost use Rattle.er_event.specs.declared.steps.Step.{Step as Steps};
 ghost use Rattle.er_model.specs.Answers.{answer_next, state_end};
 ghost use Rattle.er_model.specs.Following.{answered, marked, replied, state_after};
 ghost use Rattle.er_model.specs.Holdings.{refused_by, after_step};
 ghost use Rattle.er_model.specs.Table.{moved};
 ghost use Rattle.er_model.specs.AnswerList.{is_state};
-ghost use Rattle.er_replay.specs.Wants.{is_show, may_want};
+ghost use Rattle.er_replay.specs.Wants.{is_show, is_access, asks_by, may_want};
 
 use crate::threads::Threads;
 use er_event::{Event, Kind, Refusal, Reply, Step, ThreadId, Word, WordState};
@@ -48,10 +48,16 @@ impl<'t> Machine<'t> {
     pub fn step<R: Wait>(&mut self, rt: &R, step: Step) -> Result<Reply, Refusal>
         ensures answer { (past : List Steps) → Stands self.old past → IsFalse (found_no_room result) → result ≡ answer_next past step }
         ensures goes_on { (past : List Steps) → Stands self.old past → IsFalse (found_no_room result) → Stands self.new (past ++ step ∷ []) }
-        ensures stays { (past : List Steps) → Stands self.old past → IsTrue (found_no_room result) → Stands self.new past }
 
-        // Each refusal is the one that the thread's holdings give, or tells of room that such an event may want.
-        ensures refusals { IfErr result (λ why. (refused_by (holding self.old step.thread) step.event ≡ Some why) ⊎ IsTrue (may_want step.event why)) }
+        // After any refusal the machine stands for the lists that it stood for.
+        ensures err { (past : List Steps) → Stands self.old past → OnErr result (Stands self.new past) }
+
+        // Where the definitions refuse the event, the answer is that refusal and no other. Any other refusal says that there was no
+        // room, of a kind that the event may want with these holdings and states.
+        ensures refused { (why : Refusal) → refused_by (holding self.old step.thread) step.event ≡ Some why → result ≡ Err why }
+        ensures room { refused_by (holding self.old step.thread) step.event ≡ None → IfErr result (λ why. IsTrue (may_want (holding self.old step.thread) (states self.old) step.thread step.event why)) }
+        ensures table_full { IsErrOf result Refusal.TableFull → IsTrue (asks_by (holding self.old step.thread) (states self.old) step.thread step.event) }
+        ensures ignored { 0 < (holding self.old step.thread).depth → IsTrue (is_access step.event) → IsOk result }
 
         // A show alone is answered with a state, and changes nothing.
         ensures shows { IsTrue (is_state result) → IsTrue (is_show step.event) }
@@ -64,9 +70,10 @@ impl<'t> Machine<'t> {
         ensures answer { IsFalse (found_no_room result) → result ≡ answered (holding self.old step.thread) (states self.old) step }
         ensures holdings { IsFalse (found_no_room result) → (t : ℕ) → holding self.new t ≡ after_step (holding self.old t) t step }
         ensures states { IsFalse (found_no_room result) → (w : ℕ) → states self.new w ≡ state_after (holding self.old step.thread) (states self.old w) w step }
-        ensures same_holdings { IsTrue (found_no_room result) → (t : ℕ) → holding self.new t ≡ holding self.old t }
-        ensures same_states { IsTrue (found_no_room result) → (w : ℕ) → states self.new w ≡ states self.old w }
-        ensures refusals { IfErr result (λ why. (refused_by (holding self.old step.thread) step.event ≡ Some why) ⊎ IsTrue (may_want step.event why)) }
+        ensures same_holdings { OnErr result ((t : ℕ) → holding self.new t ≡ holding self.old t) }
+        ensures same_states { OnErr result ((w : ℕ) → states self.new w ≡ states self.old w) }
+        ensures refused { (why : Refusal) → refused_by (holding self.old step.thread) step.event ≡ Some why → result ≡ Err why }
+        ensures room { refused_by (holding self.old step.thread) step.event ≡ None → IfErr result (λ why. IsTrue (may_want (holding self.old step.thread) (states self.old) step.thread step.event why)) }
     {
         let Step { thread, event } = step;
         match event {
@@ -99,7 +106,7 @@ impl<'t> Machine<'t> {
         ensures ok { OnOk result ((w : ℕ) → states self.new w ≡ moved (states self.old w) w (marked (holding self.old thread) thread (Event.Access kind word 0))) }
         ensures err { OnErr result ((w : ℕ) → states self.new w ≡ states self.old w) }
         ensures threads { self.new.threads ≡ self.old.threads }
-        ensures refusals { IfErr result (λ why. IsTrue (may_want (Event.Access kind word 0) why)) }
+        ensures room { IfErr result (λ why. IsTrue (may_want (holding self.old thread) (states self.old) thread (Event.Access kind word 0) why)) }
     {
         let held = self.threads.get(thread);
         if held.ignoring() {

@@ -5,8 +5,7 @@ ghost use Rattle.er_event.specs.declared.steps.Step.{Step as Steps};
 ghost use Rattle.er_model.specs.Answers.{answer_next};
 ghost use Rattle.er_model.specs.Runs.{answers_after};
 ghost use Rattle.er_replay.specs.Standing.{Stands, found_no_room};
-ghost use Rattle.er_replay.specs.Stops.{taken, MayStop};
-ghost use Rattle.er_replay.specs.Wants.{may_want};
+ghost use Rattle.er_replay.specs.Stops.{taken, MayLack, MayStop};
 
 use crate::Machine;
 use er_event::{NoRoom, Refusal, Reply, Step};
@@ -20,7 +19,7 @@ pub fn run<R: Wait>(rt: &R, alloc: Global, machine: &mut Machine<'_>, steps: &[S
     ensures answers { (past : List Steps) → Stands machine.old past → result.answers ≡ answers_after past (taken result.stopped steps.now) }
     ensures goes_on { (past : List Steps) → Stands machine.old past → Stands machine.new (past ++ taken result.stopped steps.now) }
     ensures within { IfSome result.stopped (λ stopped. stopped.at < length steps.now) }
-    ensures cause { IfSome result.stopped (λ stopped. MayStop steps.now stopped) }
+    ensures cause { (past : List Steps) → Stands machine.old past → IfSome result.stopped (λ stopped. MayStop past steps.now stopped) }
 {
     if steps.is_empty() {
         return Outcome {
@@ -68,7 +67,7 @@ fn take_step<R: Wait>(
     ensures goes_on { OnOk result ((past : List Steps) → Stands machine.old past → Stands machine.new (past ++ step ∷ [])) }
     ensures stays { OnErr result ((past : List Steps) → Stands machine.old past → Stands machine.new past) }
     ensures err { OnErr result (answers.new ≡ answers.old) }
-    ensures wants { IfErr result (λ cause. IsTrue (may_want step.event (refusal_of cause))) }
+    ensures lacks { (past : List Steps) → Stands machine.old past → IfErr result (λ cause. MayLack past step cause) }
     ensures length { length answers.new ≡ length answers.old }
 {
     let answer = machine.step(rt, step);

@@ -1,9 +1,9 @@
 //! Every thread's holdings.
-ghost use Rattle.std.specs.Prelude.{◌≡◌, ◌⊎◌, ℕ, nat_eq, cond, IsTrue, IfErr, OnOk, OnErr, None, Some};
+ghost use Rattle.std.specs.Prelude.{◌≡◌, ◌&&◌, ℕ, nat_eq, cond, IsTrue, IfErr, OnOk, OnErr, Err, None, Some};
 ghost use Rattle.er_model.specs.Holdings.{refused_by, changed_by};
 ghost use Rattle.er_held.specs.Held.{nothing_held};
 ghost use Rattle.er_replay.specs.Threads.{changes_holdings, holding_among};
-ghost use Rattle.er_replay.specs.Wants.{may_want};
+ghost use Rattle.er_replay.specs.Wants.{wants_memory, is_no_memory};
 
 use er_event::{Event, Refusal, ThreadId};
 use er_held::Held;
@@ -59,7 +59,8 @@ impl Threads {
         ensures accepted { OnOk result (refused_by (holding_among self.old thread) event ≡ None) }
         ensures ok { OnOk result ((t : ℕ) → holding_among self.new t ≡ cond (nat_eq thread t) (changed_by (holding_among self.old thread) event) (holding_among self.old t)) }
         ensures err { OnErr result ((t : ℕ) → holding_among self.new t ≡ holding_among self.old t) }
-        ensures refusals { IfErr result (λ why. (refused_by (holding_among self.old thread) event ≡ Some why) ⊎ IsTrue (may_want event why)) }
+        ensures refused { (why : Refusal) → refused_by (holding_among self.old thread) event ≡ Some why → result ≡ Err why }
+        ensures memory { refused_by (holding_among self.old thread) event ≡ None → IfErr result (λ why. IsTrue (wants_memory event && is_no_memory why)) }
     {
         match self.held.get_mut(&thread) {
             Some(held) => change(held, event),
@@ -78,7 +79,8 @@ fn change(held: &mut Held, event: Event) -> Result<(), Refusal>
     ensures accepted { OnOk result (refused_by held.old event ≡ None) }
     ensures ok { OnOk result (held.new ≡ changed_by held.old event) }
     ensures err { OnErr result (held.new ≡ held.old) }
-    ensures refusals { IfErr result (λ why. (refused_by held.old event ≡ Some why) ⊎ IsTrue (may_want event why)) }
+    ensures refused { (why : Refusal) → refused_by held.old event ≡ Some why → result ≡ Err why }
+    ensures memory { refused_by held.old event ≡ None → IfErr result (λ why. IsTrue (wants_memory event && is_no_memory why)) }
 {
     match event {
         Event::Acquire(lock, mode) => held.acquire(lock, mode),

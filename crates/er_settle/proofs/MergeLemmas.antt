@@ -25,7 +25,7 @@ use Rattle.er_model.specs.Following.{locks_for, marked}
 use Rattle.er_model.specs.Locality.{events_of, steps_by, is_own_call}
 use Rattle.er_model.specs.Parts.{Noted, part_of}
 use Rattle.er_model.specs.Journals.{stamped, mark_of_what, note_of, notes_of}
-use Rattle.er_model.specs.Merges.{is_in_shard, reply_at, replies_of, events_in, replies_in, stamp_by, stamps_of, stamp_in, stamps_in, IsMerge, IsLegalSeat}
+use Rattle.er_model.specs.Merges.{is_in_shard, reply_at, replies_of, events_in, replies_in, stamp_by, stamps_of, stamp_in, stamps_in, threads_of, threads_in, IsMerge, IsLegalSeat}
 use Rattle.er_model.proofs.AnswersLemmas.{reading-step}
 use Rattle.er_model.proofs.Locality.{holdings-local}
 use Rattle.er_model.proofs.Seats.{events-within}
@@ -210,7 +210,7 @@ module _ (seats : List SeatShown) (journals : List (List Entry)) (order : List P
 
   -- a turn with a ticket is what its entry is
   entry_at : (k : ℕ) (a : TurnShown) → slice_get turns k ≡ Some a → is_some a.call.ticket ≡ true →
-      (d : PlacedShown) × (slice_get order (length (asked_in (take k turns))) ≡ Some d) × (reading_of steps k ≡ mark_of_what d.entry.what) × (a.call.reply ≡ d.entry.reply) × (stamp_by (holdings_at steps a.thread k) a.thread a.call.event ≡ stamps_in (d.entry ∷ [])) × (place_of (length journals) d.entry.what ≡ d.place)
+      (d : PlacedShown) × (slice_get order (length (asked_in (take k turns))) ≡ Some d) × (reading_of steps k ≡ mark_of_what d.entry.what) × (a.call.reply ≡ d.entry.reply) × (stamp_by (holdings_at steps a.thread k) a.thread a.call.event ≡ stamps_in (d.entry ∷ [])) × (place_of (length journals) d.entry.what ≡ d.place) × (d.entry.thread ≡ a.thread)
   entry_at k a h some =
       let s = seat_at k a h in
       let x = mapped {B = ℕ × Key} (λ (d : PlacedShown). (d.entry.thread, (Some d.entry.ticket, event_of d.entry.what))) order (length (asked_in (take k turns))) (a.thread, (a.call.ticket, a.call.event)) (rw told at (asked_at turns k a h some)) in
@@ -230,6 +230,7 @@ module _ (seats : List SeatShown) (journals : List (List Entry)) (order : List P
         sym alike.reply,
         stamp,
         place,
+        thread,
       )
 
   module _ (i : ℕ) where
@@ -292,6 +293,30 @@ module _ (seats : List SeatShown) (journals : List (List Entry)) (order : List P
     stamps_front zero low = refl
     stamps_front (suc k) low = let a = get_below turns k (omega (arith, low)) in stamps_by k a.0 (is_some a.0.call.ticket) a.1 refl (stamps_front k (omega (arith, low)))
 
+    one_thread : (d : PlacedShown) (b : Bool) → cond b (d.entry.thread ∷ []) [] ≡ threads_in (cond b (d.entry ∷ []) [])
+    one_thread d true = refl
+    one_thread d false = refl
+
+    threads_by : (k : ℕ) (a : TurnShown) (b : Bool) → slice_get turns k ≡ Some a → is_some a.call.ticket ≡ b →
+        threads_of shards i steps k ≡ threads_in (entries_at i (take (length (asked_in (take k turns))) order)) →
+        threads_of shards i steps (suc k) ≡ threads_in (entries_at i (take (length (asked_in (take (suc k) turns))) order))
+    unfolding threads_of
+    threads_by k a false h none before =
+        rw (nothing_at k a h none, none_asked turns k a h none) (append-nil (threads_of shards i steps k) ∙ before)
+    threads_by k a true h some before =
+        let e = entry_at k a h some in
+        let m = length (asked_in (take k turns)) in
+        rw (keeps_is k e.0 e.2 e.5, step_at turns k a h, more_asked turns k a h some, front_entries m e.0 e.1)
+        (ap (λ (xs : List ℕ). xs ++ cond (e.0.place == i) (a.thread ∷ []) []) before
+        ∙ (ap (λ (t : ℕ). threads_in (entries_at i (take m order)) ++ cond (e.0.place == i) (t ∷ []) []) (sym e.6)
+        ∙ (ap (λ (xs : List ℕ). threads_in (entries_at i (take m order)) ++ xs) (one_thread e.0 (e.0.place == i))
+        ∙ sym (map-append (λ (x : Entry). x.thread) (entries_at i (take m order)) (cond (e.0.place == i) (e.0.entry ∷ []) [])))))
+
+    threads_front : (k : ℕ) → k ≤ length turns → threads_of shards i steps k ≡ threads_in (entries_at i (take (length (asked_in (take k turns))) order))
+    unfolding threads_of
+    threads_front zero low = refl
+    threads_front (suc k) low = let a = get_below turns k (omega (arith, low)) in threads_by k a.0 (is_some a.0.call.ticket) a.1 refl (threads_front k (omega (arith, low)))
+
     all_entries : i < length journals → entries_at i (take (length (asked_in (take (length turns) turns))) order) ≡ journal_at journals i
     all_entries inside =
         let j = get_below journals i inside in
@@ -309,6 +334,7 @@ module _ (seats : List SeatShown) (journals : List (List Entry)) (order : List P
     answers = λ t. rw steps_count (whole_replies turns t ∙ ap replies_in (calls t));
     parts = λ i inside. rw steps_count (parts_front i (length turns) (omega arith) ∙ ap notes_of (all_entries i inside));
     stamps = λ i inside. rw steps_count (stamps_front i (length turns) (omega arith) ∙ ap stamps_in (all_entries i inside));
+    threads = λ i inside. rw steps_count (threads_front i (length turns) (omega arith) ∙ ap threads_in (all_entries i inside));
   }
 
 -- each thread's calls are those that a seat can have

@@ -1,8 +1,12 @@
-//! Worked cases of values, holdings, words and machines: nothing but tests.
+//! Worked cases of values, holdings, words, machines and explanations: nothing but tests.
 #![tactic(auto)]
 
 #[cfg(test)]
+mod checking;
+#[cfg(test)]
 mod event;
+#[cfg(test)]
+mod explain;
 #[cfg(test)]
 mod held;
 #[cfg(test)]

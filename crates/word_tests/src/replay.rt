@@ -45,11 +45,36 @@ fn unlock(thread: u8, number: u32) -> Step {
     does(thread, Event::Release(LockId::new(number), Mode::Write))
 }
 
+fn shared_unlock(thread: u8, number: u32) -> Step {
+    does(thread, Event::Release(LockId::new(number), Mode::Read))
+}
+
 fn rise(thread: u8, number: u8) -> Step {
     does(
         thread,
         Event::Level(Level::of_number(u64::from(number)).unwrap_or_default()),
     )
+}
+
+// One letter for each refusal: its number up to 9, and a letter of its own above that.
+fn refusal_letter(refusal: Refusal) -> char {
+    match refusal {
+        Refusal::AlreadyHeld => '1',
+        Refusal::NotHeld => '2',
+        Refusal::WrongMode => '3',
+        Refusal::IgnoreNotOn => '4',
+        Refusal::IgnoreTooDeep => '5',
+        Refusal::HeldFull => '6',
+        Refusal::SizeTooLarge => '7',
+        Refusal::AddressOutOfRange => '8',
+        Refusal::JournalFull => '9',
+        Refusal::TableFull => 't',
+        Refusal::OutOfMemory => 'o',
+        Refusal::ForeignSeat => 'f',
+        Refusal::TooManyThreads => 'm',
+        Refusal::LevelTooHigh => 'h',
+        Refusal::LevelLock => 'l',
+    }
 }
 
 // One letter for each kind of answer.
@@ -63,7 +88,7 @@ fn letter(answer: &Result<Reply, Refusal>) -> char {
         Ok(Reply::State(WordState::Exclusive(_))) => 'E',
         Ok(Reply::State(WordState::Shared(_))) => 'S',
         Ok(Reply::State(WordState::SharedModified(_))) => 'M',
-        Err(_) => 'x',
+        Err(refusal) => refusal_letter(*refusal),
     }
 }
 
@@ -79,7 +104,7 @@ fn kept_letter(answers: &Answers, at: usize) -> char {
         Some(Answer::State(WordState::Exclusive(_))) => 'E',
         Some(Answer::State(WordState::Shared(_))) => 'S',
         Some(Answer::State(WordState::SharedModified(_))) => 'M',
-        Some(Answer::Refused(_)) => 'x',
+        Some(Answer::Refused(refusal)) => refusal_letter(refusal),
     }
 }
 
@@ -160,14 +185,34 @@ fn refused_steps_are_answered(rt: HostRuntime) {
     check_steps(
         &rt,
         &[
-            (unlock(1, 7), 'x'),
-            (does(1, Event::IgnoreOff), 'x'),
+            (unlock(1, 7), '2'),
+            (does(1, Event::IgnoreOff), '4'),
             (does(1, Event::IgnoreOn), 'd'),
             (write(1, 0), 'i'),
             (show(1, 0), 'V'),
             (lock(1, 7), 'd'),
-            (lock(1, 7), 'x'),
+            (lock(1, 7), '1'),
+            (shared_unlock(1, 7), '3'),
+            (lock(1, u32::MAX), 'l'),
+            (unlock(1, u32::MAX), 'l'),
         ],
+    );
+}
+
+#[test]
+fn refused_steps_are_kept(rt: HostRuntime) {
+    check_whole_run(
+        &rt,
+        10,
+        &[
+            unlock(1, 7),
+            lock(1, 7),
+            lock(1, 7),
+            shared_unlock(1, 7),
+            does(1, Event::IgnoreOff),
+            lock(1, u32::MAX),
+        ],
+        &['2', 'd', '1', '3', '4', 'l'],
     );
 }
 

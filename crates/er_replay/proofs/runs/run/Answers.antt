@@ -22,8 +22,9 @@ pub returns-in-Err-clause-goes_on : goal.returns-in-Err-clause-goes_on
 returns-in-Err-clause-goes_on g c past stands = c.in-Err.ensures.stays (past ++ take c.loop-at.at c.args.steps.now) (c.loop-at.invariant.stands past stands)
 
 pub returns-in-Err-clause-cause : goal.returns-in-Err-clause-cause
-returns-in-Err-clause-cause g c =
-    inr (rw (found [] c.args.steps.now c.loop-at.at c.index-steps-at.result c.loop-at-test.true c.index-steps-at.is) c.in-Err.ensures.wants)
+returns-in-Err-clause-cause g c past stands =
+    inr (rw (found [] c.args.steps.now c.loop-at.at c.index-steps-at.result c.loop-at-test.true c.index-steps-at.is)
+    (c.in-Err.ensures.lacks (past ++ take c.loop-at.at c.args.steps.now) (c.loop-at.invariant.stands past stands)))
 
 pub loop-at-preserved : goal.loop-at-preserved
 loop-at-preserved g c = record {

@@ -1,9 +1,16 @@
 use Rattle.er_model.specs.AnswerList.{is_state}
-use Rattle.er_replay.proofs.RunsLemmas.{no_room-found, on_err_unless, on_err_of}
+use Rattle.er_replay.specs.Standing.{holding, states}
+use Rattle.er_replay.proofs.RunsLemmas.{on_err_unless, on_err_of}
+use Rattle.er_replay.proofs.StopsLemmas.{lacks}
 use Rattle.er_replay.proofs.runs.take_step.Goals as goal
 
 pub returns-in-Some-clause-stays : goal.returns-in-Some-clause-stays
-returns-in-Some-clause-stays g c past stands = c.step-answer.ensures.stays past stands (no_room-found c.step-answer.result c.in-Some.cause c.in-Some.ensures)
+returns-in-Some-clause-stays g c past stands = rw c.in-Some.ensures at (c.step-answer.ensures.err past stands)
+
+pub returns-in-Some-clause-lacks : goal.returns-in-Some-clause-lacks
+returns-in-Some-clause-lacks g c past stands =
+    lacks (holding c.args.machine.now) (states c.args.machine.now) past c.args.step c.in-Some.cause c.step-answer.result stands c.in-Some.ensures
+    c.step-answer.ensures.refused c.step-answer.ensures.room
 
 pub returns-in_err-set-clause-stays : goal.returns-in_err-set-clause-stays
 returns-in_err-set-clause-stays g c =

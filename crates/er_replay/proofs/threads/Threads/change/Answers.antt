@@ -2,7 +2,7 @@ use Rattle.std.proofs.Common.{◌≡◌, ap, ◌∙◌, sym, rules}
 use Rattle.std.proofs.lemmas.Map.Steps.{set_value_same}
 use Rattle.er_replay.specs.Threads.{holding_among}
 use Rattle.er_held.specs.Held.{nothing_held}
-use Rattle.er_replay.proofs.ThreadsLemmas.{holding-found, holding-absent, holding-written, on_ok, on_err, err_from}
+use Rattle.er_replay.proofs.ThreadsLemmas.{holding-found, holding-absent, holding-written, on_ok, on_err, err_from, err_is}
 use Rattle.er_replay.proofs.threads.Threads.change.Goals as goal
 use Rattle.er_replay.proofs.threads.Threads.change.Goals.{In-Some, In-None}
 
@@ -14,8 +14,11 @@ found c =
 pub returns-in-Some-clause-accepted : goal.returns-in-Some-clause-accepted
 returns-in-Some-clause-accepted c = rw (← found (goal.at.returns-in-Some-clause-accepted c).In-Some) c.change.ensures.accepted
 
-pub returns-in-Some-clause-refusals : goal.returns-in-Some-clause-refusals
-returns-in-Some-clause-refusals c = rw (← found (goal.at.returns-in-Some-clause-refusals c).In-Some) c.change.ensures.refusals
+pub returns-in-Some-clause-refused : goal.returns-in-Some-clause-refused
+returns-in-Some-clause-refused c = rw (← found (goal.at.returns-in-Some-clause-refused c).In-Some) c.change.ensures.refused
+
+pub returns-in-Some-clause-memory : goal.returns-in-Some-clause-memory
+returns-in-Some-clause-memory c = rw (← found (goal.at.returns-in-Some-clause-memory c).In-Some) c.change.ensures.memory
 
 pub returns-in-Some-clause-ok : goal.returns-in-Some-clause-ok
 returns-in-Some-clause-ok c =
@@ -33,11 +36,6 @@ absent c =
     holding-absent c.self.inside.held.entries c.args.thread c.in-None.ensures.value
     ∙ ap (λ threads. holding_among threads c.args.thread) c.self.view_is
 
-pub returns-in_err-change-in-None-clause-refusals : goal.returns-in_err-change-in-None-clause-refusals
-returns-in_err-change-in-None-clause-refusals c =
-    let none = absent (goal.at.returns-in_err-change-in-None-clause-refusals c).In-None in
-    err_from c.from_residual.result _ _ c.from_residual.ensures.1 (λ why is. rw (← none, is, ← c.new-held.ensures) c.in_err-change-in-None.ensures.refusals)
-
 pub returns-in_ok-insert-in-None-clause-accepted : goal.returns-in_ok-insert-in-None-clause-accepted
 returns-in_ok-insert-in-None-clause-accepted c =
     rw (← absent (goal.at.returns-in_ok-insert-in-None-clause-accepted c).In-None, ← c.new-held.ensures) c.in_ok-change-in-None.ensures.accepted
@@ -47,3 +45,25 @@ returns-in_ok-insert-in-None-clause-ok c =
     let none = absent (goal.at.returns-in_ok-insert-in-None-clause-ok c).In-None in
     rw (← none, ← c.self.view_is, ← c.get_mut.follows.holds-at-none, ← c.new-held.ensures, ← c.in_ok-change-in-None.ensures.ok)
     (holding-written c.get_mut.follows.lender-at-none.entries _ c.args.thread c.change-in-None.new.held c.in_ok-insert-in-None.ensures.updates.0)
+
+pub returns-in_err-change-in-None-clause-refused : goal.returns-in_err-change-in-None-clause-refused
+returns-in_err-change-in-None-clause-refused c =
+    let none = absent (goal.at.returns-in_err-change-in-None-clause-refused c).In-None in
+    rw (← none, ← c.new-held.ensures) (λ why so.
+    let same = c.in_err-change-in-None.ensures.refused why so in
+    err_is c.from_residual.result _ why c.from_residual.ensures.1 (λ e is. cc))
+
+pub returns-in_err-change-in-None-clause-memory : goal.returns-in_err-change-in-None-clause-memory
+returns-in_err-change-in-None-clause-memory c =
+    let none = absent (goal.at.returns-in_err-change-in-None-clause-memory c).In-None in
+    rw (← none, ← c.new-held.ensures) (λ so. err_from c.from_residual.result _ _ c.from_residual.ensures.1 (λ why is. rw is (c.in_err-change-in-None.ensures.memory so)))
+
+pub returns-in_err-insert-in-None-clause-refused : goal.returns-in_err-insert-in-None-clause-refused
+returns-in_err-insert-in-None-clause-refused c =
+    let none = absent (goal.at.returns-in_err-insert-in-None-clause-refused c).In-None in
+    rw (← none, ← c.new-held.ensures) (λ why so. let accepted = c.in_ok-change-in-None.ensures.accepted in cc)
+
+pub returns-in_ok-insert-in-None-clause-refused : goal.returns-in_ok-insert-in-None-clause-refused
+returns-in_ok-insert-in-None-clause-refused c =
+    let none = absent (goal.at.returns-in_ok-insert-in-None-clause-refused c).In-None in
+    rw (← none, ← c.new-held.ensures) (λ why so. let accepted = c.in_ok-change-in-None.ensures.accepted in cc)

@@ -1,6 +1,10 @@
-use Rattle.std.proofs.Common.{rules, ◌≡◌, ◌<◌, ◌∙◌, ap, arith, length, ℕ}
+use Rattle.std.proofs.Common.{rules, List, Err, IsTrue, ◌≡◌, ◌<◌, ◌∙◌, ap, arith, length, ℕ}
 use Rattle.er_load.specs.declared.stages.Worker.TheVariants.{Started}
 use Rattle.er_load.specs.Workloads.{thread_count}
+use Rattle.er_load.specs.Parts.{done_after}
+use Rattle.er_seat.specs.Seats.{Seated}
+use Rattle.er_load.specs.Accepted.{may_meet}
+use Rattle.er_load.proofs.JoinLemmas.{seats-are, seats-count, first-met, no-value, refused-fault}
 use Rattle.er_load.proofs.StartLemmas.{next-seat, started-more, idle-more}
 use Rattle.er_load.proofs.stages.fn.play_stage.scope.Goals as goal
 
@@ -38,12 +42,24 @@ loop-seat-preserved g c =
 pub returns : goal.returns
 returns g c = record {
   count = (
-      let a = c.in_ok-join_all.ensures.count in
+      let all = seats-count _ _ c.in_ok-all_seats.ensures.seats in
+      let a = c.join_all-answers.ensures.count in
       let b = c.requires.0 in
       let d = c.loop-seat.invariant.all in
       let e = c.in-None.ensures.steps in
       let f = c.into_iter-seat-iterator.ensures.into_iter_gives.1 in
       omega arith
       );
-  after = c.in_ok-join_all.ensures.seats _ _ c.loop-seat.invariant.started.ends;
+  after = seats-are (done_after c.captures.workload c.captures.stage) _ _ c.in_ok-all_seats.ensures.seats (c.join_all-answers.ensures.answers _ _ c.loop-seat.invariant.started.ends);
+  faults = tt;
 }
+
+pub returns-in_err-all_seats : goal.returns-in_err-all_seats
+returns-in_err-all_seats g c =
+    let is = c.from_residual-in_err-all_seats.ensures.1 in
+    let met : IsTrue (may_meet c.in_err-all_seats.field-0.0) = first-met {T = List Seated} (Err c.in_err-all_seats.field-0.0) c.join_all-answers.result.items c.join_all-answers.ensures.refusals c.in_err-all_seats.ensures.first in
+    record {
+      count = no-value c.from_residual-in_err-all_seats.result _ _ is;
+      after = no-value c.from_residual-in_err-all_seats.result _ _ is;
+      faults = refused-fault c.from_residual-in_err-all_seats.result c.in_err-all_seats.field-0.0 is met;
+    }
