@@ -1,5 +1,5 @@
 -- What a whole replay comes to, from the bytes read to the bytes written.
-use Rattle.std.specs.Prelude.{◌≡◌, ℕ, ◌<◌, nat_lt, cond, List, length, take, Option, Some, None, IfSome, Result, Ok, Err}
+use Rattle.std.specs.Prelude.{◌≡◌, ℕ, ◌<◌, nat_lt, Bool, true, false, cond, List, [], length, take, Option, Some, None, IfSome, Result, Ok, Err}
 use Rattle.std.specs.Io.KnownBytes.{Appends, Keeps}
 use Rattle.er_event.specs.declared.refusals.NoRoom.{NoRoom}
 use Rattle.er_event.specs.Trace.{Recording}
@@ -13,7 +13,7 @@ use Rattle.er_report.specs.Report.{report_of, told as summary, answered_steps}
 use Rattle.er_report.specs.declared.report.Report.{Report}
 use Rattle.er_rules.specs.Rules.{Target}
 use Rattle.er_run.specs.declared.fault.RunFault.{RunFault}
-use Rattle.er_run.specs.declared.fault.RunFault.TheVariants.{Read, Write, Memory}
+use Rattle.er_run.specs.declared.fault.RunFault.TheVariants.{Read, Write, Replay, Memory}
 use Rattle.er_run.specs.declared.fault.Verdict.{Verdict}
 use Rattle.er_run.specs.declared.fault.Verdict.TheVariants as verdict
 use Rattle.er_text.specs.Trace.{IsTrace, IsFault}
@@ -23,58 +23,77 @@ use Rattle.er_text.specs.declared.faults.ReadFault.TheVariants as reading
 pub record IsRunOf (text : List ℕ) (limit : ℕ) (recording : Recording) (stop : Option Stopped) : Type 0 where
   pub trace : IsTrace text limit recording
   pub within : IfSome stop (λ s. s.at < length recording.steps)
-  pub cause : IfSome stop (λ s. MayStop recording.steps s)
+  pub cause : IfSome stop (λ s. MayStop [] recording.steps s)
 
 -- stopped where the run stopped, and else whether a race is printed
-abbrev pub verdict_of : Recording → List Target → Option Stopped → Verdict
-verdict_of recording rules (Some stop) = verdict.Stopped
-verdict_of recording rules None = cond (nat_lt 0 (report_of recording rules None).races) verdict.Races verdict.Clean
+abbrev pub verdict_of : Recording → List Target → Bool → Option Stopped → Verdict
+verdict_of recording rules explain (Some stop) = verdict.Stopped
+verdict_of recording rules explain None = cond (nat_lt 0 (report_of recording rules explain None).races) verdict.Races verdict.Clean
 
--- the text is a trace, and what was written is the whole report of a run of it under these rules
-pub record IsReplayed (text : List ℕ) (limit : ℕ) (rules : List Target) (old new : Option (List ℕ)) (told : Verdict) : Type 0 where
+-- the text is a trace, and what was written is the whole report of a run of it under these rules, with reasons or without
+pub record IsReplayed (text : List ℕ) (limit : ℕ) (rules : List Target) (explain : Bool) (old new : Option (List ℕ)) (told : Verdict) : Type 0 where
   pub recording : Recording
   pub stop : Option Stopped
   pub run : IsRunOf text limit recording stop
-  pub written : Appends old new (output_of recording rules stop)
-  pub verdict : told ≡ verdict_of recording rules stop
+  pub written : Appends old new (output_of recording rules explain stop)
+  pub verdict : told ≡ verdict_of recording rules explain stop
 
 -- the text is a trace, and what was written is the beginning of the report of a run of it under these rules
-pub record IsBegun (text : List ℕ) (limit : ℕ) (rules : List Target) (old new : Option (List ℕ)) : Type 0 where
+pub record IsBegun (text : List ℕ) (limit : ℕ) (rules : List Target) (explain : Bool) (old new : Option (List ℕ)) : Type 0 where
   pub recording : Recording
   pub stop : Option Stopped
   pub count : ℕ
   pub run : IsRunOf text limit recording stop
-  pub written : Appends old new (take count (output_of recording rules stop))
+  pub written : Appends old new (take count (output_of recording rules explain stop))
 
 -- where there is a fault: one of the text is its first, and a failed write left a beginning of the report
-abbrev pub IsFailed : Option (List ℕ) → ℕ → List Target → Option (List ℕ) → Option (List ℕ) → Result Verdict RunFault → Type 0
-IsFailed told limit rules old new (Ok verdict) = Unit {0}
-IsFailed told limit rules old new (Err (Read (reading.Text fault))) = IfSome told (λ text. IsFault text limit fault)
-IsFailed told limit rules old new (Err (Read reading.Memory)) = Unit {0}
-IsFailed told limit rules old new (Err (Read reading.Read)) = Unit {0}
-IsFailed told limit rules old new (Err (Write writing.Memory)) = Unit {0}
-IsFailed told limit rules old new (Err (Write writing.Write)) = IfSome told (λ text. IsBegun text limit rules old new)
-IsFailed told limit rules old new (Err Memory) = Unit {0}
+abbrev pub IsFailed : Option (List ℕ) → ℕ → List Target → Bool → Option (List ℕ) → Option (List ℕ) → Result Verdict RunFault → Type 0
+IsFailed told limit rules explain old new (Ok verdict) = Unit {0}
+IsFailed told limit rules explain old new (Err (Read (reading.Text fault))) = IfSome told (λ text. IsFault text limit fault)
+IsFailed told limit rules explain old new (Err (Read reading.Memory)) = Unit {0}
+IsFailed told limit rules explain old new (Err (Read reading.Read)) = Unit {0}
+IsFailed told limit rules explain old new (Err (Write writing.Memory)) = Unit {0}
+IsFailed told limit rules explain old new (Err (Write writing.Write)) = IfSome told (λ text. IsBegun text limit rules explain old new)
+IsFailed told limit rules explain old new (Err (Replay fault)) = Unit {0}
+IsFailed told limit rules explain old new (Err Memory) = Unit {0}
 
 -- nothing was written, unless a write failed
 abbrev pub WritesNothing : Option (List ℕ) → Option (List ℕ) → RunFault → Type 0
 WritesNothing old new (Read fault) = Keeps old new
 WritesNothing old new (Write writing.Memory) = Keeps old new
 WritesNothing old new (Write writing.Write) = Unit {0}
+WritesNothing old new (Replay fault) = Keeps old new
 WritesNothing old new Memory = Keeps old new
+
+-- the reader failed exactly where a failed read is told, and the writer exactly where a failed write is
+abbrev pub FailsBy : Bool → Bool → Result Verdict RunFault → Type 0
+FailsBy read written (Ok verdict) = (read ≡ false) × (written ≡ false)
+FailsBy read written (Err (Read (reading.Text fault))) = (read ≡ false) × (written ≡ false)
+FailsBy read written (Err (Read reading.Memory)) = (read ≡ false) × (written ≡ false)
+FailsBy read written (Err (Read reading.Read)) = (read ≡ true) × (written ≡ false)
+FailsBy read written (Err (Write writing.Memory)) = (read ≡ false) × (written ≡ false)
+FailsBy read written (Err (Write writing.Write)) = (read ≡ false) × (written ≡ true)
+FailsBy read written (Err (Replay fault)) = (read ≡ false) × (written ≡ false)
+FailsBy read written (Err Memory) = (read ≡ false) × (written ≡ false)
+
+-- the replay stopped for want of room
+abbrev pub is_stopped : Verdict → Bool
+is_stopped verdict.Stopped = true
+is_stopped verdict.Races = false
+is_stopped verdict.Clean = false
 
 -- the answers of a run of the recording's steps up to its stop, which is at one of them that may want what it lacked
 pub record HasRun (recording : Recording) (outcome : Outcome) : Type 0 where
   pub answers : outcome.answers ≡ answers (answered_steps recording.steps outcome.stopped)
   pub within : IfSome outcome.stopped (λ s. s.at < length recording.steps)
-  pub cause : IfSome outcome.stopped (λ s. MayStop recording.steps s)
+  pub cause : IfSome outcome.stopped (λ s. MayStop [] recording.steps s)
 
 -- the report of a run of the recording's steps under these rules
-pub record IsReportOfRun (recording : Recording) (rules : List Target) (report : Report) : Type 0 where
+pub record IsReportOfRun (recording : Recording) (rules : List Target) (explain : Bool) (report : Report) : Type 0 where
   pub stop : Option Stopped
   pub within : IfSome stop (λ s. s.at < length recording.steps)
-  pub cause : IfSome stop (λ s. MayStop recording.steps s)
-  pub says : summary report ≡ report_of recording rules stop
+  pub cause : IfSome stop (λ s. MayStop [] recording.steps s)
+  pub says : summary report ≡ report_of recording rules explain stop
 
 -- what a report's numbers come to
 abbrev pub verdict_by : Option (ℕ × NoRoom) → ℕ → Verdict

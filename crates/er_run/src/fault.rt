@@ -1,11 +1,14 @@
 //! How a replay ends.
-ghost use Rattle.std.specs.Prelude.{◌≡◌};
+ghost use Rattle.std.specs.Prelude.{◌≡◌, Some};
+ghost use Rattle.er_run.specs.Faults.{text_of, fault_of};
 ghost use Rattle.er_run.specs.declared.fault.RunFault.TheVariants.{Read, Write, Memory};
 
+use er_parallel::ReplayFault;
 use er_print::WriteFault;
 use er_text::ReadFault;
 use std::alloc::AllocError;
-use thiserror::Error;
+use std::error::Error;
+use std::fmt;
 
 /// What a replay came to.
 #[derive(Clone, Copy, Debug, PartialEq, Eq)]
@@ -19,18 +22,32 @@ pub enum Verdict {
 }
 
 /// Why a replay gave no report, or not all of it.
-#[derive(Clone, Copy, Debug, PartialEq, Eq, Error)]
+#[derive(Clone, Copy, Debug, PartialEq, Eq)]
 pub enum RunFault {
     /// The trace wasn't read.
-    #[error("the trace was not read")]
     Read(ReadFault),
     /// The report wasn't written.
-    #[error("the report was not written")]
     Write(WriteFault),
+    /// Several workers found the table of locksets full, or one of them couldn't be started.
+    Replay(ReplayFault),
     /// Memory was refused between the two.
-    #[error("out of memory")]
     Memory,
 }
+
+impl fmt::Display for RunFault {
+    ghost output = { λ fault. Some (text_of fault) };
+
+    fn fmt<W: fmt::Write>(&self, f: &mut fmt::Formatter<W>) -> fmt::Result {
+        f.write_str(match self {
+            RunFault::Read(_) => "the trace was not read",
+            RunFault::Write(_) => "the report was not written",
+            RunFault::Replay(_) => "the trace was not replayed",
+            RunFault::Memory => "out of memory",
+        })
+    }
+}
+
+impl Error for RunFault {}
 
 impl From<ReadFault> for RunFault {
     ghost from_gives = { λ cause fault. fault ≡ Read cause };
@@ -45,6 +62,19 @@ impl From<WriteFault> for RunFault {
 
     fn from(cause: WriteFault) -> RunFault {
         RunFault::Write(cause)
+    }
+}
+
+impl From<ReplayFault> for RunFault {
+    ghost from_gives = { λ cause fault. fault ≡ fault_of cause };
+
+    fn from(cause: ReplayFault) -> RunFault {
+        match cause {
+            ReplayFault::Memory => RunFault::Memory,
+            ReplayFault::TableFull => RunFault::Replay(ReplayFault::TableFull),
+            ReplayFault::WorkerNotStarted => RunFault::Replay(ReplayFault::WorkerNotStarted),
+            ReplayFault::WorkerLost => RunFault::Replay(ReplayFault::WorkerLost),
+        }
     }
 }
 

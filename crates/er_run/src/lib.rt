@@ -3,9 +3,10 @@
 //! Begin with [`replay_text`]. It reads a trace text to its end, replays it on a new machine, and writes the report, without the
 //! races that the rules of `er_rules` take.
 //!
-//! What it promises, by the names of clauses: what was written is exactly the report that the text and the rules define
-//! (`report`), a fault of the text is the text's first fault (`fault`), and nothing was written after any fault but a failed
-//! write (`nothing`).
+//! What it promises, by the names of clauses, if the reader and the writer tell their bytes, as a slice and a `Vec` do: what was
+//! written is exactly the report that the text and the rules define (`report`), a fault of the text is the text's first fault
+//! (`fault`), and nothing was written after any fault but a failed write, which leaves a beginning of the report (`nothing`,
+//! `fault`).
 //!
 //! ```text
 //! let text: &[u8] = b"eraser trace 1\nt1 write 0x1000\nt2 write 0x1000\n";
@@ -14,6 +15,9 @@
 //! let rules = Suppressions::new(rt.alloc());
 //! let verdict = replay_text(&rt, &mut source, &mut sink, &rules, &Options::greatest())?;   // Verdict::Races
 //! ```
+//!
+//! Whatever they tell of their bytes: the reader and the writer failed exactly if the fault says so (`failed`), and at most the
+//! limit and 1,025 bytes were taken from the reader (`taken`).
 #![tactic(auto)]
 
 pub use fault::{RunFault, Verdict};

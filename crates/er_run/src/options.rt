@@ -1,5 +1,6 @@
 //! How a replay is run.
-ghost use Rattle.std.specs.Prelude.{◌≡◌, ◌≤◌, ◌<◌, ◌⊎◌, IsSome, IsNone, IfSome};
+ghost use Rattle.std.specs.Prelude.{◌≡◌, ◌≤◌, ◌<◌, ◌⊎◌, false, IsSome, IsNone, IfSome};
+ghost use Rattle.er_run.specs.Limits.{AreInLimits};
 
 /// How a replay is run. Each number is in its limits.
 #[derive(Clone, Copy, Debug, PartialEq, Eq)]
@@ -8,9 +9,19 @@ pub struct Options {
     pub max_sets: u32,
     /// How many bytes a text may have, at most 268,435,456.
     pub byte_limit: u64,
+    /// Whether each race that is printed is explained.
+    pub explain: bool,
+    /// In how many shards the words are if there are several workers, from 1 to 64.
+    pub shards: u32,
+    /// How many workers replay the shards, from 1 to 16. One worker has all words in one shard.
+    pub workers: u32,
     pub ghost some_sets: { 1 ≤ max_sets },
     pub ghost few_sets: { max_sets ≤ 1048576 },
     pub ghost few_bytes: { byte_limit ≤ 268435456 },
+    pub ghost some_shards: { 1 ≤ shards },
+    pub ghost few_shards: { shards ≤ 64 },
+    pub ghost some_workers: { 1 ≤ workers },
+    pub ghost few_workers: { workers ≤ 16 },
 }
 
 impl Options {
@@ -20,9 +31,20 @@ impl Options {
     /// The most bytes that a text may have.
     pub const MOST_BYTES: u64 = 268_435_456;
 
-    /// These options; None where a number is out of its limits.
+    /// The most shards.
+    pub const MOST_SHARDS: u32 = 64;
+
+    /// The most workers.
+    pub const MOST_WORKERS: u32 = 16;
+
+    /// In how many shards the words are unless something else is asked for.
+    pub const USUAL_SHARDS: u32 = 8;
+
+    /// These options, without explanations and with one worker; None if a number is out of its limits.
     pub fn new(max_sets: u32, byte_limit: u64) -> Option<Options>
         ensures kept { IfSome result (λ options. (options.max_sets ≡ max_sets) × (options.byte_limit ≡ byte_limit)) }
+        ensures plain { IfSome result (λ options. options.explain ≡ false) }
+        ensures alone { IfSome result (λ options. (options.shards ≡ 8) × (options.workers ≡ 1)) }
         ensures some { 1 ≤ max_sets → max_sets ≤ 1048576 → byte_limit ≤ 268435456 → IsSome result }
         ensures none { (max_sets ≡ 0) ⊎ ((1048576 < max_sets) ⊎ (268435456 < byte_limit)) → IsNone result }
     {
@@ -31,20 +53,66 @@ impl Options {
             Some(Options {
                 max_sets,
                 byte_limit,
+                explain: false,
+                shards: Options::USUAL_SHARDS,
+                workers: 1,
             })
         } else {
             None
         }
     }
 
-    /// The greatest limits, which the program uses.
+    /// The greatest limits, which the program uses, without explanations and with one worker.
     pub fn greatest() -> Options
         ensures sets { result.max_sets ≡ 1048576 }
         ensures bytes { result.byte_limit ≡ 268435456 }
+        ensures plain { result.explain ≡ false }
+        ensures alone { (result.shards ≡ 8) × (result.workers ≡ 1) }
     {
         Options {
             max_sets: Options::MOST_SETS,
             byte_limit: Options::MOST_BYTES,
+            explain: false,
+            shards: Options::USUAL_SHARDS,
+            workers: 1,
         }
+    }
+
+    /// The same options, by which each race that is printed is explained, or none is.
+    pub fn with_explain(self, explain: bool) -> Options
+        ensures explain { result.explain ≡ explain }
+        ensures sets { result.max_sets ≡ self.max_sets }
+        ensures bytes { result.byte_limit ≡ self.byte_limit }
+        ensures crew { (result.shards ≡ self.shards) × (result.workers ≡ self.workers) }
+    {
+        Options {
+            max_sets: self.max_sets,
+            byte_limit: self.byte_limit,
+            explain,
+            shards: self.shards,
+            workers: self.workers,
+        }
+    }
+
+    /// The same options, with this many shards and workers; None if one of them is out of its limits.
+    pub fn with_workers(self, shards: u32, workers: u32) -> Option<Options>
+        ensures kept { IfSome result (λ options. (options.max_sets ≡ self.max_sets) × ((options.byte_limit ≡ self.byte_limit) × (options.explain ≡ self.explain))) }
+        ensures crew { IfSome result (λ options. (options.shards ≡ shards) × (options.workers ≡ workers)) }
+        ensures some { AreInLimits shards workers → IsSome result }
+        ensures some_only { IsSome result → AreInLimits shards workers }
+    {
+        if shards < 1 || shards > Options::MOST_SHARDS {
+            return None;
+        }
+        if workers < 1 || workers > Options::MOST_WORKERS {
+            return None;
+        }
+        Some(Options {
+            max_sets: self.max_sets,
+            byte_limit: self.byte_limit,
+            explain: self.explain,
+            shards,
+            workers,
+        })
     }
 }

@@ -1,7 +1,7 @@
 ghost use Rattle.std.specs.Prelude.{◌≡◌, All, OnOk, IsTrue, true, false};
 ghost use Rattle.er_device.specs.Device.{has_failed};
 ghost use Rattle.er_event.specs.Names.{NameTable, no_names};
-ghost use Rattle.er_report.specs.Names.{HasNames, HasLockNames, HasEventNames, HasStateNames};
+ghost use Rattle.er_report.specs.Names.{HasNames, HasLockNames, HasEventNames, HasStateNames, HasLabelName, HasReasonNames};
 ghost use Rattle.text_tests.specs.Sample.{IsAmple};
 
 use er_device::Device;
@@ -10,7 +10,7 @@ use er_event::{
     WordState,
 };
 use er_print::{WriteFault, write_report};
-use er_report::{Line, Report};
+use er_report::{Because, Label, Line, Report};
 use std::alloc::{AllocError, Global};
 use std::io;
 use std::io::Write;
@@ -68,6 +68,27 @@ fn is_state_named(state: &WordState) -> bool
     }
 }
 
+fn is_label_named(label: Label) -> bool
+    ensures { IsTrue result → (names : NameTable) → IsAmple names → HasLabelName names label }
+{
+    match label {
+        Label::First | Label::Joined | Label::Write => true,
+        Label::Uncovered(lock) => lock.number() < 2 || lock.is_level_lock(),
+    }
+}
+
+fn is_reason_named(because: &Because) -> bool
+    ensures { IsTrue result → (names : NameTable) → IsAmple names → HasReasonNames names because.now }
+{
+    because.thread.number() < 2 && is_label_named(because.label)
+}
+
+fn are_reasons_named(explained: &[Because]) -> bool
+    ensures { IsTrue result → (names : NameTable) → IsAmple names → All (HasReasonNames names) explained.now }
+{
+    explained.iter().all(|because| is_reason_named(because))
+}
+
 fn is_named(line: &Line) -> bool
     ensures { IsTrue result → (names : NameTable) → IsAmple names → HasNames names line.now }
 {
@@ -79,7 +100,13 @@ fn is_named(line: &Line) -> bool
             word: _,
             site,
             held,
-        } => { thread.number() < 2 && site.number() < 2 && are_named(held.as_slice()) }
+            explained,
+        } => {
+            thread.number() < 2
+                && site.number() < 2
+                && are_named(held.as_slice())
+                && are_reasons_named(explained)
+        }
         Line::Refused {
             line: _,
             step,
@@ -160,7 +187,18 @@ fn set_of<R: Abort + AllocGlobal>(rt: &R, locks: &[u32]) -> Lockset {
     set
 }
 
-fn race_line(line: u64, kind: Kind, site: u32, held: Lockset) -> Line {
+// A race without reasons.
+fn race_line(alloc: Global, line: u64, kind: Kind, site: u32, held: Lockset) -> Line {
+    explained_line(line, kind, site, held, Vec::new(alloc))
+}
+
+fn explained_line(
+    line: u64,
+    kind: Kind,
+    site: u32,
+    held: Lockset,
+    explained: Vec<Because>,
+) -> Line {
     Line::Race {
         line,
         thread: ThreadId::new(1),
@@ -168,18 +206,48 @@ fn race_line(line: u64, kind: Kind, site: u32, held: Lockset) -> Line {
         word: Word::new(0x400),
         site: Site::new(site),
         held,
+        explained,
+    }
+}
+
+fn because(label: Label, line: u64, kind: Kind) -> Because {
+    Because {
+        label,
+        line,
+        thread: ThreadId::new(0),
+        kind,
     }
 }
 
 #[test]
+fn reasons_are_printed(rt: HostRuntime) {
+    let reasons = [
+        because(Label::First, 2, Kind::Read),
+        because(Label::Joined, 8, Kind::Write),
+        because(Label::Write, 18_446_744_073_709_551_615, Kind::Write),
+        because(Label::Uncovered(LockId::new(1)), 9, Kind::Read),
+        because(Label::Uncovered(LockId::new(0xffff_ffe2)), 10, Kind::Write),
+    ];
+    let Ok(explained) = Vec::from_slice(rt.alloc(), &reasons) else {
+        rt.abort()
+    };
+    let line = explained_line(9, Kind::Write, 0, Lockset::new(rt.alloc()), explained);
+    assert_line(
+        &rt,
+        line,
+        b"line 9: race: t2 write 0x000000001000 at -, holds none\n  first: line 2, t1 read\n  joined: line 8, t1 write\n  write: line 18446744073709551615, t1 write\n  b not covering: line 9, t1 read\n  !2 not covering: line 10, t1 write",
+    );
+}
+
+#[test]
 fn races_are_printed(rt: HostRuntime) {
-    let bare = race_line(3, Kind::Write, 0, Lockset::new(rt.alloc()));
+    let bare = race_line(rt.alloc(), 3, Kind::Write, 0, Lockset::new(rt.alloc()));
     assert_line(
         &rt,
         bare,
         b"line 3: race: t2 write 0x000000001000 at -, holds none",
     );
-    let locked = race_line(14, Kind::Read, 1, set_of(&rt, &[1, 0]));
+    let locked = race_line(rt.alloc(), 14, Kind::Read, 1, set_of(&rt, &[1, 0]));
     assert_line(
         &rt,
         locked,
@@ -192,7 +260,7 @@ fn level_locks_are_printed(rt: HostRuntime) {
     let held = set_of(&rt, &[0xffff_ffe1, 1, 0xffff_ffff]);
     assert_line(
         &rt,
-        race_line(18_446_744_073_709_551_615, Kind::Write, 0, held),
+        race_line(rt.alloc(), 18_446_744_073_709_551_615, Kind::Write, 0, held),
         b"line 18446744073709551615: race: t2 write 0x000000001000 at -, holds b !1 !31",
     );
 }
@@ -291,7 +359,7 @@ fn states_are_printed(rt: HostRuntime) {
 }
 
 fn stopped_report<R: Abort + AllocGlobal>(rt: &R) -> Report {
-    let bare = race_line(10, Kind::Write, 0, Lockset::new(rt.alloc()));
+    let bare = race_line(rt.alloc(), 10, Kind::Write, 0, Lockset::new(rt.alloc()));
     let Ok(lines) = vec![in rt.alloc(); bare, shown_line(WordState::Virgin)] else {
         rt.abort()
     };

@@ -201,14 +201,3 @@ fn rules_byte_by_byte(rt: HostRuntime) {
         assert!(rt; cut.failed);
     }
 }
-
-/// Each allocation in turn is refused by `rt try --test --fail-alloc`.
-#[test]
-fn each_allocation_refused(rt: HostRuntime) {
-    let mut told = outcome(rt.alloc(), EVERY_RULE, 65535);
-    if told.count == Err(ReadFault::Memory) {
-        assert!(rt; !told.failed);
-        told = outcome(rt.alloc(), EVERY_RULE, 65535);
-    }
-    assert_eq!(rt; told.count, Ok(9));
-}

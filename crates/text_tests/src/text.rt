@@ -394,15 +394,3 @@ fn every_verb(rt: HostRuntime) {
     };
     assert_steps(&rt, &trace);
 }
-
-/// Each allocation in turn is refused by `rt try --test --fail-alloc`.
-#[test]
-fn each_allocation_of_a_trace_refused(rt: HostRuntime) {
-    let mut told = outcome(rt.alloc(), EVERY_VERB, 65535);
-    if told.fault == Some(ReadFault::Memory) {
-        assert!(rt; !told.failed);
-        told = outcome(rt.alloc(), EVERY_VERB, 65535);
-    }
-    assert_eq!(rt; told.fault, None);
-    assert_eq!(rt; told.steps, 15);
-}

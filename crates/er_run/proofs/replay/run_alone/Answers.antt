@@ -4,7 +4,7 @@ use Rattle.er_model.specs.Answers.{answers}
 use Rattle.er_model.proofs.Runs.{after-start}
 use Rattle.er_replay.specs.Stops.{taken, MayStop}
 use Rattle.er_run.proofs.ReplayLemmas.{same_steps}
-use Rattle.er_run.proofs.replay.outcome_of.Goals as goal
+use Rattle.er_run.proofs.replay.run_alone.Goals as goal
 
 pub returns : goal.returns
 returns g c =
@@ -12,5 +12,5 @@ returns g c =
     record {
       answers = c.run.ensures.answers [] c.in_ok-machine.ensures ∙ after-start (taken stopped c.steps.result.now) ∙ ap (λ (steps : List Step). answers (taken stopped steps)) c.steps.ensures.value ∙ ap answers (same_steps stopped c.args.trace.now.steps);
       within = subst (λ (steps : List Step). IfSome stopped (λ s. s.at < length steps)) c.steps.ensures.value c.run.ensures.within;
-      cause = subst (λ (steps : List Step). IfSome stopped (λ s. MayStop steps s)) c.steps.ensures.value c.run.ensures.cause;
+      cause = subst (λ (steps : List Step). IfSome stopped (λ s. MayStop [] steps s)) c.steps.ensures.value (c.run.ensures.cause [] c.in_ok-machine.ensures);
     }
