@@ -1,9 +1,9 @@
 -- What the program's exit statuses mean.
-use Rattle.std.specs.Prelude.{ℕ}
+use Rattle.std.specs.Prelude.{ℕ, cond, nat_lt}
 use Rattle.er_run.specs.declared.fault.Verdict.{Verdict}
 use Rattle.er_run.specs.declared.fault.Verdict.TheVariants.{Clean, Races, Stopped}
-use Rattle.eraser.specs.declared.command.Fault.{Fault}
-use Rattle.eraser.specs.declared.command.Fault.TheVariants.{Text, Suppressions, Memory, OpenTrace, OpenSuppressions, Read, Write, Refused, WorkerNotStarted, WorkerLost, Unsettled}
+use Rattle.eraser.specs.declared.faults.Fault.{Fault}
+use Rattle.eraser.specs.declared.faults.Fault.TheVariants.{Arguments, Text, Suppressions, Memory, TableFull, OpenTrace, OpenSuppressions, Read, Write, Refused, WorkerNotStarted, WorkerLost, Unsettled}
 
 -- behind a replay: no race is printed, some race is, or the replay stopped for want of room
 abbrev pub verdict_status : Verdict → ℕ
@@ -11,11 +11,18 @@ verdict_status Clean = 0
 verdict_status Races = 1
 verdict_status Stopped = 3
 
--- where there is no result: a text has a fault, something could not be had, or a file could not be opened, read or written
+-- behind a demo: whether it made a race
+abbrev pub demo_status : ℕ → ℕ
+demo_status races = cond (nat_lt 0 races) 1 0
+
+-- where there is no result: the arguments or a text have a fault, something could not be had, or a file could not be opened, read or
+-- written
 abbrev pub fault_status : Fault → ℕ
+fault_status Arguments = 2
 fault_status (Text fault) = 2
 fault_status (Suppressions fault) = 2
 fault_status Memory = 3
+fault_status TableFull = 3
 fault_status (Refused why) = 3
 fault_status WorkerNotStarted = 3
 fault_status WorkerLost = 3

@@ -1,18 +1,25 @@
 //! One command line, run over a reader and two writers.
-ghost use Rattle.std.specs.Prelude.{◌≡◌, ◌≤◌, IfOk};
-ghost use Rattle.eraser.specs.Statuses.{verdict_status, fault_status};
+ghost use Rattle.std.specs.Prelude.{◌≡◌, ◌≢◌, ◌≤◌, [], false, None, codes, IfOk, IfErr, IfSome};
+ghost use Rattle.std.specs.Io.KnownBytes.{Keeps};
+ghost use Rattle.er_device.specs.Device.{inner_of, has_failed};
+ghost use Rattle.er_rules.specs.Rules.{targets_of};
+ghost use Rattle.er_run.specs.Replays.{IsReplayed};
+ghost use Rattle.eraser.specs.Demos.{IsDemo, races_in};
+ghost use Rattle.eraser.specs.Statuses.{verdict_status};
+ghost use Rattle.eraser.specs.Writes.{LeavesOutput, ReplaysTo};
 
+use crate::faults::Fault;
+use crate::lines::{put, tell, tell_demo};
 use crate::request::{Replay, Request, read_request};
 use clap::error::ErrorKind;
 use er_detector::OpenGate;
 use er_device::Device;
-use er_event::{Refusal, Reply};
-use er_gather::{Run, Unsettled};
-use er_load::{LoadFault, Workload, run_workload};
-use er_print::WriteFault;
+use er_event::Reply;
+use er_gather::Run;
+use er_load::{Workload, run_workload};
 use er_rules::Suppressions;
-use er_run::{Options, RunFault, Verdict, replay_text};
-use er_text::{ReadFault, TextFault, read_suppressions};
+use er_run::{Options, Verdict, replay_text};
+use er_text::read_suppressions;
 use std::alloc::Global;
 use std::fs::File;
 use std::io::{Read, Write};
@@ -20,98 +27,55 @@ use std::rt::Files;
 use std::sync::Wait;
 use std::thread::Threads;
 
-/// Why a command line ended without its result.
-#[derive(Clone, Copy, Debug, PartialEq, Eq)]
-enum Fault {
-    Text(TextFault),
-    Suppressions(TextFault),
-    Memory,
-    OpenTrace,
-    OpenSuppressions,
-    Read,
-    Write,
-    Refused(Refusal),
-    WorkerNotStarted,
-    WorkerLost,
-    Unsettled(Unsettled),
-}
-
-impl Fault {
-    fn status(self) -> u8
-        ensures { result ≡ fault_status self }
-    {
-        match self {
-            Fault::Text(_) | Fault::Suppressions(_) => 2,
-            Fault::Memory
-            | Fault::Refused(_)
-            | Fault::WorkerNotStarted
-            | Fault::WorkerLost
-            | Fault::Unsettled(_) => 3,
-            Fault::OpenTrace | Fault::OpenSuppressions | Fault::Read | Fault::Write => 4,
-        }
-    }
-
-    fn text(self) -> &'static str {
-        match self {
-            Fault::Text(fault) | Fault::Suppressions(fault) => fault.kind.text(),
-            Fault::Memory => "out of memory",
-            Fault::OpenTrace => "cannot open trace",
-            Fault::OpenSuppressions => "cannot open suppressions",
-            Fault::Read => "read fault",
-            Fault::Write => "write fault",
-            Fault::Refused(refusal) => refusal.text(),
-            Fault::WorkerNotStarted => "worker not started",
-            Fault::WorkerLost => "worker lost",
-            Fault::Unsettled(unsettled) => unsettled.text(),
-        }
-    }
-}
-
-impl From<RunFault> for Fault {
-    fn from(fault: RunFault) -> Fault {
-        match fault {
-            RunFault::Read(ReadFault::Text(fault)) => Fault::Text(fault),
-            RunFault::Read(ReadFault::Memory)
-            | RunFault::Write(WriteFault::Memory)
-            | RunFault::Memory => Fault::Memory,
-            RunFault::Read(ReadFault::Read) => Fault::Read,
-            RunFault::Write(WriteFault::Write) => Fault::Write,
-        }
-    }
-}
-
-impl From<LoadFault> for Fault {
-    fn from(fault: LoadFault) -> Fault {
-        match fault {
-            LoadFault::Refused(refusal) => Fault::Refused(refusal),
-            LoadFault::WorkerNotStarted => Fault::WorkerNotStarted,
-            LoadFault::WorkerLost => Fault::WorkerLost,
-            LoadFault::Unsettled(unsettled) => Fault::Unsettled(unsettled),
-        }
-    }
-}
-
-/// Runs one command line, whose first word is the program's name, and answers the exit status: 0 where no race was printed,
-/// 1 where some race was, 2 for wrong arguments or a text with a fault, 3 for want of room, 4 for a file that can't be
+/// Runs one command line, whose first word is the program's name, and returns the exit status: 0 if no race was printed,
+/// 1 if some race was, 2 for wrong arguments or a text with a fault, 3 for want of room, 4 for a file that can't be
 /// opened, read or written.
 pub fn command<R, I, O, E>(
     rt: &R,
     words: &[String],
-    input: &mut I,
-    output: &mut O,
-    errors: &mut E,
+    input: &mut Device<I>,
+    output: &mut Device<O>,
+    errors: &mut Device<E>,
 ) -> u8
 where
     R: Files + AllocGlobal + Threads + Wait + Sync,
     I: Read,
     O: Write,
     E: Write,
-    ensures { result ≤ 4 }
+    requires input { has_failed input.old ≡ false }
+    requires output { has_failed output.old ≡ false }
+    requires errors { has_failed errors.old ≡ false }
+    ensures status { result ≤ 4 }
+
+    // With a result nothing goes to the errors, and with wrong arguments or a faulty text nothing to the output.
+    ensures quiet { result ≤ 1 → Keeps (E.contents (inner_of errors.old)) (E.contents (inner_of errors.new)) }
+    ensures refused { result ≡ 2 → Keeps (O.contents (inner_of output.old)) (O.contents (inner_of output.new)) }
 {
-    let request = match read_request(rt.alloc(), words) {
-        Ok(request) => request,
-        Err(error) => return refused(rt.alloc(), &error, output, errors),
-    };
+    match read_request(rt.alloc(), words) {
+        Ok(request) => run_request(rt, request, input, output, errors),
+        Err(error) => refused(rt.alloc(), &error, output, errors),
+    }
+}
+
+fn run_request<R, I, O, E>(
+    rt: &R,
+    request: Request<'_>,
+    input: &mut Device<I>,
+    output: &mut Device<O>,
+    errors: &mut Device<E>,
+) -> u8
+where
+    R: Files + AllocGlobal + Threads + Wait + Sync,
+    I: Read,
+    O: Write,
+    E: Write,
+    requires input { has_failed input.old ≡ false }
+    requires output { has_failed output.old ≡ false }
+    requires errors { has_failed errors.old ≡ false }
+    ensures status { result ≤ 4 }
+    ensures quiet { result ≤ 1 → Keeps (E.contents (inner_of errors.old)) (E.contents (inner_of errors.new)) }
+    ensures refused { result ≡ 2 → Keeps (O.contents (inner_of output.old)) (O.contents (inner_of output.new)) }
+{
     let outcome = match request {
         Request::Replay(replay) => run_replay(rt, replay, input, output),
         Request::Demo(workload) => run_demo(rt, rt.alloc(), workload, output),
@@ -136,60 +100,56 @@ fn status_of(verdict: Verdict) -> u8
 fn run_replay<R, I, O>(
     rt: &R,
     replay: Replay<'_>,
-    input: &mut I,
-    output: &mut O,
+    input: &mut Device<I>,
+    output: &mut Device<O>,
 ) -> Result<u8, Fault>
 where
-    R: Files + AllocGlobal + Wait,
+    R: Files + AllocGlobal + Threads + Wait + Sync,
     I: Read,
     O: Write,
-    ensures { IfOk result (λ status. status ≤ 4) }
+    requires input { has_failed input.old ≡ false }
+    requires output { has_failed output.old ≡ false }
+    ensures status { IfOk result (λ status. (status ≤ 4) × (status ≢ 2)) }
+    ensures report { replay.entry.suppressions ≡ None → replay.entry.trace.now ≡ codes "-" → IfOk result (λ status. IfSome (I.remaining (inner_of input.old)) (λ text. ReplaysTo text replay.entry.options.explain (O.contents (inner_of output.old)) (O.contents (inner_of output.new)) status)) }
+    ensures nothing { IfErr result (LeavesOutput (O.contents (inner_of output.old)) (O.contents (inner_of output.new))) }
 {
-    let options = Options::greatest();
+    let options = replay.options;
     let suppressions = suppressions_at(rt, replay.suppressions, &options)?;
     let verdict = replay_trace(rt, replay.trace, &suppressions, &options, input, output)?;
     Ok(status_of(verdict))
 }
 
-// Runs a workload, and tells what its threads came to.
-fn run_demo<R, O>(rt: &R, alloc: Global, workload: Workload, output: &mut O) -> Result<u8, Fault>
+fn run_demo<R, O>(
+    rt: &R,
+    alloc: Global,
+    workload: Workload,
+    output: &mut Device<O>,
+) -> Result<u8, Fault>
 where
     R: Threads + Wait + Sync,
     O: Write,
-    ensures { IfOk result (λ status. status ≤ 1) }
+    ensures demo { IfOk result (IsDemo workload (O.contents (inner_of output.old)) (O.contents (inner_of output.new))) }
+    ensures nothing { IfErr result (LeavesOutput (O.contents (inner_of output.old)) (O.contents (inner_of output.new))) }
 {
     let run = run_workload(rt, alloc, workload, &OpenGate)?;
-    tell_run(alloc, workload, &run, output)
+    let races = races_of(&run);
+    tell_demo(alloc, workload.name(), run.steps.len(), races, output)?;
+    Ok(u8::from(races > 0))
 }
 
-fn tell_run<O: Write>(
-    alloc: Global,
-    workload: Workload,
-    run: &Run,
-    output: &mut O,
-) -> Result<u8, Fault>
-    ensures { IfOk result (λ status. status ≤ 1) }
+fn races_of(run: &Run) -> usize
+    ensures { result ≡ races_in run.now.replies.items }
 {
-    let name = workload.name();
-    let steps = run.steps.len();
-    let races = run
-        .replies
+    run.replies
         .iter()
         .filter(|reply| matches!(reply, Reply::Race))
-        .count();
-    let Ok(line) = format!(in alloc; "{name}: steps {steps}, races {races}\n") else {
-        return Err(Fault::Memory);
-    };
-    let mut sink = Device::new(output);
-    match sink.write_all(line.as_bytes()) {
-        Ok(()) => Ok(u8::from(races > 0)),
-        Err(_) => Err(Fault::Write),
-    }
+        .count()
 }
 
 fn suppressions_at<R>(rt: &R, path: Option<&str>, options: &Options) -> Result<Suppressions, Fault>
 where
     R: Files + AllocGlobal,
+    ensures { path.entry ≡ None → IfOk result (λ rules. targets_of rules ≡ []) }
 {
     let Some(path) = path else {
         return Ok(Suppressions::new(rt.alloc()));
@@ -200,9 +160,7 @@ where
     let mut source = Device::new(file);
     match read_suppressions(rt.alloc(), &mut source, options.byte_limit) {
         Ok(suppressions) => Ok(suppressions),
-        Err(ReadFault::Text(fault)) => Err(Fault::Suppressions(fault)),
-        Err(ReadFault::Memory) => Err(Fault::Memory),
-        Err(ReadFault::Read) => Err(Fault::Read),
+        Err(fault) => Err(Fault::of_suppressions(fault)),
     }
 }
 
@@ -211,73 +169,55 @@ fn replay_trace<R, I, O>(
     path: &str,
     suppressions: &Suppressions,
     options: &Options,
-    input: &mut I,
-    output: &mut O,
+    input: &mut Device<I>,
+    output: &mut Device<O>,
 ) -> Result<Verdict, Fault>
 where
-    R: Files + AllocGlobal + Wait,
+    R: Files + AllocGlobal + Threads + Wait + Sync,
     I: Read,
     O: Write,
+    requires input { has_failed input.old ≡ false }
+    requires output { has_failed output.old ≡ false }
+    ensures report { path.now ≡ codes "-" → IfOk result (λ verdict. IfSome (I.remaining (inner_of input.old)) (λ text. IsReplayed text options.now.byte_limit (targets_of suppressions.now) options.now.explain (O.contents (inner_of output.old)) (O.contents (inner_of output.new)) verdict)) }
+    ensures nothing { IfErr result (LeavesOutput (O.contents (inner_of output.old)) (O.contents (inner_of output.new))) }
 {
-    let mut sink = Device::new(output);
     if path == "-" {
-        let mut source = Device::new(input);
-        return Ok(replay_text(rt, &mut source, &mut sink, suppressions, options)?);
+        return Ok(replay_text(rt, input, output, suppressions, options)?);
     }
     let Ok(file) = File::open(rt, path) else {
         return Err(Fault::OpenTrace);
     };
     let mut source = Device::new(file);
-    Ok(replay_text(rt, &mut source, &mut sink, suppressions, options)?)
+    Ok(replay_text(rt, &mut source, output, suppressions, options)?)
 }
 
-/// Writes the fault's line to the errors, and answers its status. A fault in telling a fault is not told.
-fn tell<E: Write>(alloc: Global, fault: Fault, errors: &mut E) -> u8
-    ensures { result ≡ fault_status fault }
-{
-    let text = fault.text();
-    let line = match fault {
-        Fault::Text(TextFault { line, .. }) => format!(in alloc; "line {line}: {text}\n"),
-        Fault::Suppressions(TextFault { line, .. }) => {
-            format!(in alloc; "suppressions line {line}: {text}\n")
-        }
-        Fault::Refused(_) => format!(in alloc; "refused: {text}\n"),
-        Fault::Unsettled(_) => format!(in alloc; "unsettled: {text}\n"),
-        _ => format!(in alloc; "{text}\n"),
-    };
-    let mut sink = Device::new(errors);
-    let _ = match line {
-        Ok(line) => sink.write_all(line.as_bytes()),
-        Err(_) => sink.write_all(b"out of memory\n"),
-    };
-    fault.status()
-}
-
-/// Help goes to the output and every other text of the parser to the errors.
+// Help goes to the output and every other text of the parser to the errors.
 fn refused<O: Write, E: Write>(
     alloc: Global,
     error: &clap::Error,
-    output: &mut O,
-    errors: &mut E,
+    output: &mut Device<O>,
+    errors: &mut Device<E>,
 ) -> u8
-    ensures { result ≤ 4 }
+    requires output { has_failed output.old ≡ false }
+    requires errors { has_failed errors.old ≡ false }
+    ensures status { result ≤ 4 }
+    ensures quiet { result ≤ 1 → Keeps (E.contents (inner_of errors.old)) (E.contents (inner_of errors.new)) }
+    ensures written { result ≤ 1 → has_failed output.new ≡ false }
+    ensures refused { result ≡ 2 → Keeps (O.contents (inner_of output.old)) (O.contents (inner_of output.new)) }
 {
-    let kind = error.kind();
     let Ok(text) = error.to_string(alloc) else {
         return tell(alloc, Fault::Memory, errors);
     };
-    match kind {
+    match error.kind() {
         ErrorKind::OutOfMemory => tell(alloc, Fault::Memory, errors),
         ErrorKind::DisplayHelp | ErrorKind::DisplayVersion => {
-            let mut sink = Device::new(output);
-            match sink.write_all(text.as_bytes()) {
+            match output.write_all(text.as_bytes()) {
                 Ok(()) => 0,
                 Err(_) => tell(alloc, Fault::Write, errors),
             }
         }
         _ => {
-            let mut sink = Device::new(errors);
-            let _ = sink.write_all(text.as_bytes());
+            put(errors, text.as_bytes());
             2
         }
     }

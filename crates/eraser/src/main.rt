@@ -1,38 +1,45 @@
 //! The program `eraser`: replays a recorded trace and reports its races.
 //!
-//! `main` hands the words of its command line and the standard streams to [`command`], which answers the exit status. The
+//! `main` hands the words of its command line and the standard streams to [`command`], which returns the exit status. The
 //! standard output of this toolchain keeps no byte back, so a byte whose write failed is never sent again.
 #![tactic(auto)]
 
 mod command;
+mod faults;
+mod lines;
 mod request;
 
 pub use command::command;
-use std::alloc::AllocError;
+use er_device::Device;
+use faults::Fault;
+use lines::tell;
 use std::env;
 use std::io::ErrorKind;
 use std::process::ExitCode;
 
+fn words_of(rt: &HostRuntime) -> Result<Vec<String>, Fault> {
+    let found = match env::args(rt) {
+        Ok(found) => found,
+        Err(error) if error.kind() == ErrorKind::OutOfMemory => return Err(Fault::Memory),
+        Err(_) => return Err(Fault::Arguments),
+    };
+    match found.collect(rt.alloc()) {
+        Ok(words) => Ok(words),
+        Err(_) => Err(Fault::Memory),
+    }
+}
+
 fn main(rt: HostRuntime) -> ExitCode {
-    let found = match env::args(&rt) {
-        Ok(found) => found.collect(rt.alloc()),
-        Err(error) if error.kind() == ErrorKind::OutOfMemory => Err(AllocError),
-        Err(_) => {
-            let _ = rt.eprintln("the arguments are not text");
-            return ExitCode::from(2);
-        }
+    let mut errors = Device::new(rt.stderr());
+    let status = match words_of(&rt) {
+        Ok(words) => command(
+            &rt,
+            words.as_slice(),
+            &mut Device::new(rt.stdin()),
+            &mut Device::new(rt.stdout()),
+            &mut errors,
+        ),
+        Err(fault) => tell(rt.alloc(), fault, &mut errors),
     };
-    let Ok(words) = found else {
-        let _ = rt.eprintln("out of memory");
-        return ExitCode::from(3);
-    };
-    let words: Vec<String> = words;
-    let status = command(
-        &rt,
-        words.as_slice(),
-        &mut rt.stdin(),
-        &mut rt.stdout(),
-        &mut rt.stderr(),
-    );
     ExitCode::from(status)
 }

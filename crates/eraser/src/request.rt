@@ -1,7 +1,10 @@
 //! What a command line asks for.
+ghost use Rattle.std.specs.Prelude.{◌≡◌};
+
 use clap::error::ErrorKind;
-use clap::{Arg, ArgMatches, Command, Error};
+use clap::{Arg, ArgAction, ArgMatches, Command, Error, value_parser};
 use er_load::Workload;
+use er_run::Options;
 use std::alloc::{AllocError, Global};
 
 /// What a command line asks for.
@@ -13,13 +16,26 @@ pub enum Request<'a> {
     Demo(Workload),
 }
 
-/// Which trace to replay, and by which suppressions.
+/// Which trace to replay, by which suppressions, and how.
 #[derive(Clone, Copy, Drop)]
 pub struct Replay<'a> {
     /// The path of the suppressions, where there are some.
     pub suppressions: Option<&'a str>,
     /// The path of the trace, which is standard input where it is `-`.
     pub trace: &'a str,
+    /// Whether races are explained, and how many workers there are. The limits of sets and of bytes are the greatest.
+    pub options: Options,
+    pub ghost greatest: { options.byte_limit ≡ 268435456 },
+}
+
+// A number from 1 to a greatest one.
+fn count<'a>(alloc: Global, name: &'a str, most: i64, default: &'a str, help: &'a str) -> Arg<'a> {
+    Arg::new(alloc, name)
+        .long(name)
+        .value_name("N")
+        .value_parser(value_parser!(u32).range(1..=most))
+        .default_value(default)
+        .help(help)
 }
 
 fn replay_command<'a>(alloc: Global) -> Result<Command<'a>, AllocError> {
@@ -27,6 +43,24 @@ fn replay_command<'a>(alloc: Global) -> Result<Command<'a>, AllocError> {
         .long("suppress")
         .value_name("FILE")
         .help("Count the races that this file's rules take, and leave their lines out");
+    let explain = Arg::new(alloc, "explain")
+        .long("explain")
+        .action(ArgAction::SetTrue)
+        .help("Name the accesses that make each race");
+    let workers = count(
+        alloc,
+        "workers",
+        16,
+        "1",
+        "How many threads replay the trace, 1 to 16",
+    );
+    let shards = count(
+        alloc,
+        "shards",
+        64,
+        "8",
+        "Into how many parts several workers cut the words, 1 to 64",
+    );
     let trace = Arg::new(alloc, "trace")
         .value_name("TRACE")
         .required(true)
@@ -34,6 +68,9 @@ fn replay_command<'a>(alloc: Global) -> Result<Command<'a>, AllocError> {
     Command::new(alloc, "replay")
         .about("Replay a trace and report its races")
         .arg(suppress)?
+        .arg(explain)?
+        .arg(workers)?
+        .arg(shards)?
         .arg(trace)
 }
 
@@ -76,6 +113,12 @@ prints
   line 3: race: t2 write 0x000000001000 at -, holds none
   steps 2, races 1, suppressed 0, refused 0
 
+With --explain the race is followed by the accesses that make it one:
+  line 3: race: t2 write 0x000000001000 at -, holds none
+    first: line 2, t1 write
+    joined: line 3, t2 write
+    write: line 3, t2 write
+
 A suppression file has a rule a line, and the first that fits a race takes it:
   site parser.c:120
   words 0x1000 64
@@ -96,12 +139,20 @@ fn workload_of(name: &str) -> Option<Workload> {
         .find(|workload| workload.name() == name)
 }
 
+fn replay_of<'a>(found: &ArgMatches<'a>) -> Option<Replay<'a>> {
+    let shards = found.get_one::<u32>("shards")?;
+    let workers = found.get_one::<u32>("workers")?;
+    let options = Options::greatest().with_explain(found.get_flag("explain"));
+    Some(Replay {
+        suppressions: found.get_str("suppress"),
+        trace: found.get_str("trace")?,
+        options: options.with_workers(shards, workers)?,
+    })
+}
+
 fn request_of<'a>(matches: &ArgMatches<'a>) -> Option<Request<'a>> {
     match matches.subcommand()? {
-        ("replay", found) => Some(Request::Replay(Replay {
-            suppressions: found.get_str("suppress"),
-            trace: found.get_str("trace")?,
-        })),
+        ("replay", found) => Some(Request::Replay(replay_of(found)?)),
         ("demo", found) => Some(Request::Demo(workload_of(found.get_str("name")?)?)),
         _ => None,
     }
