@@ -1,7 +1,8 @@
-"""Worked traces with the whole text that the program writes of each, by name. `tests/run` passes each by path and by standard input.
+"""Worked traces with the whole text that the program writes of each, by name. `tests/run` passes each by standard input and by path.
 
 Lines are parted by `; ` here, and `x` stands for the address 0x1000 (0x000000001000 in what is written). A trace's header is
-`eraser trace 1` unless it gives its own `header`. A case with `rules` is replayed with them as suppressions.
+`eraser trace 1` unless it gives its own `header`. A case with `rules` is replayed with them as suppressions. Those of `EXPLAINED` are
+replayed with `--explain`.
 """
 
 from dataclasses import dataclass, field
@@ -140,6 +141,48 @@ SUPPRESSED = [
 ]
 
 
+def reasons(first, joined, write, *uncovered):
+    """The lines behind a race: each reason is a line and a step, and each lock that covers the joining has one."""
+    told = [("first", first), ("joined", joined), ("write", write), *((f"{lock} not covering", step) for lock, step in uncovered)]
+    return "; ".join(f"  {label}: line {step}" for label, step in told)
+
+
+SHRINK_RACE = "line 14: race: t2 write x at -, holds a b; " + reasons(
+    "4, t1 write", "8, t2 write", "8, t2 write", ("b", "11, t1 write"), ("c", "14, t2 write"))
+EXPLAINED = [
+    told("candidates_shrink", SHRINK, SHRINK_RACE, (13, 1, 0, 0), 1),
+    told("two_writers", "t1 write x; t2 write x", f"line 3: {RACE}; " + reasons("2, t1 write", "3, t2 write", "3, t2 write"), (2, 1, 0, 0), 1),
+    told("read_sharing", "t1 write x; t2 read x; t3 read x; t1 write x",
+         "line 5: race: t1 write x at -, holds none; " + reasons("2, t1 write", "3, t2 read", "5, t1 write"), (4, 1, 0, 0), 1),
+    told("read_mode_lock", "t1 lock m; t1 write x; t1 unlock m; t2 rlock m; t2 write x",
+         "line 6: race: t2 write x at -, holds m; " + reasons("3, t1 write", "6, t2 write", "6, t2 write"), (5, 1, 0, 0), 1),
+    told("lock_taken_too_late", "t1 write x; t2 read x; t2 lock m; t2 write x",
+         "line 5: race: t2 write x at -, holds m; " + reasons("2, t1 write", "3, t2 read", "5, t2 write"), (4, 1, 0, 0), 1),
+    told("reported_once_between_reuses", "t1 write x; t2 write x; t1 write x; t1 reuse x 4; t1 write x; t2 write x",
+         f"line 3: {RACE}; " + reasons("2, t1 write", "3, t2 write", "3, t2 write")
+         + f"; line 7: {RACE}; " + reasons("6, t1 write", "7, t2 write", "7, t2 write"), (6, 2, 0, 0), 1),
+    told("locks_by_number", "t1 write x; t2 lock m; t2 lock n; t2 write x; t2 unlock n; t2 read x; t3 rlock m; t3 write x",
+         "line 9: race: t3 write x at -, holds m; "
+         + reasons("2, t1 write", "5, t2 write", "5, t2 write", ("m", "9, t3 write"), ("n", "7, t2 read")), (8, 1, 0, 0), 1),
+    told("ignored_access_is_no_reason", "t1 write x; t2 ignore-on; t2 write x; t2 ignore-off; t1 write x; t2 write x",
+         f"line 7: {RACE}; " + reasons("2, t1 write", "7, t2 write", "7, t2 write"), (6, 1, 0, 0), 1),
+    told("levels_and_a_race", f"{LEVELS}; t1 write x",
+         "line 7: state x: shared-modified, candidates !1; line 8: race: t1 write x at -, holds none; "
+         + reasons("3, t1 write", "6, t2 write", "6, t2 write", ("!1", "8, t1 write")), (7, 1, 0, 0), 1, header="eraser trace 2"),
+    told("eight_pages", EIGHT, "; ".join(
+        f"line {10 + at}: race: t2 write 0x{page:012x} at -, holds none; " + reasons(f"{2 + at}, t1 write", f"{10 + at}, t2 write", f"{10 + at}, t2 write")
+        for at, page in enumerate(PAGES)), (16, 8, 0, 0), 1),
+    # A race that a rule takes has no reasons, and leaves the next race its own.
+    told("race_after_a_suppressed_one", "t1 write x S; t2 write x S; t1 write 0x2000; t2 write 0x2000",
+         "line 5: race: t2 write 0x000000002000 at -, holds none; " + reasons("4, t1 write", "5, t2 write", "5, t2 write") + "; suppression 1: 1",
+         (4, 1, 1, 0), 1, rules="site S"),
+    told("suppressions", "t1 write x S; t2 write x S", "suppression 1: 1; suppression 2: 0", (2, 0, 1, 0), rules=RULES),
+    told("one_lock_protects", "t1 lock m; t1 write x; t1 unlock m; t2 lock m; t2 write x; t2 unlock m; t1 show x",
+         "line 8: state x: shared-modified, candidates m", (7, 0, 0, 0)),
+    faulty("bad_verb", text_of("t1 wri"), 2, "bad verb"),
+]
+
+
 def faulty_rules(name, rules, line, kind):
     """Suppressions with a fault: the trace, which has one too, isn't looked at."""
     return Case(name, b"no header\n", b"", f"suppressions line {line}: {kind}\n".encode(), 2, rules)
@@ -176,4 +219,57 @@ FIRST_FAULTS = [
     faulty("extra_operand_before_level", text_of("t1 level 32 x", "eraser trace 2"), 2, "extra operand"),
 ]
 
-CASES = REPLAYED + FAULTY + FIRST_FAULTS + SUPPRESSED + FAULTY_RULES
+
+
+def many_locksets():
+    """65,537 words, each read by a second thread under a set of locks of its own, and then shown: more sets than 16 bits can number.
+
+    The reader takes or gives back one of 17 locks before each read, in the order of a Gray code, so that no set comes twice.
+    """
+    count, locks = 65537, 17
+    trace, report = ["eraser trace 1"], []
+    trace += [f"t2 {verb} m{n}" for n in range(locks) for verb in ("lock", "unlock")]
+    for k in range(1, count + 1):
+        code, last = k ^ k >> 1, (k - 1) ^ (k - 1) >> 1
+        lock = (code ^ last).bit_length() - 1
+        trace += [f"t1 write {4 * k}", f"t2 {'lock' if code > last else 'unlock'} m{lock}", f"t2 read {4 * k}"]
+    for k in range(1, count + 1):
+        held = " ".join(f"m{n}" for n in range(locks) if (k ^ k >> 1) >> n & 1)
+        trace.append(f"t1 show {4 * k}")
+        report.append(f"line {len(trace)}: state 0x{4 * k:012x}: shared, candidates {held}")
+    report.append(totals(len(trace) - 1, 0, 0, 0))
+    return Case("many_locksets", "".join(f"{line}\n" for line in trace).encode(), "".join(f"{line}\n" for line in report).encode())
+
+
+def many_rules():
+    """1,000 rules, by turns of a site and of a word, each of which takes a race of its own; one race is left."""
+    count = 1000
+    rules = [f"words {4 * k} 4" if k % 2 else f"site a.c:{k}" for k in range(count)]
+    trace = ["eraser trace 1"] + [f"{thread} write {4 * k} a.c:{k}" for k in range(count + 1) for thread in ("t1", "t2")]
+    report = [f"line {len(trace)}: race: t2 write 0x{4 * count:012x} at a.c:{count}, holds none"]
+    report += [f"suppression {k}: 1" for k in range(1, count + 1)] + [totals(2 * (count + 1), 1, count, 0)]
+    text, output, rules = ("".join(f"{line}\n" for line in lines).encode() for lines in (trace, report, rules))
+    return Case("many_rules", text, output, status=1, rules=rules)
+
+
+def many_pages():
+    """5,000 pages, each with a race at its last word; each second page is put to a new use afterwards, and each is shown."""
+    count = 5000
+    trace, report = ["eraser trace 1"], []
+    words = [4096 * k + 4092 for k in range(count)]
+    trace += [f"t1 write {word}" for word in words]
+    for word in words:
+        trace.append(f"t2 write {word}")
+        report.append(f"line {len(trace)}: race: t2 write 0x{word:012x} at -, holds none")
+    trace += [f"t1 reuse {word} 4" for word in words[1::2]]
+    for k, word in enumerate(words):
+        trace.append(f"t1 show {word}")
+        report.append(f"line {len(trace)}: state 0x{word:012x}: {'virgin' if k % 2 else 'shared-modified, candidates none'}")
+    report.append(totals(len(trace) - 1, count, 0, 0))
+    return Case("many_pages", "".join(f"{line}\n" for line in trace).encode(), "".join(f"{line}\n" for line in report).encode(), status=1)
+
+
+# Each has more of something than a limit that nobody asked for would let through.
+MANY = [many_locksets(), many_rules(), many_pages()]
+
+CASES = REPLAYED + FAULTY + FIRST_FAULTS + SUPPRESSED + FAULTY_RULES + MANY

@@ -1,7 +1,7 @@
 #!/usr/bin/env python3
 """A second reading of docs/FORMATS.md and docs/DEFINITIONS.md, written for checking alone: slow, plain and unproved.
 
-reference.py replay FILE [RULES]   prints the report of a trace and ends with its exit status
+reference.py replay [--explain] FILE [RULES]   prints the report of a trace and ends with its exit status
 reference.py random SEED           prints a short random trace, with faults now and then
 reference.py rules SEED            prints a short random text of suppressions, with faults now and then
 
@@ -165,16 +165,35 @@ class Word:
 
 
 class Replay:
-    def __init__(self, rules):
+    def __init__(self, rules, explain=False):
         self.rules, self.taken = rules, [0] * len(rules)
+        # Every counted access and every reuse so far, to be looked back on: its line, thread, verb, words and cover.
+        self.explain, self.marks = explain, []
         self.locks, self.held, self.depth, self.level, self.words = {}, {}, {}, {}, {}
         self.lines, self.steps, self.races, self.refused = [], 0, 0, 0
 
-    def names(self, locks):
+    def in_order(self, locks):
         """By number; a level's lock is its level here, and comes behind all named ones."""
         named = sorted((lock for lock in locks if isinstance(lock, bytes)), key=lambda lock: self.locks[lock])
-        levels = sorted(lock for lock in locks if isinstance(lock, int))
-        return " ".join([lock.decode() for lock in named] + [f"!{level}" for level in levels]) or "none"
+        return named + sorted(lock for lock in locks if isinstance(lock, int))
+
+    @staticmethod
+    def name(lock):
+        return lock.decode() if isinstance(lock, bytes) else f"!{lock}"
+
+    def names(self, locks):
+        return " ".join(self.name(lock) for lock in self.in_order(locks)) or "none"
+
+    def reasons(self, at):
+        """Why the last access of a word is a race: looked for among all accesses since the word's last reuse."""
+        reuses = [k for k, (_, _, verb, words, _) in enumerate(self.marks) if verb == b"reuse" and words[0] <= at <= words[1]]
+        era = self.marks[max(reuses, default=-1) + 1:]
+        found = [mark for mark in era if mark[2] != b"reuse" and mark[3] == (at, at)]
+        joined = next(k for k, mark in enumerate(found) if mark[1] != found[0][1])
+        told = [("first", found[0]), ("joined", found[joined]), ("write", next(mark for mark in found[joined:] if mark[2] == b"write"))]
+        for lock in self.in_order(found[joined][4]):
+            told.append((f"{self.name(lock)} not covering", next(mark for mark in found[joined + 1:] if lock not in mark[4])))
+        return [f"  {label}: line {line}, {thread.decode()} {verb.decode()}" for label, (line, thread, verb, _, _) in told]
 
     def cover(self, thread, verb):
         held = self.held[thread]
@@ -201,6 +220,7 @@ class Replay:
         at = number(operands[0]) // 4
         word = self.words.setdefault(at, Word())
         word.accesses.append((thread, verb, self.cover(thread, verb)))
+        self.marks.append((line, thread, verb, (at, at), self.cover(thread, verb)))
         if word.racy() and not word.reported:
             word.reported = True
             site = operands[1] if len(operands) > 1 else b"-"
@@ -210,6 +230,8 @@ class Replay:
                 return
             self.races += 1
             self.lines.append(f"line {line}: race: {thread.decode()} {verb.decode()} 0x{at * 4:012x} at {site.decode()}, holds {self.names(self.cover(thread, b'read'))}")
+            if self.explain:
+                self.lines += self.reasons(at)
 
     def show(self, line, operands):
         at = number(operands[0]) // 4
@@ -235,6 +257,7 @@ class Replay:
             address, size = number(operands[0]), number(operands[1])
             if size:
                 first, last = address // 4, (address + size - 1) // 4
+                self.marks.append((line, thread, verb, (first, last), []))
                 for at in [at for at in self.words if first <= at <= last]:
                     del self.words[at]
                 self.steps += last // 1024 - first // 1024 + 1
@@ -256,7 +279,7 @@ class Replay:
             self.access(line, thread, verb, operands)
 
 
-def replay(text, rules=b""):
+def replay(text, rules=b"", explain=False):
     """Standard output, standard error and exit status."""
     try:
         found = rules_of(rules)
@@ -266,7 +289,7 @@ def replay(text, rules=b""):
         events = events_of(text)
     except Fault as fault:
         return "", f"line {fault.line}: {fault.kind}\n", 2
-    run = Replay(found)
+    run = Replay(found, explain)
     for line, (thread, verb, operands) in events:
         run.step(line, thread, verb, operands)
     run.lines += [f"suppression {number}: {count}" for number, count in enumerate(run.taken, 1)]
@@ -320,8 +343,9 @@ def random_rules(seed):
 
 def main():
     if sys.argv[1] == "replay":
-        texts = [open(name, "rb").read() for name in sys.argv[2:4]]
-        output, errors, status = replay(*texts)
+        explain = sys.argv[2] == "--explain"
+        texts = [open(name, "rb").read() for name in sys.argv[2 + explain:4 + explain]]
+        output, errors, status = replay(*texts, explain=explain)
         sys.stdout.write(output)
         sys.stderr.write(errors)
         sys.exit(status)

@@ -1,0 +1,2 @@
+void add(unsigned *array, long times);
+void race(void);
