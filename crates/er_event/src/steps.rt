@@ -5,21 +5,25 @@ use crate::{Level, LockId, Lockset, PageRange, Site, ThreadId, Word};
 use std::alloc::AllocError;
 
 /// How a lock is held.
-#[derive(Clone, Copy, Debug, PartialEq, Eq, Hash)]
+#[derive(Clone, Copy, Debug, PartialEq, Eq)]
 pub enum Mode {
+    /// It protects what the thread reads.
     Read,
+    /// It protects what the thread reads and what it writes.
     Write,
 }
 
 /// What an access does.
-#[derive(Clone, Copy, Debug, PartialEq, Eq, Hash)]
+#[derive(Clone, Copy, Debug, PartialEq, Eq)]
 pub enum Kind {
+    /// It reads the word.
     Read,
+    /// It writes the word.
     Write,
 }
 
 /// What a thread does in one step.
-#[derive(Clone, Copy, Debug, PartialEq, Eq, Hash)]
+#[derive(Clone, Copy, Debug, PartialEq, Eq)]
 pub enum Event {
     /// Takes the lock in the mode.
     Acquire(LockId, Mode),
@@ -40,9 +44,11 @@ pub enum Event {
 }
 
 /// One step of one thread.
-#[derive(Clone, Copy, Debug, PartialEq, Eq, Hash)]
+#[derive(Clone, Copy, Debug, PartialEq, Eq)]
 pub struct Step {
+    /// The thread that takes the step.
     pub thread: ThreadId,
+    /// What it does.
     pub event: Event,
 }
 
@@ -87,19 +93,4 @@ pub enum Reply {
     Ignored,
     /// What a show found.
     State(WordState),
-}
-
-impl Reply {
-    /// The same reply again.
-    pub fn copy(&self) -> Result<Reply, AllocError>
-        ensures { IfOk result (λ copied. copied ≡ self.now) }
-    {
-        match self {
-            Reply::Done => Ok(Reply::Done),
-            Reply::Quiet => Ok(Reply::Quiet),
-            Reply::Race => Ok(Reply::Race),
-            Reply::Ignored => Ok(Reply::Ignored),
-            Reply::State(state) => Ok(Reply::State(state.copy()?)),
-        }
-    }
 }

@@ -4,10 +4,12 @@ use Rattle.std.proofs.lemmas.Bool.{eqb-true, eq-eqb, or_left, or_right, and_part
 use Rattle.std.proofs.lemmas.List.Folds.{list_any-append}
 use Rattle.std.specs.List.Sorted.{IsStrictlyIncreasing}
 use Rattle.er_event.specs.Lockset.{has, IsRising, with_lock, without_lock, level_lock, is_level_lock, level_locks, locks_from}
-use Rattle.er_event.proofs.LocksetLemmas.{itself, same-rising, has-with_lock, rising-with_lock, has-filtered, rising-filter, without_absent, length-filter-≤}
+use Rattle.er_event.proofs.LocksetLemmas.{same-rising, has-with_lock, rising-with_lock, has-filtered, rising-filter, without_absent}
 use Rattle.er_model.specs.Holdings.{acquired_among, at_level}
-use Rattle.er_model.proofs.Levels.{HasNoLevelLock, among-levels, rising-levels, level-rise, level-lower, level-room, level-counted, level-stays, level-insert, level-remove}
-use Rattle.er_held.specs.Held.{EndsInLevel, IsHolding}
+use Rattle.er_model.proofs.Levels.{HasNoLevelLock, among-levels, rising-levels, level-rise, level-lower, level-room, level-counted, level-stays, level-insert, level-remove, among_plain}
+use Rattle.er_event.proofs.Bools.{itself, first_false, second_false, and_known}
+use Rattle.er_event.proofs.Lists.{length_filter}
+use Rattle.er_held.specs.Inner.Holding.{EndsInLevel, IsHolding}
 
 -- no lock at all
 pub holding-nothing : (any write : List ℕ) (level : ℕ) → any ≡ [] → write ≡ [] → level ≡ 0 → IsHolding any write level
@@ -29,14 +31,6 @@ length-with_lock l [] = omega arith
 length-with_lock l (x ∷ xs) = length-with_cases l x xs (nat_lt l x) (l == x) refl refl (length-with_lock l xs)
 
 -- a lock that was not there is put in and taken out again
-first_false : (a b : Bool) → (a || b) ≡ false → a ≡ false
-first_false true b e = e
-first_false false b e = refl
-
-second_false : (a b : Bool) → (a || b) ≡ false → b ≡ false
-second_false true b e = cc
-second_false false b e = e
-
 turned : (l x : ℕ) (b : Bool) → (l == x) ≡ b → (x == l) ≡ false → b ≡ false
 turned l x true same other = let is : l ≡ x = eqb-true l x same in let me : (x == l) ≡ true = eq-eqb x l (sym is) in sym me ∙ other
 turned l x false e other = refl
@@ -81,12 +75,8 @@ module _ (any write : List ℕ) (level : ℕ) (it : IsHolding any write level) w
   pub fewer : length write ≤ length any
   fewer =
       let part : write ≡ filter (has write) any = same-rising write (filter (has write) any) it.write.rises (rising-filter (has write) any it.any.rises)
-      (λ l. sym (has-filtered (has write) any l ∙ both (has write l) (has any l) (it.within l))) in
-      rw part (length-filter-≤ (has write) any)
-    where
-      both : (a b : Bool) → (a ≡ true → b ≡ true) → (a && b) ≡ a
-      both true b f = f refl
-      both false b f = refl
+      (λ l. sym (has-filtered (has write) any l ∙ and_known (has write l) (has any l) (it.within l))) in
+      rw part (length_filter (has write) any)
 
 -- a lock more
 module _ (any write : List ℕ) (level l : ℕ) (it : IsHolding any write level) (plain : is_level_lock l ≡ false) where
@@ -126,7 +116,7 @@ module _ (any write : List ℕ) (level l : ℕ) (it : IsHolding any write level)
     within = λ k there. has-filtered (λ x. not (l == x)) any k ∙ both (not (l == k)) (has write k) (has any k) (it.within k) (sym (has-filtered (λ x. not (l == x)) write k) ∙ there);
     few = let shorter = level-counted (without_lock l any) level (ends-remove level l any plain it.any).ends in
         let few = it.few in
-        omega (arith, shorter, length-filter-≤ (λ x. not (l == x)) any, holding-counted any write level it, holding-room any write level it);
+        omega (arith, shorter, length_filter (λ x. not (l == x)) any, holding-counted any write level it, holding-room any write level it);
     limit = it.limit;
   }
     where
@@ -135,11 +125,6 @@ module _ (any write : List ℕ) (level l : ℕ) (it : IsHolding any write level)
       both false b c f e = e
 
 -- another level
-among_plain : (locks : List ℕ) → HasNoLevelLock (acquired_among locks)
-unfolding acquired_among
-among_plain locks l member =
-    not-true (is_level_lock l) (and_parts (not (is_level_lock l)) (has locks l) (sym (has-filtered (λ k. not (is_level_lock k)) locks l) ∙ member)).0
-
 ends-level : (level n : ℕ) (locks : List ℕ) → EndsInLevel level locks → EndsInLevel n (at_level n locks)
 unfolding acquired_among
 ends-level level n locks it = record {
@@ -214,9 +199,9 @@ take-locks l (suc k) n = let more : suc k + n ≡ suc (k + n) = omega arith in r
 locks-part : (level n : ℕ) → level ≤ n → n ≤ 31 → take (n - level) (drop level (level_locks 31)) ≡ locks_from (level_lock (suc level)) (n - level)
 locks-part level n above low =
     let size : level + ((n - level) + (31 - n)) ≡ 31 = omega arith in
-    let first : 4294967265 + level ≡ level_lock (suc level) = omega arith in
+    let first : level_lock 1 + level ≡ level_lock (suc level) = omega arith in
     let rest : drop level (level_locks 31) ≡ locks_from (level_lock (suc level)) ((n - level) + (31 - n)) =
-    rw (size, first) at (drop-locks 4294967265 level ((n - level) + (31 - n))) in
+    rw (size, first) at (drop-locks (level_lock 1) level ((n - level) + (31 - n))) in
     rw rest (take-locks (level_lock (suc level)) (n - level) (31 - n))
 
 -- the slice of them between two levels

@@ -1,5 +1,6 @@
--- What each thread holds, in a list by thread number.
-use Rattle.std.specs.Prelude.{ℕ, Bool, true, false, List, slice_index_or}
+-- What each thread holds, in a list by thread number or in a map.
+use Rattle.std.specs.Prelude.{ℕ, nat_eq, Bool, true, false, List, slice_index_or, unwrap_or}
+use Rattle.std.specs.Map.{lookup}
 use Rattle.er_event.specs.declared.steps.Event.{Event}
 use Rattle.er_event.specs.declared.steps.Event.TheVariants.{Acquire, Release, Access, Reuse, IgnoreOn, IgnoreOff, Show, Level}
 use Rattle.er_held.specs.Held.{nothing_held}
@@ -9,7 +10,11 @@ use Rattle.er_model.specs.Holdings.{Holdings}
 abbrev pub held_by : List Holdings → ℕ → Holdings
 held_by threads thread = slice_index_or threads thread nothing_held
 
--- events of the other sorts leave all holdings
+-- what the thread holds; one that is not in the map holds nothing
+unfoldable pub holding_among : List (ℕ × Holdings) → ℕ → Holdings
+holding_among threads thread = unwrap_or (lookup (nat_eq thread) threads) nothing_held
+
+-- the event changes what its thread holds, if it is accepted
 abbrev pub changes_holdings : Event → Bool
 changes_holdings (Acquire lock mode) = true
 changes_holdings (Release lock mode) = true

@@ -20,7 +20,7 @@ pub struct Held {
 
 impl Model for Held {
     ghost use Rattle.er_model.specs.Holdings.{Holdings};
-    ghost use Rattle.er_held.specs.Held.{IsHolding};
+    ghost use Rattle.er_held.specs.Inner.Holding.{IsHolding};
 
     ghost Value = { Holdings };
 
@@ -110,9 +110,10 @@ impl Held {
         Ok(())
     }
 
-    // How many locks it has that are not its level's.
-    fn acquired(&self) -> usize
-        ensures { result ≡ length (acquired_among self.now.held) }
+    /// How many locks were acquired and are held: the locks of the level don't count.
+    pub fn acquired(&self) -> usize
+        ensures count { result ≡ length (acquired_among self.now.held) }
+        ensures limit { result ≤ 64 }
     {
         self.any_mode.len() - usize::from(self.level.number())
     }

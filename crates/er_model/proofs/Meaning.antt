@@ -7,7 +7,7 @@ use Rattle.er_event.specs.declared.steps.Event.TheVariants.{Acquire, Release, Ac
 use Rattle.er_event.specs.declared.steps.Mode.{Mode}
 use Rattle.er_event.specs.declared.steps.Mode.TheVariants.{Read, Write}
 use Rattle.er_event.specs.declared.steps.Step.{Step}
-use Rattle.er_event.specs.Lockset.{level_lock, is_level_lock, has}
+use Rattle.er_event.specs.Lockset.{level_base, level_lock, is_level_lock, has}
 use Rattle.er_model.specs.Threads.{same_mode, acquires, releases, acquired, level_after, level_from, level_of, is_up_to_level, holds}
 use Rattle.er_model.specs.Search.{some_below, every_below, or_next, least_below}
 use Rattle.er_model.specs.Words.{Reading, reuses, counts, thread_of, writes, cover_of, is_empty, era, counted_from, first, join, first_other_than, covers_from, candidates, written}
@@ -211,11 +211,11 @@ level_parts : (n l : ℕ) (m : Mode) → (same_mode m Write && is_up_to_level n 
 level_parts n l Read e = cc
 level_parts n l Write e =
     let parts = and_parts (is_level_lock l) (nat_le l (level_lock n)) e in
-    (refl, omega (arith, ltb-true 4294967264 l parts.0), leb-true l (level_lock n) parts.1)
+    (refl, omega (arith, ltb-true level_base l parts.0), leb-true l (level_lock n) parts.1)
 
 level_whole : (n l : ℕ) (m : Mode) → m ≡ Write → level_lock 0 < l → l ≤ level_lock n → (same_mode m Write && is_up_to_level n l) ≡ true
 level_whole n l Read e low high = cc
-level_whole n l Write e low high = and_from (is_level_lock l) (nat_le l (level_lock n)) (lt-ltb 4294967264 l (omega (arith, low))) (le-leb l (level_lock n) high)
+level_whole n l Write e low high = and_from (is_level_lock l) (nat_le l (level_lock n)) (lt-ltb level_base l (omega (arith, low))) (le-leb l (level_lock n) high)
 
 pub holds-means : (past : List Step) (t l : ℕ) (m : Mode) →
     (holds past t l m ≡ true) ↔ ((acquired past t l m ≡ true) ⊎ ((m ≡ Write) × (level_lock 0 < l) × (l ≤ level_lock (level_of past t))))

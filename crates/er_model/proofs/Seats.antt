@@ -12,7 +12,7 @@ use Rattle.er_model.specs.Locality.{event_by, events_of, steps_by, is_own_call}
 use Rattle.er_model.proofs.Search.{below_or_at}
 use Rattle.er_model.proofs.AnswersLemmas.{answer-step}
 use Rattle.er_model.proofs.Locality.{holdings-local}
-use Rattle.er_model.proofs.Parts.{get-before, length-more}
+use Rattle.er_event.proofs.Lists.{get_front, length_push}
 
 map-more : (t : ℕ) (xs ys : List Event) → steps_by t (xs ++ ys) ≡ steps_by t xs ++ steps_by t ys
 map-more t [] ys = refl
@@ -23,7 +23,7 @@ length-by t [] = refl
 length-by t (x ∷ xs) = ap suc (length-by t xs)
 
 by_before : (t : ℕ) (xs ys : List Event) (k : ℕ) → k < length xs → slice_get (steps_by t (xs ++ ys)) k ≡ slice_get (steps_by t xs) k
-by_before t xs ys k below = rw (map-more t xs ys) (get-before (steps_by t xs) (steps_by t ys) k (omega (arith, length-by t xs)))
+by_before t xs ys k below = rw (map-more t xs ys) (get_front (steps_by t xs) (steps_by t ys) k (omega (arith, length-by t xs)))
 
 by_last : (t : ℕ) (xs : List Event) (e : Event) → slice_get (steps_by t (xs ++ e ∷ [])) (length xs) ≡ Some (record { thread = t; event = e })
 by_last t [] e = refl
@@ -57,7 +57,7 @@ module _ (steps : List Step) (t : ℕ) where
   unfolding events_of
   itself_own k s true is mine before =
       let xs = events_of steps t k in
-      rw (length-more xs s.event)
+      rw (length_push xs s.event)
       (rw (events-agree (steps_by t (xs ++ s.event ∷ [])) (steps_by t xs) t (length xs) (λ i low. by_before t xs (s.event ∷ []) i low), before, by_last t xs s.event)
       (rw (eq-eqb t t refl) refl))
   itself_own k s false is other before = rw (append-nil (events_of steps t k)) before
@@ -106,7 +106,7 @@ answer-own steps k n s below is own =
     let xs = events_of steps t k in
     let there : slice_get mine place ≡ Some s =
     rw (front.1, events-mine steps t k s is (eq-eqb t t refl))
-    (by_before t (xs ++ s.event ∷ []) front.0 (length xs) (omega (arith, length-more xs s.event)) ∙ by_last t xs s.event) in
+    (by_before t (xs ++ s.event ∷ []) front.0 (length xs) (omega (arith, length_push xs s.event)) ∙ by_last t xs s.event) in
     answer-step mine place s there
     ∙ rw (holdings-local mine steps t place k (events-within steps t k n (omega arith)))
     (ap (answer_unless (refused_by (holdings_at steps t k) s.event))

@@ -15,7 +15,8 @@ use Rattle.er_event.specs.Lockset.{has, IsRising, is_level_lock, with_lock, leve
 use Rattle.er_model.specs.Threads.{same_mode, other_mode, is_acquire, is_release, acquires, releases, acquired, acquired_any, level_after, level_from, level_of, is_up_to_level, holds, holds_any, lock_named, named, acquired_locks, acquired_to_write, held, write_held, ignore_ons, ignore_offs, is_ignore_on, is_ignore_off, refusal_if, depth, refusal, accepted}
 use Rattle.er_model.specs.Holdings.{Holdings, holdings, at_level, acquired_among, refused_by, changed_by, changed_unless, after_step, holdings_at}
 use Rattle.er_model.proofs.Levels.{HasNoLevelLock, has-levels, with-levels, without-levels, among-levels, rising-levels}
-use Rattle.er_event.proofs.LocksetLemmas.{same-rising, has-with_lock, rising-with_lock, has-filtered, rising-filter, itself}
+use Rattle.er_event.proofs.Bools.{itself, and_known}
+use Rattle.er_event.proofs.LocksetLemmas.{same-rising, has-with_lock, rising-with_lock, has-filtered, rising-filter}
 
 -- one more accepted step at the end
 push_Bool : (A L R H Q : Bool) → ((A && not (L || (R || false))) || ((H && not R) || Q)) ≡ ((((A && not L) || H) && not R) || Q)
@@ -107,10 +108,6 @@ rising-acquired p t = rising-filter (acquired_any p t) (named p) (rising-named p
 pub rising-acquired_to_write : (p : List Step) (t : ℕ) → IsRising (acquired_to_write p t)
 unfolding acquired_to_write
 rising-acquired_to_write p t = rising-filter (λ l. acquired p t l Write) (named p) (rising-named p)
-
-and_known : (a b : Bool) → (a ≡ true → b ≡ true) → (a && b) ≡ a
-and_known true b h = h refl
-and_known false b h = refl
 
 -- the lists have exactly the locks that are acquired
 pub has-acquired_to_write : (p : List Step) (t l : ℕ) → has (acquired_to_write p t) l ≡ acquired p t l Write

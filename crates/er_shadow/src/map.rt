@@ -1,7 +1,7 @@
 //! Every word's state.
 ghost use Rattle.std.specs.Prelude.{◌≡◌, ◌%◌, ℕ, IsTrue, IsOk, IfOk, OnOk, OnErr, IsErrOf};
 ghost use Rattle.er_event.specs.declared.steps.WordState.TheVariants.{Virgin, Exclusive};
-ghost use Rattle.er_model.specs.Journals.{stamped};
+ghost use Rattle.er_journal.specs.Journals.{stamped};
 ghost use Rattle.er_model.specs.Table.{advanced, moved, reports};
 ghost use Rattle.er_model.specs.Words.{Counted, Reused};
 ghost use Rattle.er_shadow.specs.Replies.{reply_if};
@@ -9,7 +9,7 @@ ghost use Rattle.er_shadow.specs.Replies.{reply_if};
 use crate::page::{Page, WORDS};
 use crate::refining::{named, step};
 use er_event::{Kind, Lockset, NoRoom, PageRange, Reply, ThreadId, Word, WordState};
-use er_model::Stamp;
+use er_journal::Stamp;
 use er_owner::Shadow;
 use er_table::{Known, LocksetTable};
 use std::alloc::{AllocError, Global};

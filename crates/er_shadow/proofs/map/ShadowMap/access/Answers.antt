@@ -12,6 +12,7 @@ use Rattle.er_shadow.specs.Replies.{reply_if}
 use Rattle.er_shadow.specs.Shadows.{Shadows, numbered_state, states, needs_set}
 use Rattle.er_shadow.specs.declared.map.ShadowMap.TheInside.{Inside}
 use Rattle.er_shadow.proofs.Moves.{found_word, state_found, state_absent, unwritten_page, written_page, made_page, all_numbered, all_kept, states_kept, states_put, needs_from_need, own_needs_nothing}
+use Rattle.er_event.proofs.Results.{on_err_of}
 use Rattle.er_shadow.proofs.map.ShadowMap.access.Goals as goal
 
 -- what contracts see of the fields
@@ -20,10 +21,6 @@ seen inside = record { pages = inside.pages.entries; sets = inside.known }
 
 keeps_all : (sets : List (List ℕ)) → KeepsNumbers sets sets
 keeps_all sets = record { longer = omega arith; kept = λ n within. refl }
-
-on_err : {A E : Type 0} (r : Result A E) (P : Type 0) → P → OnErr r P
-on_err (Ok v) P p = tt
-on_err (Err e) P p = p
 
 pub step-requires : goal.step-requires
 step-requires g c =
@@ -42,7 +39,7 @@ returns-in_err-shadow-in-Some-clause-err g c =
     let same = unwritten_page c.self.inside.pages.entries (c.get_mut.follows.lender c.in-Some.page.now).entries c.page-number.result c.in-Some.page.now c.in-Some.ensures.value ((c.get_mut.follows.holds c.in-Some.page.now).3 some).0 in
     let after : Shadows = record { pages = (c.get_mut.follows.lender c.in-Some.page.now).entries; sets = c.step.new.known } in
     let kept = states_kept (seen c.self.inside) after c.step.ensures.kept c.self.invariant same in
-    on_err c.from_residual.result _ (subst (λ before. (w : ℕ) → states after w ≡ states before w) c.self.view_is kept)
+    on_err_of c.from_residual.result _ (subst (λ before. (w : ℕ) → states after w ≡ states before w) c.self.view_is kept)
 
 pub returns-in_err-shadow-in-Some-clause-full : goal.returns-in_err-shadow-in-Some-clause-full
 returns-in_err-shadow-in-Some-clause-full g c = λ full.

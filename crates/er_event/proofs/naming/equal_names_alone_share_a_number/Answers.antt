@@ -1,5 +1,0 @@
-use Rattle.er_event.proofs.NumberLemmas.{given, again, kept, still, alone}
-use Rattle.er_event.proofs.naming.equal_names_alone_share_a_number.Goals as goal
-
-pub returns : goal.returns
-returns c = record { given = given; again = again; kept = kept; still_known = still; alone = alone }

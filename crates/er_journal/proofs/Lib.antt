@@ -1,0 +1,2 @@
+pub mod AnswerListLemmas
+pub mod Merges

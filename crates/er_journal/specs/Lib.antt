@@ -1,0 +1,4 @@
+pub mod AnswerList
+pub mod Inner
+pub mod Journals
+pub mod Merges

@@ -1,0 +1,28 @@
+//! What is written down as a run goes on: the answers of a replay, the journal of a shard, the calls of a seat.
+//!
+//! Begin with [`Answers`], what a replay answered, step by step, and with [`Entry`] and [`Call`], what shards and seats keep.
+//! `specs/Journals` says when a journal is legal, and `specs/Merges` when calls and journals are parts of one run.
+//!
+//! What it promises: answers are the list of what was answered, and a call that found no memory changed nothing (`err`); a reply in
+//! one byte is the reply; in a merge of legal journals and seats each reply is the one that the whole list gives (the law
+//! `a_merge_is_legal`).
+//!
+//! ```
+//! let mut answers = Answers::new(alloc);
+//! answers.push(Ok(Reply::Quiet))?;
+//! answers.push(Err(Refusal::NotHeld))?;
+//! if let Some(Answer::Refused(why)) = answers.get(1) {
+//!     println!(rt; "{why}")?;
+//! }
+//! ```
+#![tactic(auto)]
+
+pub use answers::{Answer, Answers, Outcome, Stopped};
+pub use entries::{Call, Entry, Stamp, What};
+pub use laws::a_merge_is_legal;
+pub use replies::BriefReply;
+
+mod answers;
+mod entries;
+mod laws;
+mod replies;

@@ -1,0 +1,45 @@
+-- Recorded steps, each with its line, and the names that they use.
+use Rattle.std.specs.Prelude.{ℕ, ◌<◌, ◌≤◌, ◌++◌, List, [], ◌∷◌, length}
+use Rattle.er_trace.specs.Names.{NameTable, no_names, with_name}
+use Rattle.er_event.specs.declared.steps.Event.{Event}
+use Rattle.er_event.specs.declared.steps.Event.TheVariants.{Acquire, Release, Access, Reuse, IgnoreOn, IgnoreOff, Show, Level}
+use Rattle.er_event.specs.declared.steps.Step.{Step}
+
+-- the steps in order, the line of each, and the names of their numbers
+pub record Recording : Type 0 where
+  pub steps : List Step
+  pub lines : List ℕ
+  pub names : NameTable
+
+abbrev pub no_steps : Recording
+no_steps = record { steps = []; lines = []; names = no_names }
+
+-- each number of the event but the missing site has a name
+abbrev pub HasNames : NameTable → Event → Type 0
+HasNames names (Acquire lock mode) = lock < length names.locks
+HasNames names (Release lock mode) = lock < length names.locks
+HasNames names (Access kind word site) = site ≤ length names.sites
+HasNames names (Reuse range) = Unit {0}
+HasNames names IgnoreOn = Unit {0}
+HasNames names IgnoreOff = Unit {0}
+HasNames names (Show word) = Unit {0}
+HasNames names (Level level) = Unit {0}
+
+-- and so does its thread
+pub record IsNamed (names : NameTable) (step : Step) : Type 0 where
+  pub thread : step.thread < length names.threads
+  pub event : HasNames names step.event
+
+-- the recording with one more step
+abbrev pub with_step : Recording → Step → ℕ → Recording
+with_step r step line = record r { steps = r.steps ++ step ∷ []; lines = r.lines ++ line ∷ [] }
+
+-- the recording once a name of each sort has appeared
+abbrev pub with_thread_name : Recording → List ℕ → Recording
+with_thread_name r name = record r { names = record r.names { threads = with_name r.names.threads name } }
+
+abbrev pub with_lock_name : Recording → List ℕ → Recording
+with_lock_name r name = record r { names = record r.names { locks = with_name r.names.locks name } }
+
+abbrev pub with_site_name : Recording → List ℕ → Recording
+with_site_name r name = record r { names = record r.names { sites = with_name r.names.sites name } }

@@ -1,0 +1,107 @@
+//! `Trace`, steps with their lines and names.
+ghost use Rattle.std.specs.Prelude.{◌≡◌, ◌+◌, ◌^◌, ◌<◌, All, length, IsTrue, IsOk, IfOk, OnOk, OnErr};
+ghost use Rattle.er_trace.specs.Names.{number_of};
+ghost use Rattle.er_trace.specs.Trace.{IsNamed, no_steps, with_step, with_thread_name, with_lock_name, with_site_name};
+
+use crate::Names;
+use er_event::{LockId, Site, Step, ThreadId};
+use std::alloc::{AllocError, Global};
+use std::marker::Model;
+
+/// Steps in order, the line of text that each came from, and the names that they use.
+#[derive(Drop)]
+pub struct Trace {
+    steps: Vec<Step>,
+    lines: Vec<u64>,
+    names: Names,
+}
+
+impl Model for Trace {
+    ghost use Rattle.std.specs.Prelude.{◌≡◌, All, length};
+    ghost use Rattle.er_trace.specs.Trace.{Recording, IsNamed};
+
+    ghost Value = { Recording };
+
+    ghost view = { λ t. record { steps = t.steps.items; lines = t.lines.items; names = t.names } };
+
+    ghost invariant = { λ t. (length t.lines.items ≡ length t.steps.items) × All (IsNamed t.names) t.steps.items };
+}
+
+impl Trace {
+    /// The trace with no steps.
+    pub fn new(alloc: Global) -> Self
+        ensures { result ≡ no_steps }
+    {
+        Trace {
+            steps: Vec::new(alloc),
+            lines: Vec::new(alloc),
+            names: Names::new(alloc),
+        }
+    }
+
+    /// The steps, in order.
+    pub fn steps(&self) -> &[Step]
+        ensures value { result.now ≡ self.now.steps }
+        ensures named { All (IsNamed self.now.names) self.now.steps }
+    {
+        self.steps.as_slice()
+    }
+
+    /// The line of text that each step came from, counted from 1 by whoever pushed it.
+    pub fn lines(&self) -> &[u64]
+        ensures value { result.now ≡ self.now.lines }
+        ensures one_per_step { length self.now.lines ≡ length self.now.steps }
+    {
+        self.lines.as_slice()
+    }
+
+    /// The names of all numbers in the steps.
+    pub fn names(&self) -> &Names
+        ensures { result.now ≡ self.now.names }
+    {
+        &self.names
+    }
+
+    /// Adds a step, whose numbers have names already, and its line. `AllocError`: memory was refused, and the trace is as it was.
+    pub fn push(&mut self, step: Step, line: u64) -> Result<(), AllocError>
+        requires { IsNamed self.old.names step }
+        ensures ok { OnOk result (self.new ≡ with_step self.old step line) }
+        ensures err { OnErr result (self.new ≡ self.old) }
+    {
+        let Step { thread, event } = step;
+        self.steps.reserve(1)?;
+        self.lines.push(line)?;
+        self.steps.push_reserved(Step { thread, event });
+        Ok(())
+    }
+
+    /// The thread of this name, which is a new one if the name is new. `AllocError`: memory was refused, and the trace is as it was.
+    pub fn thread(&mut self, name: &str) -> Result<ThreadId, AllocError>
+        requires { length self.old.names.threads < 2 ^ 30 }
+        ensures number { IfOk result (λ thread. thread ≡ number_of self.old.names.threads name.now) }
+        ensures ok { OnOk result (self.new ≡ with_thread_name self.old name.now) }
+        ensures err { OnErr result (self.new ≡ self.old) }
+    {
+        self.names.thread(name)
+    }
+
+    /// The lock of this name, which is a new one if the name is new. `AllocError`: memory was refused, and the trace is as it was.
+    pub fn lock(&mut self, name: &str) -> Result<LockId, AllocError>
+        requires { length self.old.names.locks < 2 ^ 30 }
+        ensures number { IfOk result (λ lock. lock ≡ number_of self.old.names.locks name.now) }
+        ensures ok { OnOk result (self.new ≡ with_lock_name self.old name.now) }
+        ensures err { OnErr result (self.new ≡ self.old) }
+    {
+        self.names.lock(name)
+    }
+
+    /// The site of this name, which is a new one if the name is new. `AllocError`: memory was refused, and the trace is as it was.
+    pub fn site(&mut self, name: &str) -> Result<Site, AllocError>
+        requires { length self.old.names.sites < 2 ^ 30 }
+        ensures number { IfOk result (λ site. site ≡ number_of self.old.names.sites name.now + 1) }
+        ensures ok { OnOk result (self.new ≡ with_site_name self.old name.now) }
+        ensures err { OnErr result (self.new ≡ self.old) }
+    {
+        self.names.site(name)
+    }
+}
