@@ -17,8 +17,9 @@ use Rattle.er_text.specs.Number.{number_of}
 use Rattle.er_text.specs.Naming.{is_name, is_lock_name}
 use Rattle.er_text.specs.Verbs.{verb_of, least_of, most_of}
 use Rattle.er_text.specs.Events.{Deed, Acquires, Releases, Accesses, Reuses, Shows, Levels, Saying, run_of}
-use Rattle.er_text.specs.Saying.{and_then, map_ok, or_fault, number_in, lock_in, site_in, word_in, level_in, is_outside, run_in, access_in, reuse_in, operands_in, count_of, deed_in, said_of}
-use Rattle.er_text.specs.Trace.{first_kind, operand_kinds, verb_kinds, event_kinds}
+use Rattle.er_text.specs.Inner.Saying.{and_then, map_ok, or_fault, number_in, lock_in, site_in, word_in, level_in, is_outside, run_in, access_in, reuse_in, operands_in, count_of, deed_in, said_of}
+use Rattle.er_text.specs.FirstFault.{first_kind}
+use Rattle.er_text.specs.Trace.{operand_kinds, verb_kinds, event_kinds}
 use Rattle.er_text.proofs.SpellingLaws.{equal, AreWhole}
 
 abbrev pub fault_of : {X : Type 0} → Result X TextKind → Option TextKind

@@ -5,6 +5,7 @@ pub mod WordLemmas
 pub mod WindowLemmas
 pub mod NumberLemmas
 pub mod TellLemmas
+pub mod LendingLemmas
 pub mod TurnLemmas
 pub mod UsualLemmas
 pub mod UsualLaws
@@ -13,12 +14,12 @@ pub mod FaultTables
 pub mod SayingLaws
 pub mod SayingAgain
 pub mod ReadingLaws
-pub mod FaultLaws
+pub mod TraceFaults
 pub mod TraceLaws
-pub mod AgainLaws
 pub mod TextLaws
 pub mod NamedLaws
-pub mod RuleWords
 pub mod RuleLaws
-pub mod GatherTurns
-pub mod GatherLaws
+pub mod RuleTexts
+pub mod PlaceLemmas
+pub mod BatchLaws
+pub mod GrowthLemmas

@@ -2,18 +2,18 @@
 use Rattle.std.proofs.Common.{◌≡◌, ℕ, zero, suc, ◌+◌, ◌-◌, Bool, true, false, not, ◌||◌, cond, List, [], ◌∷◌, ◌++◌, map, Option, Some, None, refl, subst, sym, ap, arith}
 use Rattle.std.specs.List.{Contains, slice_get, list_any, position_or_len}
 use Rattle.std.specs.Str.{bytes_eq}
-use Rattle.er_event.specs.Names.{NameTable, is_known, number_of, with_name}
+use Rattle.er_trace.specs.Names.{NameTable, is_known, number_of, with_name}
 use Rattle.er_event.specs.Span.{Span}
-use Rattle.er_event.specs.Trace.{Recording, no_steps, with_thread}
+use Rattle.er_trace.specs.Trace.{Recording, no_steps, with_thread_name}
 use Rattle.er_event.specs.declared.addresses.PageRange.{PageRange}
 use Rattle.er_event.specs.declared.steps.Event.{Event}
 use Rattle.er_event.specs.declared.steps.Event.TheVariants as event
 use Rattle.er_event.specs.declared.steps.Step.{Step}
 use Rattle.er_text.specs.declared.verbs.Version.{Version}
-use Rattle.er_text.specs.Lines.{words}
+use Rattle.er_text.specs.Lines.{Placed, words}
 use Rattle.er_text.specs.Events.{Saying, Deed, Acquires, Releases, Accesses, Reuses, IgnoresOn, IgnoresOff, Shows, Levels, run_parts, tell_deed, tell}
-use Rattle.er_text.specs.Trace.{Placed, Says, AllSay, tell_all, IsTrace}
-use Rattle.er_text.specs.Named.{IsSiteNumber, Does, AreNamed}
+use Rattle.er_text.specs.Trace.{Says, AllSay, tell_all, IsTrace}
+use Rattle.er_text.specs.Named.{KeepsNumbers, KeepsNames, IsSiteNumber, Does, AreNamed}
 use Rattle.er_text.proofs.SpellingLaws.{equal}
 
 kept : {X : Type 0} (xs ys : List X) (n : ℕ) (x : X) → slice_get xs n ≡ Some x → slice_get (xs ++ ys) n ≡ Some x
@@ -53,27 +53,18 @@ numbered names name false e = new_named name names e
 name_there : (names : List (List ℕ)) (name : List ℕ) → slice_get (with_name names name) (number_of names name) ≡ Some name
 name_there names name = numbered names name (is_known names name) refl
 
--- the names go on
-abbrev GoesOn : List (List ℕ) → List (List ℕ) → Type 0
-GoesOn old new = (n : ℕ) (name : List ℕ) → slice_get old n ≡ Some name → slice_get new n ≡ Some name
-
-goes_on : (names : List (List ℕ)) (name : List ℕ) (b : Bool) → GoesOn names (cond b names (names ++ name ∷ []))
+goes_on : (names : List (List ℕ)) (name : List ℕ) (b : Bool) → KeepsNumbers names (cond b names (names ++ name ∷ []))
 goes_on names name true = λ n x e. e
 goes_on names name false = λ n x e. kept names (name ∷ []) n x e
 
-name_goes_on : (names : List (List ℕ)) (name : List ℕ) → GoesOn names (with_name names name)
+pub name_goes_on : (names : List (List ℕ)) (name : List ℕ) → KeepsNumbers names (with_name names name)
 name_goes_on names name = goes_on names name (is_known names name)
 
-record AllGoOn (old new : NameTable) : Type 0 where
-  threads : GoesOn old.threads new.threads
-  locks : GoesOn old.locks new.locks
-  sites : GoesOn old.sites new.sites
-
-site_kept : (old new : List (List ℕ)) (n : ℕ) (site : Option (List ℕ)) → GoesOn old new → IsSiteNumber old n site → IsSiteNumber new n site
+site_kept : (old new : List (List ℕ)) (n : ℕ) (site : Option (List ℕ)) → KeepsNumbers old new → IsSiteNumber old n site → IsSiteNumber new n site
 site_kept old new n None on is = is
 site_kept old new n (Some site) on is = (is.0, on (n - 1) site is.1)
 
-does_kept : (old new : NameTable) (d : Deed) (e : Event) → AllGoOn old new → Does old d e → Does new d e
+does_kept : (old new : NameTable) (d : Deed) (e : Event) → KeepsNames old new → Does old d e → Does new d e
 does_kept old new (Acquires lock m) e on is = (is.0, is.1, on.locks is.0 lock is.2)
 does_kept old new (Releases lock m) e on is = (is.0, is.1, on.locks is.0 lock is.2)
 does_kept old new (Accesses k w site) e on is = (is.0, is.1, site_kept old.sites new.sites is.0 site on.sites is.2)
@@ -83,7 +74,7 @@ does_kept old new IgnoresOff e on is = is
 does_kept old new (Shows w) e on is = is
 does_kept old new (Levels n) e on is = is
 
-named_kept : (v : Version) (events : List Placed) (old new : NameTable) (steps : List Step) (lines : List ℕ) → AllGoOn old new → AreNamed v events old steps lines
+named_kept : (v : Version) (events : List Placed) (old new : NameTable) (steps : List Step) (lines : List ℕ) → KeepsNames old new → AreNamed v events old steps lines
     → AreNamed v events new steps lines
 named_kept v events old new [] [] on are = tt
 named_kept v events old new [] (line ∷ lines) on are = absurd are
@@ -126,13 +117,13 @@ parts_named v events names p s run thread (part ∷ parts) there says deed named
 
 -- one step more
 step_named : (v : Version) (events : List Placed) (r : Recording) (names : NameTable) (p : Placed) (s : Saying) (step : Step) → Contains events p → Says v (words p.line.bytes) s
-    → AllGoOn r.names names → slice_get names.threads step.thread ≡ Some s.thread → Does names s.deed step.event → AreNamed v events r.names r.steps r.lines
+    → KeepsNames r.names names → slice_get names.threads step.thread ≡ Some s.thread → Does names s.deed step.event → AreNamed v events r.names r.steps r.lines
     → AreNamed v events names (r.steps ++ step ∷ []) (r.lines ++ p.number ∷ [])
 step_named v events r names p s step there says on thread does are =
     both_named v events names r.steps (step ∷ []) r.lines (p.number ∷ []) (named_kept v events r.names names r.steps r.lines on are)
     ((p, there, refl, record { saying = s; says = says; thread = thread; does = does }), tt)
 
-thread_on : (r : Recording) (name : List ℕ) → AllGoOn r.names (with_thread r name).names
+pub thread_on : (r : Recording) (name : List ℕ) → KeepsNames r.names (with_thread_name r name).names
 thread_on r name = record { threads = name_goes_on r.names.threads name; locks = λ n x e. e; sites = λ n x e. e }
 
 site_does : (sites : List (List ℕ)) (site : List ℕ) → IsSiteNumber (with_name sites site) (number_of sites site + 1) (Some site)
@@ -143,7 +134,7 @@ site_does sites site =
 -- what one event line tells
 deed_named : (v : Version) (events : List Placed) (r : Recording) (p : Placed) (s : Saying) (d : Deed) → Contains events p → Says v (words p.line.bytes) s → s.deed ≡ d
     → AreNamed v events r.names r.steps r.lines
-    → let t = tell_deed p.number (number_of r.names.threads s.thread) d (with_thread r s.thread) in AreNamed v events t.names t.steps t.lines
+    → let t = tell_deed p.number (number_of r.names.threads s.thread) d (with_thread_name r s.thread) in AreNamed v events t.names t.steps t.lines
 deed_named v events r p s (Acquires lock m) there says deed are =
     let names : NameTable = record { threads = with_name r.names.threads s.thread; locks = with_name r.names.locks lock; sites = r.names.sites } in
     step_named v events r names p s (record { thread = number_of r.names.threads s.thread; event = event.Acquire (number_of r.names.locks lock) m }) there says
@@ -155,7 +146,7 @@ deed_named v events r p s (Releases lock m) there says deed are =
     (record { threads = name_goes_on r.names.threads s.thread; locks = name_goes_on r.names.locks lock; sites = λ n x e. e })
     (name_there r.names.threads s.thread) (rw deed (number_of r.names.locks lock, refl, name_there r.names.locks lock)) are
 deed_named v events r p s (Accesses k w None) there says deed are =
-    step_named v events r (with_thread r s.thread).names p s (record { thread = number_of r.names.threads s.thread; event = event.Access k w 0 }) there says
+    step_named v events r (with_thread_name r s.thread).names p s (record { thread = number_of r.names.threads s.thread; event = event.Access k w 0 }) there says
     (thread_on r s.thread) (name_there r.names.threads s.thread) (rw deed (0, refl, refl)) are
 deed_named v events r p s (Accesses k w (Some site)) there says deed are =
     let names : NameTable = record { threads = with_name r.names.threads s.thread; locks = r.names.locks; sites = with_name r.names.sites site } in
@@ -163,23 +154,23 @@ deed_named v events r p s (Accesses k w (Some site)) there says deed are =
     (record { threads = name_goes_on r.names.threads s.thread; locks = λ n x e. e; sites = name_goes_on r.names.sites site })
     (name_there r.names.threads s.thread) (rw deed (number_of r.names.sites site + 1, refl, site_does r.names.sites site)) are
 deed_named v events r p s (Reuses run) there says deed are =
-    let names = (with_thread r s.thread).names in
+    let names = (with_thread_name r s.thread).names in
     let thread = number_of r.names.threads s.thread in
     let parts = run_parts run in
     both_named v events names r.steps (map (λ part. record { thread = thread; event = event.Reuse part }) parts) r.lines (map (λ part. p.number) parts)
     (named_kept v events r.names names r.steps r.lines (thread_on r s.thread) are)
     (parts_named v events names p s run thread parts there says deed (name_there r.names.threads s.thread) (λ part is. is))
 deed_named v events r p s IgnoresOn there says deed are =
-    step_named v events r (with_thread r s.thread).names p s (record { thread = number_of r.names.threads s.thread; event = event.IgnoreOn }) there says
+    step_named v events r (with_thread_name r s.thread).names p s (record { thread = number_of r.names.threads s.thread; event = event.IgnoreOn }) there says
     (thread_on r s.thread) (name_there r.names.threads s.thread) (rw deed refl) are
 deed_named v events r p s IgnoresOff there says deed are =
-    step_named v events r (with_thread r s.thread).names p s (record { thread = number_of r.names.threads s.thread; event = event.IgnoreOff }) there says
+    step_named v events r (with_thread_name r s.thread).names p s (record { thread = number_of r.names.threads s.thread; event = event.IgnoreOff }) there says
     (thread_on r s.thread) (name_there r.names.threads s.thread) (rw deed refl) are
 deed_named v events r p s (Shows w) there says deed are =
-    step_named v events r (with_thread r s.thread).names p s (record { thread = number_of r.names.threads s.thread; event = event.Show w }) there says
+    step_named v events r (with_thread_name r s.thread).names p s (record { thread = number_of r.names.threads s.thread; event = event.Show w }) there says
     (thread_on r s.thread) (name_there r.names.threads s.thread) (rw deed refl) are
 deed_named v events r p s (Levels n) there says deed are =
-    step_named v events r (with_thread r s.thread).names p s (record { thread = number_of r.names.threads s.thread; event = event.Level n }) there says
+    step_named v events r (with_thread_name r s.thread).names p s (record { thread = number_of r.names.threads s.thread; event = event.Level n }) there says
     (thread_on r s.thread) (name_there r.names.threads s.thread) (rw deed refl) are
 
 all_named : (v : Version) (events lines : List Placed) (sayings : List Saying) (r : Recording) → AllSay v lines sayings → ((p : Placed) → Contains lines p → Contains events p)

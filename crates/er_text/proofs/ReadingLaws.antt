@@ -1,22 +1,16 @@
--- A reading of lines finds the fault that the grammar names.
-use Rattle.std.proofs.Common.{◌≡◌, ℕ, suc, ◌+◌, ◌≤◌, ◌⊎◌, inl, inr, Bool, true, false, not, ◌&&◌, ◌||◌, cond, List, [], ◌∷◌, Option, Some, None, Result, Ok, Err, length, filter, nat_lt, nat_le, refl, sym, ap, ◌∙◌, arith}
-use Rattle.std.specs.List.{list_all, slice_split}
-use Rattle.std.specs.Option.{is_some}
+-- A reading of lines finds the fault that a table of faults names, and no other. What a line says may be of any sort.
+use Rattle.std.proofs.Common.{◌≡◌, ℕ, suc, ◌+◌, ◌≤◌, Bool, true, false, not, cond, List, [], ◌∷◌, ◌++◌, Some, None, Result, Ok, Err, length, filter, nat_lt, nat_le, refl, subst, sym, ap, ◌∙◌, arith}
+use Rattle.std.specs.List.{list_all, slice_split, AllByRecursion}
 use Rattle.std.proofs.lemmas.Bool.Decides.{nat_tests}
 use Rattle.er_text.specs.declared.faults.TextKind.{TextKind}
-use Rattle.er_text.specs.declared.faults.TextKind.TheVariants.{LineTooLong, TextTooLong, NotAscii, NoHeader}
+use Rattle.er_text.specs.declared.faults.TextKind.TheVariants.{LineTooLong, TextTooLong, NotAscii}
 use Rattle.er_text.specs.declared.faults.TextFault.{TextFault}
-use Rattle.er_text.specs.declared.verbs.Version.{Version}
-use Rattle.er_text.specs.Lines.{Line, has_bytes, words, word_at, width, is_gap, is_ascii, is_comment, lines_of}
-use Rattle.er_text.specs.Events.{Saying, tell}
-use Rattle.er_text.specs.Saying.{said_of}
-use Rattle.er_text.specs.Reading.{Progress, at_front, tell_said, open_with, read_words, read_content, pass, read_line, finish_as, faulty, go_on, read_lines, read_text}
-use Rattle.er_text.specs.Trace.{Placed, placed_from, has_content, first_kind, version_in, word_kinds, content_kinds, line_kinds, opened_by, IsFirstFaulty, IsEmpty, IsFault}
+use Rattle.er_text.specs.Lines.{Line, Placed, placed_from, has_bytes, words, width, is_gap, is_end, is_ascii, lines_of, onto_line}
+use Rattle.er_text.specs.FirstFault.{IsPlain, first_kind, line_kinds, known_after, HasNone, IsFirstFaulty}
+use Rattle.er_text.specs.Inner.Saying.{and_then}
+use Rattle.er_text.specs.Inner.Reading.{read_line, go_on, read_lines, read_contents}
 use Rattle.er_text.proofs.SpellingLaws.{AreWhole}
-use Rattle.er_text.proofs.FaultTables.{fault_of, event_faults}
-
-abbrev pub at_place : Progress → Line → Placed
-at_place p line = record { number = p.number; start = p.start; line = line }
+use Rattle.er_text.proofs.FaultTables.{fault_of}
 
 whole_parts : (parts : List (List ℕ)) → AreWhole (filter has_bytes parts)
 whole_parts [] = refl
@@ -26,170 +20,271 @@ whole_parts ((x ∷ xs) ∷ parts) = whole_parts parts
 pub whole_words : (bytes : List ℕ) → AreWhole (words bytes)
 whole_words bytes = whole_parts (slice_split is_gap bytes)
 
-chain : (a b c : Bool) (line : Line) (kinds : List (Bool × TextKind)) (r : Result Progress TextKind) → first_kind kinds ≡ fault_of r
+-- how many bytes lines take
+abbrev pub total : List Line → ℕ
+total [] = 0
+total (line ∷ lines) = width line + total lines
+
+onto_size : (b : ℕ) (lines : List Line) → total (onto_line b lines) ≡ 1 + total lines
+onto_size b [] = omega arith
+onto_size b (line ∷ lines) = omega arith
+
+size_step : (b : ℕ) (bs : List ℕ) (t : Bool) → is_end b ≡ t → total (lines_of bs) ≡ length bs → total (lines_of (b ∷ bs)) ≡ suc (length bs)
+size_step b bs true e more = rw e (omega (arith, more))
+size_step b bs false e more = rw e (omega (arith, more, onto_size b (lines_of bs)))
+
+pub size_of : (text : List ℕ) → total (lines_of text) ≡ length text
+size_of [] = refl
+size_of (b ∷ bs) = size_step b bs (is_end b) refl (size_of bs)
+
+-- what is read of a line agrees with the table of its faults, and with what it makes known
+pub record Agrees {T S : Type 0} (content : T → Placed → Result T TextKind) (kinds : S → Placed → List (Bool × TextKind)) (next : S → Placed → S) (view : T → S) : Type 0 where
+  pub faults : (t : T) (p : Placed) → first_kind (kinds (view t) p) ≡ fault_of (content t p)
+  pub moves : (t u : T) (p : Placed) → content t p ≡ Ok u → view u ≡ next (view t) p
+
+chain : {T : Type 0} (a b c : Bool) (kinds : List (Bool × TextKind)) (r : Result T TextKind) → first_kind kinds ≡ fault_of r
     → first_kind ((a, LineTooLong) ∷ (b, TextTooLong) ∷ (not c, NotAscii) ∷ kinds)
-    ≡ fault_of {X = Progress} (cond a (Err LineTooLong) (cond b (Err TextTooLong) (pass line (cond (not c) (Err NotAscii) r))))
-chain true b c line kinds r e = refl
-chain false true c line kinds r e = refl
-chain false false false line kinds r e = refl
-chain false false true line kinds (Ok q) e = e
-chain false false true line kinds (Err k) e = e
-
-skip_chain : (some comment : Bool) (kinds : List (Bool × TextKind)) (p : Progress) (r : Result Progress TextKind) → first_kind kinds ≡ fault_of r
-    → first_kind (cond (some && not comment) kinds []) ≡ fault_of {X = Progress} (cond (not some || comment) (Ok p) r)
-skip_chain true true kinds p r e = refl
-skip_chain true false kinds p r e = e
-skip_chain false true kinds p r e = refl
-skip_chain false false kinds p r e = refl
-
-told_faults : (p : Progress) (kinds : List (Bool × TextKind)) (r : Result Saying TextKind) → first_kind kinds ≡ fault_of r → first_kind kinds ≡ fault_of (tell_said p r)
-told_faults p kinds (Ok s) e = e
-told_faults p kinds (Err k) e = e
-
-header_faults : (p : Progress) (v : Option Version) → first_kind ((not (is_some v), NoHeader) ∷ []) ≡ fault_of (open_with p v)
-header_faults p None = refl
-header_faults p (Some v) = refl
-
-word_faults : (opened : Option Version) (p : Progress) (ws : List (List ℕ)) → AreWhole ws → first_kind (word_kinds opened ws) ≡ fault_of (read_words opened p ws)
-word_faults None p ws whole = header_faults p (version_in ws)
-word_faults (Some v) p ws whole = told_faults p (word_kinds (Some v) ws) (said_of v ws) (event_faults v ws whole)
+    ≡ fault_of {X = T} (cond a (Err LineTooLong) (cond b (Err TextTooLong) (cond (not c) (Err NotAscii) r)))
+chain true b c kinds r e = refl
+chain false true c kinds r e = refl
+chain false false false kinds r e = refl
+chain false false true kinds r e = e
 
 -- the first fault of a line is the one that stops the reading
-pub line_faults : (limit : ℕ) (p : Progress) (line : Line) → p.start ≤ limit → first_kind (line_kinds limit p.version (at_place p line)) ≡ fault_of (read_line limit p line)
-line_faults limit p line within =
-    let ws = words line.bytes in
+line_faults : {T S : Type 0} (limit : ℕ) (content : T → Placed → Result T TextKind) (kinds : S → Placed → List (Bool × TextKind)) (next : S → Placed → S) (view : T → S)
+    → Agrees content kinds next view → (t : T) (p : Placed) → p.start ≤ limit
+    → first_kind (line_kinds limit (kinds (view t) p) p) ≡ fault_of (read_line limit content t p)
+line_faults limit content kinds next view agrees t p within =
     let test : nat_le p.start limit ≡ true = grind (arith, nat_tests, within) in
-    let inner = word_faults p.version p ws (whole_words line.bytes) in
-    let content = skip_chain (has_bytes (word_at 0 ws)) (is_comment line.bytes) (word_kinds p.version ws) p (read_words p.version p ws) inner in
-    rw test (chain (nat_lt 1024 (length line.bytes)) (nat_lt limit (p.start + width line)) (list_all is_ascii line.bytes) line (content_kinds p.version (at_place p line)) (read_content p line.bytes) content)
+    rw test (chain (nat_lt 1024 (length p.line.bytes)) (nat_lt limit (p.start + width p.line)) (list_all is_ascii p.line.bytes) (kinds (view t) p) (content t p) (agrees.faults t p))
 
--- what a line that is read leaves of the place
-pub record Went (limit : ℕ) (p : Progress) (line : Line) (q : Progress) : Type 0 where
-  pub number : q.number ≡ p.number + 1
-  pub start : q.start ≡ p.start + width line
-  pub within : q.start ≤ limit
-  pub version : q.version ≡ opened_by p.version (at_place p line)
+-- a line that is read
+pub record Passed {T : Type 0} (limit : ℕ) (content : T → Placed → Result T TextKind) (t : T) (p : Placed) (u : T) : Type 0 where
+  pub plain : IsPlain p
+  pub fits : p.start + width p.line ≤ limit
+  pub read : content t p ≡ Ok u
 
-pub record Passed (a b c : Bool) (line : Line) (r : Result Progress TextKind) (q : Progress) : Type 0 where
-  pub short : a ≡ false
-  pub fits : b ≡ false
-  pub ascii : c ≡ true
-  pub from : Progress
-  pub read : r ≡ Ok from
-  pub to : record from { number = from.number + 1; start = from.start + width line } ≡ q
+record Tests {T : Type 0} (a b c : Bool) (r : Result T TextKind) (u : T) : Type 0 where
+  short : a ≡ false
+  fits : b ≡ false
+  ascii : c ≡ true
+  read : r ≡ Ok u
 
-pub chain_ok : (a b c : Bool) (line : Line) (r : Result Progress TextKind) (q : Progress)
-    → cond a (Err LineTooLong) (cond b (Err TextTooLong) (pass line (cond (not c) (Err NotAscii) r))) ≡ Ok q → Passed a b c line r q
-chain_ok true b c line r q e = absurd (cc)
-chain_ok false true c line r q e = absurd (cc)
-chain_ok false false false line r q e = absurd (cc)
-chain_ok false false true line (Ok x) q e = record { short = refl; fits = refl; ascii = refl; from = x; read = refl; to = cc }
-chain_ok false false true line (Err k) q e = absurd (cc)
+tests_passed : {T : Type 0} (a b c : Bool) (r : Result T TextKind) (u : T)
+    → cond a (Err LineTooLong) (cond b (Err TextTooLong) (cond (not c) (Err NotAscii) r)) ≡ Ok u → Tests a b c r u
+tests_passed true b c r u e = absurd (cc)
+tests_passed false true c r u e = absurd (cc)
+tests_passed false false false r u e = absurd (cc)
+tests_passed false false true r u e = record { short = refl; fits = refl; ascii = refl; read = e }
 
-record Kept (version : Option Version) (p q : Progress) : Type 0 where
-  number : q.number ≡ p.number
-  start : q.start ≡ p.start
-  version_is : q.version ≡ version
+pub line_passed : {T : Type 0} (limit : ℕ) (content : T → Placed → Result T TextKind) (t u : T) (p : Placed) → read_line limit content t p ≡ Ok u → Passed limit content t p u
+line_passed limit content t u p e =
+    let h = tests_passed (nat_lt 1024 (length p.line.bytes)) (nat_lt limit (p.start + width p.line)) (list_all is_ascii p.line.bytes) (content t p) u e in
+    let short = h.short in
+    let fits = h.fits in
+    let most : length p.line.bytes ≤ 1024 = grind (arith, nat_tests, short) in
+    record { plain = (most, h.ascii); fits = grind (arith, nat_tests, fits); read = h.read }
 
-told_keeps : (p q : Progress) (r : Result Saying TextKind) → tell_said p r ≡ Ok q → Kept p.version p q
-told_keeps p q (Ok s) e =
-    let same : record p { told = tell p.number s p.told } ≡ q = cc in
-    record { number = sym (ap (λ (x : Progress). x.number) same); start = sym (ap (λ (x : Progress). x.start) same); version_is = sym (ap (λ (x : Progress). x.version) same) }
-told_keeps p q (Err k) e = absurd (cc)
+pub line_again : {T : Type 0} (limit : ℕ) (content : T → Placed → Result T TextKind) (t u : T) (p : Placed) → Passed limit content t p u → read_line limit content t p ≡ Ok u
+line_again limit content t u p h =
+    let most = h.plain.0 in
+    let fits = h.fits in
+    let short : nat_lt 1024 (length p.line.bytes) ≡ false = grind (arith, nat_tests, most) in
+    let inside : nat_lt limit (p.start + width p.line) ≡ false = grind (arith, nat_tests, fits) in
+    rw (short, inside, h.plain.1) h.read
 
--- the version that words tell, before a header or behind one
-abbrev told_by : Option Version → List (List ℕ) → Option Version
-told_by None ws = version_in ws
-told_by (Some v) ws = Some v
+abbrev here : ℕ → ℕ → Line → Placed
+here n s line = record { number = n; start = s; line = line }
 
-header_keeps : (p q : Progress) (v : Option Version) → open_with p v ≡ Ok q → Kept v p q
-header_keeps p q None e = absurd (cc)
-header_keeps p q (Some v) e =
-    let same : record p { version = Some v } ≡ q = cc in
-    record { number = sym (ap (λ (x : Progress). x.number) same); start = sym (ap (λ (x : Progress). x.start) same); version_is = sym (ap (λ (x : Progress). x.version) same) }
+-- a reading that comes to its end has read plain lines within the limit, and what they say
+pub record AllPassed {T : Type 0} (limit : ℕ) (content : T → Placed → Result T TextKind) (n s : ℕ) (lines : List Line) (t u : T) : Type 0 where
+  pub size : s + total lines ≤ limit
+  pub plain : AllByRecursion IsPlain (placed_from n s lines)
+  pub read : read_contents content (placed_from n s lines) t ≡ Ok u
 
-words_keep : (opened : Option Version) (p q : Progress) (ws : List (List ℕ)) → p.version ≡ opened → read_words opened p ws ≡ Ok q → Kept (told_by opened ws) p q
-words_keep None p q ws is e = header_keeps p q (version_in ws) e
-words_keep (Some v) p q ws is e = let k = told_keeps p q (said_of v ws) e in record { number = k.number; start = k.start; version_is = k.version_is ∙ is }
-
-skips : (opened : Option Version) (line : Placed) → has_content line ≡ false → opened_by opened line ≡ opened
-skips None line none = rw none refl
-skips (Some v) line none = refl
-
-opens : (opened : Option Version) (line : Placed) → has_content line ≡ true → opened_by opened line ≡ told_by opened (words line.line.bytes)
-opens None line some = rw some refl
-opens (Some v) line some = refl
-
-content_keeps : (some comment : Bool) (p q : Progress) (line : Placed) (r : Result Progress TextKind) → has_content line ≡ (some && not comment)
-    → (r ≡ Ok q → Kept (told_by p.version (words line.line.bytes)) p q)
-    → cond (not some || comment) (Ok p) r ≡ Ok q → Kept (opened_by p.version line) p q
-content_keeps true true p q line r is inner e = let same : p ≡ q = cc in record { number = sym (ap (λ (x : Progress). x.number) same); start = sym (ap (λ (x : Progress). x.start) same); version_is = sym (ap (λ (x : Progress). x.version) same) ∙ sym (skips p.version line is) }
-content_keeps true false p q line r is inner e = let k = inner e in record { number = k.number; start = k.start; version_is = k.version_is ∙ sym (opens p.version line is) }
-content_keeps false comment p q line r is inner e = let same : p ≡ q = cc in record { number = sym (ap (λ (x : Progress). x.number) same); start = sym (ap (λ (x : Progress). x.start) same); version_is = sym (ap (λ (x : Progress). x.version) same) ∙ sym (skips p.version line is) }
-
-pub line_went : (limit : ℕ) (p : Progress) (line : Line) (q : Progress) → read_line limit p line ≡ Ok q → Went limit p line q
-line_went limit p line q e =
-    let ws = words line.bytes in
-    let passed = chain_ok (nat_lt 1024 (length line.bytes)) (nat_lt limit (p.start + width line)) (list_all is_ascii line.bytes) line (read_content p line.bytes) q e in
-    let x = passed.from in
-    let k = content_keeps (has_bytes (word_at 0 ws)) (is_comment line.bytes) p x (at_place p line) (read_words p.version p ws) refl (words_keep p.version p x ws refl) passed.read in
-    let fits = passed.fits in
-    let start : q.start ≡ p.start + width line = sym (ap (λ (y : Progress). y.start) passed.to) ∙ ap (λ n. n + width line) k.start in
-    let within : p.start + width line ≤ limit = grind (arith, nat_tests, fits) in
+passed_step : {T : Type 0} (limit : ℕ) (content : T → Placed → Result T TextKind) (n s : ℕ) (line : Line) (lines : List Line) (t u : T) (r : Result T TextKind)
+    → ((v : T) → s + width line ≤ limit → read_lines limit content (placed_from (n + 1) (s + width line) lines) v ≡ Ok u → AllPassed limit content (n + 1) (s + width line) lines v u)
+    → read_line limit content t (here n s line) ≡ r → go_on (here n s line) (read_lines limit content (placed_from (n + 1) (s + width line) lines)) r ≡ Ok u
+    → AllPassed limit content n s (line ∷ lines) t u
+passed_step limit content n s line lines t u (Err k) more is e = absurd (cc)
+passed_step {T = T} limit content n s line lines t u (Ok v) more is e =
+    let h = line_passed limit content t v (here n s line) is in
+    let rest = more v h.fits e in
+    let size = rest.size in
     record {
-      number = sym (ap (λ (y : Progress). y.number) passed.to) ∙ ap (λ n. n + 1) k.number;
-      start = start;
-      within = omega (arith, start, within);
-      version = sym (ap (λ (y : Progress). y.version) passed.to) ∙ k.version_is;
+      size = omega (arith, size);
+      plain = (h.plain, rest.plain);
+      read = ap (λ (x : Result T TextKind). and_then x (read_contents content (placed_from (n + 1) (s + width line) lines))) h.read ∙ rest.read;
     }
 
-abbrev pub FaultFrom : ℕ → Option Version → ℕ → List Placed → TextFault → Type 0
-FaultFrom limit opened next lines f = IsFirstFaulty limit opened lines f ⊎ IsEmpty limit opened next lines f
+pub all_passed : {T : Type 0} (limit : ℕ) (content : T → Placed → Result T TextKind) (n s : ℕ) (lines : List Line) (t u : T) → s ≤ limit
+    → read_lines limit content (placed_from n s lines) t ≡ Ok u → AllPassed limit content n s lines t u
+all_passed limit content n s [] t u within e = record { size = omega (arith, within); plain = tt; read = ap Ok (cc) }
+all_passed limit content n s (line ∷ lines) t u within e =
+    passed_step limit content n s line lines t u (read_line limit content t (here n s line)) (λ v w h. all_passed limit content (n + 1) (s + width line) lines v u w h) refl e
 
-ended : (limit : ℕ) (opened : Option Version) (p : Progress) (f : TextFault) → finish_as opened p ≡ Err f → FaultFrom limit opened p.number [] f
-ended limit (Some v) p f e = absurd (cc)
-ended limit None p f e =
-    let same : record { line = p.number; kind = NoHeader } ≡ f = cc in
-    let last : p.number + 0 ≡ p.number = omega arith in
-    inr (tt, refl, rw last (sym same))
+again_step : {T : Type 0} (limit : ℕ) (content : T → Placed → Result T TextKind) (n s : ℕ) (line : Line) (lines : List Line) (t u : T) (r : Result T TextKind)
+    → ((v : T) → AllPassed limit content (n + 1) (s + width line) lines v u → read_lines limit content (placed_from (n + 1) (s + width line) lines) v ≡ Ok u)
+    → content t (here n s line) ≡ r → s + total (line ∷ lines) ≤ limit → AllByRecursion IsPlain (here n s line ∷ placed_from (n + 1) (s + width line) lines)
+    → and_then r (read_contents content (placed_from (n + 1) (s + width line) lines)) ≡ Ok u
+    → read_lines limit content (placed_from n s (line ∷ lines)) t ≡ Ok u
+again_step limit content n s line lines t u (Err k) more is size plain e = absurd (cc)
+again_step limit content n s line lines t u (Ok v) more is size plain e =
+    let read = line_again limit content t v (here n s line) (record { plain = plain.0; fits = omega (arith, size); read = is }) in
+    ap (go_on (here n s line) (read_lines limit content (placed_from (n + 1) (s + width line) lines))) read
+    ∙ more v (record { size = omega (arith, size); plain = plain.1; read = e })
 
--- one line more in front, which has no fault
-in_front : (limit : ℕ) (opened : Option Version) (next : ℕ) (q : Placed) (lines : List Placed) (f : TextFault) → first_kind (line_kinds limit opened q) ≡ None
-    → FaultFrom limit (opened_by opened q) (next + 1) lines f → FaultFrom limit opened next (q ∷ lines) f
-in_front limit opened next q lines f none (inl found) =
-    inl (q ∷ found.0, found.1, found.2, ap (λ (ls : List Placed). q ∷ ls) found.3, (none, found.4), found.5, found.6)
-in_front limit opened next q lines f none (inr empty) =
-    let more : next + 1 + length lines ≡ next + suc (length lines) = omega arith in
-    inr ((none, empty.0), empty.1, empty.2 ∙ ap (λ n. record { line = n; kind = NoHeader }) more)
+pub all_again : {T : Type 0} (limit : ℕ) (content : T → Placed → Result T TextKind) (n s : ℕ) (lines : List Line) (t u : T)
+    → AllPassed limit content n s lines t u → read_lines limit content (placed_from n s lines) t ≡ Ok u
+all_again limit content n s [] t u h = ap Ok (let e = h.read in cc)
+all_again limit content n s (line ∷ lines) t u h =
+    again_step limit content n s line lines t u (content t (here n s line)) (λ v g. all_again limit content (n + 1) (s + width line) lines v u g) refl h.size h.plain h.read
 
-from_step : (limit : ℕ) (line : Line) (lines : List Line) (p : Progress) (f : TextFault) (r : Result Progress TextKind) → p.start ≤ limit
-    → ((q : Progress) → q.start ≤ limit → read_lines limit lines q ≡ Err f → FaultFrom limit q.version q.number (placed_from q.number q.start lines) f)
-    → read_line limit p line ≡ r → go_on (faulty p) (read_lines limit lines) r ≡ Err f
-    → FaultFrom limit p.version p.number (placed_from p.number p.start (line ∷ lines)) f
-from_step limit line lines p f (Err k) within more is e =
-    let same : record { line = p.number; kind = k } ≡ f = cc in
-    let kind = line_faults limit p line within ∙ ap fault_of is in
-    inl (
+-- a reading that comes to its end has met no fault
+none_step : {T S : Type 0} (limit : ℕ) (content : T → Placed → Result T TextKind) (kinds : S → Placed → List (Bool × TextKind)) (next : S → Placed → S) (view : T → S)
+    (n s : ℕ) (line : Line) (lines : List Line) (t u : T) (r : Result T TextKind) → Agrees content kinds next view → s ≤ limit
+    → ((v : T) → s + width line ≤ limit → read_lines limit content (placed_from (n + 1) (s + width line) lines) v ≡ Ok u
+    → HasNone limit kinds next (view v) (placed_from (n + 1) (s + width line) lines) × (known_after next (view v) (placed_from (n + 1) (s + width line) lines) ≡ view u))
+    → read_line limit content t (here n s line) ≡ r → go_on (here n s line) (read_lines limit content (placed_from (n + 1) (s + width line) lines)) r ≡ Ok u
+    → HasNone limit kinds next (view t) (placed_from n s (line ∷ lines)) × (known_after next (view t) (placed_from n s (line ∷ lines)) ≡ view u)
+none_step limit content kinds next view n s line lines t u (Err k) agrees within more is e = absurd (cc)
+none_step {S = S} limit content kinds next view n s line lines t u (Ok v) agrees within more is e =
+    let h = line_passed limit content t v (here n s line) is in
+    let none = line_faults limit content kinds next view agrees t (here n s line) within ∙ ap fault_of is in
+    let moved = agrees.moves t v (here n s line) h.read in
+    let rest = more v h.fits e in
+    let others = placed_from (n + 1) (s + width line) lines in
+    ((none, subst (λ (x : S). HasNone limit kinds next x others) moved rest.0), ap (λ (x : S). known_after next x others) (sym moved) ∙ rest.1)
+
+pub none_met : {T S : Type 0} (limit : ℕ) (content : T → Placed → Result T TextKind) (kinds : S → Placed → List (Bool × TextKind)) (next : S → Placed → S) (view : T → S)
+    (n s : ℕ) (lines : List Line) (t u : T) → Agrees content kinds next view → s ≤ limit → read_lines limit content (placed_from n s lines) t ≡ Ok u
+    → HasNone limit kinds next (view t) (placed_from n s lines) × (known_after next (view t) (placed_from n s lines) ≡ view u)
+none_met limit content kinds next view n s [] t u agrees within e = (tt, ap view (cc))
+none_met limit content kinds next view n s (line ∷ lines) t u agrees within e =
+    none_step limit content kinds next view n s line lines t u (read_line limit content t (here n s line)) agrees within
+    (λ v w h. none_met limit content kinds next view (n + 1) (s + width line) lines v u agrees w h) refl e
+
+-- lines without a fault are read to their end
+free_step : {T S : Type 0} (limit : ℕ) (content : T → Placed → Result T TextKind) (kinds : S → Placed → List (Bool × TextKind)) (next : S → Placed → S) (view : T → S)
+    (n s : ℕ) (line : Line) (lines : List Line) (t : T) (r : Result T TextKind) → Agrees content kinds next view → s ≤ limit
+    → ((v : T) → s + width line ≤ limit → HasNone limit kinds next (view v) (placed_from (n + 1) (s + width line) lines)
+    → (u : T) × (read_lines limit content (placed_from (n + 1) (s + width line) lines) v ≡ Ok u))
+    → read_line limit content t (here n s line) ≡ r → HasNone limit kinds next (view t) (placed_from n s (line ∷ lines))
+    → (u : T) × (go_on (here n s line) (read_lines limit content (placed_from (n + 1) (s + width line) lines)) r ≡ Ok u)
+free_step limit content kinds next view n s line lines t (Err k) agrees within more is none =
+    let kind = sym (line_faults limit content kinds next view agrees t (here n s line) within ∙ ap fault_of is) ∙ none.0 in absurd (cc)
+free_step {S = S} limit content kinds next view n s line lines t (Ok v) agrees within more is none =
+    let h = line_passed limit content t v (here n s line) is in
+    let moved = agrees.moves t v (here n s line) h.read in
+    more v h.fits (subst (λ (x : S). HasNone limit kinds next x (placed_from (n + 1) (s + width line) lines)) (sym moved) none.1)
+
+pub free_read : {T S : Type 0} (limit : ℕ) (content : T → Placed → Result T TextKind) (kinds : S → Placed → List (Bool × TextKind)) (next : S → Placed → S) (view : T → S)
+    (n s : ℕ) (lines : List Line) (t : T) → Agrees content kinds next view → s ≤ limit → HasNone limit kinds next (view t) (placed_from n s lines)
+    → (u : T) × (read_lines limit content (placed_from n s lines) t ≡ Ok u)
+free_read limit content kinds next view n s [] t agrees within none = (t, refl)
+free_read limit content kinds next view n s (line ∷ lines) t agrees within none =
+    free_step limit content kinds next view n s line lines t (read_line limit content t (here n s line)) agrees within
+    (λ v w h. free_read limit content kinds next view (n + 1) (s + width line) lines v agrees w h) refl none
+
+-- the fault that stops a reading is the first of the lines that are left
+first_step : {T S : Type 0} (limit : ℕ) (content : T → Placed → Result T TextKind) (kinds : S → Placed → List (Bool × TextKind)) (next : S → Placed → S) (view : T → S)
+    (n s : ℕ) (line : Line) (lines : List Line) (t : T) (f : TextFault) (r : Result T TextKind) → Agrees content kinds next view → s ≤ limit
+    → ((v : T) → s + width line ≤ limit → read_lines limit content (placed_from (n + 1) (s + width line) lines) v ≡ Err f
+    → IsFirstFaulty limit kinds next (view v) (placed_from (n + 1) (s + width line) lines) f)
+    → read_line limit content t (here n s line) ≡ r → go_on (here n s line) (read_lines limit content (placed_from (n + 1) (s + width line) lines)) r ≡ Err f
+    → IsFirstFaulty limit kinds next (view t) (placed_from n s (line ∷ lines)) f
+first_step limit content kinds next view n s line lines t f (Err k) agrees within more is e =
+    let same : record { line = n; kind = k } ≡ f = cc in
+    let kind = line_faults limit content kinds next view agrees t (here n s line) within ∙ ap fault_of is in (
       [],
-      at_place p line,
-      placed_from (p.number + 1) (p.start + width line) lines,
+      here n s line,
+      placed_from (n + 1) (s + width line) lines,
       refl,
       tt,
       kind ∙ ap (λ (x : TextFault). Some x.kind) same,
       sym (ap (λ (x : TextFault). x.line) same),
     )
-from_step limit line lines p f (Ok q) within more is e =
-    let went = line_went limit p line q is in
-    let none = line_faults limit p line within ∙ ap fault_of is in
-    let rest = more q went.within e in
-    in_front limit p.version p.number (at_place p line) (placed_from (p.number + 1) (p.start + width line) lines) f none
-    (rw (← went.number, ← went.start, ← went.version) rest)
+first_step {S = S} limit content kinds next view n s line lines t f (Ok v) agrees within more is e =
+    let h = line_passed limit content t v (here n s line) is in
+    let none = line_faults limit content kinds next view agrees t (here n s line) within ∙ ap fault_of is in
+    let moved = agrees.moves t v (here n s line) h.read in
+    let found = more v h.fits e in
+    let P : S → Type 0 = λ x. HasNone limit kinds next x found.0 in
+    let Q : S → Type 0 = λ x. first_kind (line_kinds limit (kinds (known_after next x found.0) found.1) found.1) ≡ Some f.kind in (
+      here n s line ∷ found.0,
+      found.1,
+      found.2,
+      ap (λ (ls : List Placed). here n s line ∷ ls) found.3,
+      (none, subst P moved found.4),
+      subst Q moved found.5,
+      found.6,
+    )
 
--- the fault that stops a reading is that of the lines that are left
-pub faults_from : (limit : ℕ) (lines : List Line) (p : Progress) (f : TextFault) → p.start ≤ limit → read_lines limit lines p ≡ Err f
-    → FaultFrom limit p.version p.number (placed_from p.number p.start lines) f
-faults_from limit [] p f within e = ended limit p.version p f e
-faults_from limit (line ∷ lines) p f within e = from_step limit line lines p f (read_line limit p line) within (λ q w h. faults_from limit lines q f w h) refl e
+pub first_found : {T S : Type 0} (limit : ℕ) (content : T → Placed → Result T TextKind) (kinds : S → Placed → List (Bool × TextKind)) (next : S → Placed → S) (view : T → S)
+    (n s : ℕ) (lines : List Line) (t : T) (f : TextFault) → Agrees content kinds next view → s ≤ limit → read_lines limit content (placed_from n s lines) t ≡ Err f
+    → IsFirstFaulty limit kinds next (view t) (placed_from n s lines) f
+first_found limit content kinds next view n s [] t f agrees within e = absurd (cc)
+first_found limit content kinds next view n s (line ∷ lines) t f agrees within e =
+    first_step limit content kinds next view n s line lines t f (read_line limit content t (here n s line)) agrees within
+    (λ v w h. first_found limit content kinds next view (n + 1) (s + width line) lines v f agrees w h) refl e
 
-pub fault_is : (limit : ℕ) (text : List ℕ) (f : TextFault) → read_text limit text ≡ Err f → IsFault text limit f
-fault_is limit text f e = faults_from limit (lines_of text) at_front f (omega arith) e
+-- the first fault of the lines that are left stops the reading
+no_line : (before : List Placed) (q : Placed) (after : List Placed) → [] ≡ before ++ q ∷ after → ⊥
+no_line [] q after e = cc
+no_line (b ∷ before) q after e = cc
+
+stops : {S : Type 0} (limit : ℕ) (kinds : S → Placed → List (Bool × TextKind)) (next : S → Placed → S) (known : S) (p : Placed) (lines : List Placed) (f : TextFault) (k : TextKind)
+    (before : List Placed) (q : Placed) (after : List Placed)
+    → first_kind (line_kinds limit (kinds known p) p) ≡ Some k → p ∷ lines ≡ before ++ q ∷ after → HasNone limit kinds next known before
+    → first_kind (line_kinds limit (kinds (known_after next known before) q) q) ≡ Some f.kind → f.line ≡ q.number → record { line = p.number; kind = k } ≡ f
+stops limit kinds next known p lines f k [] q after is split none kind number =
+    let same : p ≡ q = cc in
+    let kinds_are : Some k ≡ Some f.kind = sym is ∙ ap (λ (x : Placed). first_kind (line_kinds limit (kinds known x) x)) same ∙ kind in
+    let one : k ≡ f.kind = cc in
+    let two : p.number ≡ f.line = ap (λ (x : Placed). x.number) same ∙ sym number in
+    ap (λ n. record { line = n; kind = k }) two ∙ ap (λ (x : TextKind). record { line = f.line; kind = x }) one
+stops limit kinds next known p lines f k (b ∷ before) q after is split none kind number =
+    let same : p ≡ b = cc in
+    let other : Some k ≡ None = sym is ∙ ap (λ (x : Placed). first_kind (line_kinds limit (kinds known x) x)) same ∙ none.0 in
+    absurd (cc)
+
+-- a line has no fault, so the first is one of the others'
+passes : {S : Type 0} (limit : ℕ) (kinds : S → Placed → List (Bool × TextKind)) (next : S → Placed → S) (known : S) (p : Placed) (lines : List Placed) (f : TextFault)
+    (before : List Placed) (q : Placed) (after : List Placed)
+    → first_kind (line_kinds limit (kinds known p) p) ≡ None → p ∷ lines ≡ before ++ q ∷ after → HasNone limit kinds next known before
+    → first_kind (line_kinds limit (kinds (known_after next known before) q) q) ≡ Some f.kind → f.line ≡ q.number → IsFirstFaulty limit kinds next (next known p) lines f
+passes limit kinds next known p lines f [] q after is split none kind number =
+    let same : p ≡ q = cc in
+    let kinds_are : None ≡ Some f.kind = sym is ∙ ap (λ (x : Placed). first_kind (line_kinds limit (kinds known x) x)) same ∙ kind in
+    absurd (cc)
+passes limit kinds next known p lines f (b ∷ before) q after is split none kind number =
+    let same : b ≡ p = cc in
+    let others : lines ≡ before ++ q ∷ after = cc in
+    let P : Placed → Type 0 = λ x. HasNone limit kinds next (next known x) before in
+    let Q : Placed → Type 0 = λ x. first_kind (line_kinds limit (kinds (known_after next (next known x) before) q) q) ≡ Some f.kind in
+    (before, q, after, others, subst P same none.1, subst Q same kind, number)
+
+stop_step : {T S : Type 0} (limit : ℕ) (content : T → Placed → Result T TextKind) (kinds : S → Placed → List (Bool × TextKind)) (next : S → Placed → S) (view : T → S)
+    (n s : ℕ) (line : Line) (lines : List Line) (t : T) (f : TextFault) (r : Result T TextKind) → Agrees content kinds next view → s ≤ limit
+    → ((v : T) → s + width line ≤ limit → IsFirstFaulty limit kinds next (view v) (placed_from (n + 1) (s + width line) lines) f
+    → read_lines limit content (placed_from (n + 1) (s + width line) lines) v ≡ Err f)
+    → read_line limit content t (here n s line) ≡ r → IsFirstFaulty limit kinds next (view t) (placed_from n s (line ∷ lines)) f
+    → go_on (here n s line) (read_lines limit content (placed_from (n + 1) (s + width line) lines)) r ≡ Err f
+stop_step limit content kinds next view n s line lines t f (Err k) agrees within more is h =
+    let kind = line_faults limit content kinds next view agrees t (here n s line) within ∙ ap fault_of is in
+    ap Err (stops limit kinds next (view t) (here n s line) (placed_from (n + 1) (s + width line) lines) f k h.0 h.1 h.2 kind h.3 h.4 h.5 h.6)
+stop_step {S = S} limit content kinds next view n s line lines t f (Ok v) agrees within more is h =
+    let passed = line_passed limit content t v (here n s line) is in
+    let kind = line_faults limit content kinds next view agrees t (here n s line) within ∙ ap fault_of is in
+    let moved = agrees.moves t v (here n s line) passed.read in
+    let others = placed_from (n + 1) (s + width line) lines in
+    let found = passes limit kinds next (view t) (here n s line) others f h.0 h.1 h.2 kind h.3 h.4 h.5 h.6 in
+    more v passed.fits (subst (λ (x : S). IsFirstFaulty limit kinds next x others f) (sym moved) found)
+
+pub first_stops : {T S : Type 0} (limit : ℕ) (content : T → Placed → Result T TextKind) (kinds : S → Placed → List (Bool × TextKind)) (next : S → Placed → S) (view : T → S)
+    (n s : ℕ) (lines : List Line) (t : T) (f : TextFault) → Agrees content kinds next view → s ≤ limit → IsFirstFaulty limit kinds next (view t) (placed_from n s lines) f
+    → read_lines limit content (placed_from n s lines) t ≡ Err f
+first_stops limit content kinds next view n s [] t f agrees within h = absurd (no_line h.0 h.1 h.2 h.3)
+first_stops limit content kinds next view n s (line ∷ lines) t f agrees within h =
+    stop_step limit content kinds next view n s line lines t f (read_line limit content t (here n s line)) agrees within
+    (λ v w g. first_stops limit content kinds next view (n + 1) (s + width line) lines v f agrees w g) refl h

@@ -11,10 +11,11 @@ use Rattle.er_text.specs.Lines.{word_at}
 use Rattle.er_text.specs.Number.{number_of}
 use Rattle.er_text.specs.Naming.{is_name}
 use Rattle.er_text.specs.Events.{run_of}
-use Rattle.er_text.specs.Saying.{and_then, map_ok, or_fault, number_in, site_in, is_outside}
-use Rattle.er_text.specs.Trace.{IsSite, first_kind}
+use Rattle.er_text.specs.Inner.Saying.{and_then, map_ok, or_fault, number_in, site_in, is_outside}
+use Rattle.er_text.specs.FirstFault.{first_kind}
+use Rattle.er_text.specs.Trace.{IsSite}
 use Rattle.er_text.specs.Rules.{IsRule, site_kinds, run_kinds, rule_kinds}
-use Rattle.er_text.specs.Gathering.{site_rule_in, long_run_in, run_rule_in, rule_of}
+use Rattle.er_text.specs.Inner.RuleLines.{site_rule_in, long_run_in, run_rule_in, rule_of}
 use Rattle.er_text.proofs.SpellingLaws.{equal, AreWhole}
 use Rattle.er_text.proofs.FaultTables.{fault_of, number_faults, dash_named}
 use Rattle.er_text.proofs.SayingLaws.{mapped, bound, number_found, site_found}

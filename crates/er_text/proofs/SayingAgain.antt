@@ -14,7 +14,7 @@ use Rattle.er_text.specs.Number.{number_of}
 use Rattle.er_text.specs.Naming.{is_name, is_lock_name}
 use Rattle.er_text.specs.Verbs.{verb_of}
 use Rattle.er_text.specs.Events.{Deed, Acquires, Releases, Accesses, Reuses, IgnoresOn, IgnoresOff, Shows, Levels, Saying, run_of}
-use Rattle.er_text.specs.Saying.{lock_in, site_in, word_in, level_in, run_in, said_of}
+use Rattle.er_text.specs.Inner.Saying.{lock_in, site_in, word_in, level_in, run_in, said_of}
 use Rattle.er_text.specs.Trace.{acquire_word, release_word, kind_word, IsSite, IsDeed, Says}
 use Rattle.er_text.proofs.SpellingLaws.{spelled_verb}
 

@@ -17,7 +17,7 @@ use Rattle.er_text.specs.Number.{number_of}
 use Rattle.er_text.specs.Naming.{is_name, is_lock_name}
 use Rattle.er_text.specs.Verbs.{verb_of}
 use Rattle.er_text.specs.Events.{Deed, Acquires, Releases, Accesses, Reuses, IgnoresOn, IgnoresOff, Shows, Levels, Saying, run_of}
-use Rattle.er_text.specs.Saying.{and_then, map_ok, or_fault, number_in, name_in, lock_in, site_in, word_in, level_in, run_in, access_in, reuse_in, operands_in, counted_in, deed_in, said_of}
+use Rattle.er_text.specs.Inner.Saying.{and_then, map_ok, or_fault, number_in, name_in, lock_in, site_in, word_in, level_in, run_in, access_in, reuse_in, operands_in, counted_in, deed_in, said_of}
 use Rattle.er_text.specs.Trace.{acquire_word, release_word, kind_word, IsSite, IsDeed, Says}
 use Rattle.er_text.proofs.SpellingLaws.{equal, AreWhole, spelling, IsKnown, verb_spelled}
 use Rattle.er_text.proofs.FaultTables.{count}

@@ -3,9 +3,9 @@ use Rattle.std.proofs.Common.{◌≡◌, ℕ, suc, ◌+◌, ◌<◌, ◌≤◌, 
 use Rattle.std.specs.List.{list_any, position_or_len}
 use Rattle.std.specs.Str.{bytes_eq}
 use Rattle.std.proofs.lemmas.List.{map-append}
-use Rattle.er_event.specs.Names.{is_known, number_of, with_name}
+use Rattle.er_trace.specs.Names.{is_known, number_of, with_name}
 use Rattle.er_event.specs.Span.{Span, parts_below, part_of}
-use Rattle.er_event.specs.Trace.{Recording, with_step, with_thread, with_lock}
+use Rattle.er_trace.specs.Trace.{Recording, with_step, with_thread_name, with_lock_name}
 use Rattle.er_event.specs.declared.addresses.PageRange.{PageRange}
 use Rattle.er_event.specs.declared.steps.Step.{Step}
 use Rattle.er_event.specs.declared.steps.Event.TheVariants.{Reuse}
@@ -69,10 +69,10 @@ pub no_part : (r : Recording) (line thread : ℕ) (s : Span) → r ≡ with_reus
 unfolding parts_below
 no_part r line thread s = rw (append-nil, append-nil) refl
 
-pub thread_named : (r s : Recording) (name : List ℕ) (thread : ℕ) → thread ≡ number_of r.names.threads name → s ≡ with_thread r name → thread < length s.names.threads
+pub thread_named : (r s : Recording) (name : List ℕ) (thread : ℕ) → thread ≡ number_of r.names.threads name → s ≡ with_thread_name r name → thread < length s.names.threads
 thread_named r s name thread n e = rw (e, n) (number_below r.names.threads name)
 
-pub lock_named : (r s : Recording) (name : List ℕ) (lock thread : ℕ) → thread < length r.names.threads → lock ≡ number_of r.names.locks name → s ≡ with_lock r name
+pub lock_named : (r s : Recording) (name : List ℕ) (lock thread : ℕ) → thread < length r.names.threads → lock ≡ number_of r.names.locks name → s ≡ with_lock_name r name
     → (thread < length s.names.threads) × (lock < length s.names.locks)
 lock_named r s name lock thread known n e = rw (e, n) (known, number_below r.names.locks name)
 

@@ -1,13 +1,10 @@
 -- Of a text and a limit: a trace or a fault, and no two of them.
 use Rattle.std.proofs.Common.{◌≡◌, ℕ, ◌⊎◌, inl, inr, List, Result, Ok, Err, refl, sym, ◌∙◌}
 use Rattle.er_text.specs.declared.faults.TextFault.{TextFault}
-use Rattle.er_event.specs.Trace.{Recording}
-use Rattle.er_text.specs.Reading.{read_text}
+use Rattle.er_trace.specs.Trace.{Recording}
+use Rattle.er_text.specs.Inner.Traces.{read_text}
 use Rattle.er_text.specs.Trace.{IsTrace, IsFault}
-use Rattle.er_text.proofs.TraceLaws.{trace_is}
-use Rattle.er_text.proofs.ReadingLaws.{fault_is}
-use Rattle.er_text.proofs.FaultLaws.{fault_read}
-use Rattle.er_text.proofs.AgainLaws.{trace_read}
+use Rattle.er_text.proofs.TraceLaws.{trace_is, trace_read, fault_is, fault_read}
 
 outcome : (text : List ℕ) (limit : ℕ) (r : Result Recording TextFault) → read_text limit text ≡ r
     → ((t : Recording) × IsTrace text limit t) ⊎ ((f : TextFault) × IsFault text limit f)

@@ -1,102 +1,23 @@
--- A reading that comes to its end has told a trace.
-use Rattle.std.proofs.Common.{◌≡◌, ℕ, suc, ◌+◌, ◌≤◌, ◌⊎◌, inl, inr, Bool, true, false, not, ◌&&◌, ◌||◌, cond, List, [], ◌∷◌, Option, Some, None, IfSome, Result, Ok, Err, length, filter, nat_lt, refl, subst, sym, ap, ◌∙◌, arith}
-use Rattle.std.specs.List.{list_all, AllByRecursion}
-use Rattle.std.proofs.lemmas.Bool.Decides.{nat_tests}
-use Rattle.er_event.specs.Trace.{Recording}
+-- A reading that comes to its end has told a trace, and a trace by the grammar is read as it is.
+use Rattle.std.proofs.Common.{◌≡◌, ℕ, suc, ◌+◌, inl, inr, Bool, true, false, cond, List, [], ◌∷◌, Option, Some, None, IfSome, Result, Ok, Err, length, filter, refl, subst, sym, ap, ◌∙◌, arith}
+use Rattle.er_trace.specs.Trace.{Recording, no_steps}
 use Rattle.er_text.specs.declared.faults.TextKind.{TextKind}
+use Rattle.er_text.specs.declared.faults.TextKind.TheVariants.{NoHeader}
+use Rattle.er_text.specs.declared.faults.TextFault.{TextFault}
 use Rattle.er_text.specs.declared.faults.ReadFault.{ReadFault}
 use Rattle.er_text.specs.declared.faults.ReadFault.TheVariants as fault
 use Rattle.er_text.specs.declared.verbs.Version.{Version}
-use Rattle.er_text.specs.Lines.{Line, has_bytes, words, word_at, width, is_end, is_ascii, is_comment, lines_of, onto_line}
+use Rattle.er_text.specs.Lines.{Placed, placed, has_content, words, lines_of}
 use Rattle.er_text.specs.Events.{Saying, tell}
-use Rattle.er_text.specs.Saying.{said_of}
-use Rattle.er_text.specs.Reading.{Progress, at_front, tell_said, open_with, read_words, read_content, read_line, finish_as, faulty, go_on, read_lines, read_text, IsOutcome}
-use Rattle.er_text.specs.Trace.{Placed, placed_from, has_content, header_words, version_in, opened_by, IsPlain, Says, AllSay, tell_all, IsTrace, Tells}
-use Rattle.er_text.proofs.SpellingLaws.{AreWhole, header_is, header_again}
+use Rattle.er_text.specs.Trace.{header_words, version_in, content_kinds, opened_by, AllSay, tell_all, IsTrace, IsFault, Tells}
+use Rattle.er_text.specs.Inner.Saying.{and_then, said_of}
+use Rattle.er_text.specs.Inner.Reading.{read_lines, read_contents}
+use Rattle.er_text.specs.Inner.Traces.{Progress, at_front, skip, tell_said, open_with, read_words, read_content, finish_as, finish, read_text, IsOutcome}
+use Rattle.er_text.proofs.SpellingLaws.{header_is, header_again}
 use Rattle.er_text.proofs.SayingLaws.{said_says}
-use Rattle.er_text.proofs.ReadingLaws.{at_place, whole_words, chain_ok, line_went, fault_is}
-
--- how many bytes lines take
-abbrev pub total : List Line → ℕ
-total [] = 0
-total (line ∷ lines) = width line + total lines
-
-onto_size : (b : ℕ) (lines : List Line) → total (onto_line b lines) ≡ 1 + total lines
-onto_size b [] = omega arith
-onto_size b (line ∷ lines) = omega arith
-
-size_step : (b : ℕ) (bs : List ℕ) (t : Bool) → is_end b ≡ t → total (lines_of bs) ≡ length bs → total (lines_of (b ∷ bs)) ≡ suc (length bs)
-size_step b bs true e more = rw e (omega (arith, more))
-size_step b bs false e more = rw e (omega (arith, more, onto_size b (lines_of bs)))
-
-pub size_of : (text : List ℕ) → total (lines_of text) ≡ length text
-size_of [] = refl
-size_of (b ∷ bs) = size_step b bs (is_end b) refl (size_of bs)
-
--- a line that is skipped tells nothing
-abbrev TellsNothing : Progress → Placed → Progress → Type 0
-TellsNothing p line q = (has_content line ≡ false) × (q.told ≡ p.told)
-
--- a header tells its version
-abbrev TellsVersion : Option Version → Progress → Placed → Progress → Type 0
-TellsVersion opened p line q =
-    (has_content line ≡ true) × (opened ≡ None) × (q.told ≡ p.told) × ((v : Version) × (words line.line.bytes ≡ header_words v))
-
--- an event line tells what it says
-abbrev TellsEvent : Option Version → Progress → Placed → Progress → Type 0
-TellsEvent opened p line q =
-    (has_content line ≡ true) × ((v : Version) × (s : Saying) × (opened ≡ Some v) × Says v (words line.line.bytes) s × (q.told ≡ tell p.number s p.told))
-
-abbrev LineTells : Option Version → Progress → Placed → Progress → Type 0
-LineTells opened p line q = TellsNothing p line q ⊎ (TellsVersion opened p line q ⊎ TellsEvent opened p line q)
-
-said_tells : (v : Version) (p q : Progress) (ws : List (List ℕ)) (r : Result Saying TextKind) → AreWhole ws → said_of v ws ≡ r → tell_said p r ≡ Ok q
-    → (s : Saying) × Says v ws s × (q.told ≡ tell p.number s p.told)
-said_tells v p q ws (Ok s) whole is e =
-    let same : record p { told = tell p.number s p.told } ≡ q = cc in (s, said_says v ws s whole is, sym (ap (λ (x : Progress). x.told) same))
-said_tells v p q ws (Err k) whole is e = absurd (cc)
-
-header_tells : (p q : Progress) (ws : List (List ℕ)) (r : Option Version) → AreWhole ws → version_in ws ≡ r → open_with p r ≡ Ok q
-    → (q.told ≡ p.told) × ((v : Version) × (ws ≡ header_words v))
-header_tells p q ws None whole is e = absurd (cc)
-header_tells p q ws (Some v) whole is e =
-    let same : record p { version = Some v } ≡ q = cc in
-    (sym (ap (λ (x : Progress). x.told) same), (v, header_is ws v whole is))
-
-words_tell : (opened : Option Version) (p q : Progress) (line : Placed) → has_content line ≡ true
-    → read_words opened p (words line.line.bytes) ≡ Ok q → LineTells opened p line q
-words_tell None p q line some e =
-    let h = header_tells p q (words line.line.bytes) (version_in (words line.line.bytes)) (whole_words line.line.bytes) refl e in
-    inr (inl (some, refl, h.0, h.1))
-words_tell (Some v) p q line some e =
-    let s = said_tells v p q (words line.line.bytes) (said_of v (words line.line.bytes)) (whole_words line.line.bytes) refl e in
-    inr (inr (some, (v, s.0, refl, s.1, s.2)))
-
-content_tells : (some comment : Bool) (p q : Progress) (line : Placed) (r : Result Progress TextKind)
-    → has_content line ≡ (some && not comment) → (has_content line ≡ true → r ≡ Ok q → LineTells p.version p line q)
-    → cond (not some || comment) (Ok p) r ≡ Ok q → LineTells p.version p line q
-content_tells true true p q line r is inner e = let same : p ≡ q = cc in inl (is, sym (ap (λ (x : Progress). x.told) same))
-content_tells true false p q line r is inner e = inner is e
-content_tells false comment p q line r is inner e = let same : p ≡ q = cc in inl (is, sym (ap (λ (x : Progress). x.told) same))
-
-retold : (opened : Option Version) (p x q : Progress) (line : Placed) → q.told ≡ x.told → LineTells opened p line x → LineTells opened p line q
-retold opened p x q line e (inl h) = inl (h.0, e ∙ h.1)
-retold opened p x q line e (inr (inl h)) = inr (inl (h.0, h.1, e ∙ h.2, h.3))
-retold opened p x q line e (inr (inr h)) = inr (inr (h.0, (h.1.0, h.1.1, h.1.2, h.1.3, e ∙ h.1.4)))
-
--- a line that was read is plain, and told what it says
-pub line_tells : (limit : ℕ) (p : Progress) (line : Line) (q : Progress) → read_line limit p line ≡ Ok q
-    → IsPlain (at_place p line) × LineTells p.version p (at_place p line) q
-line_tells limit p line q e =
-    let ws = words line.bytes in
-    let passed = chain_ok (nat_lt 1024 (length line.bytes)) (nat_lt limit (p.start + width line)) (list_all is_ascii line.bytes) line (read_content p line.bytes) q e in
-    let x = passed.from in
-    let told : q.told ≡ x.told = sym (ap (λ (y : Progress). y.told) passed.to) in
-    let inner = λ (some : has_content (at_place p line) ≡ true) (h : read_words p.version p ws ≡ Ok x). words_tell p.version p x (at_place p line) some h in
-    let tells = content_tells (has_bytes (word_at 0 ws)) (is_comment line.bytes) p x (at_place p line) (read_words p.version p ws) refl inner passed.read in
-    let short = passed.short in
-    let most : length line.bytes ≤ 1024 = grind (arith, nat_tests, short) in
-    ((most, passed.ascii), retold p.version p x q (at_place p line) told tells)
+use Rattle.er_text.proofs.SayingAgain.{says_said}
+use Rattle.er_text.proofs.ReadingLaws.{whole_words, size_of, all_passed, all_again, none_met, free_read, first_found, first_stops}
+use Rattle.er_text.proofs.TraceFaults.{line_moves, trace_agrees, version_of_progress}
 
 -- what the lines that are left tell, behind the header or before it
 abbrev pub TellsRest : Option Version → List Placed → Recording → Recording → Type 0
@@ -105,80 +26,142 @@ TellsRest None lines t end =
     (header : Placed) × (events : List Placed) × (v : Version) × (sayings : List Saying) × (filter has_content lines ≡ header ∷ events)
     × (words header.line.bytes ≡ header_words v) × AllSay v events sayings × (end ≡ tell_all events sayings t)
 
-rest_skips : (opened : Option Version) (line : Placed) (lines : List Placed) (t end : Recording) → has_content line ≡ false → TellsRest (opened_by opened line) lines t end
+abbrev Goes : List Placed → Recording → Progress → Type 0
+Goes lines end p = TellsRest p.version lines p.told end
+
+-- a line that is skipped tells nothing
+rest_skips : (opened : Option Version) (line : Placed) (lines : List Placed) (t end : Recording) → has_content line ≡ false → TellsRest opened lines t end
     → TellsRest opened (line ∷ lines) t end
 rest_skips (Some v) line lines t end none rest = rw none rest
-rest_skips None line lines t end none rest =
-    let after : TellsRest None lines t end = rw none at rest in
-    rw none after
+rest_skips None line lines t end none rest = rw none rest
 
-rest_opens : (opened : Option Version) (line : Placed) (lines : List Placed) (t end : Recording) (v : Version) → has_content line ≡ true → opened ≡ None
-    → words line.line.bytes ≡ header_words v → TellsRest (opened_by opened line) lines t end → TellsRest opened (line ∷ lines) t end
-rest_opens (Some w) line lines t end v some none header rest = absurd (cc)
-rest_opens None line lines t end v some none header rest =
-    let version : opened_by None line ≡ Some v = (rw some (ap version_in header)) ∙ header_again v in
-    let after : TellsRest (Some v) lines t end = subst (λ (o : Option Version). TellsRest o lines t end) version rest in
-    rw some (line, filter has_content lines, v, after.0, refl, header, after.1, after.2)
+-- a header tells its version
+header_step : (line : Placed) (lines : List Placed) (p q : Progress) (end : Recording) (r : Option Version) → has_content line ≡ true → version_in (words line.line.bytes) ≡ r
+    → open_with p r ≡ Ok q → Goes lines end q → TellsRest None (line ∷ lines) p.told end
+header_step line lines p q end None some is e rest = absurd (cc)
+header_step line lines p q end (Some v) some is e rest =
+    let same : record p { number = p.number + 1; version = Some v } ≡ q = cc in
+    let after : TellsRest (Some v) lines p.told end = subst (Goes lines end) (sym same) rest in
+    rw some (line, filter has_content lines, v, after.0, refl, header_is (words line.line.bytes) v (whole_words line.line.bytes) is, after.1, after.2)
 
-rest_says : (opened : Option Version) (line : Placed) (lines : List Placed) (t end : Recording) (v : Version) (s : Saying) → has_content line ≡ true → opened ≡ Some v
-    → Says v (words line.line.bytes) s → TellsRest (opened_by opened line) lines (tell line.number s t) end → TellsRest opened (line ∷ lines) t end
-rest_says None line lines t end v s some is says rest = absurd (cc)
-rest_says (Some w) line lines t end v s some is says rest =
-    let same : v ≡ w = cc in
-    let P : Version → Type 0 = λ u. Says u (words line.line.bytes) s in
-    rw some (s ∷ rest.0, (subst P same says, rest.1), rest.2)
+-- an event line tells what it says
+said_step : (v : Version) (line : Placed) (lines : List Placed) (p q : Progress) (end : Recording) (r : Result Saying TextKind) → p.version ≡ Some v → has_content line ≡ true
+    → said_of v (words line.line.bytes) ≡ r → tell_said line.number p r ≡ Ok q → Goes lines end q → TellsRest (Some v) (line ∷ lines) p.told end
+said_step v line lines p q end (Err k) opened some is e rest = absurd (cc)
+said_step v line lines p q end (Ok s) opened some is e rest =
+    let same : record p { number = p.number + 1; told = tell line.number s p.told } ≡ q = cc in
+    let next : TellsRest p.version lines (tell line.number s p.told) end = subst (Goes lines end) (sym same) rest in
+    let after : TellsRest (Some v) lines (tell line.number s p.told) end = subst (λ (o : Option Version). TellsRest o lines (tell line.number s p.told) end) opened next in
+    rw some (s ∷ after.0, (said_says v (words line.line.bytes) s (whole_words line.line.bytes) is, after.1), after.2)
 
-rest_more : (opened : Option Version) (p q : Progress) (line : Placed) (lines : List Placed) (end : Recording) → line.number ≡ p.number → LineTells opened p line q
-    → TellsRest (opened_by opened line) lines q.told end → TellsRest opened (line ∷ lines) p.told end
-rest_more opened p q line lines end number (inl h) rest =
-    rest_skips opened line lines p.told end h.0 (subst (λ (t : Recording). TellsRest (opened_by opened line) lines t end) h.1 rest)
-rest_more opened p q line lines end number (inr (inl h)) rest =
-    rest_opens opened line lines p.told end h.3.0 h.0 h.1 h.3.1 (subst (λ (t : Recording). TellsRest (opened_by opened line) lines t end) h.2 rest)
-rest_more opened p q line lines end number (inr (inr h)) rest =
-    let told : q.told ≡ tell line.number h.1.1 p.told = h.1.4 ∙ ap (λ n. tell n h.1.1 p.told) (sym number) in
-    rest_says opened line lines p.told end h.1.0 h.1.1 h.0 h.1.2 h.1.3 (subst (λ (t : Recording). TellsRest (opened_by opened line) lines t end) told rest)
+words_step : (opened : Option Version) (line : Placed) (lines : List Placed) (p q : Progress) (end : Recording) → p.version ≡ opened → has_content line ≡ true
+    → read_words opened line.number p (words line.line.bytes) ≡ Ok q → Goes lines end q → TellsRest opened (line ∷ lines) p.told end
+words_step None line lines p q end opened some e rest = header_step line lines p q end (version_in (words line.line.bytes)) some refl e rest
+words_step (Some v) line lines p q end opened some e rest = said_step v line lines p q end (said_of v (words line.line.bytes)) opened some refl e rest
 
--- a reading that comes to its end
-pub record Ends (limit : ℕ) (p : Progress) (lines : List Line) (t : Recording) : Type 0 where
-  pub size : p.start + total lines ≤ limit
-  pub plain : AllByRecursion IsPlain (placed_from p.number p.start lines)
-  pub rest : TellsRest p.version (placed_from p.number p.start lines) p.told t
+content_step : (some : Bool) (line : Placed) (lines : List Placed) (p q : Progress) (end : Recording) → has_content line ≡ some
+    → cond some (read_words p.version line.number p (words line.line.bytes)) (Ok (skip p)) ≡ Ok q → Goes lines end q → Goes (line ∷ lines) end p
+content_step true line lines p q end is e rest = words_step p.version line lines p q end refl is e rest
+content_step false line lines p q end is e rest =
+    let same : skip p ≡ q = cc in
+    rest_skips p.version line lines p.told end is (subst (Goes lines end) (sym same) rest)
 
-ends_none : (opened : Option Version) (p : Progress) (t : Recording) → finish_as opened p ≡ Ok t → TellsRest opened [] p.told t
-ends_none (Some v) p t e = ([], tt, cc)
-ends_none None p t e = absurd (cc)
+told_none : (opened : Option Version) (p : Progress) (t : Recording) → finish_as opened p ≡ Ok t → TellsRest opened [] p.told t
+told_none (Some v) p t e = ([], tt, cc)
+told_none None p t e = absurd (cc)
 
-ends_step : (limit : ℕ) (line : Line) (lines : List Line) (p : Progress) (t : Recording) (r : Result Progress TextKind)
-    → ((q : Progress) → q.start ≤ limit → read_lines limit lines q ≡ Ok t → Ends limit q lines t)
-    → read_line limit p line ≡ r → go_on (faulty p) (read_lines limit lines) r ≡ Ok t → Ends limit p (line ∷ lines) t
-ends_step limit line lines p t (Err k) more is e = absurd (cc)
-ends_step limit line lines p t (Ok q) more is e =
-    let went = line_went limit p line q is in
-    let tells = line_tells limit p line q is in
-    let rest = more q went.within e in
-    let start = went.start in
-    let size = rest.size in
-    let others = placed_from (p.number + 1) (p.start + width line) lines in
-    let here : placed_from q.number q.start lines ≡ others = rw (went.number, went.start) refl in
-    record {
-      size = omega (arith, start, size);
-      plain = (tells.0, subst (AllByRecursion IsPlain) here rest.plain);
-      rest = rest_more p.version p q (at_place p line) others t refl tells.1
-          (subst (λ (ls : List Placed). TellsRest (opened_by p.version (at_place p line)) ls q.told t) here
-          (subst (λ (o : Option Version). TellsRest o (placed_from q.number q.start lines) q.told t) went.version rest.rest));
-    }
+tells_step : (line : Placed) (lines : List Placed) (p q : Progress) (end : Recording) (r : Result Progress TextKind)
+    → ((x : Progress) → read_contents read_content lines x ≡ Ok q → Goes lines end x)
+    → read_content p line ≡ r → and_then r (read_contents read_content lines) ≡ Ok q → Goes (line ∷ lines) end p
+tells_step line lines p q end (Err k) more is e = absurd (cc)
+tells_step line lines p q end (Ok x) more is e = content_step (has_content line) line lines p x end refl is (more x e)
 
-pub ends : (limit : ℕ) (lines : List Line) (p : Progress) (t : Recording) → p.start ≤ limit → read_lines limit lines p ≡ Ok t → Ends limit p lines t
-ends limit [] p t within e = record { size = omega arith; plain = tt; rest = ends_none p.version p t e }
-ends limit (line ∷ lines) p t within e =
-    ends_step limit line lines p t (read_line limit p line) (λ q w h. ends limit lines q t w h) refl e
+-- lines that are read to their end tell what was read
+tells_rest : (lines : List Placed) (p q : Progress) (end : Recording) → finish_as q.version q ≡ Ok end → read_contents read_content lines p ≡ Ok q → Goes lines end p
+tells_rest [] p q end last e =
+    let same : p ≡ q = cc in
+    told_none p.version p end (ap (λ (x : Progress). finish_as x.version x) same ∙ last)
+tells_rest (line ∷ lines) p q end last e =
+    tells_step line lines p q end (read_content p line) (λ x h. tells_rest lines x q end last h) refl e
+
+-- a line is read as it tells, and what is left then is told
+abbrev ReadsLine : Placed → List Placed → Progress → Recording → Type 0
+ReadsLine line lines p end = (q : Progress) × (read_content p line ≡ Ok q) × Goes lines end q
+
+reads_skipped : (opened : Option Version) (line : Placed) (lines : List Placed) (p : Progress) (end : Recording) → p.version ≡ opened → has_content line ≡ false
+    → TellsRest opened (line ∷ lines) p.told end → ReadsLine line lines p end
+reads_skipped (Some v) line lines p end is none rest =
+    let after : TellsRest (Some v) lines p.told end = rw none at rest in
+    (skip p, rw none refl, subst (λ (o : Option Version). TellsRest o lines p.told end) (sym is) after)
+reads_skipped None line lines p end is none rest =
+    let after : TellsRest None lines p.told end = rw none at rest in
+    (skip p, rw none refl, subst (λ (o : Option Version). TellsRest o lines p.told end) (sym is) after)
+
+reads_header : (line : Placed) (lines : List Placed) (p : Progress) (end : Recording) → p.version ≡ None → has_content line ≡ true
+    → TellsRest None (line ∷ lines) p.told end → ReadsLine line lines p end
+reads_header line lines p end is some rest =
+    let found = rw some at rest in
+    let header : line ≡ found.0 = let e = found.4 in cc in
+    let events : filter has_content lines ≡ found.1 = let e = found.4 in cc in
+    let ws : words line.line.bytes ≡ header_words found.2 = ap (λ (x : Placed). words x.line.bytes) header ∙ found.5 in
+    let q : Progress = record p { number = p.number + 1; version = Some found.2 } in
+    let read : read_words p.version line.number p (words line.line.bytes) ≡ Ok q =
+    ap (λ (o : Option Version). read_words o line.number p (words line.line.bytes)) is ∙ ap (open_with p) (ap version_in ws ∙ header_again found.2) in
+    let P : List Placed → Type 0 = λ es. AllSay found.2 es found.3 in
+    let Q : List Placed → Type 0 = λ es. end ≡ tell_all es found.3 p.told in
+    (q, rw some read, (found.3, subst P (sym events) found.6, subst Q (sym events) found.7))
+
+reads_event : (v : Version) (line : Placed) (lines : List Placed) (p : Progress) (end : Recording) (sayings : List Saying) → p.version ≡ Some v → has_content line ≡ true
+    → AllSay v (line ∷ filter has_content lines) sayings → end ≡ tell_all (line ∷ filter has_content lines) sayings p.told → ReadsLine line lines p end
+reads_event v line lines p end [] is some says told = absurd says
+reads_event v line lines p end (s ∷ ss) is some says told =
+    let q : Progress = record p { number = p.number + 1; told = tell line.number s p.told } in
+    let read : read_words p.version line.number p (words line.line.bytes) ≡ Ok q =
+    ap (λ (o : Option Version). read_words o line.number p (words line.line.bytes)) is ∙ ap (tell_said line.number p) (says_said v (words line.line.bytes) s says.0) in
+    let rest : TellsRest (Some v) lines q.told end = (ss, says.1, told) in
+    (q, rw some read, subst (λ (o : Option Version). TellsRest o lines q.told end) (sym is) rest)
+
+reads_line : (opened : Option Version) (some : Bool) (line : Placed) (lines : List Placed) (p : Progress) (end : Recording) → p.version ≡ opened → has_content line ≡ some
+    → TellsRest opened (line ∷ lines) p.told end → ReadsLine line lines p end
+reads_line opened false line lines p end is none rest = reads_skipped opened line lines p end is none rest
+reads_line None true line lines p end is some rest = reads_header line lines p end is some rest
+reads_line (Some v) true line lines p end is some rest =
+    let found = rw some at rest in
+    reads_event v line lines p end found.0 is some found.1 found.2
+
+none_again : (opened : Option Version) (p : Progress) (t : Recording) → TellsRest opened [] p.told t → finish_as opened p ≡ Ok t
+none_again (Some v) p t rest = ap Ok (sym rest.2)
+none_again None p t rest = absurd (let e = rest.4 in cc)
+
+-- lines are read as what they tell
+reads_rest : (lines : List Placed) (p : Progress) (end : Recording) → Goes lines end p → (q : Progress) × (read_contents read_content lines p ≡ Ok q) × (finish_as q.version q ≡ Ok end)
+reads_rest [] p end rest = (p, refl, none_again p.version p end rest)
+reads_rest (line ∷ lines) p end rest =
+    let h = reads_line p.version (has_content line) line lines p end refl refl rest in
+    let more = reads_rest lines h.0 end h.2 in
+    (more.0, ap (λ (x : Result Progress TextKind). and_then x (read_contents read_content lines)) h.1 ∙ more.1, more.2)
+
+-- each line counts
+count_step : (line : Placed) (lines : List Placed) (p q : Progress) (r : Result Progress TextKind)
+    → ((x : Progress) → read_contents read_content lines x ≡ Ok q → q.number ≡ x.number + length lines)
+    → read_content p line ≡ r → and_then r (read_contents read_content lines) ≡ Ok q → q.number ≡ p.number + suc (length lines)
+count_step line lines p q (Err k) more is e = absurd (cc)
+count_step line lines p q (Ok x) more is e =
+    let one = (line_moves p x line is).1 in
+    let rest = more x e in
+    omega (arith, one, rest)
+
+counts : (lines : List Placed) (p q : Progress) → read_contents read_content lines p ≡ Ok q → q.number ≡ p.number + length lines
+counts [] p q e = let same : p.number ≡ q.number = let whole : p ≡ q = cc in ap (λ (x : Progress). x.number) whole in omega (arith, same)
+counts (line ∷ lines) p q e = count_step line lines p q (read_content p line) (λ x h. counts lines x q h) refl e
 
 -- what a reading tells is the trace of the text
-pub trace_is : (limit : ℕ) (text : List ℕ) (t : Recording) → read_text limit text ≡ Ok t → IsTrace text limit t
-trace_is limit text t e =
-    let end = ends limit (lines_of text) at_front t (omega arith) e in
+told_trace : (limit : ℕ) (text : List ℕ) (t : Recording) (r : Result Progress TextFault) → read_lines limit read_content (placed text) at_front ≡ r → finish r ≡ Ok t → IsTrace text limit t
+told_trace limit text t (Err f) is e = absurd (cc)
+told_trace limit text t (Ok q) is e =
+    let end = all_passed limit read_content 1 0 (lines_of text) at_front q (omega arith) is in
     let size = end.size in
-    let rest = end.rest in
+    let rest : TellsRest None (placed text) no_steps t = tells_rest (placed text) at_front q t e end.read in
     record {
       short = omega (arith, size, size_of text);
       plain = end.plain;
@@ -192,8 +175,54 @@ trace_is limit text t e =
       told = rest.7;
     }
 
+pub trace_is : (limit : ℕ) (text : List ℕ) (t : Recording) → read_text limit text ≡ Ok t → IsTrace text limit t
+trace_is limit text t e = told_trace limit text t (read_lines limit read_content (placed text) at_front) refl e
+
+-- a trace by the grammar is read as it is
+pub trace_read : (limit : ℕ) (text : List ℕ) (t : Recording) → IsTrace text limit t → read_text limit text ≡ Ok t
+trace_read limit text t is =
+    let short = is.short in
+    let rest : TellsRest None (placed text) no_steps t = (is.header, is.events, is.version, is.sayings, is.content, is.opens, is.says, is.told) in
+    let h = reads_rest (placed text) at_front t rest in
+    ap finish (all_again limit read_content 1 0 (lines_of text) at_front h.0 (record { size = omega (arith, short, size_of text); plain = is.plain; read = h.1 })) ∙ h.2
+
+-- the fault that stops a reading is the text's, and so is the want of a header
+missing : (opened : Option Version) (q : Progress) (f : TextFault) → finish_as opened q ≡ Err f → (opened ≡ None) × (f ≡ record { line = q.number; kind = NoHeader })
+missing (Some v) q f e = absurd (cc)
+missing None q f e = (refl, let same : record { line = q.number; kind = NoHeader } ≡ f = cc in sym same)
+
+told_fault : (limit : ℕ) (text : List ℕ) (f : TextFault) (r : Result Progress TextFault) → read_lines limit read_content (placed text) at_front ≡ r → finish r ≡ Err f → IsFault text limit f
+told_fault limit text f (Err g) is e =
+    let same : g ≡ f = cc in
+    inl (first_found limit read_content content_kinds opened_by version_of_progress 1 0 (lines_of text) at_front f trace_agrees (omega arith) (is ∙ ap Err same))
+told_fault limit text f (Ok q) is e =
+    let none = none_met limit read_content content_kinds opened_by version_of_progress 1 0 (lines_of text) at_front q trace_agrees (omega arith) is in
+    let end = all_passed limit read_content 1 0 (lines_of text) at_front q (omega arith) is in
+    let last = missing q.version q f e in
+    inr (none.0, none.1 ∙ last.0, last.1 ∙ ap (λ n. record { line = n; kind = NoHeader }) (counts (placed text) at_front q end.read))
+
+pub fault_is : (limit : ℕ) (text : List ℕ) (f : TextFault) → read_text limit text ≡ Err f → IsFault text limit f
+fault_is limit text f e = told_fault limit text f (read_lines limit read_content (placed text) at_front) refl e
+
+-- a text that has a fault by the grammar is read to that fault
+unopened : (opened : Option Version) (q : Progress) → opened ≡ None → finish_as opened q ≡ Err (record { line = q.number; kind = NoHeader })
+unopened (Some v) q e = absurd (cc)
+unopened None q e = refl
+
+pub fault_read : (limit : ℕ) (text : List ℕ) (f : TextFault) → IsFault text limit f → read_text limit text ≡ Err f
+fault_read limit text f (inl h) =
+    ap finish (first_stops limit read_content content_kinds opened_by version_of_progress 1 0 (lines_of text) at_front f trace_agrees (omega arith) h)
+fault_read limit text f (inr h) =
+    let read = free_read limit read_content content_kinds opened_by version_of_progress 1 0 (lines_of text) at_front trace_agrees (omega arith) h.0 in
+    let q = read.0 in
+    let none = none_met limit read_content content_kinds opened_by version_of_progress 1 0 (lines_of text) at_front q trace_agrees (omega arith) read.1 in
+    let end = all_passed limit read_content 1 0 (lines_of text) at_front q (omega arith) read.1 in
+    let version : q.version ≡ None = sym none.1 ∙ h.1 in
+    ap finish read.1 ∙ unopened q.version q version
+    ∙ ap Err (ap (λ n. record { line = n; kind = NoHeader }) (counts (placed text) at_front q end.read) ∙ sym h.2)
+
 -- the outcome of a reading is the trace of the text, or its fault
-pub outcome_tells : (text : List ℕ) (limit : ℕ) (r : Result Recording ReadFault) → IsOutcome (read_text limit text) r → Tells text limit r
+outcome_tells : (text : List ℕ) (limit : ℕ) (r : Result Recording ReadFault) → IsOutcome (read_text limit text) r → Tells text limit r
 outcome_tells text limit (Ok trace) e = trace_is limit text trace e
 outcome_tells text limit (Err (fault.Text f)) e = fault_is limit text f e
 outcome_tells text limit (Err fault.Memory) e = tt

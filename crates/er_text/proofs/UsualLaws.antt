@@ -1,5 +1,5 @@
 -- Lines in their usual form say what the grammar says of their words.
-use Rattle.std.proofs.Common.{◌≡◌, ◌==◌, ℕ, zero, suc, append-nil, ◌/◌, ◌^◌, ◌≤◌, Bool, true, false, not, ◌&&◌, cond, List, [], ◌∷◌, ◌++◌, length, take, drop, get_or, filter, Option, Some, None, Ok, nat_lt, nat_le, codes, refl, sym, ap, ◌∙◌, arith}
+use Rattle.std.proofs.Common.{◌≡◌, ◌+◌, ◌==◌, ℕ, zero, suc, append-nil, ◌/◌, ◌^◌, ◌≤◌, Bool, true, false, not, ◌&&◌, cond, List, [], ◌∷◌, ◌++◌, length, take, drop, get_or, filter, Option, Some, None, Ok, nat_lt, nat_le, codes, refl, sym, ap, ◌∙◌, arith}
 use Rattle.std.specs.List.{list_all, slice_split, All}
 use Rattle.std.specs.Char.{is_digit}
 use Rattle.std.specs.Str.{bytes_eq}
@@ -18,8 +18,8 @@ use Rattle.er_text.specs.Lines.{is_gap, is_ascii, is_comment, has_bytes, words, 
 use Rattle.er_text.specs.Number.{number_of}
 use Rattle.er_text.specs.Naming.{is_name_byte, is_name, is_lock_name, name_of, lock_name_of}
 use Rattle.er_text.specs.Events.{Deed, Acquires, Releases, Accesses, Saying, tell}
-use Rattle.er_text.specs.Reading.{Progress, tell_said, read_words, read_plain}
-use Rattle.er_text.specs.Usual.{IsFrontName, IsHexFront, TellsAccess, TellsUsual, SaysUsually}
+use Rattle.er_text.specs.Inner.Traces.{Progress, tell_said, read_words, plain_at}
+use Rattle.er_text.specs.Inner.Usual.{IsFrontName, IsHexFront, TellsAccess, TellsUsual, SaysUsually}
 use Rattle.er_text.proofs.ByteLemmas.{name_ascii}
 use Rattle.er_text.proofs.SayingAgain.{says_said}
 
@@ -212,9 +212,9 @@ line_says line name rest deed front tells =
     }
 
 -- a line in its usual form, behind the header, is read as what it says
-pub usual_reads : (p : Progress) (bytes : List ℕ) (s : Saying) (v : Version) → p.version ≡ Some v → SaysUsually bytes s
-    → read_plain p bytes ≡ Ok (record p { told = tell p.number s p.told })
-usual_reads p bytes s v is says =
-    let words_read : read_words p.version p (words bytes) ≡ Ok (record p { told = tell p.number s p.told }) =
-    ap (λ (o : Option Version). read_words o p (words bytes)) is ∙ ap (tell_said p) (says_said v (words bytes) s (says.says v)) in
+pub usual_reads : (p : Progress) (line : ℕ) (bytes : List ℕ) (s : Saying) (v : Version) → p.version ≡ Some v → SaysUsually bytes s
+    → plain_at p line bytes ≡ Ok (record p { number = p.number + 1; told = tell line s p.told })
+usual_reads p line bytes s v is says =
+    let words_read : read_words p.version line p (words bytes) ≡ Ok (record p { number = p.number + 1; told = tell line s p.told }) =
+    ap (λ (o : Option Version). read_words o line p (words bytes)) is ∙ ap (tell_said line p) (says_said v (words bytes) s (says.says v)) in
     rw (says.ascii, says.some, says.no_comment) words_read

@@ -8,7 +8,7 @@ use Rattle.std.proofs.lemmas.Int.Digits.{digits_value_more}
 use Rattle.std.proofs.lemmas.List.Folds.{list_all_more}
 use Rattle.std.proofs.lemmas.Nat.{pow-add}
 use Rattle.std.proofs.Math.Pow.{pow_mono}
-use Rattle.er_text.specs.Usual.{IsHexFront}
+use Rattle.er_text.specs.Inner.Usual.{IsHexFront}
 
 -- the elements in front of the first that fails all pass
 front_step : (p : ℕ → Bool) (x : ℕ) (xs : List ℕ) (b : Bool) → p x ≡ b → list_all p (take (position_or_len (λ y. not (p y)) xs) xs) ≡ true

@@ -1,8 +1,8 @@
 -- What an event line says, and the steps that it adds to a trace.
 use Rattle.std.specs.Prelude.{ℕ, ◌+◌, ◌++◌, ◌==◌, List, [], map, Option, Some, None, if◌then◌else◌}
-use Rattle.er_event.specs.Names.{number_of}
+use Rattle.er_trace.specs.Names.{number_of}
 use Rattle.er_event.specs.Span.{Span, span_of_bytes, parts_of}
-use Rattle.er_event.specs.Trace.{Recording, with_step, with_thread, with_lock, with_site}
+use Rattle.er_trace.specs.Trace.{Recording, with_step, with_thread_name, with_lock_name, with_site_name}
 use Rattle.er_event.specs.declared.addresses.PageRange.{PageRange}
 use Rattle.er_event.specs.declared.steps.Event.TheVariants as event
 use Rattle.er_event.specs.declared.steps.Kind.{Kind}
@@ -45,12 +45,12 @@ site_number r (Some site) = number_of r.names.sites site + 1
 
 abbrev pub with_site_of : Recording → Option (List ℕ) → Recording
 with_site_of r None = r
-with_site_of r (Some site) = with_site r site
+with_site_of r (Some site) = with_site_name r site
 
 -- what the thread of this number does, on a line of that number
 abbrev pub tell_deed : ℕ → ℕ → Deed → Recording → Recording
-tell_deed line thread (Acquires lock m) r = with_step (with_lock r lock) (record { thread = thread; event = event.Acquire (number_of r.names.locks lock) m }) line
-tell_deed line thread (Releases lock m) r = with_step (with_lock r lock) (record { thread = thread; event = event.Release (number_of r.names.locks lock) m }) line
+tell_deed line thread (Acquires lock m) r = with_step (with_lock_name r lock) (record { thread = thread; event = event.Acquire (number_of r.names.locks lock) m }) line
+tell_deed line thread (Releases lock m) r = with_step (with_lock_name r lock) (record { thread = thread; event = event.Release (number_of r.names.locks lock) m }) line
 tell_deed line thread (Accesses k w site) r = with_step (with_site_of r site) (record { thread = thread; event = event.Access k w (site_number r site) }) line
 tell_deed line thread (Reuses run) r = with_reuses r line thread (run_parts run)
 tell_deed line thread IgnoresOn r = with_step r (record { thread = thread; event = event.IgnoreOn }) line
@@ -60,4 +60,4 @@ tell_deed line thread (Levels n) r = with_step r (record { thread = thread; even
 
 -- the recording after one more event line; its thread is numbered first
 abbrev pub tell : ℕ → Saying → Recording → Recording
-tell line s r = tell_deed line (number_of r.names.threads s.thread) s.deed (with_thread r s.thread)
+tell line s r = tell_deed line (number_of r.names.threads s.thread) s.deed (with_thread_name r s.thread)

@@ -3,13 +3,11 @@ pub mod Number
 pub mod Naming
 pub mod Verbs
 pub mod Faults
+pub mod FirstFault
 pub mod Events
 pub mod Trace
-pub mod Saying
-pub mod Reading
-pub mod Progress
-pub mod Windows
-pub mod Usual
 pub mod Named
 pub mod Rules
-pub mod Gathering
+pub mod Places
+pub mod Batches
+pub mod Inner

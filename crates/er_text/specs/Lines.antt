@@ -1,5 +1,5 @@
 -- The lines of a text, and the words of a line.
-use Rattle.std.specs.Prelude.{ℕ, ◌+◌, ◌==◌, ◌||◌, Bool, true, false, List, [], ◌∷◌, length, drop, filter, nat_lt, if◌then◌else◌}
+use Rattle.std.specs.Prelude.{ℕ, ◌+◌, ◌==◌, ◌||◌, ◌&&◌, not, Bool, true, false, List, [], ◌∷◌, length, drop, filter, nat_lt, if◌then◌else◌}
 use Rattle.std.specs.List.{slice_split}
 
 -- a line, and whether an LF follows it
@@ -23,6 +23,20 @@ lines_of (byte ∷ bytes) = if is_end byte then record { bytes = []; ended = tru
 -- how many bytes of the text a line takes, its LF included
 abbrev pub width : Line → ℕ
 width line = length line.bytes + (if line.ended then 1 else 0)
+
+-- a line, its number, and how many bytes of the text stand before it
+pub record Placed : Type 0 where
+  pub number : ℕ
+  pub start : ℕ
+  pub line : Line
+
+abbrev pub placed_from : ℕ → ℕ → List Line → List Placed
+placed_from number start [] = []
+placed_from number start (line ∷ lines) = record { number = number; start = start; line = line } ∷ placed_from (number + 1) (start + width line) lines
+
+-- the lines of a text, numbered from 1
+abbrev pub placed : List ℕ → List Placed
+placed text = placed_from 1 0 (lines_of text)
 
 -- a space or a tab
 abbrev pub is_gap : ℕ → Bool
@@ -52,3 +66,10 @@ is_ascii byte = nat_lt byte 128
 abbrev pub is_comment : List ℕ → Bool
 is_comment [] = false
 is_comment (byte ∷ bytes) = byte == 35
+
+-- neither blank nor a comment
+abbrev pub says_something : List ℕ → Bool
+says_something bytes = has_bytes (word_at 0 (words bytes)) && not (is_comment bytes)
+
+abbrev pub has_content : Placed → Bool
+has_content p = says_something p.line.bytes

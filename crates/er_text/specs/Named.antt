@@ -1,15 +1,16 @@
 -- Each step is what its line says, and each of its numbers has the name that stands there.
-use Rattle.std.specs.Prelude.{◌≡◌, ℕ, ◌-◌, ◌<◌, List, [], ◌∷◌, Option, Some, None}
+use Rattle.std.specs.Prelude.{◌≡◌, ℕ, ◌-◌, ◌<◌, List, [], ◌∷◌, ◌++◌, Option, Some, None}
 use Rattle.std.specs.List.{Contains, slice_get}
-use Rattle.er_event.specs.Names.{NameTable}
+use Rattle.er_trace.specs.Names.{NameTable}
+use Rattle.er_trace.specs.Trace.{Recording}
 use Rattle.er_event.specs.declared.addresses.PageRange.{PageRange}
 use Rattle.er_event.specs.declared.steps.Event.{Event}
 use Rattle.er_event.specs.declared.steps.Event.TheVariants as event
 use Rattle.er_event.specs.declared.steps.Step.{Step}
 use Rattle.er_text.specs.declared.verbs.Version.{Version}
-use Rattle.er_text.specs.Lines.{words}
+use Rattle.er_text.specs.Lines.{Placed, words}
 use Rattle.er_text.specs.Events.{Saying, Deed, Acquires, Releases, Accesses, Reuses, IgnoresOn, IgnoresOff, Shows, Levels, run_parts}
-use Rattle.er_text.specs.Trace.{Placed, Says}
+use Rattle.er_text.specs.Trace.{Says}
 
 -- sites are numbered from 1, and the missing site is 0
 abbrev pub IsSiteNumber : List (List ℕ) → ℕ → Option (List ℕ) → Type 0
@@ -41,3 +42,20 @@ AreNamed v events names (step ∷ steps) (line ∷ lines) =
     ((p : Placed) × Contains events p × (line ≡ p.number) × IsToldBy v names step p) × AreNamed v events names steps lines
 AreNamed v events names [] (line ∷ lines) = ⊥
 AreNamed v events names (step ∷ steps) [] = ⊥
+
+-- names that have a number keep it
+abbrev pub KeepsNumbers : List (List ℕ) → List (List ℕ) → Type 0
+KeepsNumbers old new = (n : ℕ) (name : List ℕ) → slice_get old n ≡ Some name → slice_get new n ≡ Some name
+
+pub record KeepsNames (old new : NameTable) : Type 0 where
+  pub threads : KeepsNumbers old.threads new.threads
+  pub locks : KeepsNumbers old.locks new.locks
+  pub sites : KeepsNumbers old.sites new.sites
+
+-- the trace has more steps behind those that it had, and perhaps more names
+pub record Grows (old new : Recording) : Type 0 where
+  pub names : KeepsNames old.names new.names
+  pub more : List Step
+  pub others : List ℕ
+  pub steps : new.steps ≡ old.steps ++ more
+  pub lines : new.lines ≡ old.lines ++ others

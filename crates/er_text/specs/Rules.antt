@@ -1,19 +1,20 @@
 -- The grammar of suppression texts, and the fault of a text that is none. It speaks of whole lines, and knows no reading.
-use Rattle.std.specs.Prelude.{◌≡◌, ℕ, ◌+◌, ◌^◌, ◌<◌, ◌≤◌, ◌||◌, ◌&&◌, Bool, true, not, List, [], ◌∷◌, ◌++◌, Some, None, Result, Ok, Err, length, drop, filter, nat_lt, nat_le, codes, if◌then◌else◌}
-use Rattle.std.specs.List.{list_all, AllByRecursion}
+use Rattle.std.specs.Prelude.{◌≡◌, ℕ, ◌+◌, ◌^◌, ◌<◌, ◌≤◌, ◌||◌, Bool, true, not, List, [], ◌∷◌, Some, Result, Ok, Err, length, drop, filter, nat_lt, nat_le, codes, if◌then◌else◌}
+use Rattle.std.specs.List.{AllByRecursion}
 use Rattle.std.specs.Str.{bytes_eq}
 use Rattle.er_rules.specs.Rules.{Target, AtSite, AtWords, targets_of}
 use Rattle.er_rules.specs.declared.rules.Suppressions.{Suppressions}
 use Rattle.er_text.specs.declared.faults.TextKind.{TextKind}
-use Rattle.er_text.specs.declared.faults.TextKind.TheVariants.{LineTooLong, TextTooLong, NotAscii, BadName, MissingOperand, BadVerb, ExtraOperand, BadNumber, AddressOutOfRange}
+use Rattle.er_text.specs.declared.faults.TextKind.TheVariants.{BadName, MissingOperand, BadVerb, ExtraOperand, BadNumber, AddressOutOfRange}
 use Rattle.er_text.specs.declared.faults.TextFault.{TextFault}
 use Rattle.er_text.specs.declared.faults.ReadFault.{ReadFault}
 use Rattle.er_text.specs.declared.faults.ReadFault.TheVariants as fault
-use Rattle.er_text.specs.Lines.{words, word_at, width, is_ascii}
+use Rattle.er_text.specs.Lines.{Placed, placed, has_content, words, word_at}
+use Rattle.er_text.specs.FirstFault.{IsPlain, IsFirstFaulty}
 use Rattle.er_text.specs.Number.{number_of}
 use Rattle.er_text.specs.Naming.{is_name}
 use Rattle.er_text.specs.Events.{run_of}
-use Rattle.er_text.specs.Trace.{Placed, placed, has_content, IsSite, IsPlain, first_kind, number_at, is_number_at}
+use Rattle.er_text.specs.Trace.{IsSite, number_at, is_number_at}
 
 -- the words that write a rule: a site, of which `-` is the missing one, or an address and a size in bytes
 abbrev pub IsRule : List (List ℕ) → Target → Type 0
@@ -46,27 +47,16 @@ rule_kinds words =
     else if bytes_eq (word_at 0 words) (codes "words") then run_kinds (drop 1 words)
     else (true, BadVerb) ∷ []
 
--- the faults of a line, in their order
-abbrev pub rule_line_kinds : ℕ → Placed → List (Bool × TextKind)
-rule_line_kinds limit p =
-    (nat_lt 1024 (length p.line.bytes), LineTooLong)
-    ∷ (nat_le p.start limit && nat_lt limit (p.start + width p.line), TextTooLong)
-    ∷ (not (list_all is_ascii p.line.bytes), NotAscii)
-    ∷ (if has_content p then rule_kinds (words p.line.bytes) else [])
+-- the faults of what a line says. It doesn't depend on other lines
+abbrev pub rule_content_kinds : Unit {0} → Placed → List (Bool × TextKind)
+rule_content_kinds nothing p = if has_content p then rule_kinds (words p.line.bytes) else []
 
--- no fault in this line
-abbrev pub IsFaultless : ℕ → Placed → Type 0
-IsFaultless limit p = first_kind (rule_line_kinds limit p) ≡ None
-
--- the first faulty line, with its first fault
-abbrev pub IsFirstFaultyRule : ℕ → List Placed → TextFault → Type 0
-IsFirstFaultyRule limit lines f =
-    (before : List Placed) × (p : Placed) × (after : List Placed) × (lines ≡ before ++ p ∷ after) × AllByRecursion (IsFaultless limit) before
-    × (first_kind (rule_line_kinds limit p) ≡ Some f.kind) × (f.line ≡ p.number)
+abbrev pub still_nothing : Unit {0} → Placed → Unit {0}
+still_nothing nothing p = nothing
 
 -- the fault of a text
 abbrev pub IsRulesFault : List ℕ → ℕ → TextFault → Type 0
-IsRulesFault text limit f = IsFirstFaultyRule limit (placed text) f
+IsRulesFault text limit f = IsFirstFaulty limit rule_content_kinds still_nothing tt (placed text) f
 
 -- a text writes these rules: it is in its limits, and its lines with content are the rules in order
 pub record IsRules (text : List ℕ) (limit : ℕ) (targets : List Target) : Type 0 where

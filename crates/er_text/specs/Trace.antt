@@ -1,15 +1,15 @@
 -- The grammar of traces, and the fault of a text that is none. It speaks of whole lines, and knows no reading.
-use Rattle.std.specs.Prelude.{◌≡◌, ℕ, ◌+◌, ◌/◌, ◌^◌, ◌<◌, ◌≤◌, ◌||◌, ◌&&◌, ◌⊎◌, Bool, true, false, not, List, [], ◌∷◌, ◌++◌, Option, Some, None, Result, Ok, Err, length, drop, filter, nat_lt, nat_le, codes, unwrap_or, if◌then◌else◌}
-use Rattle.std.specs.List.{list_all, AllByRecursion}
+use Rattle.std.specs.Prelude.{◌≡◌, ℕ, ◌+◌, ◌/◌, ◌^◌, ◌<◌, ◌≤◌, ◌||◌, ◌&&◌, ◌⊎◌, Bool, true, false, not, List, [], ◌∷◌, Option, Some, None, Result, Ok, Err, length, drop, filter, nat_lt, nat_le, codes, unwrap_or, if◌then◌else◌}
+use Rattle.std.specs.List.{AllByRecursion}
 use Rattle.std.specs.Option.{is_some}
 use Rattle.std.specs.Str.{bytes_eq}
-use Rattle.er_event.specs.Trace.{Recording, no_steps}
+use Rattle.er_trace.specs.Trace.{Recording, no_steps}
 use Rattle.er_event.specs.declared.steps.Kind.{Kind}
 use Rattle.er_event.specs.declared.steps.Kind.TheVariants as kind
 use Rattle.er_event.specs.declared.steps.Mode.{Mode}
 use Rattle.er_event.specs.declared.steps.Mode.TheVariants as mode
 use Rattle.er_text.specs.declared.faults.TextKind.{TextKind}
-use Rattle.er_text.specs.declared.faults.TextKind.TheVariants.{LineTooLong, TextTooLong, NotAscii, NoHeader, BadName, MissingOperand, BadVerb, ExtraOperand, BadNumber, SizeTooLarge, AddressOutOfRange, LevelTooHigh}
+use Rattle.er_text.specs.declared.faults.TextKind.TheVariants.{NoHeader, BadName, MissingOperand, BadVerb, ExtraOperand, BadNumber, SizeTooLarge, AddressOutOfRange, LevelTooHigh}
 use Rattle.er_text.specs.declared.faults.ReadFault.{ReadFault}
 use Rattle.er_text.specs.declared.faults.ReadFault.TheVariants as fault
 use Rattle.er_text.specs.declared.faults.TextFault.{TextFault}
@@ -17,28 +17,12 @@ use Rattle.er_text.specs.declared.verbs.Verb.{Verb}
 use Rattle.er_text.specs.declared.verbs.Verb.TheVariants as verb
 use Rattle.er_text.specs.declared.verbs.Version.{Version}
 use Rattle.er_text.specs.declared.verbs.Version.TheVariants as version
-use Rattle.er_text.specs.Lines.{Line, has_bytes, words, word_at, width, lines_of, is_ascii, is_comment}
+use Rattle.er_text.specs.Lines.{Placed, placed, has_content, has_bytes, words, word_at}
+use Rattle.er_text.specs.FirstFault.{IsPlain, known_after, HasNone, IsFirstFaulty}
 use Rattle.er_text.specs.Number.{number_of}
 use Rattle.er_text.specs.Naming.{is_name, is_lock_name}
 use Rattle.er_text.specs.Verbs.{version_word, verb_of, version_of, least_of, most_of}
 use Rattle.er_text.specs.Events.{Saying, Deed, Acquires, Releases, Accesses, Reuses, IgnoresOn, IgnoresOff, Shows, Levels, run_of, tell}
-
--- a line, its number, and how many bytes of the text stand before it
-pub record Placed : Type 0 where
-  pub number : ℕ
-  pub start : ℕ
-  pub line : Line
-
-abbrev pub placed_from : ℕ → ℕ → List Line → List Placed
-placed_from number start [] = []
-placed_from number start (line ∷ lines) = record { number = number; start = start; line = line } ∷ placed_from (number + 1) (start + width line) lines
-
-abbrev pub placed : List ℕ → List Placed
-placed text = placed_from 1 0 (lines_of text)
-
--- neither blank nor a comment
-abbrev pub has_content : Placed → Bool
-has_content p = has_bytes (word_at 0 (words p.line.bytes)) && not (is_comment p.line.bytes)
 
 abbrev pub acquire_word : Mode → List ℕ
 acquire_word mode.Write = codes "lock"
@@ -94,15 +78,6 @@ tell_all [] ss r = r
 
 abbrev pub header_words : Version → List (List ℕ)
 header_words v = codes "eraser" ∷ codes "trace" ∷ version_word v ∷ []
-
--- a line in the limits, of ASCII
-abbrev pub IsPlain : Placed → Type 0
-IsPlain p = (length p.line.bytes ≤ 1024) × (list_all is_ascii p.line.bytes ≡ true)
-
--- the first fault of a table, and none where no row applies
-abbrev pub first_kind : List (Bool × TextKind) → Option TextKind
-first_kind [] = None
-first_kind (row ∷ rows) = if row.0 then Some row.1 else first_kind rows
 
 -- the number that an operand writes, or 0
 abbrev pub number_at : ℕ → List (List ℕ) → ℕ
@@ -165,45 +140,23 @@ abbrev pub word_kinds : Option Version → List (List ℕ) → List (Bool × Tex
 word_kinds None words = (not (is_some (version_in words)), NoHeader) ∷ []
 word_kinds (Some v) words = event_kinds v words
 
+-- the faults of what a line says, in their order
 abbrev pub content_kinds : Option Version → Placed → List (Bool × TextKind)
 content_kinds opened p = if has_content p then word_kinds opened (words p.line.bytes) else []
-
--- the faults of a line, in their order
-abbrev pub line_kinds : ℕ → Option Version → Placed → List (Bool × TextKind)
-line_kinds limit opened p =
-    (nat_lt 1024 (length p.line.bytes), LineTooLong)
-    ∷ (nat_le p.start limit && nat_lt limit (p.start + width p.line), TextTooLong)
-    ∷ (not (list_all is_ascii p.line.bytes), NotAscii)
-    ∷ content_kinds opened p
 
 -- the version that a header has told once this line is past
 abbrev pub opened_by : Option Version → Placed → Option Version
 opened_by (Some v) p = Some v
 opened_by None p = if has_content p then version_in (words p.line.bytes) else None
 
-abbrev pub opened_after : Option Version → List Placed → Option Version
-opened_after opened [] = opened
-opened_after opened (p ∷ ps) = opened_after (opened_by opened p) ps
-
--- no fault in any of these lines
-abbrev pub HasNone : ℕ → Option Version → List Placed → Type 0
-HasNone limit opened [] = Unit {0}
-HasNone limit opened (p ∷ ps) = (first_kind (line_kinds limit opened p) ≡ None) × HasNone limit (opened_by opened p) ps
-
--- the first faulty line, with its first fault
-abbrev pub IsFirstFaulty : ℕ → Option Version → List Placed → TextFault → Type 0
-IsFirstFaulty limit opened lines f =
-    (before : List Placed) × (p : Placed) × (after : List Placed) × (lines ≡ before ++ p ∷ after) × HasNone limit opened before
-    × (first_kind (line_kinds limit (opened_after opened before) p) ≡ Some f.kind) × (f.line ≡ p.number)
-
 -- no line has a fault, and none is a header
-abbrev pub IsEmpty : ℕ → Option Version → ℕ → List Placed → TextFault → Type 0
-IsEmpty limit opened next lines f =
-    HasNone limit opened lines × (opened_after opened lines ≡ None) × (f ≡ record { line = next + length lines; kind = NoHeader })
+abbrev pub IsEmpty : ℕ → List Placed → TextFault → Type 0
+IsEmpty limit lines f =
+    HasNone limit content_kinds opened_by None lines × (known_after opened_by None lines ≡ None) × (f ≡ record { line = 1 + length lines; kind = NoHeader })
 
 -- the fault of a text
 abbrev pub IsFault : List ℕ → ℕ → TextFault → Type 0
-IsFault text limit f = IsFirstFaulty limit None (placed text) f ⊎ IsEmpty limit None 1 (placed text) f
+IsFault text limit f = IsFirstFaulty limit content_kinds opened_by None (placed text) f ⊎ IsEmpty limit (placed text) f
 
 -- a text is a trace: in its limits, and of its lines with content the first is a header and the others say the trace's steps
 pub record IsTrace (text : List ℕ) (limit : ℕ) (t : Recording) : Type 0 where

@@ -1,7 +1,7 @@
 //! Where lines and words end.
 ghost use Rattle.std.specs.Prelude.{◌≡◌, ◌≤◌, not, position, length, drop};
 ghost use Rattle.std.specs.List.{list_all, position_or_len};
-ghost use Rattle.er_text.specs.Lines.{is_end, is_gap, is_ascii, is_comment, first_of, words};
+ghost use Rattle.er_text.specs.Lines.{is_end, is_gap, is_ascii, is_comment, first_of, words, word_at, says_something};
 
 use memchr::memchr;
 
@@ -64,4 +64,12 @@ pub(crate) fn next_word(bytes: &[u8]) -> (&[u8], &[u8])
 {
     let rest = &bytes[gap_len(bytes)..];
     rest.split_at(word_len(rest))
+}
+
+/// Whether a line whose first word is this one is neither blank nor a comment.
+pub(crate) fn says_something(first: &[u8], line: &[u8]) -> bool
+    requires { first.now ≡ word_at 0 (words line.now) }
+    ensures { result ≡ says_something line.now }
+{
+    !first.is_empty() && !is_comment(line)
 }

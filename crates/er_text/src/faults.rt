@@ -77,6 +77,13 @@ pub enum ReadFault {
     Read,
 }
 
+/// A fault of this line.
+pub(crate) fn fault_at(line: u64, kind: TextKind) -> ReadFault
+    ensures { result ≡ ReadFault.Text (record { line = line; kind = kind }) }
+{
+    ReadFault::Text(TextFault { line, kind })
+}
+
 impl From<AllocError> for ReadFault {
     ghost from_gives = { λ _ fault. fault ≡ Memory };
 

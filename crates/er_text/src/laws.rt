@@ -1,6 +1,9 @@
 //! What holds of every text.
-ghost use Rattle.std.specs.Prelude.{◌≡◌, ◌⊎◌, ℕ, List};
-ghost use Rattle.er_event.specs.Trace.{Recording};
+ghost use Rattle.std.specs.Prelude.{◌≡◌, ◌⊎◌, ◌++◌, ℕ, List, Option};
+ghost use Rattle.er_event.specs.declared.steps.Step.{Step};
+ghost use Rattle.er_text.specs.Places.{Reached};
+ghost use Rattle.er_text.specs.Batches.{HasRead, without_steps};
+ghost use Rattle.er_trace.specs.Trace.{Recording};
 ghost use Rattle.er_text.specs.declared.faults.TextFault.{TextFault};
 ghost use Rattle.er_text.specs.Named.{AreNamed};
 ghost use Rattle.er_text.specs.Trace.{IsTrace, IsFault};
@@ -27,4 +30,10 @@ pub fn rules_or_fault()
     ensures never_both { (text : List ℕ) (limit : ℕ) (rules : List Target) (f : TextFault) → IsRules text limit rules → IsRulesFault text limit f → ⊥ }
     ensures one_list { (text : List ℕ) (limit : ℕ) (r s : List Target) → IsRules text limit r → IsRules text limit s → r ≡ s }
     ensures one_fault { (text : List ℕ) (limit : ℕ) (f g : TextFault) → IsRulesFault text limit f → IsRulesFault text limit g → f ≡ g }
+{}
+
+/// The caller of a reader of batches may take the steps of the trace away: they are then the last of those that were taken.
+pub fn a_batch_may_be_forgotten()
+    ensures { (text : List ℕ) (steps : List Step) (lines : List ℕ) (reader : Reached) (known : Option (List ℕ)) (trace : Recording)
+        → HasRead text steps lines reader known trace → HasRead text (steps ++ trace.steps) (lines ++ trace.lines) reader known (without_steps trace) }
 {}

@@ -1,12 +1,15 @@
 //! The texts of traces and of suppressions: read byte by byte, as their grammars say of whole lines.
 //!
-//! Begin with [`read_trace`]: it reads a text from any reader, in whatever pieces it comes, and gives its [`Trace`](er_event::Trace)
-//! or the fault of its first faulty line. [`read_suppressions`] does the same for the rules that keep races out of a report, and
-//! gives them as [`Suppressions`](er_rules::Suppressions).
+//! Begin with [`read_trace`]: it reads a text from any reader, in whatever pieces it comes, and gives its [`Trace`](er_trace::Trace)
+//! or the fault of its first faulty line. [`TraceReader`] reads a trace batch by batch, so that a caller need not keep its steps.
+//! [`read_suppressions`] reads the rules that keep races out of a report, and gives them as
+//! [`Suppressions`](er_rules::Suppressions). All three go over the same reader of lines (`lines`).
 //!
 //! What they promise, by the names of clauses: what is told of a text is its trace, or its rules, or its fault by the grammar
-//! (`told`), and every text has exactly one of these (`trace_or_fault`, `rules_or_fault`); a fault of the reader is told exactly
-//! where the reader failed (`failed`); no reading takes more than `byte_limit` and 1,025 bytes (`taken`).
+//! (`told`), and every text has exactly one of these (`trace_or_fault`, `rules_or_fault`); batches, one behind the other, are the
+//! trace of the whole text, also if the caller takes their steps away (`told` of `next_batch`, `a_batch_may_be_forgotten`); a fault
+//! of the reader is reported if and only if the reader failed (`failed`); no reading takes more than `byte_limit` and 1,025 bytes
+//! (`taken`).
 //!
 //! ```
 //! let mut reader = Device::new(b"eraser trace 1\nt1 lock m\nt1 write 0x1000 save.c:12\n".as_slice());
@@ -20,14 +23,15 @@
 #![tactic(auto)]
 
 pub use faults::{ReadFault, TextFault, TextKind};
-pub use laws::{rules_or_fault, steps_are_named, trace_or_fault};
-pub use reading::read_trace;
+pub use laws::{a_batch_may_be_forgotten, rules_or_fault, steps_are_named, trace_or_fault};
+pub use reading::{Batch, TraceReader, read_trace};
 pub use suppressions::read_suppressions;
 
 mod bytes;
 mod classes;
 mod faults;
 mod laws;
+mod lines;
 mod naming;
 mod numbers;
 mod reading;

@@ -1,173 +1,236 @@
-//! Traces, line by line.
-ghost use Rattle.std.specs.Prelude.{◌≡◌, ◌+◌, ◌<◌, ◌≤◌, length, OnOk, IfOk, IfSome, IsErrOf, true, false};
-ghost use Rattle.std.specs.Io.KnownBytes.{prepend_known};
+//! Traces, line by line, and batch by batch.
+ghost use Rattle.std.specs.Prelude.{◌≡◌, ◌+◌, ◌<◌, ◌≤◌, ◌^◌, length, OnOk, IfOk, IfSome, IfErr, IsErrOf, IsSome, true, false, Option, ℕ, List, [], Some};
 ghost use Rattle.er_device.specs.Device.{inner_of, has_failed, taken_of};
-ghost use Rattle.er_text.specs.Lines.{width};
-ghost use Rattle.er_text.specs.Reading.{at_front, read_content, read_plain, read_line, read_text, finish, IsOutcome};
-ghost use Rattle.er_text.specs.Windows.{items};
 ghost use Rattle.er_text.specs.Trace.{Tells, HasFailedBy};
-ghost use Rattle.er_text.specs.Progress.{progress, Advances, IsSound, Grows, Turns};
+ghost use Rattle.er_text.specs.Places.{HasFewerNames};
+ghost use Rattle.er_trace.specs.Trace.{no_steps};
+ghost use Rattle.er_event.specs.declared.steps.Step.{Step};
+ghost use Rattle.er_text.specs.Named.{Grows};
+ghost use Rattle.er_text.specs.Batches.{HasRead, GivesBatch};
+ghost use Rattle.er_text.specs.Inner.Lending.{taken_by, lines_left};
+ghost use Rattle.er_text.specs.Inner.Reading.{Reads, Turns};
+ghost use Rattle.er_text.specs.Inner.Traces.{progress, at_line, read_at, plain_at, read_content, read_text, IsOutcome, Batches, HasNumbers, AddsNames};
 
-use crate::bytes::{is_ascii, is_comment};
-use crate::faults::{ReadFault, TextFault, TextKind};
+use crate::bytes::{is_ascii, says_something};
+use crate::faults::{ReadFault, TextKind, fault_at};
+use crate::lines::LineReader;
 use crate::saying::split_words;
 use crate::telling::tell;
 use crate::usual::usual_said;
 use crate::verbs::Version;
-use crate::windows::{Front, Window};
 use er_device::Device;
-use er_event::Trace;
-use std::alloc::Global;
+use er_trace::Trace;
+use std::alloc::{AllocError, Global};
 use std::io::Read;
+use std::marker::Model;
 
-/// How far a reading has come: the line that is next, the bytes before it, the version that a header told, and the trace so far.
+/// What the header says: the version of the text, once a header was read.
 #[derive(Drop)]
-struct Reading {
-    number: u64,
-    start: u64,
+struct Header {
     version: Option<Version>,
-    trace: Trace,
 }
 
-impl Reading {
-    fn new(alloc: Global) -> Reading
-        ensures { progress result ≡ at_front }
-    {
-        Reading {
-            number: 1,
-            start: 0,
-            version: None,
-            trace: Trace::new(alloc),
-        }
-    }
-
-    /// A fault of the line that is read.
-    fn fault(&self, kind: TextKind) -> ReadFault
-        ensures { result ≡ ReadFault.Text (record { line = self.now.number; kind = kind }) }
-    {
-        ReadFault::Text(TextFault {
-            line: self.number,
-            kind,
-        })
-    }
-
+impl Header {
     /// Reads a line of ASCII.
-    fn content(&mut self, bytes: &[u8]) -> Result<(), ReadFault>
-        requires { IsSound 268435456 (progress self.old) }
-        ensures content { Advances (progress self.old) (progress self.new) result (read_content (progress self.old) bytes.now) }
-        ensures grows { OnOk result (Grows (progress self.old) (progress self.new)) }
+    fn read(&mut self, trace: &mut Trace, line: u64, bytes: &[u8]) -> Result<(), ReadFault>
+        requires { HasNumbers trace.old }
+        ensures read { Reads line (at_line (line + 1) self.new.version trace.new) result (read_at (at_line line self.old.version trace.old) line bytes.now) }
+        ensures names { OnOk result (AddsNames trace.old trace.new) }
         ensures failed { IsErrOf result ReadFault.Read → ⊥ }
     {
         let words = split_words(bytes);
-        if words.thread.is_empty() || is_comment(bytes) {
+        if !says_something(words.first, bytes) {
             return Ok(());
         }
         let Some(version) = self.version else {
             self.version = words.version();
             return match self.version {
                 Some(_) => Ok(()),
-                None => Err(self.fault(TextKind::NoHeader)),
+                None => Err(fault_at(line, TextKind::NoHeader)),
             };
         };
         match words.said(version) {
-            Err(kind) => Err(self.fault(kind)),
+            Err(kind) => Err(fault_at(line, kind)),
             Ok(said) => {
-                tell(&mut self.trace, self.number, &said)?;
+                tell(trace, line, &said)?;
                 Ok(())
             }
         }
     }
 
-    /// Reads a line that is in the limits. A line in its usual form is ASCII, and so the test is for the others alone.
-    fn plain(&mut self, bytes: &[u8]) -> Result<(), ReadFault>
-        requires { IsSound 268435456 (progress self.old) }
-        ensures content { Advances (progress self.old) (progress self.new) result (read_plain (progress self.old) bytes.now) }
-        ensures grows { OnOk result (Grows (progress self.old) (progress self.new)) }
+    /// Reads a line in the limits. A line in its usual form is ASCII, and so the test is for the others alone.
+    fn read_plain(&mut self, trace: &mut Trace, line: u64, bytes: &[u8]) -> Result<(), ReadFault>
+        requires { HasNumbers trace.old }
+        ensures read { Reads line (at_line (line + 1) self.new.version trace.new) result (plain_at (at_line line self.old.version trace.old) line bytes.now) }
+        ensures names { OnOk result (AddsNames trace.old trace.new) }
         ensures failed { IsErrOf result ReadFault.Read → ⊥ }
     {
         if let Some(_) = self.version
             && let Some(said) = usual_said(bytes)
         {
-            tell(&mut self.trace, self.number, &said)?;
+            tell(trace, line, &said)?;
             return Ok(());
         }
         if !is_ascii(bytes) {
-            return Err(self.fault(TextKind::NotAscii));
+            return Err(fault_at(line, TextKind::NotAscii));
         }
-        self.content(bytes)
+        self.read(trace, line, bytes)
     }
+}
 
-    /// Reads a line of at most 1,024 bytes.
-    fn line(&mut self, limit: u64, bytes: &[u8], ended: bool) -> Result<(), ReadFault>
-        requires limit { limit ≤ 268435456 }
-        requires sound { IsSound limit (progress self.old) }
-        requires len { length bytes.now ≤ 1024 }
-        requires some { 0 < width (record { bytes = bytes.now; ended = ended }) }
-        ensures line { Advances (progress self.old) (progress self.new) result
-            (read_line limit (progress self.old) (record { bytes = bytes.now; ended = ended })) }
-        ensures sound { OnOk result (IsSound limit (progress self.new)) }
-        ensures start { OnOk result (self.new.start ≡ self.old.start + width (record { bytes = bytes.now; ended = ended })) }
-        ensures failed { IsErrOf result ReadFault.Read → ⊥ }
+/// Whether lines may follow those of a batch.
+#[derive(Clone, Copy, Debug, PartialEq, Eq)]
+pub enum Batch {
+    /// There may be more lines.
+    More,
+    /// The text has ended, and its header was there.
+    End,
+}
+
+/// A reader of a trace text that gives its steps batch by batch, so that nobody has to keep all of them.
+///
+/// Each call of [`next_batch`](TraceReader::next_batch) takes the same device and the same trace. Between two calls the caller may
+/// take the steps of the trace away. It keeps the names, whose numbers later steps use.
+#[derive(Drop)]
+pub struct TraceReader {
+    lines: LineReader,
+    header: Header,
+}
+
+impl Model for TraceReader {
+    ghost use Rattle.std.specs.Prelude.{◌≤◌};
+    ghost use Rattle.er_text.specs.Places.{Reached};
+
+    ghost Value = { Reached };
+
+    ghost view = { λ r. record { place = r.lines; version = r.header.version } };
+
+    ghost invariant = { λ r. r.lines.limit ≤ 268435456 };
+}
+
+impl TraceReader {
+    /// A reader in front of a text of at most `limit` bytes.
+    pub fn new(alloc: Global, limit: u64) -> Result<TraceReader, AllocError>
+        requires { limit ≤ 268435456 }
+        ensures limit { IfOk result (λ r. r.place.limit ≡ limit) }
+        ensures number { IfOk result (λ r. r.place.number ≡ 1) }
+        ensures start { IfOk result (λ r. r.place.start ≡ 0) }
+        ensures ahead { IfOk result (λ r. length r.place.ahead ≡ 0) }
+        ensures version { IfOk result (λ r. r.version ≡ None) }
+        ensures starts { IfOk result (λ r. (text : List ℕ) → HasRead text [] [] r (Some text) no_steps) }
     {
-        let width = bytes.len() as u64 + u64::from(ended);
-        if self.start + width > limit {
-            return Err(self.fault(TextKind::TextTooLong));
-        }
-        self.plain(bytes)?;
-        self.number += 1;
-        self.start += width;
-        Ok(())
+        let lines = LineReader::new(alloc, limit)?;
+        Ok(TraceReader {
+            lines,
+            header: Header { version: None },
+        })
     }
 
-    /// What was told, at the end of the text.
-    fn finish(self) -> Result<Trace, ReadFault>
-        ensures outcome { IsOutcome (finish (progress self)) result }
-        ensures failed { IsErrOf result ReadFault.Read → ⊥ }
-    {
-        match self.version {
-            Some(_) => Ok(self.trace),
-            None => Err(self.fault(TextKind::NoHeader)),
-        }
-    }
-
-    /// Reads the next line, and says whether there may be more.
-    fn turn<R: Read>(
+    /// Reads the next line, and says whether there was one.
+    fn next_line<R: Read>(
         &mut self,
-        limit: u64,
-        window: &mut Window,
         reader: &mut Device<R>,
+        trace: &mut Trace,
     ) -> Result<bool, ReadFault>
-        requires limit { limit ≤ 268435456 }
-        requires sound { IsSound limit (progress self.old) }
-        requires held { self.old.start + length (items window.old) ≤ limit + 1025 }
         requires open { has_failed reader.old ≡ false }
+        requires names { HasFewerNames trace.old.names self.old.place.number }
+        ensures turn { Turns self.old.place.limit read_content (lines_left self.old.place (R.remaining (inner_of reader.old)))
+            (lines_left self.new.place (R.remaining (inner_of reader.new))) (progress self.old trace.old) (progress self.new trace.new) result }
+        ensures names { OnOk result (HasFewerNames trace.new.names self.new.place.number) }
+        ensures grows { OnOk result (Grows trace.old trace.new) }
+        ensures limit { self.new.place.limit ≡ self.old.place.limit }
+        ensures more { IfOk result (λ more. more ≡ true → self.old.place.start < self.new.place.start) }
+        ensures within { self.new.place.start ≤ self.new.place.limit }
+        ensures failed { HasFailedBy (has_failed reader.new) result }
+        ensures taken { taken_of reader.new + taken_by self.old.place ≤ taken_of reader.old + taken_by self.new.place }
+        ensures most { taken_by self.new.place ≤ self.new.place.limit + 1025 }
+    {
+        let Some(front) = self.lines.find(reader)? else {
+            return Ok(false);
+        };
+        let line = self.lines.number();
+        let bytes = self.lines.bytes(front);
+        self.header.read_plain(trace, line, bytes)?;
+        self.lines.pass(front);
+        Ok(true)
+    }
 
-        ensures turn { Turns limit (prepend_known (items window.old) (R.remaining (inner_of reader.old)))
-            (prepend_known (items window.new) (R.remaining (inner_of reader.new))) (progress self.old) (progress self.new) result }
-        ensures sound { OnOk result (IsSound limit (progress self.new)) }
-        ensures held { OnOk result (self.new.start + length (items window.new) ≤ limit + 1025) }
-        ensures more { IfOk result (λ more. more ≡ true → self.old.start < self.new.start) }
+    /// What was read, at the end of the text: a trace, if there was a header.
+    fn finish(&self) -> Result<(), ReadFault>
+        ensures ok { OnOk result (IsSome self.now.version) }
+        ensures fault { IfErr result (λ e. (self.now.version ≡ None) × (e ≡ ReadFault.Text (record { line = self.now.place.number; kind = TextKind.NoHeader }))) }
+    {
+        match self.header.version {
+            Some(_) => Ok(()),
+            None => Err(self.lines.fault(TextKind::NoHeader)),
+        }
+    }
+
+    /// Reads up to so many lines.
+    fn read_batch<R: Read>(
+        &mut self,
+        reader: &mut Device<R>,
+        trace: &mut Trace,
+        most_lines: u32,
+    ) -> Result<Batch, ReadFault>
+        requires open { has_failed reader.old ≡ false }
+        requires names { HasFewerNames trace.old.names self.old.place.number }
+        ensures batch { Batches self.old.place.limit (lines_left self.old.place (R.remaining (inner_of reader.old)))
+            (lines_left self.new.place (R.remaining (inner_of reader.new))) (progress self.old trace.old) (progress self.new trace.new) result }
+        ensures names { OnOk result (HasFewerNames trace.new.names self.new.place.number) }
+        ensures grows { OnOk result (Grows trace.old trace.new) }
+        ensures limit { self.new.place.limit ≡ self.old.place.limit }
+        ensures more { IfOk result (λ batch. batch ≡ Batch.More → self.old.place.start + most_lines ≤ self.new.place.start) }
+        ensures within { self.new.place.start ≤ self.new.place.limit }
+        ensures failed { HasFailedBy (has_failed reader.new) result }
+        ensures taken { taken_of reader.new + taken_by self.old.place ≤ taken_of reader.old + taken_by self.new.place }
+        ensures most { taken_by self.new.place ≤ self.new.place.limit + 1025 }
+    {
+        // What is known of the place, also if no line is asked for.
+        let _line = self.lines.number();
+        for _ in 0..most_lines {
+            if !self.next_line(reader, trace)? {
+                self.finish()?;
+                return Ok(Batch::End);
+            }
+        }
+        Ok(Batch::More)
+    }
+
+    /// Reads the next `most_lines` lines, or those up to the end of the text, and adds their steps to the trace.
+    ///
+    /// A text that ends without a header has a fault at its end. After a fault the reader is not to be called again: nothing is known
+    /// of what it would read.
+    pub fn next_batch<R: Read>(
+        &mut self,
+        reader: &mut Device<R>,
+        trace: &mut Trace,
+        most_lines: u32,
+    ) -> Result<Batch, ReadFault>
+        requires open { has_failed reader.old ≡ false }
+        requires names { HasFewerNames trace.old.names self.old.place.number }
+
+        // Of a text that was read so far it gives more steps, or the whole trace at the end, or the first fault of the text.
+        ensures told { (text : List ℕ) (steps : List Step) (lines : List ℕ)
+            → HasRead text steps lines self.old (R.remaining (inner_of reader.old)) trace.old
+            → GivesBatch text steps lines self.new (R.remaining (inner_of reader.new)) trace.new result }
+
+        // The steps that the trace had stay in front, and names keep their numbers.
+        ensures grows { OnOk result (Grows trace.old trace.new) }
+
+        // The next call may be made.
+        ensures names { OnOk result (HasFewerNames trace.new.names self.new.place.number) }
+        ensures limit { self.new.place.limit ≡ self.old.place.limit }
+
+        // A batch that isn't the last has passed over a byte for each line, within the limit.
+        ensures more { IfOk result (λ batch. batch ≡ Batch.More → self.old.place.start + most_lines ≤ self.new.place.start) }
+        ensures within { self.new.place.start ≤ self.new.place.limit }
 
         ensures failed { HasFailedBy (has_failed reader.new) result }
-        ensures taken { IfOk result (λ more. more ≡ true → taken_of reader.new + self.old.start + length (items window.old)
-            ≤ taken_of reader.old + self.new.start + length (items window.new)) }
-        ensures most { taken_of reader.new + self.old.start + length (items window.old) ≤ taken_of reader.old + limit + 1025 }
+        ensures taken { taken_of reader.new + taken_by self.old.place ≤ taken_of reader.old + taken_by self.new.place }
+        ensures most { taken_by self.new.place ≤ self.new.place.limit + 1025 }
     {
-        let most = (limit + 1025 - self.start) as usize;
-        match window.find(reader, most)? {
-            Front::Long => Err(self.fault(TextKind::LineTooLong)),
-            Front::Whole(len) => {
-                self.line(limit, &window.as_slice()[..len], true)?;
-                window.consume(len + 1);
-                Ok(true)
-            }
-            Front::Last(len) => {
-                if len > 0 {
-                    self.line(limit, window.as_slice(), false)?;
-                }
-                Ok(false)
-            }
-        }
+        self.read_batch(reader, trace, most_lines)
     }
 }
 
@@ -183,13 +246,14 @@ fn read_all<R: Read>(
     ensures failed { HasFailedBy (has_failed reader.new) result }
     ensures taken { taken_of reader.new ≤ taken_of reader.old + byte_limit + 1025 }
 {
-    let mut window = Window::new(alloc)?;
-    let mut reading = Reading::new(alloc);
-    while reading.turn(byte_limit, &mut window, reader)? {}
-    reading.finish()
+    let mut lines = TraceReader::new(alloc, byte_limit)?;
+    let mut trace = Trace::new(alloc);
+    while lines.next_line(reader, &mut trace)? {}
+    lines.finish()?;
+    Ok(trace)
 }
 
-/// Reads a trace text to its end, or to its first faulty line, in whatever pieces it comes. The format of the text is own.
+/// Reads a trace text to its end, or to its first faulty line, in whatever pieces it comes.
 ///
 /// The text has at most `byte_limit` bytes, and the limit is at most 268,435,456 (256 MiB). What follows a faulty line may or may
 /// not have been taken from the reader. No memory is kept but that of the trace and a window of 65,536 bytes.
@@ -201,7 +265,7 @@ pub fn read_trace<R: Read>(
     requires open { has_failed reader.old ≡ false }
     requires limit { byte_limit ≤ 268435456 }
 
-    // Where the reader tells its bytes, the answer is their trace, or their fault.
+    // If the reader's bytes are known, the answer is their trace, or their fault.
     ensures told { IfSome (R.remaining (inner_of reader.old)) (λ text. Tells text byte_limit result) }
 
     ensures failed { HasFailedBy (has_failed reader.new) result }

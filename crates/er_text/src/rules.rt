@@ -1,11 +1,9 @@
 //! The rules that the lines of a suppression text write.
 ghost use Rattle.std.specs.Prelude.{◌≡◌};
-ghost use Rattle.er_text.specs.Lines.{words};
-ghost use Rattle.er_text.specs.Gathering.{AreRuleWords, GivesRun, GivesRule, GivesContent, site_rule_in, long_run_in, run_rule_in, rule_in, content_rule};
+ghost use Rattle.er_text.specs.Inner.RuleLines.{GivesRun, GivesRule, site_rule_in, long_run_in, run_rule_in, rule_in};
 
-use crate::bytes::{is_comment, next_word};
 use crate::faults::TextKind;
-use crate::saying::{number, site_of};
+use crate::saying::{Words, number, site_of};
 use er_event::Word;
 use er_rules::WordSpan;
 
@@ -58,55 +56,15 @@ fn run_rule<'a>(first: &[u8], second: &[u8], third: &[u8]) -> Result<LineRule<'a
     Ok(LineRule::Words(run_of(address, size)?))
 }
 
-/// The first words of a line. One that is missing is empty.
-#[derive(Clone, Copy)]
-pub(crate) struct RuleWords<'a> {
-    sort: &'a [u8],
-    first: &'a [u8],
-    second: &'a [u8],
-    third: &'a [u8],
-}
-
-fn split_words(line: &[u8]) -> RuleWords<'_>
-    ensures { AreRuleWords (words line.now) result }
+/// The rule that these words write, or the first fault among them.
+pub(crate) fn rule_of<'a>(words: &Words<'a>) -> Result<LineRule<'a>, TextKind>
+    ensures { GivesRule result (rule_in words.now.first.now words.now.second.now words.now.third.now words.now.fourth.now) }
 {
-    let (sort, rest) = next_word(line);
-    let (first, rest) = next_word(rest);
-    let (second, rest) = next_word(rest);
-    let (third, _) = next_word(rest);
-    RuleWords {
-        sort,
-        first,
-        second,
-        third,
-    }
-}
-
-impl<'a> RuleWords<'a> {
-    /// The rule that they write, or the first fault among them.
-    fn rule(&self) -> Result<LineRule<'a>, TextKind>
-        ensures { GivesRule result (rule_in self.now.sort.now self.now.first.now self.now.second.now self.now.third.now) }
-    {
-        if self.sort == b"site".as_slice() {
-            site_rule(self.first, self.second)
-        } else if self.sort == b"words".as_slice() {
-            run_rule(self.first, self.second, self.third)
-        } else {
-            Err(TextKind::BadVerb)
-        }
-    }
-}
-
-/// The rule of a line of ASCII. A blank line and a comment have none.
-pub(crate) fn line_rule(line: &[u8]) -> Result<Option<LineRule<'_>>, TextKind>
-    ensures { GivesContent result (content_rule line.now) }
-{
-    let words = split_words(line);
-    if words.sort.is_empty() || is_comment(line) {
-        return Ok(None);
-    }
-    match words.rule() {
-        Ok(rule) => Ok(Some(rule)),
-        Err(kind) => Err(kind),
+    if words.first == b"site".as_slice() {
+        site_rule(words.second, words.third)
+    } else if words.first == b"words".as_slice() {
+        run_rule(words.second, words.third, words.fourth)
+    } else {
+        Err(TextKind::BadVerb)
     }
 }

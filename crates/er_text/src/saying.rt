@@ -2,7 +2,7 @@
 ghost use Rattle.std.specs.Prelude.{◌≡◌};
 ghost use Rattle.er_text.specs.Lines.{words};
 ghost use Rattle.er_text.specs.Verbs.{verb_of, version_of};
-ghost use Rattle.er_text.specs.Saying.{AreWords, GivesName, GivesSite, GivesDeed, GivesSaying, count_of, number_in, lock_in, site_in, word_in, level_in, run_in, access_in, reuse_in, operands_in, deed_in, said_by};
+ghost use Rattle.er_text.specs.Inner.Saying.{AreWords, GivesName, GivesSite, GivesDeed, GivesSaying, count_of, number_in, lock_in, site_in, word_in, level_in, run_in, access_in, reuse_in, operands_in, deed_in, said_by};
 
 use crate::bytes::next_word;
 use crate::faults::TextKind;
@@ -34,40 +34,40 @@ pub(crate) struct Said<'a> {
 /// The first words of a line. One that is missing is empty.
 #[derive(Clone, Copy)]
 pub(crate) struct Words<'a> {
-    pub(crate) thread: &'a [u8],
-    pub(crate) verb: &'a [u8],
     pub(crate) first: &'a [u8],
     pub(crate) second: &'a [u8],
     pub(crate) third: &'a [u8],
+    pub(crate) fourth: &'a [u8],
+    pub(crate) fifth: &'a [u8],
 }
 
 pub(crate) fn split_words(line: &[u8]) -> Words<'_>
     ensures { AreWords (words line.now) result }
 {
-    let (thread, rest) = next_word(line);
-    let (verb, rest) = next_word(rest);
-    let (first, rest) = next_word(rest);
+    let (first, rest) = next_word(line);
     let (second, rest) = next_word(rest);
-    let (third, _) = next_word(rest);
+    let (third, rest) = next_word(rest);
+    let (fourth, rest) = next_word(rest);
+    let (fifth, _) = next_word(rest);
     Words {
-        thread,
-        verb,
         first,
         second,
         third,
+        fourth,
+        fifth,
     }
 }
 
 impl<'a> Words<'a> {
     /// The version, where these are the words of a header.
     pub(crate) fn version(&self) -> Option<Version>
-        ensures { result ≡ version_of self.now.thread.now self.now.verb.now self.now.first.now self.now.second.now }
+        ensures { result ≡ version_of self.now.first.now self.now.second.now self.now.third.now self.now.fourth.now }
     {
-        if self.thread == b"eraser".as_slice()
-            && self.verb == b"trace".as_slice()
-            && self.second.is_empty()
+        if self.first == b"eraser".as_slice()
+            && self.second == b"trace".as_slice()
+            && self.fourth.is_empty()
         {
-            header_version(self.first)
+            header_version(self.third)
         } else {
             None
         }
@@ -75,13 +75,13 @@ impl<'a> Words<'a> {
 
     /// How many operands there are, up to 3.
     fn operand_count(&self) -> u32
-        ensures { result ≡ count_of self.now.first.now self.now.second.now self.now.third.now }
+        ensures { result ≡ count_of self.now.third.now self.now.fourth.now self.now.fifth.now }
     {
-        if self.first.is_empty() {
+        if self.third.is_empty() {
             0
-        } else if self.second.is_empty() {
+        } else if self.fourth.is_empty() {
             1
-        } else if self.third.is_empty() {
+        } else if self.fifth.is_empty() {
             2
         } else {
             3
@@ -92,10 +92,10 @@ impl<'a> Words<'a> {
     pub(crate) fn said(&self, version: Version) -> Result<Said<'a>, TextKind>
         ensures { GivesSaying result (said_by version self.now) }
     {
-        let Some(thread) = name_of(self.thread) else {
+        let Some(thread) = name_of(self.first) else {
             return Err(TextKind::BadName);
         };
-        if self.verb.is_empty() {
+        if self.second.is_empty() {
             return Err(TextKind::MissingOperand);
         }
         match self.action(version) {
@@ -105,9 +105,9 @@ impl<'a> Words<'a> {
     }
 
     fn action(&self, version: Version) -> Result<Action<'a>, TextKind>
-        ensures { GivesDeed result (deed_in (verb_of version self.now.verb.now) self.now.first.now self.now.second.now self.now.third.now) }
+        ensures { GivesDeed result (deed_in (verb_of version self.now.second.now) self.now.third.now self.now.fourth.now self.now.fifth.now) }
     {
-        let Some(verb) = verb_of(version, self.verb) else {
+        let Some(verb) = verb_of(version, self.second) else {
             return Err(TextKind::BadVerb);
         };
         let count = self.operand_count();
@@ -117,7 +117,7 @@ impl<'a> Words<'a> {
         if count > verb.most() {
             return Err(TextKind::ExtraOperand);
         }
-        operands(verb, self.first, self.second)
+        operands(verb, self.third, self.fourth)
     }
 }
 

@@ -1,31 +1,23 @@
 //! Suppressions, line by line.
-ghost use Rattle.std.specs.Prelude.{◌≡◌, ◌+◌, ◌<◌, ◌≤◌, ◌++◌, ◌∷◌, [], length, OnOk, IfOk, IfSome, IsErrOf, true, false, option_map, string_bytes};
-ghost use Rattle.std.specs.Io.KnownBytes.{prepend_known};
+ghost use Rattle.std.specs.Prelude.{◌≡◌, ◌+◌, ◌<◌, ◌≤◌, length, OnOk, IfOk, IfSome, IsErrOf, true, false, option_map, string_bytes};
 ghost use Rattle.er_device.specs.Device.{inner_of, has_failed, taken_of};
 ghost use Rattle.er_rules.specs.Rules.{target_of, targets_of};
-ghost use Rattle.er_text.specs.Lines.{width};
-ghost use Rattle.er_text.specs.Windows.{items};
 ghost use Rattle.er_text.specs.Trace.{HasFailedBy};
-ghost use Rattle.er_text.specs.Saying.{seen_name};
 ghost use Rattle.er_text.specs.Rules.{TellsRules};
-ghost use Rattle.er_text.specs.Gathering.{none_gathered, gather, line_rule, rules_in, rule_view, gathered, Gathers, IsOrderly, GathersNext, IsRulesOutcome};
+ghost use Rattle.er_text.specs.Inner.Saying.{seen_name};
+ghost use Rattle.er_text.specs.Inner.Lending.{taken_by, lines_left};
+ghost use Rattle.er_text.specs.Inner.Reading.{Reads, Turns};
+ghost use Rattle.er_text.specs.Inner.RuleLines.{add_line, plain_rule_at, rules_in, rule_view, IsRulesOutcome};
 
-use crate::bytes::is_ascii;
-use crate::faults::{ReadFault, TextFault, TextKind};
-use crate::rules::{LineRule, line_rule};
-use crate::windows::{Front, Window};
+use crate::bytes::{is_ascii, says_something};
+use crate::faults::{ReadFault, TextKind, fault_at};
+use crate::lines::LineReader;
+use crate::rules::{LineRule, rule_of};
+use crate::saying::split_words;
 use er_device::Device;
 use er_rules::{Rule, Suppressions};
 use std::alloc::{AllocError, Global};
 use std::io::Read;
-
-/// How far a reading has come: the line that is next, the bytes before it, and the rules so far.
-#[derive(Drop)]
-struct RuleReading {
-    number: u64,
-    start: u64,
-    rules: Suppressions,
-}
 
 fn owned_name(alloc: Global, name: Option<&str>) -> Result<Option<String>, AllocError>
     ensures { IfOk result (λ owned. option_map string_bytes owned ≡ seen_name name.entry) }
@@ -46,103 +38,57 @@ fn owned(alloc: Global, rule: &LineRule<'_>) -> Result<Rule, AllocError>
     }
 }
 
-impl RuleReading {
-    fn new(alloc: Global) -> RuleReading
-        ensures { gathered result ≡ none_gathered }
-    {
-        RuleReading {
-            number: 1,
-            start: 0,
-            rules: Suppressions::new(alloc),
+/// Adds the rule of a line in the limits, if it has one.
+fn add_line(
+    alloc: Global,
+    rules: &mut Suppressions,
+    line: u64,
+    bytes: &[u8],
+) -> Result<(), ReadFault>
+    ensures added { Reads line (targets_of rules.new) result (plain_rule_at (targets_of rules.old) bytes.now) }
+    ensures failed { IsErrOf result ReadFault.Read → ⊥ }
+{
+    if !is_ascii(bytes) {
+        return Err(fault_at(line, TextKind::NotAscii));
+    }
+    let words = split_words(bytes);
+    if !says_something(words.first, bytes) {
+        return Ok(());
+    }
+    match rule_of(&words) {
+        Err(kind) => Err(fault_at(line, kind)),
+        Ok(rule) => {
+            rules.push(owned(alloc, &rule)?)?;
+            Ok(())
         }
     }
+}
 
-    /// A fault of the line that is read.
-    fn fault(&self, kind: TextKind) -> ReadFault
-        ensures { result ≡ ReadFault.Text (record { line = self.now.number; kind = kind }) }
-    {
-        ReadFault::Text(TextFault {
-            line: self.number,
-            kind,
-        })
-    }
-
-    /// Reads a line of at most 1,024 bytes.
-    fn line(
-        &mut self,
-        alloc: Global,
-        limit: u64,
-        bytes: &[u8],
-        ended: bool,
-    ) -> Result<(), ReadFault>
-        requires limit { limit ≤ 268435456 }
-        requires orderly { IsOrderly limit (gathered self.old) }
-        requires len { length bytes.now ≤ 1024 }
-        requires some { 0 < width (record { bytes = bytes.now; ended = ended }) }
-        ensures line { Gathers (gathered self.old) (gathered self.new) result
-            (gather (gathered self.old) (record { bytes = bytes.now; ended = ended })
-            (line_rule limit self.old.start (record { bytes = bytes.now; ended = ended }))) }
-        ensures orderly { OnOk result (IsOrderly limit (gathered self.new)) }
-        ensures start { OnOk result (self.new.start ≡ self.old.start + width (record { bytes = bytes.now; ended = ended })) }
-        ensures failed { IsErrOf result ReadFault.Read → ⊥ }
-    {
-        let width = bytes.len() as u64 + u64::from(ended);
-        if self.start + width > limit {
-            return Err(self.fault(TextKind::TextTooLong));
-        }
-        if !is_ascii(bytes) {
-            return Err(self.fault(TextKind::NotAscii));
-        }
-        match line_rule(bytes) {
-            Err(kind) => return Err(self.fault(kind)),
-            Ok(None) => {}
-            Ok(Some(rule)) => self.rules.push(owned(alloc, &rule)?)?,
-        }
-        self.number += 1;
-        self.start += width;
-        Ok(())
-    }
-
-    /// Reads the next line, and says whether there may be more.
-    fn turn<R: Read>(
-        &mut self,
-        alloc: Global,
-        limit: u64,
-        window: &mut Window,
-        reader: &mut Device<R>,
-    ) -> Result<bool, ReadFault>
-        requires limit { limit ≤ 268435456 }
-        requires orderly { IsOrderly limit (gathered self.old) }
-        requires held { self.old.start + length (items window.old) ≤ limit + 1025 }
-        requires open { has_failed reader.old ≡ false }
-
-        ensures turn { GathersNext limit (prepend_known (items window.old) (R.remaining (inner_of reader.old)))
-            (prepend_known (items window.new) (R.remaining (inner_of reader.new))) (gathered self.old) (gathered self.new) result }
-        ensures orderly { OnOk result (IsOrderly limit (gathered self.new)) }
-        ensures held { OnOk result (self.new.start + length (items window.new) ≤ limit + 1025) }
-        ensures more { IfOk result (λ more. more ≡ true → self.old.start < self.new.start) }
-
-        ensures failed { HasFailedBy (has_failed reader.new) result }
-        ensures taken { IfOk result (λ more. more ≡ true → taken_of reader.new + self.old.start + length (items window.old)
-            ≤ taken_of reader.old + self.new.start + length (items window.new)) }
-        ensures most { taken_of reader.new + self.old.start + length (items window.old) ≤ taken_of reader.old + limit + 1025 }
-    {
-        let most = (limit + 1025 - self.start) as usize;
-        match window.find(reader, most)? {
-            Front::Long => Err(self.fault(TextKind::LineTooLong)),
-            Front::Whole(len) => {
-                self.line(alloc, limit, &window.as_slice()[..len], true)?;
-                window.consume(len + 1);
-                Ok(true)
-            }
-            Front::Last(len) => {
-                if len > 0 {
-                    self.line(alloc, limit, window.as_slice(), false)?;
-                }
-                Ok(false)
-            }
-        }
-    }
+/// Reads the next line, and says whether there was one.
+fn next_rule<R: Read>(
+    alloc: Global,
+    lines: &mut LineReader,
+    reader: &mut Device<R>,
+    rules: &mut Suppressions,
+) -> Result<bool, ReadFault>
+    requires open { has_failed reader.old ≡ false }
+    ensures turn { Turns lines.old.limit add_line (lines_left lines.old (R.remaining (inner_of reader.old)))
+        (lines_left lines.new (R.remaining (inner_of reader.new))) (targets_of rules.old) (targets_of rules.new) result }
+    ensures limit { lines.new.limit ≡ lines.old.limit }
+    ensures more { IfOk result (λ more. more ≡ true → lines.old.start < lines.new.start) }
+    ensures within { lines.new.start ≤ lines.new.limit }
+    ensures failed { HasFailedBy (has_failed reader.new) result }
+    ensures taken { taken_of reader.new + taken_by lines.old ≤ taken_of reader.old + taken_by lines.new }
+    ensures most { taken_by lines.new ≤ lines.new.limit + 1025 }
+{
+    let Some(front) = lines.find(reader)? else {
+        return Ok(false);
+    };
+    let line = lines.number();
+    let bytes = lines.bytes(front);
+    add_line(alloc, rules, line, bytes)?;
+    lines.pass(front);
+    Ok(true)
 }
 
 /// Reads a text to its end, in whatever pieces it comes.
@@ -157,13 +103,13 @@ fn read_rules<R: Read>(
     ensures failed { HasFailedBy (has_failed reader.new) result }
     ensures taken { taken_of reader.new ≤ taken_of reader.old + byte_limit + 1025 }
 {
-    let mut window = Window::new(alloc)?;
-    let mut reading = RuleReading::new(alloc);
-    while reading.turn(alloc, byte_limit, &mut window, reader)? {}
-    Ok(reading.rules)
+    let mut lines = LineReader::new(alloc, byte_limit)?;
+    let mut rules = Suppressions::new(alloc);
+    while next_rule(alloc, &mut lines, reader, &mut rules)? {}
+    Ok(rules)
 }
 
-/// Reads a suppression text to its end, or to its first faulty line, in whatever pieces it comes. The format of the text is own.
+/// Reads a suppression text to its end, or to its first faulty line, in whatever pieces it comes.
 ///
 /// Each line that isn't blank or a comment is a rule: `site NAME`, of which `-` is the missing site, or `words ADDRESS SIZE`, the
 /// size in bytes. A line of a race in the report names its site and its address as they are written here.
@@ -178,7 +124,7 @@ pub fn read_suppressions<R: Read>(
     requires open { has_failed reader.old ≡ false }
     requires limit { byte_limit ≤ 268435456 }
 
-    // Where the reader tells its bytes, the answer is their rules, or their fault.
+    // If the reader's bytes are known, the answer is their rules, or their fault.
     ensures told { IfSome (R.remaining (inner_of reader.old)) (λ text. TellsRules text byte_limit result) }
 
     ensures failed { HasFailedBy (has_failed reader.new) result }

@@ -1,11 +1,12 @@
 //! The steps that a line adds to a trace.
 ghost use Rattle.std.specs.Prelude.{◌≡◌, ◌<◌, ◌^◌, ℕ, length, IfOk, OnOk};
-ghost use Rattle.er_text.specs.Saying.{saying, seen_name};
+ghost use Rattle.er_text.specs.Inner.Saying.{saying, seen_name};
 ghost use Rattle.er_text.specs.Events.{tell, site_number, with_site_of, with_reuses, run_parts};
-ghost use Rattle.er_text.specs.Progress.{HasNumbers, AddsNames};
+ghost use Rattle.er_text.specs.Inner.Traces.{HasNumbers, AddsNames};
 
 use crate::saying::{Action, Said};
-use er_event::{Event, Site, Step, ThreadId, Trace, WordRange};
+use er_event::{Event, Site, Step, ThreadId, WordRange};
+use er_trace::Trace;
 use std::alloc::AllocError;
 
 fn site_number(trace: &mut Trace, site: Option<&str>) -> Result<Site, AllocError>

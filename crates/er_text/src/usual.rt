@@ -6,8 +6,8 @@ ghost use Rattle.std.specs.Prelude.{◌≡◌, ◌<◌, ◌≤◌, ◌++◌, not
 ghost use Rattle.std.specs.List.{list_all, position_or_len};
 ghost use Rattle.std.specs.Char.{digit_value};
 ghost use Rattle.er_text.specs.Naming.{is_name_byte};
-ghost use Rattle.er_text.specs.Saying.{action_view, saying};
-ghost use Rattle.er_text.specs.Usual.{IsFrontName, IsHexFront, TellsAccess, TellsUsual, SaysUsually};
+ghost use Rattle.er_text.specs.Inner.Saying.{action_view, saying};
+ghost use Rattle.er_text.specs.Inner.Usual.{IsFrontName, IsHexFront, TellsAccess, TellsUsual, SaysUsually};
 
 use crate::classes::{class_of, is_name_byte};
 use crate::naming::{lock_name_of, name_of, text};

@@ -37,7 +37,7 @@ pub(crate) struct Window {
 }
 
 impl Window {
-    ghost use Rattle.er_text.specs.Windows.{items, Shows};
+    ghost use Rattle.er_text.specs.Inner.Windows.{items, Shows};
 
     pub(crate) fn new(alloc: Global) -> Result<Window, AllocError>
         ensures { IfOk result (λ w. length (items w) ≡ 0) }
@@ -88,7 +88,8 @@ impl Window {
         ensures end { IfOk result (λ n. n ≡ 0 → IsAtEnd (R.remaining (inner_of reader.new))) }
         ensures failed { Failing (has_failed reader.old) (has_failed reader.new) result }
         ensures taken { IfOk result (λ n. taken_of reader.new ≤ taken_of reader.old + n) }
-        ensures err { OnErr result (taken_of reader.new ≡ taken_of reader.old) }
+        ensures taken_err { OnErr result (taken_of reader.new ≡ taken_of reader.old) }
+        ensures kept { OnErr result (items self.new ≡ items self.old) }
     {
         self.move_to_front();
         let end = self.end;
@@ -109,10 +110,9 @@ impl Window {
         ensures front { IfOk result (λ front. Shows front (items self.new) (R.remaining (inner_of reader.new))) }
         ensures same { OnOk result (Keeps (prepend_known (items self.old) (R.remaining (inner_of reader.old)))
             (prepend_known (items self.new) (R.remaining (inner_of reader.new)))) }
-        ensures most { OnOk result (length (items self.new) ≤ most) }
+        ensures most { length (items self.new) ≤ most }
         ensures failed { Failing (has_failed reader.old) (has_failed reader.new) result }
-        ensures taken { IfOk result (λ _. taken_of reader.new + length (items self.old) ≤ taken_of reader.old + length (items self.new)) }
-        ensures err { OnErr result (taken_of reader.new + length (items self.old) ≤ taken_of reader.old + most) }
+        ensures taken { taken_of reader.new + length (items self.old) ≤ taken_of reader.old + length (items self.new) }
     {
         loop {
             let bytes = self.as_slice();

@@ -1,4 +1,4 @@
-use Rattle.er_text.proofs.GatherLaws.{either_one, not_both, same_rules, same_fault}
+use Rattle.er_text.proofs.RuleTexts.{either_one, not_both, same_rules, same_fault}
 use Rattle.er_text.proofs.laws.rules_or_fault.Goals as goal
 
 pub returns : goal.returns

@@ -1,18 +1,20 @@
-use Rattle.std.proofs.Common.{◌≡◌, ◌+◌, ◌-◌, ◌≤◌, false, length}
-use Rattle.std.specs.Io.KnownBytes.{prepend_known}
+use Rattle.std.proofs.Common.{◌≡◌, ◌+◌, ◌-◌, ◌≤◌, false}
 use Rattle.er_device.specs.Device.{inner_of, has_failed, taken_of}
-use Rattle.er_text.specs.Windows.{items}
-use Rattle.er_text.specs.Progress.{progress, IsSound, Continues}
+use Rattle.er_text.specs.Places.{HasFewerNames}
+use Rattle.er_text.specs.Inner.Lending.{taken_by, lines_from, lines_left}
+use Rattle.er_text.specs.Inner.Reading.{Continues}
+use Rattle.er_text.specs.Inner.Traces.{progress, at_front, read_content}
 use Rattle.er_text.proofs.reading.read_all.Given as goal
 
-abbrev pub invariant-loop-reading : goal.invariant-loop-reading
-invariant-loop-reading g l = record {
-  goes_on : Continues l.byte_limit (g.R.Read.remaining (inner_of l.fn.reader)) (prepend_known (items l.window) (g.R.Read.remaining (inner_of l.reader))) (progress l.reading);
-  sound : IsSound l.byte_limit (progress l.reading);
-  held : l.reading.start + length (items l.window) ≤ l.byte_limit + 1025;
+abbrev pub invariant-loop-trace : goal.invariant-loop-trace
+invariant-loop-trace g l = record {
+  goes_on : Continues l.byte_limit read_content (lines_from 1 0 (g.R.Read.remaining (inner_of l.fn.reader))) (lines_left l.lines.place (g.R.Read.remaining (inner_of l.reader))) at_front (progress l.lines l.trace);
+  limit : l.lines.place.limit ≡ l.byte_limit;
+  within : l.lines.place.start ≤ l.byte_limit;
+  names : HasFewerNames l.trace.names l.lines.place.number;
   working : has_failed l.reader ≡ false;
-  taken : taken_of l.reader ≤ taken_of l.fn.reader + l.reading.start + length (items l.window);
+  taken : taken_of l.reader ≤ taken_of l.fn.reader + taken_by l.lines.place;
 }
 
-abbrev pub decreases-loop-reading : goal.decreases-loop-reading
-decreases-loop-reading g l = l.byte_limit + 1 - l.reading.start
+abbrev pub decreases-loop-trace : goal.decreases-loop-trace
+decreases-loop-trace g l = l.byte_limit + 1 - l.lines.place.start

@@ -1,4 +1,4 @@
-use Rattle.er_text.proofs.GatherLaws.{known_tells}
+use Rattle.er_text.proofs.RuleTexts.{known_tells}
 use Rattle.er_text.proofs.suppressions.read_suppressions.Goals as goal
 
 pub returns-clause-told : goal.returns-clause-told

@@ -1,5 +1,5 @@
 -- Each number of the step has a name by then.
-use Rattle.er_text.specs.Saying.{seen_name}
+use Rattle.er_text.specs.Inner.Saying.{seen_name}
 use Rattle.er_text.proofs.TellLemmas.{thread_named, lock_named, site_named}
 use Rattle.er_text.proofs.telling.tell.Goals.{in-Acquire+in_ok-lock-in-Acquire, in-Release+in_ok-lock-in-Release, in-Access+in_ok-site_number-in-Access, in-IgnoreOn, in-IgnoreOff, in-Show, in-Level}
 use Rattle.er_text.proofs.telling.tell.Goals as goal

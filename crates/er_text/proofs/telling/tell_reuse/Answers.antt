@@ -1,7 +1,7 @@
 -- One step for each page, by rising page.
 use Rattle.std.proofs.Common.{◌≡◌, ◌<◌, ℕ, Option, length, sym, ap, ◌∙◌, subst, arith}
 use Rattle.er_event.specs.Span.{Span, page_count, parts_below}
-use Rattle.er_event.specs.Trace.{Recording, with_step}
+use Rattle.er_trace.specs.Trace.{Recording, with_step}
 use Rattle.er_event.specs.declared.addresses.PageRange.{PageRange}
 use Rattle.er_event.specs.declared.steps.Event.TheVariants.{Reuse}
 use Rattle.er_text.specs.Events.{with_reuses, run_parts}

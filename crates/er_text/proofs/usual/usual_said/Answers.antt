@@ -1,5 +1,5 @@
 -- A thread, a space, and what it does.
-use Rattle.er_text.specs.Saying.{action_view}
+use Rattle.er_text.specs.Inner.Saying.{action_view}
 use Rattle.er_text.proofs.UsualLaws.{line_says}
 use Rattle.er_text.proofs.usual.usual_said.Goals as goal
 

@@ -2,7 +2,7 @@ use Rattle.std.proofs.Common.{◌≡◌, ℕ, ◌++◌, List, length, sym, ap, �
 use Rattle.std.specs.List.{position_or_len}
 use Rattle.std.proofs.lemmas.List.{nil_from_length, append-nil}
 use Rattle.er_text.specs.Lines.{is_end}
-use Rattle.er_text.specs.Windows.{items}
+use Rattle.er_text.specs.Inner.Windows.{items}
 use Rattle.er_text.proofs.WordLemmas.{place_le}
 use Rattle.er_text.proofs.windows.Window.find.Goals as goal
 

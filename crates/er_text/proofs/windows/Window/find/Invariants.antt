@@ -1,7 +1,7 @@
 use Rattle.std.proofs.Common.{◌≡◌, ◌+◌, ◌-◌, ◌≤◌, length}
 use Rattle.std.specs.Io.KnownBytes.{Keeps, prepend_known}
 use Rattle.er_device.specs.Device.{inner_of, has_failed, taken_of}
-use Rattle.er_text.specs.Windows.{items}
+use Rattle.er_text.specs.Inner.Windows.{items}
 use Rattle.er_text.proofs.windows.Window.find.Given as goal
 
 abbrev pub invariant-loop-bytes : goal.invariant-loop-bytes

@@ -101,7 +101,7 @@ abbrev pub said_of : Version → List (List ℕ) → Result Saying TextKind
 said_of version words = said_in version (word_at 0 words) (word_at 1 words) (word_at 2 words) (word_at 3 words) (word_at 4 words)
 
 abbrev pub said_by : Version → Words → Result Saying TextKind
-said_by version w = said_in version w.thread.now w.verb.now w.first.now w.second.now w.third.now
+said_by version w = said_in version w.first.now w.second.now w.third.now w.fourth.now w.fifth.now
 
 -- the code's values, without where they lie in memory
 abbrev pub seen_name : Option (Bor (List ℕ)) → Option (List ℕ)
@@ -140,8 +140,8 @@ GivesSaying = GivesBy saying
 
 -- the first five words
 pub record AreWords (words : List (List ℕ)) (w : Words) : Type 0 where
-  pub thread : w.thread.now ≡ word_at 0 words
-  pub verb : w.verb.now ≡ word_at 1 words
-  pub first : w.first.now ≡ word_at 2 words
-  pub second : w.second.now ≡ word_at 3 words
-  pub third : w.third.now ≡ word_at 4 words
+  pub first : w.first.now ≡ word_at 0 words
+  pub second : w.second.now ≡ word_at 1 words
+  pub third : w.third.now ≡ word_at 2 words
+  pub fourth : w.fourth.now ≡ word_at 3 words
+  pub fifth : w.fifth.now ≡ word_at 4 words

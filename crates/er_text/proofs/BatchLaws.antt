@@ -1,0 +1,160 @@
+-- A reading goes on in the same way whatever steps were taken away before.
+use Rattle.std.proofs.Common.{◌≡◌, ℕ, ◌+◌, Bool, true, false, not, cond, List, [], ◌∷◌, ◌++◌, append_assoc, append-nil, length, nat_lt, Option, Some, None, Result, Ok, Err, refl, subst, sym, ap, ◌∙◌}
+use Rattle.std.specs.List.{list_all}
+use Rattle.er_trace.specs.Names.{NameTable}
+use Rattle.er_trace.specs.Trace.{Recording}
+use Rattle.er_event.specs.declared.steps.Step.{Step}
+use Rattle.er_text.specs.declared.faults.TextKind.{TextKind}
+use Rattle.er_text.specs.declared.faults.TextKind.TheVariants.{LineTooLong, TextTooLong, NotAscii}
+use Rattle.er_text.specs.declared.faults.TextFault.{TextFault}
+use Rattle.er_text.specs.declared.faults.ReadFault.{ReadFault}
+use Rattle.er_text.specs.declared.faults.ReadFault.TheVariants as fault
+use Rattle.er_text.specs.declared.reading.Batch.{Batch}
+use Rattle.er_text.specs.declared.reading.Batch.TheVariants.{More, End}
+use Rattle.er_text.specs.declared.verbs.Version.{Version}
+use Rattle.er_text.specs.Places.{Reached}
+use Rattle.er_text.specs.Batches.{joined, without_steps, HasRead, GivesBatch}
+use Rattle.er_text.specs.Lines.{Placed, placed, has_content, words, width, is_ascii}
+use Rattle.er_text.specs.Events.{Saying, Deed, Acquires, Releases, Accesses, Reuses, IgnoresOn, IgnoresOff, Shows, Levels, tell_deed}
+use Rattle.er_text.specs.Trace.{version_in}
+use Rattle.er_text.specs.Inner.Saying.{said_of}
+use Rattle.er_text.specs.Inner.Lending.{lines_left}
+use Rattle.er_text.specs.Inner.Reading.{read_line, go_on, read_lines, Continues}
+use Rattle.er_text.specs.Inner.Traces.{Progress, at_front, progress, skip, tell_said, open_with, read_words, read_content, finish_as, finish, Batches}
+use Rattle.er_text.proofs.TraceLaws.{trace_is, fault_is}
+
+abbrev recording : NameTable → List Step → List ℕ → Recording
+recording names steps lines = record { steps = steps; lines = lines; names = names }
+
+both : (names : NameTable) (a b : List Step) (c d : List ℕ) → a ≡ b → c ≡ d → recording names a c ≡ recording names b d
+both names a b c d e f = ap (λ (x : List Step). recording names x c) e ∙ ap (recording names b) f
+
+-- steps that come behind others come behind those that were taken away before
+behind : (steps more : List Step) (lines others : List ℕ) (r : Recording) (names : NameTable)
+    → recording names ((steps ++ r.steps) ++ more) ((lines ++ r.lines) ++ others) ≡ recording names (steps ++ (r.steps ++ more)) (lines ++ (r.lines ++ others))
+behind steps more lines others r names = both names _ _ _ _ (append_assoc steps r.steps more) (append_assoc lines r.lines others)
+
+deed_joined : (steps : List Step) (lines : List ℕ) (line thread : ℕ) (d : Deed) (r : Recording) → tell_deed line thread d (joined steps lines r) ≡ joined steps lines (tell_deed line thread d r)
+deed_joined steps lines line thread (Acquires lock m) r = behind steps _ lines _ r _
+deed_joined steps lines line thread (Releases lock m) r = behind steps _ lines _ r _
+deed_joined steps lines line thread (Accesses k w None) r = behind steps _ lines _ r _
+deed_joined steps lines line thread (Accesses k w (Some site)) r = behind steps _ lines _ r _
+deed_joined steps lines line thread (Reuses run) r = behind steps _ lines _ r _
+deed_joined steps lines line thread IgnoresOn r = behind steps _ lines _ r _
+deed_joined steps lines line thread IgnoresOff r = behind steps _ lines _ r _
+deed_joined steps lines line thread (Shows w) r = behind steps _ lines _ r _
+deed_joined steps lines line thread (Levels n) r = behind steps _ lines _ r _
+
+-- behind the steps that were taken away
+abbrev after : List Step → List ℕ → Progress → Progress
+after steps lines p = record p { told = joined steps lines p.told }
+
+abbrev mapped : {T U E : Type 0} → (T → U) → Result T E → Result U E
+mapped f (Ok t) = Ok (f t)
+mapped f (Err e) = Err e
+
+said_after : (steps : List Step) (lines : List ℕ) (line : ℕ) (p : Progress) (r : Result Saying TextKind)
+    → tell_said line (after steps lines p) r ≡ mapped (after steps lines) (tell_said line p r)
+said_after steps lines line p (Err k) = refl
+said_after steps lines line p (Ok s) =
+    let told = deed_joined steps lines line _ s.deed _ in
+    ap (λ (t : Recording). Ok (record p { number = p.number + 1; told = t })) told
+
+opened_after : (steps : List Step) (lines : List ℕ) (p : Progress) (v : Option Version) → open_with (after steps lines p) v ≡ mapped (after steps lines) (open_with p v)
+opened_after steps lines p None = refl
+opened_after steps lines p (Some v) = refl
+
+words_after : (steps : List Step) (lines : List ℕ) (opened : Option Version) (line : ℕ) (p : Progress) (ws : List (List ℕ))
+    → read_words opened line (after steps lines p) ws ≡ mapped (after steps lines) (read_words opened line p ws)
+words_after steps lines None line p ws = opened_after steps lines p (version_in ws)
+words_after steps lines (Some v) line p ws = said_after steps lines line p (said_of v ws)
+
+chosen : {T : Type 0} (f : T → T) (b : Bool) (r s : Result T TextKind) (t : T) → s ≡ mapped f r → cond b s (Ok (f t)) ≡ mapped f (cond b r (Ok t))
+chosen f true r s t e = e
+chosen f false r s t e = refl
+
+content_after : (steps : List Step) (lines : List ℕ) (p : Progress) (line : Placed) → read_content (after steps lines p) line ≡ mapped (after steps lines) (read_content p line)
+content_after steps lines p line =
+    chosen (after steps lines) (has_content line) (read_words p.version line.number p (words line.line.bytes)) (read_words p.version line.number (after steps lines p) (words line.line.bytes)) (skip p)
+    (words_after steps lines p.version line.number p (words line.line.bytes))
+
+limited : {T : Type 0} (f : T → T) (a b c : Bool) (r s : Result T TextKind) → s ≡ mapped f r
+    → cond a (Err LineTooLong) (cond b (Err TextTooLong) (cond (not c) (Err NotAscii) s)) ≡ mapped f (cond a (Err LineTooLong) (cond b (Err TextTooLong) (cond (not c) (Err NotAscii) r)))
+limited f true b c r s e = refl
+limited f false true c r s e = refl
+limited f false false false r s e = refl
+limited f false false true r s e = e
+
+line_after : (limit : ℕ) (steps : List Step) (lines : List ℕ) (p : Progress) (line : Placed)
+    → read_line limit read_content (after steps lines p) line ≡ mapped (after steps lines) (read_line limit read_content p line)
+line_after limit steps lines p line =
+    limited (after steps lines) (nat_lt 1024 (length line.line.bytes)) (nat_lt limit (line.start + width line.line)) (list_all is_ascii line.line.bytes)
+    (read_content p line) (read_content (after steps lines p) line) (content_after steps lines p line)
+
+goes_after : (limit : ℕ) (steps : List Step) (lines : List ℕ) (line : Placed) (left : List Placed) (r : Result Progress TextKind)
+    → ((p : Progress) → read_lines limit read_content left (after steps lines p) ≡ mapped (after steps lines) (read_lines limit read_content left p))
+    → go_on line (read_lines limit read_content left) (mapped (after steps lines) r) ≡ mapped (after steps lines) (go_on line (read_lines limit read_content left) r)
+goes_after limit steps lines line left (Ok p) more = more p
+goes_after limit steps lines line left (Err k) more = refl
+
+lines_after : (limit : ℕ) (steps : List Step) (lines : List ℕ) (left : List Placed) (p : Progress)
+    → read_lines limit read_content left (after steps lines p) ≡ mapped (after steps lines) (read_lines limit read_content left p)
+lines_after limit steps lines [] p = refl
+lines_after limit steps lines (line ∷ left) p =
+    ap (go_on line (read_lines limit read_content left)) (line_after limit steps lines p line)
+    ∙ goes_after limit steps lines line left (read_line limit read_content p line) (λ q. lines_after limit steps lines left q)
+
+finished : (steps : List Step) (lines : List ℕ) (opened : Option Version) (p : Progress) → finish_as opened (after steps lines p) ≡ mapped (joined steps lines) (finish_as opened p)
+finished steps lines None p = refl
+finished steps lines (Some v) p = refl
+
+finish_after : (steps : List Step) (lines : List ℕ) (r : Result Progress TextFault) → finish (mapped (after steps lines) r) ≡ mapped (joined steps lines) (finish r)
+finish_after steps lines (Ok p) = finished steps lines p.version p
+finish_after steps lines (Err f) = refl
+
+-- what the whole text comes to, by what the lines that were left came to
+whole : (limit : ℕ) (text : List ℕ) (steps : List Step) (lines : List ℕ) (left : List Placed) (p : Progress) (r : Result Recording TextFault)
+    → read_lines limit read_content (placed text) at_front ≡ read_lines limit read_content left (after steps lines p)
+    → finish (read_lines limit read_content left p) ≡ r → finish (read_lines limit read_content (placed text) at_front) ≡ mapped (joined steps lines) r
+whole limit text steps lines left p r on e =
+    ap finish (on ∙ lines_after limit steps lines left p) ∙ finish_after steps lines (read_lines limit read_content left p) ∙ ap (mapped (joined steps lines)) e
+
+left_gives : (text : List ℕ) (steps : List Step) (lines : List ℕ) (limit : ℕ) (new : Reached) (left : List Placed) (rest known : Option (List Placed)) (p : Progress) (told : Recording)
+    (after_it : Option (List ℕ)) (result : Result Batch ReadFault) → new.place.limit ≡ limit → lines_left new.place after_it ≡ rest
+    → read_lines limit read_content (placed text) at_front ≡ read_lines limit read_content left (after steps lines p)
+    → Batches limit (Some left) rest p (progress new told) result → GivesBatch text steps lines new after_it told result
+left_gives text steps lines limit new left None known p told after_it (Ok More) same shown on batch = absurd batch
+left_gives text steps lines limit new left (Some rest) known p told after_it (Ok More) same shown on batch =
+    rw (shown, same) (on ∙ lines_after limit steps lines left p ∙ ap (mapped (after steps lines)) batch ∙ sym (lines_after limit steps lines rest (progress new told)))
+left_gives text steps lines limit new left rest known p told after_it (Ok End) same shown on batch =
+    rw same (trace_is limit text (joined steps lines told) (whole limit text steps lines left p (Ok told) on batch))
+left_gives text steps lines limit new left rest known p told after_it (Err (fault.Text f)) same shown on batch =
+    rw same (fault_is limit text f (whole limit text steps lines left p (Err f) on batch))
+left_gives text steps lines limit new left rest known p told after_it (Err fault.Memory) same shown on batch = tt
+left_gives text steps lines limit new left rest known p told after_it (Err fault.Read) same shown on batch = tt
+
+-- a batch goes on with the text that was read so far
+known_gives : (text : List ℕ) (steps : List Step) (lines : List ℕ) (old new : Reached) (left : Option (List Placed)) (before after_it : Option (List ℕ)) (t u : Recording)
+    (result : Result Batch ReadFault) → lines_left old.place before ≡ left → new.place.limit ≡ old.place.limit
+    → HasRead text steps lines old before t → Batches old.place.limit left (lines_left new.place after_it) (progress old t) (progress new u) result
+    → GivesBatch text steps lines new after_it u result
+known_gives text steps lines old new None before after_it t u result shown same read batch = absurd (rw shown at read)
+known_gives text steps lines old new (Some left) before after_it t u result shown same read batch =
+    left_gives text steps lines old.place.limit new left (lines_left new.place after_it) None (progress old t) u after_it result same refl (rw shown at read) batch
+
+pub batch_gives : (text : List ℕ) (steps : List Step) (lines : List ℕ) (old new : Reached) (before after_it : Option (List ℕ)) (t u : Recording)
+    (result : Result Batch ReadFault) → new.place.limit ≡ old.place.limit → HasRead text steps lines old before t
+    → Batches old.place.limit (lines_left old.place before) (lines_left new.place after_it) (progress old t) (progress new u) result
+    → GivesBatch text steps lines new after_it u result
+batch_gives text steps lines old new before after_it t u result same read batch =
+    known_gives text steps lines old new (lines_left old.place before) before after_it t u result refl same read batch
+
+-- a trace whose steps are taken away is seen as it was
+same_joined : (steps : List Step) (lines : List ℕ) (trace : Recording) → joined steps lines trace ≡ joined (steps ++ trace.steps) (lines ++ trace.lines) (without_steps trace)
+same_joined steps lines trace = both trace.names _ _ _ _ (sym (append-nil (steps ++ trace.steps))) (sym (append-nil (lines ++ trace.lines)))
+
+pub forgotten : (text : List ℕ) (steps : List Step) (lines : List ℕ) (reader : Reached) (known : Option (List ℕ)) (trace : Recording)
+    → HasRead text steps lines reader known trace → HasRead text (steps ++ trace.steps) (lines ++ trace.lines) reader known (without_steps trace)
+forgotten text steps lines reader known trace read =
+    let P : Recording → Type 0 = λ r. Continues reader.place.limit read_content (Some (placed text)) (lines_left reader.place known) at_front (progress reader r) in
+    subst P (same_joined steps lines trace) read

@@ -1,0 +1,85 @@
+-- A line that is read adds its steps to the trace, and names keep their numbers.
+use Rattle.std.proofs.Common.{◌≡◌, ℕ, ◌+◌, Bool, true, false, not, cond, List, [], ◌++◌, append_assoc, append-nil, Option, Some, None, Result, Ok, Err, refl, subst, sym, ap, ◌∙◌}
+use Rattle.std.specs.List.{list_all}
+use Rattle.er_trace.specs.Names.{NameTable, number_of}
+use Rattle.er_trace.specs.Trace.{Recording, with_thread_name}
+use Rattle.er_event.specs.declared.steps.Step.{Step}
+use Rattle.er_text.specs.declared.faults.TextKind.{TextKind}
+use Rattle.er_text.specs.declared.faults.TextKind.TheVariants.{NotAscii}
+use Rattle.er_text.specs.declared.verbs.Version.{Version}
+use Rattle.er_text.specs.Lines.{says_something, words, is_ascii}
+use Rattle.er_text.specs.Events.{Saying, Deed, Acquires, Releases, Accesses, Reuses, IgnoresOn, IgnoresOff, Shows, Levels, tell_deed, tell}
+use Rattle.er_text.specs.Named.{KeepsNames, Grows}
+use Rattle.er_text.specs.Trace.{version_in}
+use Rattle.er_text.specs.Inner.Saying.{said_of}
+use Rattle.er_text.specs.Inner.Traces.{Progress, skip, tell_said, open_with, read_words, plain_at}
+use Rattle.er_text.proofs.NamedLaws.{name_goes_on, thread_on}
+
+pub grows_not : (r : Recording) → Grows r r
+grows_not r = record {
+  names = record { threads = λ n x e. e; locks = λ n x e. e; sites = λ n x e. e };
+  more = [];
+  others = [];
+  steps = sym (append-nil r.steps);
+  lines = sym (append-nil r.lines);
+}
+
+pub grows_on : (r s t : Recording) → Grows r s → Grows s t → Grows r t
+grows_on r s t first second = record {
+  names = record {
+    threads = λ n x e. second.names.threads n x (first.names.threads n x e);
+    locks = λ n x e. second.names.locks n x (first.names.locks n x e);
+    sites = λ n x e. second.names.sites n x (first.names.sites n x e);
+  };
+  more = first.more ++ second.more;
+  others = first.others ++ second.others;
+  steps = second.steps ∙ ap (λ (x : List Step). x ++ second.more) first.steps ∙ append_assoc r.steps first.more second.more;
+  lines = second.lines ∙ ap (λ (x : List ℕ). x ++ second.others) first.lines ∙ append_assoc r.lines first.others second.others;
+}
+
+grows_by : (r : Recording) (names : NameTable) (more : List Step) (others : List ℕ) → KeepsNames r.names names → Grows r (record { steps = r.steps ++ more; lines = r.lines ++ others; names = names })
+grows_by r names more others keeps = record { names = keeps; more = more; others = others; steps = refl; lines = refl }
+
+deed_grows : (line n : ℕ) (thread : List ℕ) (d : Deed) (r : Recording) → Grows r (tell_deed line n d (with_thread_name r thread))
+deed_grows line n thread (Acquires lock m) r =
+    grows_by r _ _ _ (record { threads = name_goes_on r.names.threads thread; locks = name_goes_on r.names.locks lock; sites = λ k x e. e })
+deed_grows line n thread (Releases lock m) r =
+    grows_by r _ _ _ (record { threads = name_goes_on r.names.threads thread; locks = name_goes_on r.names.locks lock; sites = λ k x e. e })
+deed_grows line n thread (Accesses k w None) r = grows_by r _ _ _ (thread_on r thread)
+deed_grows line n thread (Accesses k w (Some site)) r =
+    grows_by r _ _ _ (record { threads = name_goes_on r.names.threads thread; locks = λ j x e. e; sites = name_goes_on r.names.sites site })
+deed_grows line n thread (Reuses run) r = grows_by r _ _ _ (thread_on r thread)
+deed_grows line n thread IgnoresOn r = grows_by r _ _ _ (thread_on r thread)
+deed_grows line n thread IgnoresOff r = grows_by r _ _ _ (thread_on r thread)
+deed_grows line n thread (Shows w) r = grows_by r _ _ _ (thread_on r thread)
+deed_grows line n thread (Levels l) r = grows_by r _ _ _ (thread_on r thread)
+
+abbrev Adds : Recording → Progress → Type 0
+Adds r q = Grows r q.told
+
+said_grows : (line : ℕ) (p q : Progress) (r : Result Saying TextKind) → tell_said line p r ≡ Ok q → Grows p.told q.told
+said_grows line p q (Err k) e = absurd (cc)
+said_grows line p q (Ok s) e =
+    let same : record p { number = p.number + 1; told = tell line s p.told } ≡ q = cc in
+    subst (Adds p.told) same (deed_grows line (number_of p.told.names.threads s.thread) s.thread s.deed p.told)
+
+opened_grows : (p q : Progress) (v : Option Version) → open_with p v ≡ Ok q → Grows p.told q.told
+opened_grows p q None e = absurd (cc)
+opened_grows p q (Some v) e =
+    let same : record p { number = p.number + 1; version = Some v } ≡ q = cc in
+    subst (Adds p.told) same (grows_not p.told)
+
+words_grow : (opened : Option Version) (line : ℕ) (p q : Progress) (ws : List (List ℕ)) → read_words opened line p ws ≡ Ok q → Grows p.told q.told
+words_grow None line p q ws e = opened_grows p q (version_in ws) e
+words_grow (Some v) line p q ws e = said_grows line p q (said_of v ws) e
+
+chosen_grows : (ascii some : Bool) (p q : Progress) (r : Result Progress TextKind) → (r ≡ Ok q → Grows p.told q.told)
+    → cond (not ascii) (Err NotAscii) (cond some r (Ok (skip p))) ≡ Ok q → Grows p.told q.told
+chosen_grows false some p q r grows e = absurd (cc)
+chosen_grows true true p q r grows e = grows e
+chosen_grows true false p q r grows e = let same : skip p ≡ q = cc in subst (Adds p.told) same (grows_not p.told)
+
+-- a line that was read
+pub line_grows : (line : ℕ) (bytes : List ℕ) (p q : Progress) → plain_at p line bytes ≡ Ok q → Grows p.told q.told
+line_grows line bytes p q e =
+    chosen_grows (list_all is_ascii bytes) (says_something bytes) p q (read_words p.version line p (words bytes)) (λ h. words_grow p.version line p q (words bytes) h) e

@@ -1,0 +1,53 @@
+-- The lines of a batch, one behind the other.
+use Rattle.std.proofs.Common.{◌≡◌, ◌+◌, ◌≤◌, ℕ, Ok, true, refl, ◌∙◌, subst, arith, rules}
+use Rattle.er_device.specs.Device.{inner_of}
+use Rattle.er_text.specs.Places.{Reached}
+use Rattle.er_text.specs.Inner.Lending.{lines_left, taken_by}
+use Rattle.er_text.specs.Inner.Reading.{Turns}
+use Rattle.er_text.specs.Inner.Traces.{Progress, progress, read_content}
+use Rattle.er_text.proofs.GrowthLemmas.{grows_not, grows_on}
+use Rattle.er_text.proofs.TurnLemmas.{at_start, goes_on}
+use Rattle.er_text.proofs.reading.TraceReader.read_batch.Goals as goal
+
+pub loop-init : goal.loop-init
+loop-init g c =
+    let P : Reached → Type 0 = λ r. r.place.start ≤ r.place.limit in
+    let Q : Reached → Type 0 = λ r. taken_by r.place ≤ r.place.limit + 1025 in
+    record {
+      goes_on = at_start c.args.self.now.place.limit read_content (lines_left c.args.self.now.place (g.R.Read.remaining (inner_of c.args.reader.now))) (progress c.args.self.now c.args.trace.now);
+      grows = grows_not c.args.trace.now;
+      limit = refl;
+      within = subst P c.self.view_is c.number-line.ensures.within;
+      most = subst Q c.self.view_is c.number-line.ensures.most;
+      names = c.requires.names;
+      working = c.requires.open;
+      taken = omega arith;
+      passed = omega arith;
+    }
+
+pub returns-then-not-branch-clause-grows : goal.returns-then-not-branch-clause-grows
+returns-then-not-branch-clause-grows g c = grows_on _ _ _ c.loop.invariant.grows c.in_ok-next_line.ensures.grows
+
+pub loop-preserved : goal.loop-preserved
+loop-preserved g c =
+    let old = c.loop.invariant in
+    let step = c.in_ok-next_line.ensures in
+    let more : c.in_ok-next_line.field-0 ≡ true = search rules in
+    let turned = rw more at step.turn in
+    let left = lines_left c.loop.self.place (g.R.Read.remaining (inner_of c.loop.reader)) in
+    let rest = lines_left c.next_line.new.self.place (g.R.Read.remaining (inner_of c.next_line.new.reader)) in
+    let t : Progress = progress c.loop.self c.loop.trace in
+    let u : Progress = progress c.next_line.new.self c.next_line.new.trace in
+    let L : ℕ → Type 0 = λ l. Turns l read_content left rest t u (Ok true) in
+    let passed = step.more more in
+    record {
+      goes_on = goes_on c.args.self.now.place.limit read_content _ left rest _ t u old.goes_on (subst L old.limit turned);
+      grows = grows_on _ _ _ old.grows step.grows;
+      limit = step.limit ∙ old.limit;
+      within = step.within;
+      most = step.most;
+      names = step.names;
+      working = step.failed;
+      taken = omega (arith, old.taken, step.taken);
+      passed = omega (arith, old.passed, passed);
+    }

@@ -1,0 +1,36 @@
+-- What a reader of batches has read of a text.
+use Rattle.std.specs.Prelude.{ℕ, ◌++◌, List, [], Option, Some, Result, Ok, Err}
+use Rattle.er_trace.specs.Trace.{Recording}
+use Rattle.er_event.specs.declared.steps.Step.{Step}
+use Rattle.er_text.specs.declared.faults.ReadFault.{ReadFault}
+use Rattle.er_text.specs.declared.faults.ReadFault.TheVariants as fault
+use Rattle.er_text.specs.declared.reading.Batch.{Batch}
+use Rattle.er_text.specs.declared.reading.Batch.TheVariants.{More, End}
+use Rattle.er_text.specs.Places.{Reached}
+use Rattle.er_text.specs.Lines.{placed}
+use Rattle.er_text.specs.Trace.{IsTrace, IsFault}
+use Rattle.er_text.specs.Inner.Lending.{lines_left}
+use Rattle.er_text.specs.Inner.Reading.{Continues}
+use Rattle.er_text.specs.Inner.Traces.{progress, at_front, read_content}
+
+-- steps and their lines that the caller has taken away, and then those that the trace has, under its names
+abbrev pub joined : List Step → List ℕ → Recording → Recording
+joined steps lines trace = record { steps = steps ++ trace.steps; lines = lines ++ trace.lines; names = trace.names }
+
+-- the trace without its steps, under the same names
+abbrev pub without_steps : Recording → Recording
+without_steps trace = record trace { steps = []; lines = [] }
+
+-- the reader has read some lines of this text. What they say is the steps taken away and then the trace: to read the lines that are
+-- left behind it comes to what a reading of the whole text comes to
+abbrev pub HasRead : List ℕ → List Step → List ℕ → Reached → Option (List ℕ) → Recording → Type 0
+HasRead text steps lines reader known trace =
+    Continues reader.place.limit read_content (Some (placed text)) (lines_left reader.place known) at_front (progress reader (joined steps lines trace))
+
+-- what a batch gives of a text that has been read so far: more steps behind the others, or the whole trace, or the text's fault
+abbrev pub GivesBatch : List ℕ → List Step → List ℕ → Reached → Option (List ℕ) → Recording → Result Batch ReadFault → Type 0
+GivesBatch text steps lines reader known trace (Ok More) = HasRead text steps lines reader known trace
+GivesBatch text steps lines reader known trace (Ok End) = IsTrace text reader.place.limit (joined steps lines trace)
+GivesBatch text steps lines reader known trace (Err (fault.Text f)) = IsFault text reader.place.limit f
+GivesBatch text steps lines reader known trace (Err fault.Memory) = Unit {0}
+GivesBatch text steps lines reader known trace (Err fault.Read) = Unit {0}

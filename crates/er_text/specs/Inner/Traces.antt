@@ -1,0 +1,101 @@
+-- What the lines of a trace add to what was read of it.
+use Rattle.std.specs.Prelude.{◌≡◌, ℕ, ◌+◌, ◌<◌, ◌≤◌, ◌^◌, not, length, List, Option, Some, None, Result, Ok, Err, if◌then◌else◌}
+use Rattle.std.specs.List.{list_all}
+use Rattle.er_trace.specs.Trace.{Recording, no_steps}
+use Rattle.er_text.specs.declared.faults.TextKind.{TextKind}
+use Rattle.er_text.specs.declared.faults.TextKind.TheVariants.{NoHeader, NotAscii}
+use Rattle.er_text.specs.declared.faults.TextFault.{TextFault}
+use Rattle.er_text.specs.declared.faults.ReadFault.{ReadFault}
+use Rattle.er_text.specs.declared.faults.ReadFault.TheVariants as fault
+use Rattle.er_text.specs.declared.reading.Batch.{Batch}
+use Rattle.er_text.specs.declared.reading.Batch.TheVariants.{More, End}
+use Rattle.er_text.specs.declared.verbs.Version.{Version}
+use Rattle.er_text.specs.Places.{Reached}
+use Rattle.er_text.specs.Lines.{Placed, placed, says_something, words, is_ascii}
+use Rattle.er_text.specs.Trace.{version_in}
+use Rattle.er_text.specs.Events.{Saying, tell}
+use Rattle.er_text.specs.Inner.Saying.{said_of}
+use Rattle.er_text.specs.Inner.Reading.{read_lines}
+
+-- how far a reading has come: the number of the next line, the version that a header gave, and the steps so far
+pub record Progress : Type 0 where
+  pub number : ℕ
+  pub version : Option Version
+  pub told : Recording
+
+abbrev pub at_front : Progress
+at_front = record { number = 1; version = None; told = no_steps }
+
+abbrev pub at_line : ℕ → Option Version → Recording → Progress
+at_line number version told = record { number = number; version = version; told = told }
+
+abbrev pub progress : Reached → Recording → Progress
+progress reader trace = at_line reader.place.number reader.version trace
+
+abbrev pub skip : Progress → Progress
+skip p = record p { number = p.number + 1 }
+
+abbrev pub tell_said : ℕ → Progress → Result Saying TextKind → Result Progress TextKind
+tell_said line p (Ok said) = Ok (record p { number = p.number + 1; told = tell line said p.told })
+tell_said line p (Err kind) = Err kind
+
+abbrev pub open_with : Progress → Option Version → Result Progress TextKind
+open_with p None = Err NoHeader
+open_with p (Some version) = Ok (record p { number = p.number + 1; version = Some version })
+
+-- the words of a line with content, behind a header of this version or before one
+abbrev pub read_words : Option Version → ℕ → Progress → List (List ℕ) → Result Progress TextKind
+read_words None line p words = open_with p (version_in words)
+read_words (Some version) line p words = tell_said line p (said_of version words)
+
+abbrev pub read_at : Progress → ℕ → List ℕ → Result Progress TextKind
+read_at p line bytes = if says_something bytes then read_words p.version line p (words bytes) else Ok (skip p)
+
+-- a line in the limits
+abbrev pub plain_at : Progress → ℕ → List ℕ → Result Progress TextKind
+plain_at p line bytes = if not (list_all is_ascii bytes) then Err NotAscii else read_at p line bytes
+
+abbrev pub read_content : Progress → Placed → Result Progress TextKind
+read_content p line = read_at p line.number line.line.bytes
+
+abbrev pub finish_as : Option Version → Progress → Result Recording TextFault
+finish_as None p = Err (record { line = p.number; kind = NoHeader })
+finish_as (Some version) p = Ok p.told
+
+-- what was read, at the end of the text
+abbrev pub finish : Result Progress TextFault → Result Recording TextFault
+finish (Ok p) = finish_as p.version p
+finish (Err f) = Err f
+
+-- what a reading of a text gives
+abbrev pub read_text : ℕ → List ℕ → Result Recording TextFault
+read_text limit text = finish (read_lines limit read_content (placed text) at_front)
+
+-- what a call returned is this outcome, unless memory or the reader failed
+abbrev pub IsOutcome : Result Recording TextFault → Result Recording ReadFault → Type 0
+IsOutcome outcome (Ok trace) = outcome ≡ Ok trace
+IsOutcome outcome (Err (fault.Text f)) = outcome ≡ Err f
+IsOutcome outcome (Err fault.Memory) = Unit {0}
+IsOutcome outcome (Err fault.Read) = Unit {0}
+
+-- there is a number for one more name of each sort
+pub record HasNumbers (r : Recording) : Type 0 where
+  pub threads : length r.names.threads < 2 ^ 30
+  pub locks : length r.names.locks < 2 ^ 30
+  pub sites : length r.names.sites < 2 ^ 30
+
+-- one name more of each sort, at most
+pub record AddsNames (old new : Recording) : Type 0 where
+  pub threads : length new.names.threads ≤ length old.names.threads + 1
+  pub locks : length new.names.locks ≤ length old.names.locks + 1
+  pub sites : length new.names.sites ≤ length old.names.sites + 1
+
+-- some lines were read and there may be more, or the text has ended, or the first fault was found
+abbrev pub Batches : ℕ → Option (List Placed) → Option (List Placed) → Progress → Progress → Result Batch ReadFault → Type 0
+Batches limit None rest p q result = Unit {0}
+Batches limit (Some left) None p q (Ok More) = ⊥
+Batches limit (Some left) (Some rest) p q (Ok More) = read_lines limit read_content left p ≡ read_lines limit read_content rest q
+Batches limit (Some left) rest p q (Ok End) = finish (read_lines limit read_content left p) ≡ Ok q.told
+Batches limit (Some left) rest p q (Err (fault.Text f)) = finish (read_lines limit read_content left p) ≡ Err f
+Batches limit (Some left) rest p q (Err fault.Memory) = Unit {0}
+Batches limit (Some left) rest p q (Err fault.Read) = Unit {0}

@@ -1,0 +1,141 @@
+//! The lines of a text, one after another, in whatever pieces a reader gives its bytes.
+ghost use Rattle.std.specs.Prelude.{◌≡◌, ◌+◌, ◌<◌, ◌≤◌, ◌^◌, length, take, OnOk, IfOk, IfSome, IsErrOf, if◌then◌else◌, ℕ, List, Option, false};
+ghost use Rattle.er_device.specs.Device.{inner_of, has_failed, taken_of};
+ghost use Rattle.er_text.specs.Trace.{HasFailedBy};
+ghost use Rattle.er_text.specs.Inner.Lending.{taken_by, lines_left, front_width, past, IsInFront, IsWithin, Finds};
+
+use crate::faults::{ReadFault, TextKind, fault_at};
+use crate::windows::{Front, Window};
+use er_device::Device;
+use std::alloc::{AllocError, Global};
+use std::io::Read;
+use std::marker::Model;
+
+/// A line in front of a reader: how many bytes it has, and whether an LF follows it.
+#[derive(Clone, Copy)]
+pub(crate) struct FrontLine {
+    len: usize,
+    ended: bool,
+}
+
+/// A reader of lines: the next line has this number, and `start` bytes of the text stand before it.
+#[derive(Drop)]
+pub(crate) struct LineReader {
+    window: Window,
+    limit: u64,
+    number: u64,
+    start: u64,
+}
+
+impl Model for LineReader {
+    ghost use Rattle.std.specs.Prelude.{◌≤◌, ◌+◌, ◌^◌, length};
+    ghost use Rattle.er_text.specs.Places.{Place};
+    ghost use Rattle.er_text.specs.Inner.Windows.{items};
+
+    ghost Value = { Place };
+
+    ghost view = { λ r. record { limit = r.limit; number = r.number; start = r.start; ahead = items r.window } };
+
+    ghost invariant = { λ r. (r.limit ≤ 2 ^ 62) × (r.start ≤ r.limit) × (r.number ≤ r.start + 1) × (r.start + length (items r.window) ≤ r.limit + 1025) };
+}
+
+impl LineReader {
+    /// A reader in front of a text of at most `limit` bytes.
+    pub(crate) fn new(alloc: Global, limit: u64) -> Result<LineReader, AllocError>
+        requires { limit ≤ 2 ^ 62 }
+        ensures limit { IfOk result (λ r. r.limit ≡ limit) }
+        ensures number { IfOk result (λ r. r.number ≡ 1) }
+        ensures start { IfOk result (λ r. r.start ≡ 0) }
+        ensures ahead { IfOk result (λ r. length r.ahead ≡ 0) }
+    {
+        let window = Window::new(alloc)?;
+        Ok(LineReader {
+            window,
+            limit,
+            number: 1,
+            start: 0,
+        })
+    }
+
+    /// The number of the next line, from 1.
+    pub(crate) fn number(&self) -> u64
+        ensures value { result ≡ self.now.number }
+        ensures bound { result ≤ self.now.limit + 1 }
+        ensures within { self.now.start ≤ self.now.limit }
+        ensures most { taken_by self.now ≤ self.now.limit + 1025 }
+    {
+        self.number
+    }
+
+    /// A fault of the next line.
+    pub(crate) fn fault(&self, kind: TextKind) -> ReadFault
+        ensures { result ≡ ReadFault.Text (record { line = self.now.number; kind = kind }) }
+    {
+        fault_at(self.number, kind)
+    }
+
+    /// The line in front, if it doesn't go past the limit.
+    fn within(&self, front: FrontLine) -> Result<Option<FrontLine>, ReadFault>
+        requires { front.len ≤ 1024 }
+        ensures { IsWithin self.now front result }
+    {
+        if self.start + front.width() > self.limit {
+            return Err(self.fault(TextKind::TextTooLong));
+        }
+        Ok(Some(front))
+    }
+
+    /// Looks for the next line, which stays the next one. None at the end of the text.
+    pub(crate) fn find<R: Read>(
+        &mut self,
+        reader: &mut Device<R>,
+    ) -> Result<Option<FrontLine>, ReadFault>
+        requires open { has_failed reader.old ≡ false }
+        ensures found { Finds (lines_left self.old (R.remaining (inner_of reader.old))) self.new (R.remaining (inner_of reader.new)) result }
+        ensures front { IfOk result (λ found. IfSome found (λ front. IsInFront self.new front)) }
+        ensures limit { self.new.limit ≡ self.old.limit }
+        ensures number { self.new.number ≡ self.old.number }
+        ensures start { self.new.start ≡ self.old.start }
+        ensures within { self.new.start ≤ self.new.limit }
+        ensures failed { HasFailedBy (has_failed reader.new) result }
+        ensures taken { taken_of reader.new + taken_by self.old ≤ taken_of reader.old + taken_by self.new }
+        ensures most { taken_by self.new ≤ self.new.limit + 1025 }
+    {
+        let most = (self.limit + 1025 - self.start) as usize;
+        match self.window.find(reader, most)? {
+            Front::Long => Err(fault_at(self.number, TextKind::LineTooLong)),
+            Front::Whole(len) => self.within(FrontLine { len, ended: true }),
+            Front::Last(0) => Ok(None),
+            Front::Last(len) => self.within(FrontLine { len, ended: false }),
+        }
+    }
+
+    /// The bytes of the line in front, without its LF.
+    pub(crate) fn bytes(&self, front: FrontLine) -> &[u8]
+        requires { IsInFront self.now front }
+        ensures { result.now ≡ take front.len self.now.ahead }
+    {
+        &self.window.as_slice()[..front.len]
+    }
+
+    /// Passes over the line in front.
+    pub(crate) fn pass(&mut self, front: FrontLine)
+        requires { IsInFront self.old front }
+        ensures { self.new ≡ past self.old front }
+    {
+        self.number += 1;
+        let width = front.width();
+        self.window.consume(width as usize);
+        self.start += width;
+    }
+}
+
+impl FrontLine {
+    /// How many bytes of the text it takes, its LF included.
+    fn width(self) -> u64
+        requires { self.len < 2 ^ 63 }
+        ensures { result ≡ front_width self }
+    {
+        self.len as u64 + u64::from(self.ended)
+    }
+}
