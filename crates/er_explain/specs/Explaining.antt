@@ -1,5 +1,5 @@
 -- The explanations of the races of a list of steps, by the searches of the model.
-use Rattle.std.specs.Prelude.{ℕ, zero, suc, List, [], ◌++◌, length, map, slice_get, Option, Some, None, Result, Ok}
+use Rattle.std.specs.Prelude.{ℕ, zero, suc, List, [], ◌++◌, length, map, flat_map, slice_get, Option, Some, None, Result, Ok}
 use Rattle.std.specs.Option.{option_to_list}
 use Rattle.er_event.specs.declared.refusals.Refusal.{Refusal}
 use Rattle.er_event.specs.declared.steps.Reply.{Reply}
@@ -39,3 +39,7 @@ explanations_below steps (suc n) = explanations_below steps n ++ option_to_list 
 -- those of all steps
 abbrev pub race_explanations : List Step → List Explanation
 race_explanations steps = explanations_below steps (length steps)
+
+-- the explanations of the races at these positions, in their order
+abbrev pub explanations_at : List Step → List ℕ → List Explanation
+explanations_at steps places = flat_map (λ k. option_to_list (explanation_at steps k)) places

@@ -24,7 +24,7 @@
 //! ```
 #![tactic(auto)]
 
-pub use all_races::explain_races;
+pub use all_races::{explain_races, explain_races_at};
 pub use explanation::{Explanation, Uncovered};
 pub use laws::an_explanation_explains;
 pub use one_access::explain;

@@ -1,6 +1,6 @@
 -- The text of lines, as contracts compare them.
 use Rattle.std.proofs.Common.{◌≡◌, ℕ, List, [], ◌∷◌, ◌++◌, map, flat_map, refl, ap}
-use Rattle.er_event.specs.Names.{NameTable}
+use Rattle.er_trace.specs.Names.{NameTable}
 use Rattle.er_report.specs.Lines.{line_told}
 use Rattle.er_report.specs.declared.report.Line.{Line}
 use Rattle.er_print.specs.Printed.{line_text}

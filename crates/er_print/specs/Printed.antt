@@ -2,7 +2,7 @@
 use Rattle.std.specs.Prelude.{ℕ, zero, suc, ◌+◌, ◌-◌, ◌*◌, ◌/◌, ◌%◌, Bool, cond, List, [], ◌∷◌, ◌++◌, flat_map, slice_index_or, Option, Some, None, codes, decimal}
 use Rattle.std.specs.Char.{digit_char}
 use Rattle.er_event.specs.Lockset.{is_level_lock}
-use Rattle.er_event.specs.Names.{NameTable}
+use Rattle.er_trace.specs.Names.{NameTable}
 use Rattle.er_event.specs.Refusal.{text_of, refusal_of}
 use Rattle.er_event.specs.declared.refusals.NoRoom.{NoRoom}
 use Rattle.er_event.specs.declared.steps.Event.{Event}
@@ -13,8 +13,8 @@ use Rattle.er_event.specs.declared.steps.Mode.{Mode}
 use Rattle.er_event.specs.declared.steps.Mode.TheVariants as mode
 use Rattle.er_event.specs.declared.steps.WordState.{WordState}
 use Rattle.er_event.specs.declared.steps.WordState.TheVariants.{Virgin, Exclusive, Shared, SharedModified}
-use Rattle.er_event.specs.Trace.{Recording}
-use Rattle.er_model.specs.declared.answers.Stopped.{Stopped}
+use Rattle.er_trace.specs.Trace.{Recording}
+use Rattle.er_journal.specs.declared.answers.Stopped.{Stopped}
 use Rattle.er_report.specs.Report.{Summary, report_of}
 use Rattle.er_report.specs.Lines.{LineTold, RaceTold, RefusedTold, ShownTold}
 use Rattle.er_report.specs.declared.report.Because.{Because}

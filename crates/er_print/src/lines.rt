@@ -7,8 +7,9 @@ ghost use Rattle.er_print.specs.Printed.{place_text, reason_text, own_text, line
 
 use crate::naming::{put_event, put_kind, put_label, put_locks, put_site, put_state, put_thread};
 use crate::numbers::{put_address, put_number};
-use er_event::{Names, NoRoom};
+use er_event::NoRoom;
 use er_report::{Because, Line, Report};
+use er_trace::Names;
 use std::alloc::AllocError;
 
 /// Puts one line. A race has a further line for each of its reasons.

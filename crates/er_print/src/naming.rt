@@ -4,8 +4,9 @@ ghost use Rattle.er_report.specs.Names.{HasLabelName, HasLockName, HasLockNames,
 ghost use Rattle.er_print.specs.Printed.{name_at, site_text, lock_text, label_text, more_locks, locks_text, kind_text, acquire_text, release_text, event_text, candidates_text, state_text};
 
 use crate::numbers::put_number;
-use er_event::{Event, Kind, LockId, Lockset, Mode, Names, Site, ThreadId, WordState};
+use er_event::{Event, Kind, LockId, Lockset, Mode, Site, ThreadId, WordState};
 use er_report::Label;
+use er_trace::Names;
 use std::alloc::AllocError;
 
 /// Puts the name of a thread.

@@ -9,8 +9,8 @@ ghost use Rattle.er_print.specs.Written.{WritesReport, FailsWriting};
 use crate::WriteFault;
 use crate::lines::{put_line, put_rule_counts, put_stop, put_totals};
 use er_device::Device;
-use er_event::Names;
 use er_report::Report;
+use er_trace::Names;
 use std::alloc::{AllocError, Global};
 use std::io::Write;
 

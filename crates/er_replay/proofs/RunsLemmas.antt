@@ -24,10 +24,6 @@ pub on_err_unless : {T E : Type 0} (r : Result T E) (e : E) (b : Bool) → r ≡
 on_err_unless r e true failed free = refl
 on_err_unless r e false failed free = rw failed at (free refl)
 
-pub on_err_of : {T E : Type 0} (r : Result T E) (P : Type 0) → P → OnErr r P
-on_err_of (Ok v) P p = tt
-on_err_of (Err e) P p = p
-
 -- where the steps of a run so far end
 pub taken-none : (past : List Step) (machine : Replayed) → Stands machine past → Stands machine (past ++ [])
 taken-none past machine stands = rw (append-nil past) stands

@@ -1,4 +1,3 @@
 pub mod Standing
 pub mod Stops
-pub mod Threads
 pub mod Wants

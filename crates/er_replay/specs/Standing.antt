@@ -7,7 +7,7 @@ use Rattle.er_event.specs.declared.steps.Step.{Step}
 use Rattle.er_event.specs.declared.steps.WordState.{WordState}
 use Rattle.er_model.specs.Following.{StandsFor}
 use Rattle.er_model.specs.Holdings.{Holdings}
-use Rattle.er_replay.specs.Threads.{holding_among}
+use Rattle.er_held.specs.ThreadLocks.{holding_among}
 use Rattle.er_shadow.specs.Shadows.{Shadows, states as states_among}
 
 -- the threads that took something, with their holdings, and the words

@@ -4,7 +4,7 @@ use Rattle.er_event.specs.Refusal.{refusal_of}
 use Rattle.er_event.specs.declared.refusals.NoRoom.{NoRoom}
 use Rattle.er_event.specs.declared.refusals.NoRoom.TheVariants.{OutOfMemory}
 use Rattle.er_event.specs.declared.steps.Step.{Step}
-use Rattle.er_model.specs.declared.answers.Stopped.{Stopped}
+use Rattle.er_journal.specs.declared.answers.Stopped.{Stopped}
 use Rattle.er_model.specs.Answers.{answer_next, state_end}
 use Rattle.er_model.specs.Holdings.{holdings_end}
 use Rattle.er_replay.specs.Wants.{may_want}

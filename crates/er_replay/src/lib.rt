@@ -7,7 +7,8 @@
 //! answer it at that list's end (`answer`), and then stands for the longer list (`goes_on`). Where the definitions refuse the
 //! step, the answer is that refusal and no other (`refused`); any other refusal says that there was no room, of a kind that the
 //! step may want (`room`, `table_full`, `ignored`). After a refusal the machine stands for the list that it stood for (`err`). A
-//! run's answers are those of the list up to its stop (`answers`), which the definitions don't refuse (`cause`).
+//! run's answers are those of the list up to its stop (`answers`), which the definitions don't refuse (`cause`). A caller that takes the
+//! steps one by one finds a want of room by [`no_room`], and what a thread holds by [`Machine::held`].
 //!
 //! ```text
 //! let table = LocksetTable::new(alloc, 1_048_576)?;
@@ -18,7 +19,7 @@
 #![tactic(auto)]
 
 pub use machine::Machine;
-pub use runs::run;
+pub use runs::{no_room, run};
 
 mod machine;
 mod runs;

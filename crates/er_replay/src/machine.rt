@@ -3,20 +3,21 @@ ghost use Rattle.std.specs.Prelude.{◌≡◌, ◌<◌, ◌++◌, ◌∷◌, [],
 ghost use Rattle.er_event.specs.declared.steps.Step.{Step as Steps};
 ghost use Rattle.er_model.specs.Answers.{answer_next, state_end};
 ghost use Rattle.er_model.specs.Following.{answered, marked, replied, state_after};
-ghost use Rattle.er_model.specs.Holdings.{refused_by, after_step};
+ghost use Rattle.er_model.specs.Holdings.{refused_by, after_step, holdings_end};
 ghost use Rattle.er_model.specs.Table.{moved};
-ghost use Rattle.er_model.specs.AnswerList.{is_state};
+ghost use Rattle.er_journal.specs.AnswerList.{is_state};
 ghost use Rattle.er_replay.specs.Wants.{is_show, is_access, asks_by, may_want};
 
 use crate::threads::Threads;
 use er_event::{Event, Kind, Refusal, Reply, Step, ThreadId, Word, WordState};
+use er_held::Held;
 use er_shadow::ShadowMap;
 use er_table::LocksetTable;
 use std::alloc::{AllocError, Global};
 use std::marker::Model;
 use std::sync::Wait;
 
-/// Each thread's holdings and each word's state (section 3 of the 1997 paper has the words' part; the rest is own).
+/// Each thread's holdings and each word's state (section 3 of the 1997 paper has the words' part).
 #[derive(Drop)]
 pub struct Machine<'t> {
     threads: Threads,
@@ -34,7 +35,7 @@ impl<'t> Model for Machine<'t> {
 impl<'t> Machine<'t> {
     ghost use Rattle.er_replay.specs.Standing.{holding, states, Stands, found_no_room};
 
-    /// A machine that has taken no step (own). The sets of locks that its words need go into the table.
+    /// A machine that has taken no step. The sets of locks that its words need go into the table.
     pub fn new(alloc: Global, table: &'t LocksetTable) -> Result<Machine<'t>, AllocError>
         ensures { IfOk result (λ machine. Stands machine []) }
     {
@@ -44,7 +45,7 @@ impl<'t> Machine<'t> {
         })
     }
 
-    /// Takes one step and says what it is answered (sections 2 and 3 of the 1997 paper; the refusals are own).
+    /// Takes one step and says what it is answered (sections 2 and 3 of the 1997 paper).
     pub fn step<R: Wait>(&mut self, rt: &R, step: Step) -> Result<Reply, Refusal>
         ensures answer { (past : List Steps) → Stands self.old past → IsFalse (found_no_room result) → result ≡ answer_next past step }
         ensures goes_on { (past : List Steps) → Stands self.old past → IsFalse (found_no_room result) → Stands self.new (past ++ step ∷ []) }
@@ -117,6 +118,13 @@ impl<'t> Machine<'t> {
             Kind::Write => held.write_held(),
         };
         Ok(self.words.access(rt, thread, word, kind, locks)?)
+    }
+
+    /// What a thread holds after the steps so far.
+    pub fn held(&self, thread: ThreadId) -> &Held
+        ensures { (past : List Steps) → Stands self.now past → result.now ≡ holdings_end past thread }
+    {
+        self.threads.get(thread)
     }
 
     /// What is known of a word (section 3 of the 1997 paper).

@@ -9,11 +9,11 @@ ghost use Rattle.er_replay.specs.Stops.{taken, MayLack, MayStop};
 
 use crate::Machine;
 use er_event::{NoRoom, Refusal, Reply, Step};
-use er_model::{Answers, Outcome, Stopped};
+use er_journal::{Answers, Outcome, Stopped};
 use std::alloc::Global;
 use std::sync::Wait;
 
-/// Takes the steps of a list in turn, up to the first that finds no room (own). The room for the whole list of answers is taken
+/// Takes the steps of a list in turn, up to the first that finds no room. The room for the whole list of answers is taken
 /// first, and where there is none the run stops at place 0. An empty list takes no memory.
 pub fn run<R: Wait>(rt: &R, alloc: Global, machine: &mut Machine<'_>, steps: &[Step]) -> Outcome
     ensures answers { (past : List Steps) → Stands machine.old past → result.answers ≡ answers_after past (taken result.stopped steps.now) }
@@ -78,8 +78,8 @@ fn take_step<R: Wait>(
     Ok(())
 }
 
-// What had no room, if something had none.
-fn no_room(answer: &Result<Reply, Refusal>) -> Option<NoRoom>
+/// What had no room, if the answer is that something had none.
+pub fn no_room(answer: &Result<Reply, Refusal>) -> Option<NoRoom>
     ensures { MatchOption result (IsFalse (found_no_room answer.now)) (λ cause. answer.now ≡ Err (refusal_of cause)) }
 {
     match answer {

@@ -2,7 +2,7 @@
 ghost use Rattle.std.specs.Prelude.{◌≡◌, ◌&&◌, ℕ, nat_eq, cond, IsTrue, IfErr, OnOk, OnErr, Err, None, Some};
 ghost use Rattle.er_model.specs.Holdings.{refused_by, changed_by};
 ghost use Rattle.er_held.specs.Held.{nothing_held};
-ghost use Rattle.er_replay.specs.Threads.{changes_holdings, holding_among};
+ghost use Rattle.er_held.specs.ThreadLocks.{changes_holdings, holding_among};
 ghost use Rattle.er_replay.specs.Wants.{wants_memory, is_no_memory};
 
 use er_event::{Event, Refusal, ThreadId};

@@ -4,15 +4,30 @@ use Rattle.std.specs.List.{range_with_len}
 use Rattle.std.proofs.lemmas.Bool.{cases_eq, cases_lt, eq-eqb, ne_eqb}
 use Rattle.std.proofs.lemmas.List.{same_lists, length-set, get_or-set_same, get_or-set_other, get_or_past}
 use Rattle.std.proofs.lemmas.List.FromFn.{length-map-range_with_len, get_or-map-range_with_len}
-use Rattle.er_report.specs.Draft.{one_more}
+use Rattle.er_report.specs.Inner.Adding.{one_more}
 use Rattle.er_report.specs.Report.{count_below}
 
-pub count_most : (test : ℕ → Bool) (n : ℕ) → count_below test n ≤ n
-unfolding count_below
-count_most test zero = omega arith
-count_most test (suc n) =
-    let before : count_below test n ≤ n = count_most test n in
-    elim (test n) as (λ b. count_below test n + cond b 1 0 ≤ suc n) [ true ↦ omega arith | false ↦ omega arith ]
+pub length-one_more : (counts : List ℕ) (j : ℕ) → length (one_more counts j) ≡ length counts
+length-one_more counts j = length-set counts j (slice_index counts j + 1)
+
+pub one_more-most : (counts : List ℕ) (n j : ℕ) → ((i : ℕ) → slice_index counts i ≤ n) → (i : ℕ) → slice_index (one_more counts j) i ≤ n + 1
+one_more-most counts n j most i =
+    let long : length (one_more counts j) ≡ length counts = length-one_more counts j in
+    let low : slice_index counts i ≤ n = most i in
+    elim (cases_lt i (length counts)) [
+      | inl within ↦ elim (cases_eq i j) [
+        | inl here ↦
+            (let value : slice_index (one_more counts j) i ≡ slice_index counts j + 1 = rw here (get_or-set_same counts j (slice_index counts j + 1) 0 (rw here at within)) in
+            let last : slice_index counts j ≤ n = most j in
+            omega (arith, value, last))
+        | inr other ↦
+            (let value : slice_index (one_more counts j) i ≡ slice_index counts i = get_or-set_other counts j i (slice_index counts j + 1) 0 other in
+            omega (arith, value, low))
+      ]
+      | inr past ↦
+          (let value : slice_index (one_more counts j) i ≡ 0 = get_or_past (one_more counts j) i 0 (omega (arith, long, past)) in
+          omega (arith, value))
+    ]
 
 pub no_counts : (f : ℕ → ℕ) → ((i : ℕ) → f i ≡ 0) → (a n : ℕ) → map f (range_with_len a n) ≡ replicate n 0
 no_counts f none a zero = refl
@@ -26,16 +41,6 @@ same_counts f g same (x ∷ xs) = rw (same x, same_counts f g same xs) refl
 module _ (f : ℕ → ℕ) (n : ℕ) where
   count_at : (i d : ℕ) → i < n → get_or (map f (range_with_len 0 n)) i d ≡ f i
   count_at i d within = get_or-map-range_with_len f 0 n i i d within (omega arith)
-
-  count_past : (i d : ℕ) → n ≤ i → get_or (map f (range_with_len 0 n)) i d ≡ d
-  count_past i d past = get_or_past (map f (range_with_len 0 n)) i d (omega (arith, length-map-range_with_len f 0 n))
-
-  pub counts_most : (k i : ℕ) → ((j : ℕ) → f j ≤ k) → slice_index (map f (range_with_len 0 n)) i ≤ k
-  counts_most k i most =
-      elim (cases_lt i n) [
-        | inl within ↦ (let here : get_or (map f (range_with_len 0 n)) i 0 ≡ f i = count_at i 0 within in let low : f i ≤ k = most i in omega arith)
-        | inr past ↦ (let none : get_or (map f (range_with_len 0 n)) i 0 ≡ 0 = count_past i 0 past in omega arith)
-      ]
 
   pub counts_more : (g : ℕ → ℕ) (j : ℕ) → ((i : ℕ) → g i ≡ f i + cond (i == j) 1 0)
       → one_more (map f (range_with_len 0 n)) j ≡ map g (range_with_len 0 n)

@@ -12,8 +12,8 @@ use Rattle.er_event.specs.declared.steps.Event.TheVariants.{Access}
 use Rattle.er_event.specs.declared.steps.Reply.{Reply}
 use Rattle.er_event.specs.declared.steps.Reply.TheVariants.{Race, Done, Quiet, Ignored, State}
 use Rattle.er_event.specs.declared.steps.Step.{Step}
-use Rattle.er_event.specs.Names.{NameTable}
-use Rattle.er_event.specs.Trace.{Recording}
+use Rattle.er_trace.specs.Names.{NameTable}
+use Rattle.er_trace.specs.Trace.{Recording}
 use Rattle.er_event.specs.declared.steps.Event.TheVariants.{Reuse, Show}
 use Rattle.er_event.specs.declared.steps.Kind.{Kind}
 use Rattle.er_event.specs.Lockset.{has}
@@ -30,7 +30,8 @@ use Rattle.er_report.specs.Reasons.{reason_at, reasons_of, reasons_by, reasons_a
 use Rattle.er_report.specs.declared.report.Because.{Because}
 use Rattle.er_report.specs.declared.report.Label.{Label}
 use Rattle.er_report.specs.declared.report.Label.TheVariants as label
-use Rattle.er_report.specs.Report.{event_taker, answer_taker, taker_of, taker_at, is_race, is_printed, is_rule, rule_count, rule_counts, count_below}
+use Rattle.er_explain.specs.Racing.{is_race}
+use Rattle.er_report.specs.Report.{event_taker, answer_taker, taker_of, taker_at, is_printed, is_rule, rule_count, rule_counts, count_below}
 use Rattle.er_rules.specs.Rules.{Target, AtWords}
 use Rattle.std.proofs.Common.{inl, inr}
 

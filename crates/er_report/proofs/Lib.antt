@@ -1,5 +1,5 @@
 pub mod CountLemmas
-pub mod DraftLemmas
+pub mod BuilderLemmas
 pub mod LawLemmas
 pub mod NamedLemmas
 pub mod ReasonLemmas

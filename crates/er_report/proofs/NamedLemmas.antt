@@ -6,8 +6,8 @@ use Rattle.std.proofs.lemmas.Bool.Decides.{nat_tests}
 use Rattle.std.proofs.lemmas.Option.{slice_get_within, get_or_from_slice_get}
 use Rattle.std.proofs.lemmas.List.Elements.{All-nil, All-cons, All-head, All-tail, All-append, All-filter}
 use Rattle.er_event.specs.Lockset.{with_lock, without_lock, meet, is_level_lock, locks_from, level_locks}
-use Rattle.er_event.specs.Names.{NameTable}
-use Rattle.er_event.specs.Trace.{IsNamed, HasNames as HasNumbersNamed}
+use Rattle.er_trace.specs.Names.{NameTable}
+use Rattle.er_trace.specs.Trace.{IsNamed, HasNames as HasNumbersNamed}
 use Rattle.er_event.specs.declared.steps.Event.{Event}
 use Rattle.er_event.specs.declared.steps.Event.TheVariants.{Acquire, Release, Access, Reuse, IgnoreOn, IgnoreOff, Show, Level}
 use Rattle.er_event.specs.declared.steps.Kind.{Kind}
@@ -19,7 +19,7 @@ use Rattle.er_event.specs.declared.steps.WordState.TheVariants.{Virgin, Exclusiv
 use Rattle.er_event.specs.declared.refusals.Refusal.{Refusal}
 use Rattle.er_model.specs.Holdings.{Holdings, acquired_among, at_level, refused_by, changed_by, changed_unless, after_step, holdings_at}
 use Rattle.er_model.specs.Table.{advanced, moved, shared_by, reports}
-use Rattle.er_event.specs.Trace.{Recording}
+use Rattle.er_trace.specs.Trace.{Recording}
 use Rattle.er_event.specs.declared.steps.Reply.{Reply}
 use Rattle.er_event.specs.declared.steps.Reply.TheVariants.{Race, Quiet, Ignored}
 use Rattle.er_model.specs.Answers.{answer, answer_unless, mark, mark_of, state_at, reading_of}

@@ -1,233 +1,155 @@
--- An explanation looks at no step behind its race, so the answered steps explain their races as the whole list does; and each race
--- takes the next of the explanations that are to come.
-use Rattle.std.proofs.Common.{◌≡◌, ℕ, zero, suc, ◌+◌, ◌<◌, ◌≤◌, Bool, true, false, cond, List, [], ◌∷◌, ◌++◌, length, map, take, drop, flat_map, slice_get, slice_index, Option, Some, None, is_some, Result, Ok, Err, refl, sym, ap, ◌∙◌, arith, ⊎_elim, add-one, append_assoc}
+-- The lines of races get the reasons of their explanations one after another, since each such race has one explanation.
+use Rattle.std.proofs.Common.{◌≡◌, ℕ, zero, suc, ◌≤◌, Bool, true, false, cond, List, [], ◌∷◌, ◌++◌, ◌&&◌, length, map, take, drop, flat_map, set, slice_get, slice_index, get_or, Option, Some, None, is_some, is_none, Result, Ok, Err, IsFalse, ◌+◌, ◌<◌, refl, sym, ap, ◌∙◌, arith, append_assoc, add-one}
 use Rattle.std.specs.Option.{option_to_list}
-use Rattle.std.proofs.lemmas.List.{append_cancel_left, append-nil, length-take, take_min, take-append-drop}
-use Rattle.std.proofs.Math.Seq.{take-length}
+use Rattle.std.proofs.Math.Bool.{and-true, and-false}
+use Rattle.std.proofs.Math.Seq.{drop-cons}
+use Rattle.std.proofs.lemmas.Grind.{flat_map-append}
+use Rattle.std.proofs.lemmas.List.{append-nil, take_all, take_more_set, drop_all, drop-set-lt}
+use Rattle.std.proofs.lemmas.Option.{slice_get_past}
 use Rattle.er_event.specs.declared.refusals.Refusal.{Refusal}
 use Rattle.er_event.specs.declared.steps.Event.{Event}
-use Rattle.er_event.specs.declared.steps.Event.TheVariants.{Access}
+use Rattle.er_event.specs.declared.steps.Event.TheVariants.{Acquire, Release, Access, Reuse, IgnoreOn, IgnoreOff, Show, Level}
+use Rattle.er_event.specs.declared.steps.Kind.{Kind}
 use Rattle.er_event.specs.declared.steps.Reply.{Reply}
 use Rattle.er_event.specs.declared.steps.Reply.TheVariants.{Race, Done, Quiet, Ignored, State}
 use Rattle.er_event.specs.declared.steps.Step.{Step}
-use Rattle.er_event.specs.Trace.{Recording}
-use Rattle.er_explain.specs.Explaining.{found, explanation_by, explanation_of, explanation_where, explanation_at, explanations_below}
-use Rattle.er_model.specs.Answers.{answer, reading_of}
-use Rattle.er_model.specs.Explanations.{Explanation, first_write, first_uncovered, word_of}
-use Rattle.er_model.specs.Search.{greatest_below}
-use Rattle.er_model.specs.Words.{Reading, Mark, reuses, cover_of, one_past, era, counted_from, first, first_other_than, join}
-use Rattle.er_model.specs.declared.answers.Stopped.{Stopped}
-use Rattle.er_model.proofs.Prefixes.{get-front, reading-front, answer-front}
-use Rattle.er_model.proofs.Search.{least_below-agree, least_below-Some, below_or_at}
-use Rattle.er_report.specs.Draft.{next_reasons, with_answer, IsToCome}
+use Rattle.er_trace.specs.Trace.{Recording}
+use Rattle.er_explain.proofs.RaceLemmas.{explained-here}
+use Rattle.er_explain.proofs.Told.{no-word, unraced-at}
+use Rattle.er_explain.specs.Explaining.{explanation_of, explanation_where, explanation_at, explanations_at}
+use Rattle.er_explain.specs.Racing.{is_race, places_below}
+use Rattle.er_explain.specs.declared.explanation.Uncovered.{Uncovered}
+use Rattle.er_model.specs.Answers.{answer}
+use Rattle.er_model.specs.Explanations.{Explanation, word_in, word_of}
+use Rattle.er_model.specs.Threads.{accepted, held}
+use Rattle.er_report.specs.Inner.Explained.{line_with, left_after, with_reasons, left_by}
 use Rattle.er_report.specs.Lines.{LineTold}
 use Rattle.er_report.specs.Reasons.{access_reason, step_reason, reason_at, reasons_of, reasons_by, reasons_at}
-use Rattle.er_report.specs.Report.{Summary, answered_steps, answer_line, reply_line, is_race, is_refused}
+use Rattle.er_report.specs.Report.{answer_line, reply_line, line_at, lines_below, is_printed, taker_at}
 use Rattle.er_report.specs.declared.report.Because.{Because}
 use Rattle.er_report.specs.declared.report.Label.{Label}
 use Rattle.er_report.specs.declared.report.Label.TheVariants as label
-use Rattle.er_explain.specs.declared.explanation.Uncovered.{Uncovered}
-use Rattle.er_event.specs.declared.steps.Kind.{Kind}
-use Rattle.std.proofs.lemmas.Option.{slice_get_past}
+use Rattle.er_rules.specs.Rules.{Target}
 
-greatest-agree : (n : ℕ) (p q : ℕ → Bool) → ((k : ℕ) → k < n → p k ≡ q k) → greatest_below n p ≡ greatest_below n q
-unfolding greatest_below
-greatest-agree zero p q same = refl
-greatest-agree (suc n) p q same = rw (greatest-agree n p q (λ k l. same k (omega arith)), same n (omega arith)) refl
+-- lines one after another
+with-append : (r : Recording) (es : List Explanation) (xs ys : List LineTold) → with_reasons r es (xs ++ ys) ≡ with_reasons r es xs ++ with_reasons r (left_by es xs) ys
+unfolding with_reasons left_by
+with-append r es [] ys = refl
+with-append r es (x ∷ xs) ys = ap (λ (rest : List LineTold). line_with r es x ∷ rest) (with-append r (left_after es x) xs ys)
 
--- readings that agree below a point have the same searches there
-module _ (r s : Reading) (w n : ℕ) (same : (i : ℕ) → i < n → r i ≡ s i) where
-  era-agree : era r w n ≡ era s w n
-  unfolding era
-  era-agree = ap one_past (greatest-agree n (λ k. reuses (r k) w) (λ k. reuses (s k) w) (λ k l. ap (λ (m : Mark). reuses m w) (same k l)))
+left-append : (es : List Explanation) (xs ys : List LineTold) → left_by es (xs ++ ys) ≡ left_by (left_by es xs) ys
+unfolding left_by
+left-append es [] ys = refl
+left-append es (x ∷ xs) ys = left-append (left_after es x) xs ys
 
-  counted-agree : (a b k : ℕ) → a ≡ b → k < n → counted_from r w a k ≡ counted_from s w b k
-  counted-agree a b k e below = rw (e, same k below) refl
+-- with these explanations, and whatever comes behind them, the lines get their reasons, and no other explanation is used up
+record Gains (r : Recording) (found : List Explanation) (plain explained : List LineTold) : Type 0 where
+  pub lines : (more : List Explanation) → with_reasons r (found ++ more) plain ≡ explained
+  pub left : (more : List Explanation) → left_by (found ++ more) plain ≡ more
 
-  first-agree : first r w n ≡ first s w n
-  unfolding first
-  first-agree = least_below-agree n (counted_from r w (era r w n)) (counted_from s w (era s w n)) (λ k l. counted-agree (era r w n) (era s w n) k era-agree l)
+gains-nil : (r : Recording) → Gains r [] [] []
+unfolding with_reasons left_by
+gains-nil r = record { lines = λ more. refl; left = λ more. refl }
 
-  other-agree : (o : Option ℕ) → first r w n ≡ o → first_other_than r w n o ≡ first_other_than s w n o
-  unfolding first
-  other-agree None is = refl
-  other-agree (Some f) is =
-      let below : f < n = (least_below-Some n (counted_from r w (era r w n)) f is).0 in
-      least_below-agree n _ _ (λ k l. rw (counted-agree (era r w n) (era s w n) k era-agree l, same k l, same f below) refl)
+gains-append : (r : Recording) (f g : List Explanation) (p q e d : List LineTold) → Gains r f p e → Gains r g q d → Gains r (f ++ g) (p ++ q) (e ++ d)
+gains-append r f g p q e d first second =
+    record {
+      lines = λ more.
+          ap (λ (es : List Explanation). with_reasons r es (p ++ q)) (append_assoc f g more)
+          ∙ with-append r (f ++ (g ++ more)) p q
+          ∙ ap (λ (lines : List LineTold). lines ++ with_reasons r (left_by (f ++ (g ++ more)) p) q) (first.lines (g ++ more))
+          ∙ ap (λ (es : List Explanation). e ++ with_reasons r es q) (first.left (g ++ more))
+          ∙ ap (λ (lines : List LineTold). e ++ lines) (second.lines more);
+      left = λ more.
+          ap (λ (es : List Explanation). left_by es (p ++ q)) (append_assoc f g more)
+          ∙ left-append (f ++ (g ++ more)) p q
+          ∙ ap (λ (es : List Explanation). left_by es q) (first.left (g ++ more))
+          ∙ second.left more;
+    }
 
-  join-agree : join r w n ≡ join s w n
-  unfolding join
-  join-agree = other-agree (first r w n) refl ∙ ap (first_other_than s w n) first-agree
+-- the line of a reply
+quiet-gains : (r : Recording) (number : ℕ) (locks : List ℕ) (t : ℕ) (event : Event) (reply : Reply) → IsFalse (is_race (Ok reply))
+    → Gains r [] (reply_line number locks [] t event reply) (reply_line number locks [] t event reply)
+unfolding with_reasons left_by
+quiet-gains r number locks t (Access kind w site) Race none = absurd (cc)
+quiet-gains r number locks t (Show w) (State state) none = record { lines = λ more. refl; left = λ more. refl }
+quiet-gains r number locks t event reply none = record { lines = λ more. refl; left = λ more. refl }
 
-  first_write-agree : (j : ℕ) → first_write r w n j ≡ first_write s w n j
-  unfolding first_write
-  first_write-agree j = least_below-agree n _ _ (λ k l. rw (counted-agree j j k refl l, same k l) refl)
+race-gains : (r : Recording) (number : ℕ) (locks : List ℕ) (t : ℕ) (event : Event) (e : Explanation) → (word_in event ≡ None → ⊥)
+    → Gains r (e ∷ []) (reply_line number locks [] t event Race) (reply_line number locks (reasons_of r e) t event Race)
+unfolding with_reasons left_by
+race-gains r number locks t (Access kind w site) e accesses = record { lines = λ more. refl; left = λ more. refl }
+race-gains r number locks t (Acquire l m) e accesses = absurd (accesses refl)
+race-gains r number locks t (Release l m) e accesses = absurd (accesses refl)
+race-gains r number locks t (Reuse range) e accesses = absurd (accesses refl)
+race-gains r number locks t IgnoreOn e accesses = absurd (accesses refl)
+race-gains r number locks t IgnoreOff e accesses = absurd (accesses refl)
+race-gains r number locks t (Show w) e accesses = absurd (accesses refl)
+race-gains r number locks t (Level n) e accesses = absurd (accesses refl)
 
-  first_uncovered-agree : (j l : ℕ) → first_uncovered r w n j l ≡ first_uncovered s w n j l
-  unfolding first_uncovered
-  first_uncovered-agree j l = least_below-agree n _ _ (λ k b. rw (counted-agree (suc j) (suc j) k refl b, same k b) refl)
+answer-gains : (r : Recording) (number : ℕ) (locks : List ℕ) (step : Step) (k : ℕ) (a : Result Reply Refusal) → (a ≡ Ok Race → word_in step.event ≡ None → ⊥)
+    → Gains r (option_to_list (explanation_where r.steps k a)) (answer_line number locks [] step a) (answer_line number locks (reasons_by r (explanation_where r.steps k a)) step a)
+unfolding with_reasons left_by
+answer-gains r number locks step k (Ok Race) accesses = race-gains r number locks step.thread step.event _ (accesses refl)
+answer-gains r number locks step k (Ok Done) accesses = quiet-gains r number locks step.thread step.event Done refl
+answer-gains r number locks step k (Ok Quiet) accesses = quiet-gains r number locks step.thread step.event Quiet refl
+answer-gains r number locks step k (Ok Ignored) accesses = quiet-gains r number locks step.thread step.event Ignored refl
+answer-gains r number locks step k (Ok (State state)) accesses = quiet-gains r number locks step.thread step.event (State state) refl
+answer-gains r number locks step k (Err why) accesses = record { lines = λ more. refl; left = λ more. refl }
 
-  joined-below : (o : Option ℕ) → join r w n ≡ o → 0 < n → found o < n
-  unfolding join first
-  joined-below None is some = some
-  joined-below (Some j) is some = by (first r w n) refl
-    where
-      by : (o : Option ℕ) → first r w n ≡ o → j < n
-      by None none = (let never : first_other_than r w n None ≡ Some j = rw none at is in cc)
-      by (Some f) here = (least_below-Some n _ j (rw here at is)).0
+-- the line of a step
+line-gains-by : (r : Recording) (k : ℕ) (o : Option Step) → slice_get r.steps k ≡ o → Gains r (option_to_list (explanation_at r.steps k)) (line_at r false k) (line_at r true k)
+unfolding line_at explanation_at
+line-gains-by r k None none =
+    let unexplained : explanation_at r.steps k ≡ None = unraced-at r.steps k (no-word r.steps k (ap word_of none)) in
+    rw (none, unexplained) (gains-nil r)
+line-gains-by r k (Some step) here =
+    rw here
+    (answer-gains r (slice_index r.lines k) (held (accepted r.steps k) step.thread) step k (answer r.steps k)
+    (λ race other. no-word r.steps k (ap word_of here ∙ other) race))
 
-  pairs-agree : (j : ℕ) (ls : List ℕ) → map {B = ℕ × ℕ} (λ l. (l, found (first_uncovered r w n j l))) ls ≡ map {B = ℕ × ℕ} (λ l. (l, found (first_uncovered s w n j l))) ls
-  pairs-agree j [] = refl
-  pairs-agree j (l ∷ ls) = rw (first_uncovered-agree j l, pairs-agree j ls) refl
+line-gains : (r : Recording) (k : ℕ) → Gains r (option_to_list (explanation_at r.steps k)) (line_at r false k) (line_at r true k)
+line-gains r k = line-gains-by r k (slice_get r.steps k) refl
 
-  by-agree : (j : ℕ) → j < n → explanation_by r w n j ≡ explanation_by s w n j
-  unfolding explanation_by
-  by-agree j below = rw (first-agree, first_write-agree j, pairs-agree j (cover_of (r j)), same j below) refl
+-- the lines of the first n steps
+abbrev found_below : Recording → List Target → ℕ → List Explanation
+found_below r rules n = explanations_at r.steps (places_below (is_printed r rules) n)
 
-explanation-agree : (r s : Reading) (w k : ℕ) → ((i : ℕ) → i < suc k → r i ≡ s i) → explanation_of r w k ≡ explanation_of s w k
-unfolding explanation_of
-explanation-agree r s w k same =
-    by-agree r s w (suc k) same (found (join r w (suc k))) (joined-below r s w (suc k) same (join r w (suc k)) refl (omega arith))
-    ∙ ap (λ (o : Option ℕ). explanation_by s w (suc k) (found o)) (join-agree r s w (suc k) same)
+last-gains : (r : Recording) (rules : List Target) (n : ℕ) (o : Option ℕ) → taker_at r rules n ≡ o
+    → Gains r (explanations_at r.steps (cond (is_printed r rules n) (n ∷ []) [])) (cond (is_some (taker_at r rules n)) [] (line_at r false n)) (cond (is_some (taker_at r rules n)) [] (line_at r true n))
+last-gains r rules n None taken = rw (taken, and-true (is_race (answer r.steps n)), explained-here r.steps n) (line-gains r n)
+last-gains r rules n (Some i) taken = rw (taken, and-false (is_race (answer r.steps n))) (gains-nil r)
 
-where-front : (steps more : List Step) (k : ℕ) → k < length steps → (a : Result Reply Refusal) → explanation_where (steps ++ more) k a ≡ explanation_where steps k a
-where-front steps more k below (Ok Race) =
-    rw (get-front steps more k below)
-    (ap Some (explanation-agree (reading_of (steps ++ more)) (reading_of steps) (found (word_of (slice_get steps k))) k (λ i l. reading-front steps more i (omega arith))))
-where-front steps more k below a = refl
+lines-gain : (r : Recording) (rules : List Target) (n : ℕ) → Gains r (found_below r rules n) (lines_below r rules false n) (lines_below r rules true n)
+unfolding lines_below places_below
+lines-gain r rules zero = gains-nil r
+lines-gain r rules (suc n) =
+    let split : found_below r rules (suc n) ≡ found_below r rules n ++ explanations_at r.steps (cond (is_printed r rules n) (n ∷ []) []) =
+    flat_map-append (λ (k : ℕ). option_to_list (explanation_at r.steps k)) (places_below (is_printed r rules) n) (cond (is_printed r rules n) (n ∷ []) []) in
+    rw split
+    (gains-append r (found_below r rules n) _ (lines_below r rules false n) _ (lines_below r rules true n) _ (lines-gain r rules n) (last-gains r rules n (taker_at r rules n) refl))
 
-explanation-front : (steps more : List Step) (k : ℕ) → k < length steps → explanation_at (steps ++ more) k ≡ explanation_at steps k
-unfolding explanation_at
-explanation-front steps more k below =
-    ap (explanation_where (steps ++ more) k) (answer-front steps more k below) ∙ where-front steps more k below (answer steps k)
+pub lines-explained : (r : Recording) (rules : List Target) (n : ℕ) → with_reasons r (found_below r rules n) (lines_below r rules false n) ≡ lines_below r rules true n
+lines-explained r rules n =
+    ap (λ (es : List Explanation). with_reasons r es (lines_below r rules false n)) (sym (append-nil (found_below r rules n)))
+    ∙ (lines-gain r rules n).lines []
 
--- the answered steps explain their races as all do
-pub explanation-answered : (steps : List Step) (stop : Option Stopped) (k : ℕ) → k < length (answered_steps steps stop)
-    → explanation_at (answered_steps steps stop) k ≡ explanation_at steps k
-explanation-answered steps None k below = refl
-explanation-answered steps (Some stop) k below =
-    sym (explanation-front (take stop.at steps) (drop stop.at steps) k below)
-    ∙ ap (λ (all : List Step). explanation_at all k) (take-append-drop stop.at steps)
+-- one line after another gets its reasons
+pub explained-next : (r : Recording) (lines : List LineTold) (i : ℕ) (line : LineTold) (es : List Explanation) → i < length lines → line ≡ get_or lines i line
+    → take i lines ++ with_reasons r es (drop i lines)
+    ≡ take (i + 1) (set lines i (line_with r es line)) ++ with_reasons r (left_after es line) (drop (i + 1) (set lines i (line_with r es line)))
+unfolding with_reasons
+explained-next r lines i line es within is =
+    let rest : drop i lines ≡ line ∷ drop (i + 1) lines = drop-cons lines i line within ∙ rw (← is, add-one i) refl in
+    let same : drop (i + 1) (set lines i (line_with r es line)) ≡ drop (i + 1) lines = drop-set-lt (i + 1) lines i (line_with r es line) (omega arith) in
+    rw (rest, take_more_set lines i (line_with r es line) within, same, append_assoc (take i lines) (line_with r es line ∷ []) (with_reasons r (left_after es line) (drop (i + 1) lines))) refl
 
-pub answer-answered : (steps : List Step) (stop : Option Stopped) (k : ℕ) → k < length (answered_steps steps stop)
-    → answer (answered_steps steps stop) k ≡ answer steps k
-answer-answered steps None k below = refl
-answer-answered steps (Some stop) k below =
-    sym (answer-front (take stop.at steps) (drop stop.at steps) k below)
-    ∙ ap (λ (all : List Step). answer all k) (take-append-drop stop.at steps)
+pub explained-end : (r : Recording) (lines : List LineTold) (i : ℕ) (es : List Explanation) → length lines ≤ i → take i lines ++ with_reasons r es (drop i lines) ≡ lines
+unfolding with_reasons
+explained-end r lines i es past = rw (drop_all i lines past, take_all i lines past, append-nil lines) refl
 
--- the explanations that are to come begin with that of the step, if it has one
-below-split : (steps : List Step) (n k : ℕ) → k < n
-    → (more : List Explanation) × (explanations_below steps n ≡ explanations_below steps k ++ (option_to_list (explanation_at steps k) ++ more))
-unfolding explanations_below
-below-split steps zero k below = absurd (omega arith)
-below-split steps (suc n) k below =
-    ⊎_elim
-    (λ before. let rest = below-split steps n k before in (
-      rest.0 ++ option_to_list (explanation_at steps n),
-      rw rest.1 (simp append_assoc),
-    ))
-    (λ same. (
-      [],
-      rw same (ap (λ (rest : List Explanation). explanations_below steps n ++ rest) (sym (append-nil (option_to_list (explanation_at steps n))))),
-    ))
-    (below_or_at k n below)
-
--- where reasons are asked for, a race's explanation is the next, and other steps take none
-to_come-split : (steps : List Step) (k : ℕ) (rest : List Explanation) → k < length steps → IsToCome steps true k rest
-    → (more : List Explanation) × (rest ≡ option_to_list (explanation_at steps k) ++ more)
-to_come-split steps k rest below is =
-    let split = below-split steps (length steps) k below in
-    (split.0, append_cancel_left (explanations_below steps k) rest (option_to_list (explanation_at steps k) ++ split.0) (is ∙ split.1))
-
--- the answered steps are the front of all, as long as their answers
-pub answered-taken : (steps : List Step) (stop : Option Stopped) (n : ℕ) → n ≡ length (answered_steps steps stop) → take n steps ≡ answered_steps steps stop
-answered-taken steps None n e = rw e (take-length steps)
-answered-taken steps (Some stop) n e = rw (e, length-take stop.at steps) (take_min stop.at steps)
-
--- a step has an explanation where it is answered with a race
-explained_race : (steps : List Step) (k : ℕ) (a : Result Reply Refusal) → is_some (explanation_where steps k a) ≡ is_race a
-explained_race steps k (Ok Race) = refl
-explained_race steps k (Ok Done) = refl
-explained_race steps k (Ok Quiet) = refl
-explained_race steps k (Ok Ignored) = refl
-explained_race steps k (Ok (State state)) = refl
-explained_race steps k (Err why) = refl
-
-explained-is : (steps : List Step) (k : ℕ) → is_some (explanation_at steps k) ≡ is_race (answer steps k)
-unfolding explanation_at
-explained-is steps k = explained_race steps k (answer steps k)
-
-taken-next : (below rest next more : List Explanation) (o : Option Explanation) (b : Bool) → is_some o ≡ b → rest ≡ option_to_list o ++ more
-    → next ≡ cond b (drop 1 rest) rest → (below ++ option_to_list o) ++ next ≡ below ++ rest
-taken-next below rest next more (Some e) true some is taken =
-    rw (taken, is) (append_assoc below (e ∷ []) more)
-taken-next below rest next more (Some e) false some is taken = cc
-taken-next below rest next more None true some is taken = cc
-taken-next below rest next more None false some is taken = rw taken (simp append_assoc)
-
-first-to_come : (o : Option Explanation) (more : List Explanation) → is_some o ≡ true → slice_get (option_to_list o ++ more) 0 ≡ o
-first-to_come (Some e) more some = refl
-first-to_come None more none = cc
-
--- reasons matter to a race alone
-same_line : (number : ℕ) (locks : List ℕ) (a b : List Because) (t : ℕ) (event : Event) (reply : Reply) → is_race (Ok reply) ≡ false
-    → reply_line number locks a t event reply ≡ reply_line number locks b t event reply
-same_line number locks a b t (Access kind word site) Race none = cc
-same_line number locks a b t event reply none = refl
-
--- one step of a run: what is to come after it, and what its race takes
-module _ (r : Recording) (stop : Option Stopped) (k : ℕ) (rest : List Explanation) (below : k < length (answered_steps r.steps stop)) where
-  abbrev front : List Step
-  front = answered_steps r.steps stop
-
-  pub to_come-next : (explain : Bool) → IsToCome front explain k rest → (next : List Explanation) → next ≡ cond (is_race (answer r.steps k)) (drop 1 rest) rest
-      → IsToCome front explain (k + 1) next
-  unfolding explanations_below
-  to_come-next true is next taken =
-      let split = to_come-split front k rest below is in
-      let some : is_some (explanation_at front k) ≡ is_race (answer r.steps k) = explained-is front k ∙ ap is_race (answer-answered r.steps stop k below) in
-      rw (add-one k) (taken-next (explanations_below front k) rest next split.0 (explanation_at front k) (is_race (answer r.steps k)) some split.1 taken ∙ is)
-  to_come-next false is next taken =
-      taken ∙ elim (is_race (answer r.steps k)) as (λ b. cond b (drop 1 rest) rest ≡ []) [ true ↦ rw is refl | false ↦ is ]
-
-  race-reasons : (explain : Bool) → IsToCome front explain k rest → is_race (answer r.steps k) ≡ true
-      → reasons_by r (slice_get rest 0) ≡ cond explain (reasons_at r k) []
-  race-reasons true is race =
-      let split = to_come-split front k rest below is in
-      let same : explanation_at front k ≡ explanation_at r.steps k = explanation-answered r.steps stop k below in
-      let some : is_some (explanation_at front k) ≡ true = explained-is front k ∙ ap is_race (answer-answered r.steps stop k below) ∙ race in
-      ap (λ (all : List Explanation). reasons_by r (slice_get all 0)) split.1
-      ∙ ap (reasons_by r) (first-to_come (explanation_at front k) split.0 some)
-      ∙ ap (reasons_by r) same
-  race-reasons false is race = rw is refl
-
-  -- a line's reasons are those of the definitions, and no other line has any
-  line-reasons : (explain : Bool) → IsToCome front explain k rest → (number : ℕ) (locks : List ℕ) (step : Step) (a : Result Reply Refusal) → a ≡ answer r.steps k
-      → answer_line number locks (next_reasons r rest a None) step a ≡ answer_line number locks (cond explain (reasons_at r k) []) step a
-  line-reasons explain is number locks step (Ok Race) same =
-      ap (λ (reasons : List Because). reply_line number locks reasons step.thread step.event Race)
-      (race-reasons explain is (sym (ap is_race same)))
-  line-reasons explain is number locks step (Ok Done) same = same_line number locks _ _ step.thread step.event Done refl
-  line-reasons explain is number locks step (Ok Quiet) same = same_line number locks _ _ step.thread step.event Quiet refl
-  line-reasons explain is number locks step (Ok Ignored) same = same_line number locks _ _ step.thread step.event Ignored refl
-  line-reasons explain is number locks step (Ok (State state)) same = same_line number locks _ _ step.thread step.event (State state) refl
-  line-reasons explain is number locks step (Err why) same = refl
-
-  pub next-reasons : (explain : Bool) → IsToCome front explain k rest → (s : Summary) (number : ℕ) (locks : List ℕ) (step : Step) (a : Result Reply Refusal)
-      → a ≡ answer r.steps k → (o : Option ℕ)
-      → with_answer s number locks (next_reasons r rest a o) step a o ≡ with_answer s number locks (cond explain (reasons_at r k) []) step a o
-  next-reasons explain is s number locks step a same None =
-      ap (λ (line : List LineTold). record {
-        lines = s.lines ++ line;
-        stop = s.stop;
-        rule_counts = s.rule_counts;
-        steps = s.steps + 1;
-        races = s.races + cond (is_race a) 1 0;
-        suppressed = s.suppressed;
-        refused = s.refused + cond (is_refused a) 1 0;
-      }) (line-reasons explain is number locks step a same)
-  next-reasons explain is s number locks step a same (Some i) = refl
+pub explained-start : (r : Recording) (lines : List LineTold) (es : List Explanation) → with_reasons r es lines ≡ take 0 lines ++ with_reasons r es (drop 0 lines)
+explained-start r lines es = refl
 
 -- what has no reason: a place past the end, and an event that is no access
 pub past-reason : (r : Recording) (name : Label) (i : ℕ) → length r.steps ≤ i → reason_at r name i ≡ []

@@ -1,4 +1,5 @@
-pub mod Draft
+pub mod Builder
+pub mod Inner
 pub mod Lines
 pub mod Names
 pub mod Reasons

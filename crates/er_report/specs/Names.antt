@@ -1,7 +1,7 @@
 -- The numbers in a report that need a name to be printed.
 use Rattle.std.specs.Prelude.{◌≡◌, ◌<◌, ◌≤◌, ℕ, false, List, length, All}
 use Rattle.er_event.specs.Lockset.{is_level_lock}
-use Rattle.er_event.specs.Names.{NameTable}
+use Rattle.er_trace.specs.Names.{NameTable}
 use Rattle.er_event.specs.declared.steps.Event.{Event}
 use Rattle.er_event.specs.declared.steps.Event.TheVariants.{Acquire, Release, Access, Reuse, IgnoreOn, IgnoreOff, Show, Level}
 use Rattle.er_event.specs.declared.steps.WordState.{WordState}

@@ -3,7 +3,7 @@ use Rattle.std.specs.Prelude.{ℕ, List, [], ◌∷◌, ◌++◌, flat_map, slic
 use Rattle.er_event.specs.declared.steps.Event.{Event}
 use Rattle.er_event.specs.declared.steps.Event.TheVariants.{Access}
 use Rattle.er_event.specs.declared.steps.Step.{Step}
-use Rattle.er_event.specs.Trace.{Recording}
+use Rattle.er_trace.specs.Trace.{Recording}
 use Rattle.er_explain.specs.Explaining.{explanation_at}
 use Rattle.er_model.specs.Explanations.{Explanation}
 use Rattle.er_report.specs.declared.report.Because.{Because}

@@ -1,7 +1,7 @@
 -- What a report says of a recording, by the definitions of the whole list of its steps.
 use Rattle.std.specs.Prelude.{ℕ, zero, suc, ◌+◌, ◌==◌, Bool, true, false, cond, ◌&&◌, is_some, is_none, List, [], ◌∷◌, ◌++◌, map, length, take, slice_get, slice_index, Option, Some, None, Result, Ok, Err}
 use Rattle.std.specs.List.{range_with_len}
-use Rattle.er_event.specs.Names.{NameTable}
+use Rattle.er_trace.specs.Names.{NameTable}
 use Rattle.er_event.specs.declared.refusals.NoRoom.{NoRoom}
 use Rattle.er_event.specs.declared.refusals.Refusal.{Refusal}
 use Rattle.er_event.specs.declared.steps.Event.{Event}
@@ -9,10 +9,11 @@ use Rattle.er_event.specs.declared.steps.Event.TheVariants.{Access, Show}
 use Rattle.er_event.specs.declared.steps.Reply.{Reply}
 use Rattle.er_event.specs.declared.steps.Reply.TheVariants.{Race, State}
 use Rattle.er_event.specs.declared.steps.Step.{Step}
-use Rattle.er_event.specs.Trace.{Recording}
+use Rattle.er_trace.specs.Trace.{Recording}
+use Rattle.er_explain.specs.Racing.{is_race}
 use Rattle.er_model.specs.Answers.{answer}
 use Rattle.er_model.specs.Threads.{accepted, held}
-use Rattle.er_model.specs.declared.answers.Stopped.{Stopped}
+use Rattle.er_journal.specs.declared.answers.Stopped.{Stopped}
 use Rattle.er_report.specs.Lines.{LineTold, RaceTold, RefusedTold, ShownTold, line_told}
 use Rattle.er_report.specs.Reasons.{reasons_at}
 use Rattle.er_report.specs.declared.report.Because.{Because}
@@ -63,12 +64,7 @@ line_of r explain k (Some step) =
 unfoldable pub line_at : Recording → Bool → ℕ → List LineTold
 line_at r explain k = line_of r explain k (slice_get r.steps k)
 
--- an answer that is a race, and one that is a refusal
-abbrev pub is_race : Result Reply Refusal → Bool
-is_race (Ok Race) = true
-is_race (Ok reply) = false
-is_race (Err refusal) = false
-
+-- the answer is a refusal
 abbrev pub is_refused : Result Reply Refusal → Bool
 is_refused (Ok reply) = false
 is_refused (Err refusal) = true

@@ -1,12 +1,13 @@
 //! The laws of reports: each function does nothing, and its contract is proved of the definitions. All are own.
 ghost use Rattle.std.specs.Prelude.{◌≡◌, ◌+◌, ◌∷◌, ℕ, Bool, List, Option, length, map, sum};
-ghost use Rattle.er_event.specs.Trace.{Recording};
+ghost use Rattle.er_trace.specs.Trace.{Recording};
 ghost use Rattle.er_explain.specs.Explaining.{explanation_at};
+ghost use Rattle.er_explain.specs.Racing.{is_race};
 ghost use Rattle.er_model.specs.Answers.{answer};
 ghost use Rattle.er_model.specs.Explanations.{Explanation};
-ghost use Rattle.er_model.specs.declared.answers.Stopped.{Stopped};
+ghost use Rattle.er_journal.specs.declared.answers.Stopped.{Stopped};
 ghost use Rattle.er_report.specs.Reasons.{reasons_at};
-ghost use Rattle.er_report.specs.Report.{report_of, count_below, is_race};
+ghost use Rattle.er_report.specs.Report.{report_of, count_below};
 ghost use Rattle.er_rules.specs.Rules.{Target};
 
 use crate::Label;

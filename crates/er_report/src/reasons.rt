@@ -1,57 +1,68 @@
 //! Why races are races: the accesses that their explanations name.
-ghost use Rattle.std.specs.Prelude.{◌≡◌, ◌++◌, cond, [], drop, IfOk, OnOk};
+ghost use Rattle.std.specs.Prelude.{◌≡◌, ◌++◌, cond, map, IfOk, OnOk};
 ghost use Rattle.std.specs.Vec.Iter.{into_iter_items};
-ghost use Rattle.er_explain.specs.Explaining.{race_explanations};
-ghost use Rattle.er_model.specs.AnswerList.{shown};
-ghost use Rattle.er_model.specs.Answers.{answers};
-ghost use Rattle.er_report.specs.Draft.{next_reasons};
+ghost use Rattle.er_explain.specs.Explaining.{explanations_at};
+ghost use Rattle.er_explain.specs.Racing.{AreRaces};
+ghost use Rattle.er_report.specs.Inner.Explained.{line_with, left_after, with_reasons};
+ghost use Rattle.er_report.specs.Lines.{line_told};
 ghost use Rattle.er_report.specs.Reasons.{reason_at, reasons_of};
-ghost use Rattle.er_report.specs.Report.{answered_steps, is_race};
 
-use crate::{Because, Label};
-use er_event::{Event, Trace};
-use er_explain::{Explanation, explain_races};
-use er_model::{Answer, Outcome};
+use crate::{Because, Label, Line};
+use er_event::Event;
+use er_explain::{Explanation, explain_races_at};
+use er_trace::Trace;
 use std::alloc::{AllocError, Global};
 use std::vec::IntoIter;
 
-/// The explanations of a run's races, by position, if they are asked for.
-pub(crate) fn explanations_if(
+/// Gives each line of a race its reasons, if they are asked for. The places are those of the races that have lines, in order.
+pub(crate) fn explain_lines(
     alloc: Global,
     trace: &Trace,
-    outcome: &Outcome,
+    races: &[u64],
     explain: bool,
-) -> Result<Vec<Explanation>, AllocError>
-    requires { outcome.now.answers ≡ answers (answered_steps trace.now.steps outcome.now.stopped) }
-    ensures { IfOk result (λ found. found.items ≡ cond explain (race_explanations (answered_steps trace.now.steps outcome.now.stopped)) []) }
+    lines: &mut [Line],
+) -> Result<(), AllocError>
+    requires { AreRaces trace.now.steps races.now }
+    ensures { OnOk result (map line_told lines.new ≡ cond explain (with_reasons trace.now (explanations_at trace.now.steps races.now) (map line_told lines.old)) (map line_told lines.old)) }
 {
     if explain {
-        let answered = &trace.steps()[..outcome.answers.len()];
-        explain_races(alloc, answered, &outcome.answers)
-    } else {
-        Ok(Vec::new(alloc))
+        let explanations = explain_races_at(alloc, trace.steps(), races)?;
+        put_reasons(alloc, trace, explanations.into_iter(), lines)?;
     }
+    Ok(())
 }
 
-/// Why a step of this answer is a race. A race takes the next explanation that is to come, and tells it unless a rule takes the
-/// race.
-pub(crate) fn next_reasons(
+// Gives each line of a race the reasons of the next explanation.
+fn put_reasons(
+    alloc: Global,
+    trace: &Trace,
+    mut to_come: IntoIter<Explanation>,
+    lines: &mut [Line],
+) -> Result<(), AllocError>
+    ensures { OnOk result (map line_told lines.new ≡ with_reasons trace.now (into_iter_items to_come) (map line_told lines.old)) }
+{
+    for i in 0..lines.len() {
+        explain_line(alloc, trace, &mut to_come, &mut lines[i])?;
+    }
+    Ok(())
+}
+
+// Gives the line of a race the reasons of the next explanation.
+fn explain_line(
     alloc: Global,
     trace: &Trace,
     to_come: &mut IntoIter<Explanation>,
-    answer: Answer<'_>,
-    taker: Option<usize>,
-) -> Result<Vec<Because>, AllocError>
-    ensures reasons { IfOk result (λ reasons. reasons.items ≡ next_reasons trace.now (into_iter_items to_come.old) (shown answer.entry) taker) }
-    ensures taken { into_iter_items to_come.new ≡ cond (is_race (shown answer.entry)) (drop 1 (into_iter_items to_come.old)) (into_iter_items to_come.old) }
+    line: &mut Line,
+) -> Result<(), AllocError>
+    ensures line { OnOk result (line_told line.new ≡ line_with trace.now (into_iter_items to_come.old) (line_told line.old)) }
+    ensures left { OnOk result (into_iter_items to_come.new ≡ left_after (into_iter_items to_come.old) (line_told line.old)) }
 {
-    if !matches!(answer, Answer::Race) {
-        return Ok(Vec::new(alloc));
+    if let Line::Race { explained, .. } = line {
+        if let Some(explanation) = to_come.next() {
+            *explained = reasons_of(alloc, trace, &explanation)?;
+        }
     }
-    match (to_come.next(), taker) {
-        (Some(explanation), None) => reasons_of(alloc, trace, &explanation),
-        _ => Ok(Vec::new(alloc)),
-    }
+    Ok(())
 }
 
 // The accesses that an explanation names, in its order.

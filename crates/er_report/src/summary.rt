@@ -1,22 +1,23 @@
 //! The report of a whole run.
-ghost use Rattle.std.specs.Prelude.{◌≡◌, ◌<◌, All, length, IfOk, IfSome};
+ghost use Rattle.std.specs.Prelude.{◌≡◌, ◌<◌, All, IsTrue, length, IfOk, IfSome};
+ghost use Rattle.er_explain.specs.Racing.{is_race};
+ghost use Rattle.er_held.specs.ThreadLocks.{held_by};
+ghost use Rattle.er_journal.specs.AnswerList.{shown};
 ghost use Rattle.er_model.specs.Answers.{answers};
 ghost use Rattle.er_report.specs.Names.{HasNames};
-ghost use Rattle.er_report.specs.Report.{told, report_of, answered_steps, stop_line};
+ghost use Rattle.er_report.specs.Report.{told, report_of, answered_steps};
 ghost use Rattle.er_rules.specs.Rules.{targets_of};
 
-use crate::Report;
-use crate::draft::Draft;
-use crate::reasons::{explanations_if, next_reasons};
-use crate::takers::taker_of;
-use er_event::{NoRoom, Trace};
-use er_model::{Outcome, Stopped};
+use crate::{Report, ReportBuilder};
+use er_event::{Lockset, ThreadId};
+use er_held::ThreadLocks;
+use er_journal::{Answer, Outcome};
 use er_rules::Suppressions;
+use er_trace::Trace;
 use std::alloc::{AllocError, Global};
 
-/// The report of a run of a trace's steps, which may have stopped at one of them (own). A race that a rule takes has no line and
-/// counts for the first such rule. With `explain` each race that has a line has its reasons, for which the answered steps are
-/// gone over again.
+/// The report of a run of a trace's steps, which may have stopped at one of them. A race that a rule takes has no line and counts
+/// for the first such rule. With `explain` each race that has a line has its reasons, for which the steps are gone over again.
 pub fn summarise(
     alloc: Global,
     trace: &Trace,
@@ -29,31 +30,30 @@ pub fn summarise(
     ensures report { IfOk result (λ report. told report ≡ report_of trace.now (targets_of suppressions.now) explain outcome.now.stopped) }
     ensures named { IfOk result (λ report. All (HasNames trace.now.names) report.lines.items) }
 {
-    let mut to_come = explanations_if(alloc, trace, outcome, explain)?.into_iter();
-    let mut draft = Draft::new(alloc, suppressions.len())?;
+    let mut builder = ReportBuilder::new(alloc, suppressions)?;
+    let mut locks = ThreadLocks::new(alloc);
     for (k, step) in trace.steps().iter().enumerate() {
         let Some(answer) = outcome.answers.get(k) else {
             break;
         };
-        let taker = taker_of(suppressions, trace.names(), step.event, answer);
-        let explained = next_reasons(alloc, trace, &mut to_come, answer, taker)?;
-        draft.add(alloc, trace.lines()[k], step, answer, taker, explained)?;
+        let held = race_locks(alloc, &locks, step.thread, answer)?;
+        builder.add_answer(trace.names(), trace.lines()[k], step, answer, &held)?;
+        locks.follow(alloc, step)?;
     }
-    let Draft {
-        holders: _,
-        mut report,
-    } = draft;
-    report.stop = stop_line(trace, outcome.stopped);
-    Ok(report)
+    builder.finish_for(trace, outcome.stopped, explain)
 }
 
-// The line of the step at which a run stopped, and why.
-fn stop_line(trace: &Trace, stopped: Option<Stopped>) -> Option<(u64, NoRoom)>
-    requires { IfSome stopped (λ stop. stop.at < length trace.now.steps) }
-    ensures { result ≡ stop_line trace.now stopped }
+// The locks that the thread holds, if this answers a race; a report needs no others.
+fn race_locks(
+    alloc: Global,
+    locks: &ThreadLocks,
+    thread: ThreadId,
+    answer: Answer<'_>,
+) -> Result<Lockset, AllocError>
+    ensures { IfOk result (λ held. IsTrue (is_race (shown answer.entry)) → held ≡ (held_by locks.now thread).held) }
 {
-    match stopped {
-        Some(Stopped { at, cause }) => Some((trace.lines()[at as usize], cause)),
-        None => None,
+    match answer {
+        Answer::Race => locks.locks_of(alloc, thread),
+        _ => Ok(Lockset::new(alloc)),
     }
 }

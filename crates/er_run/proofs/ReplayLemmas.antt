@@ -1,28 +1,21 @@
 -- From the parts of a replay to the whole: what was read, what its run came to, and what was written of it.
 use Rattle.std.proofs.Common.{◌≡◌, ℕ, nat_lt, Bool, true, false, cond, List, Option, Some, None, Ok, Err, IfSome, IsFalse, refl, ap, subst, take}
 use Rattle.std.specs.Io.KnownBytes.{Appends}
-use Rattle.er_event.specs.Trace.{Recording}
+use Rattle.er_trace.specs.Trace.{Recording}
 use Rattle.er_event.specs.declared.refusals.NoRoom.{NoRoom}
-use Rattle.er_event.specs.declared.steps.Step.{Step}
-use Rattle.er_model.specs.declared.answers.Stopped.{Stopped}
+use Rattle.er_journal.specs.declared.answers.Stopped.{Stopped}
 use Rattle.er_print.specs.Printed.{report_text}
-use Rattle.er_event.specs.Names.{NameTable}
+use Rattle.er_trace.specs.Names.{NameTable}
 use Rattle.er_print.specs.Written.{WritesReport}
 use Rattle.er_print.specs.declared.fault.WriteFault.{WriteFault}
 use Rattle.er_text.specs.Trace.{Tells}
 use Rattle.er_print.specs.declared.fault.WriteFault.TheVariants as writing
-use Rattle.er_replay.specs.Stops.{taken}
-use Rattle.er_report.specs.Report.{report_of, told as summary, answered_steps, Summary}
+use Rattle.er_report.specs.Report.{report_of, told as summary, Summary}
 use Rattle.er_report.specs.declared.report.Report.{Report}
 use Rattle.er_rules.specs.Rules.{Target}
 use Rattle.er_run.specs.Replays.{IsReplayed, IsFailed, IsReportOfRun, verdict_of, verdict_by, is_stopped, is_verdict_of}
 use Rattle.er_run.specs.declared.fault.RunFault.TheVariants.{Write}
 use Rattle.er_run.specs.declared.fault.Verdict.TheVariants as verdict
-
--- the steps that a run took are those that its report speaks of
-pub same_steps : (stop : Option Stopped) (steps : List Step) → taken stop steps ≡ answered_steps steps stop
-same_steps None steps = refl
-same_steps (Some stop) steps = refl
 
 -- the verdict by the report's numbers
 verdict_from : (recording : Recording) (rules : List Target) (explain : Bool) (stop : Option Stopped) (s : Summary) → s ≡ report_of recording rules explain stop

@@ -2,14 +2,12 @@
 use Rattle.std.specs.Prelude.{◌≡◌, ℕ, ◌<◌, nat_lt, Bool, true, false, cond, List, [], length, take, Option, Some, None, IfSome, Result, Ok, Err}
 use Rattle.std.specs.Io.KnownBytes.{Appends, Keeps}
 use Rattle.er_event.specs.declared.refusals.NoRoom.{NoRoom}
-use Rattle.er_event.specs.Trace.{Recording}
-use Rattle.er_model.specs.Answers.{answers}
-use Rattle.er_model.specs.declared.answers.Outcome.{Outcome}
-use Rattle.er_model.specs.declared.answers.Stopped.{Stopped}
+use Rattle.er_trace.specs.Trace.{Recording}
+use Rattle.er_journal.specs.declared.answers.Stopped.{Stopped}
 use Rattle.er_print.specs.Printed.{output_of}
 use Rattle.er_print.specs.declared.fault.WriteFault.TheVariants as writing
 use Rattle.er_replay.specs.Stops.{MayStop}
-use Rattle.er_report.specs.Report.{report_of, told as summary, answered_steps}
+use Rattle.er_report.specs.Report.{report_of, told as summary}
 use Rattle.er_report.specs.declared.report.Report.{Report}
 use Rattle.er_rules.specs.Rules.{Target}
 use Rattle.er_run.specs.declared.fault.RunFault.{RunFault}
@@ -81,12 +79,6 @@ abbrev pub is_stopped : Verdict → Bool
 is_stopped verdict.Stopped = true
 is_stopped verdict.Races = false
 is_stopped verdict.Clean = false
-
--- the answers of a run of the recording's steps up to its stop, which is at one of them that may want what it lacked
-pub record HasRun (recording : Recording) (outcome : Outcome) : Type 0 where
-  pub answers : outcome.answers ≡ answers (answered_steps recording.steps outcome.stopped)
-  pub within : IfSome outcome.stopped (λ s. s.at < length recording.steps)
-  pub cause : IfSome outcome.stopped (λ s. MayStop [] recording.steps s)
 
 -- the report of a run of the recording's steps under these rules
 pub record IsReportOfRun (recording : Recording) (rules : List Target) (explain : Bool) (report : Report) : Type 0 where

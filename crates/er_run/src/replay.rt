@@ -1,21 +1,25 @@
 //! Bytes in, report out.
-ghost use Rattle.std.specs.Prelude.{◌≡◌, ◌+◌, ◌≤◌, ◌<◌, false, All, IfSome, IfOk, IfErr, IsFalse, None};
+ghost use Rattle.std.specs.Prelude.{◌≡◌, ◌+◌, ◌≤◌, ◌<◌, [], false, length, All, IfSome, IfOk, IfErr, IsFalse, None, OnOk};
 ghost use Rattle.er_device.specs.Device.{inner_of, has_failed, taken_of};
+ghost use Rattle.er_replay.specs.Standing.{Stands};
+ghost use Rattle.er_replay.specs.Stops.{MayStop};
+ghost use Rattle.er_report.specs.Builder.{IsBuilt};
 ghost use Rattle.er_report.specs.Names.{HasNames};
+ghost use Rattle.er_report.specs.Report.{answered_steps};
 ghost use Rattle.er_rules.specs.Rules.{targets_of};
-ghost use Rattle.er_run.specs.Replays.{IsReplayed, IsFailed, WritesNothing, FailsBy, HasRun, IsReportOfRun, is_stopped, is_verdict_of};
+ghost use Rattle.er_run.specs.Replays.{IsReplayed, IsFailed, WritesNothing, FailsBy, IsReportOfRun, is_stopped, is_verdict_of};
 
 use crate::{Options, RunFault, Verdict};
 use er_device::Device;
-use er_event::Trace;
-use er_model::Outcome;
+use er_journal::Stopped;
 use er_parallel::{OpenGate, ReplayConfig, ReplayFault, replay_parallel};
 use er_print::write_report;
-use er_replay::{Machine, run};
-use er_report::{Report, summarise};
+use er_replay::{Machine, no_room};
+use er_report::{Report, ReportBuilder, summarise};
 use er_rules::Suppressions;
 use er_table::LocksetTable;
 use er_text::read_trace;
+use er_trace::Trace;
 use std::alloc::{AllocError, Global};
 use std::io::{Read, Write};
 use std::sync::Wait;
@@ -55,23 +59,6 @@ where
     }
 }
 
-// The answers to the steps: up to a stop by one worker, all of them by several.
-fn outcome_of<R: Threads + Wait + Sync>(
-    rt: &R,
-    alloc: Global,
-    trace: &Trace,
-    options: &Options,
-) -> Result<Outcome, ReplayFault>
-    ensures run { IfOk result (λ outcome. HasRun trace.now outcome) }
-    ensures whole { 1 < options.now.workers → IfOk result (λ outcome. outcome.stopped ≡ None) }
-{
-    if options.workers > 1 {
-        let config = config_of(options);
-        return replay_parallel(rt, alloc, config, trace.steps(), options.workers, &OpenGate);
-    }
-    Ok(run_alone(rt, alloc, trace, options.max_sets)?)
-}
-
 fn config_of(options: &Options) -> ReplayConfig {
     ReplayConfig {
         shards: options.shards,
@@ -79,19 +66,67 @@ fn config_of(options: &Options) -> ReplayConfig {
     }
 }
 
-fn run_alone<R: Wait>(
+// The report of a replay by one worker: each step is added as it is answered, up to a stop.
+fn report_alone<R: Wait>(
     rt: &R,
     alloc: Global,
     trace: &Trace,
-    max_sets: u32,
-) -> Result<Outcome, AllocError>
-    requires some { 1 ≤ max_sets }
-    requires few { max_sets ≤ 1048576 }
-    ensures { IfOk result (λ outcome. HasRun trace.now outcome) }
+    suppressions: &Suppressions,
+    options: &Options,
+) -> Result<Report, AllocError>
+    ensures report { IfOk result (λ report. IsReportOfRun trace.now (targets_of suppressions.now) options.now.explain report) }
+    ensures named { IfOk result (λ report. All (HasNames trace.now.names) report.lines.items) }
 {
-    let table = LocksetTable::new(alloc, max_sets)?;
+    let table = LocksetTable::new(alloc, options.max_sets)?;
     let mut machine = Machine::new(alloc, &table)?;
-    Ok(run(rt, alloc, &mut machine, trace.steps()))
+    let mut builder = ReportBuilder::new(alloc, suppressions)?;
+    let stopped = answer_steps(rt, &mut machine, trace, &mut builder)?;
+    builder.finish_for(trace, stopped, options.explain)
+}
+
+// Answers each step and adds it to the report, up to the first that finds no room.
+fn answer_steps<R: Wait>(
+    rt: &R,
+    machine: &mut Machine<'_>,
+    trace: &Trace,
+    builder: &mut ReportBuilder<'_>,
+) -> Result<Option<Stopped>, AllocError>
+    requires machine { Stands machine.old [] }
+    requires builder { IsBuilt builder.old trace.now 0 }
+    ensures rules { OnOk result (builder.new.rules ≡ builder.old.rules) }
+    ensures built { IfOk result (λ stopped. IsBuilt builder.new trace.now (length (answered_steps trace.now.steps stopped))) }
+    ensures within { IfOk result (λ stopped. IfSome stopped (λ stop. stop.at < length trace.now.steps)) }
+    ensures cause { IfOk result (λ stopped. IfSome stopped (λ stop. MayStop [] trace.now.steps stop)) }
+{
+    for (k, step) in trace.steps().iter().enumerate() {
+        let answer = machine.step(rt, *step);
+        if let Some(cause) = no_room(&answer) {
+            return Ok(Some(Stopped {
+                at: k as u64,
+                cause,
+            }));
+        }
+        let held = machine.held(step.thread).held();
+        builder.add(trace.names(), trace.lines()[k], step, &answer, held)?;
+    }
+    Ok(None)
+}
+
+// The report of a replay by several workers, which all have ended before it is begun.
+fn report_by_several<R: Threads + Wait + Sync>(
+    rt: &R,
+    alloc: Global,
+    trace: &Trace,
+    suppressions: &Suppressions,
+    options: &Options,
+) -> Result<Report, ReplayFault>
+    ensures report { IfOk result (λ report. IsReportOfRun trace.now (targets_of suppressions.now) options.now.explain report) }
+    ensures named { IfOk result (λ report. All (HasNames trace.now.names) report.lines.items) }
+    ensures whole { IfOk result (λ report. report.stop ≡ None) }
+{
+    let config = config_of(options);
+    let outcome = replay_parallel(rt, alloc, config, trace.steps(), options.workers, &OpenGate)?;
+    Ok(summarise(alloc, trace, &outcome, suppressions, options.explain)?)
 }
 
 fn report_on<R: Threads + Wait + Sync>(
@@ -105,8 +140,10 @@ fn report_on<R: Threads + Wait + Sync>(
     ensures named { IfOk result (λ report. All (HasNames trace.now.names) report.lines.items) }
     ensures whole { 1 < options.now.workers → IfOk result (λ report. report.stop ≡ None) }
 {
-    let outcome = outcome_of(rt, alloc, trace, options)?;
-    Ok(summarise(alloc, trace, &outcome, suppressions, options.explain)?)
+    if options.workers > 1 {
+        return report_by_several(rt, alloc, trace, suppressions, options);
+    }
+    Ok(report_alone(rt, alloc, trace, suppressions, options)?)
 }
 
 fn verdict_of(report: &Report) -> Verdict

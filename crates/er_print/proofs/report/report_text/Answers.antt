@@ -1,7 +1,7 @@
 -- The lines are those that the report tells.
 use Rattle.std.proofs.Common.{◌≡◌, ◌≤◌, ℕ, List, length, take, map, flat_map, ◌∙◌, ap, refl}
 use Rattle.std.proofs.lemmas.List.{take_all}
-use Rattle.er_event.specs.Names.{NameTable}
+use Rattle.er_trace.specs.Names.{NameTable}
 use Rattle.er_report.specs.Lines.{line_told}
 use Rattle.er_report.specs.declared.report.Line.{Line}
 use Rattle.er_print.proofs.LineLemmas.{told-lines}

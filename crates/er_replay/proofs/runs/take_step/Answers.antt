@@ -1,6 +1,7 @@
-use Rattle.er_model.specs.AnswerList.{is_state}
+use Rattle.er_journal.specs.AnswerList.{is_state}
 use Rattle.er_replay.specs.Standing.{holding, states}
-use Rattle.er_replay.proofs.RunsLemmas.{on_err_unless, on_err_of}
+use Rattle.er_replay.proofs.RunsLemmas.{on_err_unless}
+use Rattle.er_event.proofs.Results.{on_err_of}
 use Rattle.er_replay.proofs.StopsLemmas.{lacks}
 use Rattle.er_replay.proofs.runs.take_step.Goals as goal
 

@@ -1,14 +1,16 @@
 use Rattle.std.proofs.Common.{◌≡◌, ap, ◌∙◌, sym, rules}
 use Rattle.std.proofs.lemmas.Map.Steps.{set_value_same}
-use Rattle.er_replay.specs.Threads.{holding_among}
+use Rattle.er_held.specs.ThreadLocks.{holding_among}
 use Rattle.er_held.specs.Held.{nothing_held}
-use Rattle.er_replay.proofs.ThreadsLemmas.{holding-found, holding-absent, holding-written, on_ok, on_err, err_from, err_is}
+use Rattle.er_replay.proofs.ThreadsLemmas.{err_from, err_is}
 use Rattle.er_replay.proofs.threads.Threads.change.Goals as goal
+use Rattle.er_held.proofs.MapLemmas.{holding_found, holding_absent, holding_written}
+use Rattle.er_event.proofs.Results.{on_ok, on_err}
 use Rattle.er_replay.proofs.threads.Threads.change.Goals.{In-Some, In-None}
 
 found : (c : In-Some) → c.in-Some.held.now ≡ holding_among c.args.self.now c.args.thread
 found c =
-    holding-found c.self.inside.held.entries c.args.thread c.in-Some.held.now c.in-Some.ensures.value
+    holding_found c.self.inside.held.entries c.args.thread c.in-Some.held.now c.in-Some.ensures.value
     ∙ ap (λ threads. holding_among threads c.args.thread) c.self.view_is
 
 pub returns-in-Some-clause-accepted : goal.returns-in-Some-clause-accepted
@@ -24,7 +26,7 @@ pub returns-in-Some-clause-ok : goal.returns-in-Some-clause-ok
 returns-in-Some-clause-ok c =
     let is = found (goal.at.returns-in-Some-clause-ok c).In-Some in
     rw (← is, ← c.self.view_is)
-    (on_ok c.change.result _ _ c.change.ensures.ok (λ new t. rw (← new) (holding-written c.self.inside.held.entries _ c.args.thread c.change.new.held ((c.get_mut.follows.holds c.change.new.held).3 (search rules)).0 t)))
+    (on_ok c.change.result _ _ c.change.ensures.ok (λ new t. rw (← new) (holding_written c.self.inside.held.entries _ c.args.thread c.change.new.held ((c.get_mut.follows.holds c.change.new.held).3 (search rules)).0 t)))
 
 pub returns-in-Some-clause-err : goal.returns-in-Some-clause-err
 returns-in-Some-clause-err c =
@@ -33,7 +35,7 @@ returns-in-Some-clause-err c =
 
 absent : (c : In-None) → nothing_held ≡ holding_among c.args.self.now c.args.thread
 absent c =
-    holding-absent c.self.inside.held.entries c.args.thread c.in-None.ensures.value
+    holding_absent c.self.inside.held.entries c.args.thread c.in-None.ensures.value
     ∙ ap (λ threads. holding_among threads c.args.thread) c.self.view_is
 
 pub returns-in_ok-insert-in-None-clause-accepted : goal.returns-in_ok-insert-in-None-clause-accepted
@@ -44,7 +46,7 @@ pub returns-in_ok-insert-in-None-clause-ok : goal.returns-in_ok-insert-in-None-c
 returns-in_ok-insert-in-None-clause-ok c =
     let none = absent (goal.at.returns-in_ok-insert-in-None-clause-ok c).In-None in
     rw (← none, ← c.self.view_is, ← c.get_mut.follows.holds-at-none, ← c.new-held.ensures, ← c.in_ok-change-in-None.ensures.ok)
-    (holding-written c.get_mut.follows.lender-at-none.entries _ c.args.thread c.change-in-None.new.held c.in_ok-insert-in-None.ensures.updates.0)
+    (holding_written c.get_mut.follows.lender-at-none.entries _ c.args.thread c.change-in-None.new.held c.in_ok-insert-in-None.ensures.updates.0)
 
 pub returns-in_err-change-in-None-clause-refused : goal.returns-in_err-change-in-None-clause-refused
 returns-in_err-change-in-None-clause-refused c =

@@ -1,0 +1,23 @@
+use Rattle.std.proofs.Common.{◌∙◌, ◌++◌, ◌∷◌, ◌&&◌, ℕ, [], Bool, cond, is_none, List, Option, Result, refl, sym, ap, subst}
+use Rattle.er_event.specs.declared.refusals.Refusal.{Refusal}
+use Rattle.er_event.specs.declared.steps.Reply.{Reply}
+use Rattle.er_explain.specs.Racing.{is_race}
+use Rattle.er_journal.specs.AnswerList.{shown}
+use Rattle.er_report.specs.Builder.{Built, IsBuilt}
+use Rattle.er_report.specs.Inner.Adding.{with_answer}
+use Rattle.er_report.specs.Report.{told}
+use Rattle.er_rules.specs.Rules.{targets_of}
+use Rattle.er_report.proofs.BuilderLemmas.{built-next}
+use Rattle.er_report.proofs.builder.ReportBuilder.add_answer.Goals as goal
+
+pub returns-clause-built : goal.returns-clause-built
+returns-clause-built c = λ r k built at.
+    let given : Result Reply Refusal = shown c.args.answer in
+    let races : List ℕ = c.self.inside.races.items in
+    let place : ℕ = c.self.inside.report.steps in
+    let before : Built = record { report = told c.self.inside.report; races = races; rules = targets_of c.self.inside.rules.now } in
+    built-next before _ r k c.args.names.now c.args.line c.args.step.now given c.args.held.now
+    (subst (λ (builder : Built). IsBuilt builder r k) (sym c.self.view_is) built) at refl
+    (c.in_ok-add_step.ensures.ok ∙ ap (with_answer before.report c.args.line c.args.held.now c.args.step.now given) c.first_rule-rule.ensures.value)
+    (c.in_ok-add_race.ensures
+    ∙ ap (λ (rule : Option ℕ). races ++ cond (is_race given && is_none rule) (place ∷ []) []) c.first_rule-rule.ensures.value)

@@ -1,0 +1,5 @@
+use Rattle.er_report.proofs.BuilderLemmas.{built-start}
+use Rattle.er_report.proofs.builder.ReportBuilder.new.Goals as goal
+
+pub returns-clause-built : goal.returns-clause-built
+returns-clause-built c = built-start _ c.len.result c.in_ok-report.ensures c.len.ensures c.new.ensures.items

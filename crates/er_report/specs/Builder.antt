@@ -1,0 +1,45 @@
+-- A report that grows by one step after another.
+use Rattle.std.specs.Prelude.{◌≡◌, ℕ, false, is_some, List, slice_get, slice_index, IsTrue, Some, None, Result}
+use Rattle.er_trace.specs.Names.{NameTable}
+use Rattle.er_trace.specs.Trace.{Recording}
+use Rattle.er_event.specs.declared.refusals.Refusal.{Refusal}
+use Rattle.er_event.specs.declared.steps.Reply.{Reply}
+use Rattle.er_event.specs.declared.steps.Step.{Step}
+use Rattle.er_explain.specs.Racing.{is_race, places_below}
+use Rattle.er_model.specs.Answers.{answer}
+use Rattle.er_model.specs.Threads.{accepted, held}
+use Rattle.er_report.specs.Report.{Summary, taker_at, lines_below, count_below, rule_counts, is_printed, is_refused}
+use Rattle.er_rules.specs.Rules.{Target}
+
+-- what a builder holds: a report without reasons, the positions of the races that have lines, and the rules
+pub record Built : Type 0 where
+  pub report : Summary
+  pub races : List ℕ
+  pub rules : List Target
+
+-- the report of a recording's first n steps, without reasons
+unfoldable pub report_below : Recording → List Target → ℕ → Summary
+report_below r rules n =
+    record {
+      lines = lines_below r rules false n;
+      stop = None;
+      rule_counts = rule_counts r rules n;
+      steps = n;
+      races = count_below (is_printed r rules) n;
+      suppressed = count_below (λ k. is_some (taker_at r rules k)) n;
+      refused = count_below (λ k. is_refused (answer r.steps k)) n;
+    }
+
+-- the report that it holds is that of the recording's first n steps
+pub record IsBuilt (builder : Built) (r : Recording) (n : ℕ) : Type 0 where
+  pub report : builder.report ≡ report_below r builder.rules n
+  pub races : builder.races ≡ places_below (is_printed r builder.rules) n
+
+-- this is the recording's step at position k, with its line, its names and its answer, and with the locks that its thread holds, if it
+-- is a race
+pub record IsStepAt (r : Recording) (k : ℕ) (names : NameTable) (number : ℕ) (step : Step) (given : Result Reply Refusal) (locks : List ℕ) : Type 0 where
+  pub here : slice_get r.steps k ≡ Some step
+  pub line : number ≡ slice_index r.lines k
+  pub named : names ≡ r.names
+  pub answered : given ≡ answer r.steps k
+  pub locked : IsTrue (is_race given) → locks ≡ held (accepted r.steps k) step.thread

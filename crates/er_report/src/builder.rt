@@ -1,0 +1,268 @@
+//! `ReportBuilder`, a report that grows by one step after another.
+ghost use Rattle.std.specs.Prelude.{◌≡◌, ◌<◌, ◌+◌, ◌^◌, ◌++◌, ◌∷◌, ◌&&◌, ℕ, [], All, Option, cond, false, is_none, length, map, OnOk, OnErr, IfOk, IfSome};
+ghost use Rattle.std.specs.Option.{option_to_list};
+ghost use Rattle.er_trace.specs.Trace.{Recording, IsNamed};
+ghost use Rattle.er_explain.specs.Racing.{is_race};
+ghost use Rattle.er_journal.specs.AnswerList.{shown};
+ghost use Rattle.er_journal.specs.declared.answers.Stopped.{Stopped as Stop};
+ghost use Rattle.er_report.specs.Builder.{IsBuilt, IsStepAt};
+ghost use Rattle.er_report.specs.Inner.Adding.{empty_report, with_answer, HasRoom};
+ghost use Rattle.er_report.specs.Lines.{line_told};
+ghost use Rattle.er_report.specs.Names.{HasNames, HasSiteName};
+ghost use Rattle.er_report.specs.Report.{told, answer_line, answered_steps, report_of, stop_line};
+ghost use Rattle.er_rules.specs.Rules.{targets_of};
+
+use crate::reasons::explain_lines;
+use crate::rules::first_rule;
+use crate::{Line, Report};
+use er_event::{Event, Lockset, NoRoom, Refusal, Reply, Step};
+use er_journal::{Answer, Stopped};
+use er_rules::Suppressions;
+use er_trace::{Names, Trace};
+use std::alloc::{AllocError, Global};
+use std::marker::Model;
+
+/// The report of the steps so far, under some rules. It keeps no step: a line has what a report says of its step.
+///
+/// Contracts see the report without reasons, the positions of the races that have lines, and the rules. If a call finds no memory
+/// it may have done a part of its work, and the builder is of no more use.
+#[derive(Drop)]
+pub struct ReportBuilder<'r> {
+    rules: &'r Suppressions,
+    report: Report,
+    races: Vec<u64>,
+    alloc: Global,
+}
+
+impl<'r> Model for ReportBuilder<'r> {
+    ghost use Rattle.std.specs.Prelude.{length};
+    ghost use Rattle.er_report.specs.Builder.{Built};
+    ghost use Rattle.er_report.specs.Inner.Adding.{IsCounted};
+    ghost use Rattle.er_report.specs.Report.{told};
+    ghost use Rattle.er_rules.specs.Rules.{targets_of};
+
+    ghost Value = { Built };
+
+    ghost view = { λ b. record { report = told b.report; races = b.races.items; rules = targets_of b.rules.now } };
+
+    ghost invariant = { λ b. IsCounted (told b.report) (length (targets_of b.rules.now)) };
+}
+
+impl<'r> ReportBuilder<'r> {
+    /// The report before any step.
+    pub fn new(alloc: Global, rules: &'r Suppressions) -> Result<ReportBuilder<'r>, AllocError>
+        ensures rules { IfOk result (λ builder. builder.rules ≡ targets_of rules.now) }
+        ensures built { IfOk result (λ builder. (r : Recording) → IsBuilt builder r 0) }
+    {
+        let report = empty_report(alloc, rules.len())?;
+        Ok(ReportBuilder {
+            rules,
+            report,
+            races: Vec::new(alloc),
+            alloc,
+        })
+    }
+
+    /// Adds the next step: the line of the text that it came from, its answer, and the locks that its thread holds, in any mode,
+    /// which are looked at for a race alone.
+    pub fn add(
+        &mut self,
+        names: &Names,
+        line: u64,
+        step: &Step,
+        answer: &Result<Reply, Refusal>,
+        held: &Lockset,
+    ) -> Result<(), AllocError>
+        requires room { self.old.report.steps + 1 < 2 ^ 64 }
+        requires site { HasSiteName names.now step.now.event }
+        ensures rules { OnOk result (self.new.rules ≡ self.old.rules) }
+        ensures built { (r : Recording) (k : ℕ) → IsBuilt self.old r k → IsStepAt r k names.now line step.now answer.now held.now → OnOk result (IsBuilt self.new r (k + 1)) }
+    {
+        self.add_answer(names, line, step, view_of(answer), held)?;
+        Ok(())
+    }
+
+    /// The same, by a view of the answer.
+    pub(crate) fn add_answer(
+        &mut self,
+        names: &Names,
+        line: u64,
+        step: &Step,
+        answer: Answer<'_>,
+        held: &Lockset,
+    ) -> Result<(), AllocError>
+        requires room { self.old.report.steps + 1 < 2 ^ 64 }
+        requires site { HasSiteName names.now step.now.event }
+        ensures rules { OnOk result (self.new.rules ≡ self.old.rules) }
+        ensures built { (r : Recording) (k : ℕ) → IsBuilt self.old r k → IsStepAt r k names.now line step.now (shown answer.entry) held.now → OnOk result (IsBuilt self.new r (k + 1)) }
+    {
+        let rule = first_rule(self.rules, names, step.event, answer);
+        add_race(&mut self.races, self.report.steps, answer, rule)?;
+        add_step(self.alloc, &mut self.report, line, step, answer, rule, held)?;
+        Ok(())
+    }
+
+    /// The report, without reasons, of a run that stopped so or not at all.
+    pub fn finish(self, stop: Option<(u64, NoRoom)>) -> Report
+        ensures report { (r : Recording) (stopped : Option Stop) → IsBuilt self.entry r (length (answered_steps r.steps stopped)) → stop ≡ stop_line r stopped → told result ≡ report_of r self.entry.rules false stopped }
+        ensures named { (r : Recording) (n : ℕ) → IsBuilt self.entry r n → All (IsNamed r.names) r.steps → All (HasNames r.names) result.lines.items }
+    {
+        let ReportBuilder {
+            rules: _,
+            mut report,
+            races: _,
+            alloc: _,
+        } = self;
+        report.stop = stop;
+        report
+    }
+
+    /// The report of a run of a trace, whose answered steps were added. With `explain` each race that has a line has its reasons,
+    /// for which the steps are gone over once more.
+    pub fn finish_for(
+        self,
+        trace: &Trace,
+        stopped: Option<Stopped>,
+        explain: bool,
+    ) -> Result<Report, AllocError>
+        requires stop { IfSome stopped (λ stop. stop.at < length trace.now.steps) }
+        requires built { IsBuilt self trace.now (length (answered_steps trace.now.steps stopped)) }
+        ensures report { IfOk result (λ report. told report ≡ report_of trace.now self.entry.rules explain stopped) }
+        ensures named { IfOk result (λ report. All (HasNames trace.now.names) report.lines.items) }
+    {
+        let ReportBuilder {
+            rules: _,
+            mut report,
+            races,
+            alloc,
+        } = self;
+        prove!(trace.lines().len() == trace.steps().len());
+        report.stop = stop_line(trace, stopped);
+        explain_lines(alloc, trace, &races, explain, &mut report.lines)?;
+        Ok(report)
+    }
+}
+
+// The report before any step, with so many rules.
+fn empty_report(alloc: Global, rules: usize) -> Result<Report, AllocError>
+    ensures { IfOk result (λ report. told report ≡ empty_report rules) }
+{
+    Ok(Report {
+        lines: Vec::new(alloc),
+        stop: None,
+        rule_counts: vec![in alloc; 0; rules]?,
+        steps: 0,
+        races: 0,
+        suppressed: 0,
+        refused: 0,
+    })
+}
+
+// A view of the answer.
+fn view_of(answer: &Result<Reply, Refusal>) -> Answer<'_>
+    ensures { shown result ≡ answer.now }
+{
+    match answer {
+        Ok(Reply::Done) => Answer::Done,
+        Ok(Reply::Quiet) => Answer::Quiet,
+        Ok(Reply::Race) => Answer::Race,
+        Ok(Reply::Ignored) => Answer::Ignored,
+        Ok(Reply::State(state)) => Answer::State(state),
+        Err(refusal) => Answer::Refused(*refusal),
+    }
+}
+
+// Puts the place of a race that has a line.
+fn add_race(
+    races: &mut Vec<u64>,
+    place: u64,
+    answer: Answer<'_>,
+    rule: Option<usize>,
+) -> Result<(), AllocError>
+    ensures { OnOk result (races.new.items ≡ races.old.items ++ cond (is_race (shown answer.entry) && is_none rule) (place ∷ []) []) }
+{
+    if let (Answer::Race, None) = (answer, rule) {
+        races.push(place)?;
+    }
+    Ok(())
+}
+
+// Adds a step of this line and answer, whose race the rule takes, if there is one.
+fn add_step(
+    alloc: Global,
+    report: &mut Report,
+    number: u64,
+    step: &Step,
+    answer: Answer<'_>,
+    rule: Option<usize>,
+    held: &Lockset,
+) -> Result<(), AllocError>
+    requires room { HasRoom (told report.old) }
+    requires rule { IfSome rule (λ rule. rule < length report.old.rule_counts.items) }
+    ensures ok { OnOk result (told report.new ≡ with_answer (told report.old) number held.now step.now (shown answer.entry) rule) }
+    ensures err { OnErr result (told report.new ≡ told report.old) }
+{
+    match rule {
+        Some(rule) => {
+            report.rule_counts[rule] += 1;
+            report.suppressed += 1;
+        }
+        None => {
+            if let Some(line) = line_of(alloc, number, step, answer, held)? {
+                report.lines.push(line)?;
+            }
+            match answer {
+                Answer::Race => report.races += 1,
+                Answer::Refused(_) => report.refused += 1,
+                _ => {}
+            }
+        }
+    }
+    report.steps += 1;
+    Ok(())
+}
+
+// The line of a step, if its answer gives it one. A set of locks is copied for a race alone.
+fn line_of(
+    alloc: Global,
+    number: u64,
+    step: &Step,
+    answer: Answer<'_>,
+    held: &Lockset,
+) -> Result<Option<Line>, AllocError>
+    ensures { IfOk result (λ line. map line_told (option_to_list line) ≡ answer_line number held.now [] step.now (shown answer.entry)) }
+{
+    Ok(match (answer, step.event) {
+        (Answer::Race, Event::Access(kind, word, site)) => Some(Line::Race {
+            line: number,
+            thread: step.thread,
+            kind,
+            word,
+            site,
+            held: held.copy()?,
+            explained: Vec::new(alloc),
+        }),
+        (Answer::State(state), Event::Show(word)) => Some(Line::Shown {
+            line: number,
+            word,
+            state: state.copy()?,
+        }),
+        (Answer::Refused(refusal), _) => Some(Line::Refused {
+            line: number,
+            step: *step,
+            refusal,
+        }),
+        _ => None,
+    })
+}
+
+// The line of the step at which a run stopped, and why.
+fn stop_line(trace: &Trace, stopped: Option<Stopped>) -> Option<(u64, NoRoom)>
+    requires { IfSome stopped (λ stop. stop.at < length trace.now.steps) }
+    ensures { result ≡ stop_line trace.now stopped }
+{
+    match stopped {
+        Some(Stopped { at, cause }) => Some((trace.lines()[at as usize], cause)),
+        None => None,
+    }
+}

@@ -1,0 +1,41 @@
+//! Which rule takes a race.
+ghost use Rattle.std.specs.Prelude.{◌≡◌, ◌<◌, ◌≤◌, length, option_copied, IfSome};
+ghost use Rattle.er_journal.specs.AnswerList.{shown};
+ghost use Rattle.er_report.specs.Names.{HasSiteName};
+ghost use Rattle.er_report.specs.Report.{site_name, answer_taker};
+ghost use Rattle.er_rules.specs.Rules.{targets_of};
+
+use er_event::{Event, Site};
+use er_journal::Answer;
+use er_rules::Suppressions;
+use er_trace::Names;
+
+/// The first rule that takes an event of this answer. The answer must be a race.
+pub(crate) fn first_rule(
+    suppressions: &Suppressions,
+    names: &Names,
+    event: Event,
+    answer: Answer<'_>,
+) -> Option<usize>
+    requires { HasSiteName names.now event }
+    ensures value { result ≡ answer_taker (targets_of suppressions.now) names.now event (shown answer.entry) }
+    ensures within { IfSome result (λ rule. rule < length (targets_of suppressions.now)) }
+{
+    match (answer, event) {
+        (Answer::Race, Event::Access(_, word, site)) => {
+            suppressions.taker(name_of(names, site), word)
+        }
+        _ => None,
+    }
+}
+
+// The name of a site, unless it is the missing one.
+fn name_of(names: &Names, site: Site) -> Option<&str>
+    requires { site ≤ length names.now.sites }
+    ensures { option_copied result ≡ site_name names.now site }
+{
+    if site.number() == 0 {
+        return None;
+    }
+    Some(names.site_name(site))
+}

@@ -1,0 +1,95 @@
+-- What a machine says of a step that comes after the first k is what the definitions say of the step at position k.
+use Rattle.std.proofs.Common.{◌≡◌, ◌<◌, ◌+◌, ◌==◌, ℕ, Bool, true, false, cond, List, [], ◌∷◌, ◌++◌, length, take, drop, slice_get, slice_index, Some, None, Result, Ok, refl, sym, ap, subst, ◌∙◌, ◌≤◌, arith}
+use Rattle.std.proofs.lemmas.List.{take_more, take-append-drop, length-take-le}
+use Rattle.std.proofs.lemmas.Option.{slice_get_within, get_or_from_slice_get}
+use Rattle.er_trace.specs.Names.{NameTable}
+use Rattle.er_trace.specs.Trace.{Recording}
+use Rattle.er_event.specs.declared.refusals.Refusal.{Refusal}
+use Rattle.er_event.specs.declared.steps.Event.{Event}
+use Rattle.er_event.specs.declared.steps.Event.TheVariants.{Acquire, Release, Access, Reuse, IgnoreOn, IgnoreOff, Show, Level}
+use Rattle.er_event.specs.declared.steps.Reply.{Reply}
+use Rattle.er_event.specs.declared.steps.Reply.TheVariants.{Race}
+use Rattle.er_event.specs.declared.steps.Step.{Step}
+use Rattle.er_explain.proofs.RaceLemmas.{race-is}
+use Rattle.er_explain.proofs.Told.{no-word}
+use Rattle.er_model.proofs.Prefixes.{answer-front, holdings-front, holdings-grow}
+use Rattle.er_model.specs.Answers.{answer, answer_next}
+use Rattle.er_model.specs.Explanations.{word_in, word_of}
+use Rattle.er_model.specs.Holdings.{Holdings, changed_unless, refused_by, holdings, holdings_at, holdings_end}
+use Rattle.er_model.specs.Threads.{accepted, held}
+use Rattle.er_report.specs.Builder.{Built, IsBuilt, IsStepAt}
+
+-- an access leaves what its thread holds
+after-access : (h : Holdings) (event : Event) → (word_in event ≡ None → ⊥) → changed_unless (refused_by h event) h event ≡ h
+after-access h (Access kind w site) accesses = refl
+after-access h (Acquire l m) accesses = absurd (accesses refl)
+after-access h (Release l m) accesses = absurd (accesses refl)
+after-access h (Reuse range) accesses = absurd (accesses refl)
+after-access h IgnoreOn accesses = absurd (accesses refl)
+after-access h IgnoreOff accesses = absurd (accesses refl)
+after-access h (Show w) accesses = absurd (accesses refl)
+after-access h (Level n) accesses = absurd (accesses refl)
+
+same-either : (b : Bool) (h other : Holdings) → other ≡ h → cond b other h ≡ h
+same-either true h other same = same
+same-either false h other same = refl
+
+module _ (steps : List Step) (k : ℕ) (step : Step) (here : slice_get steps k ≡ Some step) where
+  abbrev past : List Step
+  past = take k steps
+
+  within : k < length steps
+  within = slice_get_within steps k step here
+
+  long : length past ≡ k
+  long = length-take-le k steps (omega (arith, within))
+
+  pub past-next : past ++ step ∷ [] ≡ take (k + 1) steps
+  past-next = sym (take_more steps k step within ∙ ap (λ (s : Step). take k steps ++ s ∷ []) (get_or_from_slice_get steps k step step here))
+
+  next-long : length (take (k + 1) steps) ≡ k + 1
+  next-long = length-take-le (k + 1) steps (omega (arith, within))
+
+  pub answer-here : answer_next past step ≡ answer steps k
+  answer-here =
+      ap (answer (past ++ step ∷ [])) long
+      ∙ ap (λ (front : List Step). answer front k) past-next
+      ∙ sym (answer-front (take (k + 1) steps) (drop (k + 1) steps) k (omega (arith, next-long)))
+      ∙ ap (λ (all : List Step). answer all k) (take-append-drop (k + 1) steps)
+
+  holdings-here : (t : ℕ) → holdings_end past t ≡ holdings_at steps t k
+  holdings-here t =
+      ap (holdings_at past t) long
+      ∙ sym (holdings-front past (drop k steps) t k (omega (arith, long)))
+      ∙ ap (λ (all : List Step). holdings_at all t k) (take-append-drop k steps)
+
+  held-here : (t : ℕ) → answer steps k ≡ Ok Race → (holdings_end (past ++ step ∷ []) t).held ≡ held (accepted steps k) t
+  unfolding holdings
+  held-here t race =
+      let accesses : word_in step.event ≡ None → ⊥ = λ none. no-word steps k (ap word_of here ∙ none) race in
+      let same : holdings_end (past ++ step ∷ []) t ≡ holdings_at steps t k =
+      holdings-grow past step t
+      ∙ same-either (step.thread == t) (holdings_end past t) (changed_unless (refused_by (holdings_end past t) step.event) (holdings_end past t) step.event)
+      (after-access (holdings_end past t) step.event accesses)
+      ∙ holdings-here t in
+      ap (λ (h : Holdings). h.held) same
+
+pub step-at : (r : Recording) (k : ℕ) (names : NameTable) (number : ℕ) (step : Step) (given : Result Reply Refusal) (locks : List ℕ)
+    → slice_get r.steps k ≡ Some step → number ≡ slice_index r.lines k → names ≡ r.names → given ≡ answer_next (take k r.steps) step
+    → locks ≡ (holdings_end (take k r.steps ++ step ∷ []) step.thread).held → IsStepAt r k names number step given locks
+step-at r k names number step given locks here line named answered locked =
+    let known : given ≡ answer r.steps k = answered ∙ answer-here r.steps k step here in
+    record {
+      here = here;
+      line = line;
+      named = named;
+      answered = known;
+      locked = λ race. locked ∙ held-here r.steps k step here step.thread (sym known ∙ race-is given race);
+    }
+
+-- the steps before a stop, and all of them
+pub stop-built : (builder : Built) (r : Recording) (k : ℕ) → k < length r.steps → IsBuilt builder r k → IsBuilt builder r (length (take k r.steps))
+stop-built builder r k within built = subst (IsBuilt builder r) (sym (length-take-le k r.steps (omega (arith, within)))) built
+
+pub end-built : (builder : Built) (r : Recording) (k : ℕ) → length r.steps ≤ k → IsBuilt builder r k → k ≤ length r.steps → IsBuilt builder r (length r.steps)
+end-built builder r k past built within = subst (IsBuilt builder r) (omega (arith, past, within)) built
