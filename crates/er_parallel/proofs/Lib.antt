@@ -1,8 +1,6 @@
-pub mod HoldersLemmas
-pub mod ShareLemmas
 pub mod AnswerLemmas
-pub mod PartLemmas
+pub mod FollowingLemmas
+pub mod HoldersLemmas
 pub mod PuttingLemmas
-pub mod DealingLemmas
-pub mod WorkLemmas
 pub mod ReplayLemmas
+pub mod WorkLemmas

@@ -1,79 +1,88 @@
--- A worker that has answered one part more, and all workers.
-use Rattle.std.proofs.Common.{◌≡◌, ℕ, ◌+◌, ◌*◌, ◌<◌, ◌≤◌, List, [], ◌∷◌, ◌++◌, length, get_or, slice_get, Some, Result, Ok, Err, IfOk, sym, ap, ◌∙◌, arith, ◌⊎◌, inl, inr}
-use Rattle.std.specs.Global.{Vec}
+-- The results of all workers.
+use Rattle.std.proofs.Common.{◌≡◌, ◌⊎◌, inl, inr, ℕ, suc, ◌<◌, List, [], ◌∷◌, ◌++◌, refl, subst, Option, IfSome, length, map, get_or, slice_get, Some, Result, Ok, Err, MatchResult, sym, ap, ◌∙◌, arith}
 use Rattle.std.specs.Option.{option_map}
-use Rattle.std.proofs.Math.Nat.{mul-le-mul_right}
-use Rattle.std.proofs.lemmas.Bool.{cases_lt}
 use Rattle.std.proofs.lemmas.List.{length-map}
 use Rattle.std.proofs.lemmas.Option.{slice_get-map, get_or_from_slice_get}
+use Rattle.er_event.specs.declared.refusals.NoRoom.{NoRoom}
+use Rattle.er_event.specs.declared.refusals.NoRoom.TheVariants.{TableFull, JournalFull, OutOfMemory}
 use Rattle.er_event.specs.declared.steps.Step.{Step}
-use Rattle.er_model.proofs.Parts.{get-before, get-last, in_range, length-more}
-use Rattle.er_model.proofs.Search.{below_or_at}
-use Rattle.er_parallel.specs.Parts.{Answered, placed_by}
-use Rattle.er_parallel.specs.Work.{HasWorked, AllWorked, AreOks}
-use Rattle.er_parallel.specs.declared.parts.Item.{Item}
-use Rattle.er_parallel.specs.declared.parts.Parts.{Parts}
-use Rattle.er_parallel.specs.declared.workers.PartFault.{PartFault}
+use Rattle.er_model.proofs.Parts.{in_range}
+use Rattle.er_parallel.specs.Faults.{AsksForSet, MayFail, fault_of}
+use Rattle.er_parallel.specs.Found.{Found}
+use Rattle.er_parallel.specs.declared.faults.ReplayFault.{ReplayFault}
+use Rattle.er_parallel.specs.Work.{HasWorked, MayBeFull, AllWorked, AreOks, IsFaultAmong}
+use Rattle.er_parallel.specs.declared.worked.WorkFault.{WorkFault}
 
--- each result so far is of its part
-abbrev pub HasWorkedSoFar : List Step → Parts → ℕ → ℕ → List Answered → Type 0
-HasWorkedSoFar steps parts worker workers all =
-    (i : ℕ) (worked : Answered) → slice_get all i ≡ Some worked →
-    (items : Vec Item) × (slice_get parts.lists.items (worker + i * workers) ≡ Some items) × (worked.part ≡ placed_by steps parts.sets items.items)
+abbrev Results : Type 0
+Results = List (Result Found WorkFault)
 
-pub work-none : (steps : List Step) (parts : Parts) (worker workers : ℕ) (all : List Answered) → all ≡ [] → HasWorkedSoFar steps parts worker workers all
-work-none steps parts worker workers all none i worked is = absurd (let within = in_range all i worked is in omega (arith, ap length none))
+abbrev pub IsResult : List Step → ℕ → ℕ → ℕ → Result Found WorkFault → Type 0
+IsResult steps shards worker workers r = MatchResult r (λ found. HasWorked steps shards worker workers found) (λ fault. MayBeFull steps fault)
 
-some_same : {A : Type 0} (x y : A) → Some x ≡ Some y → x ≡ y
-some_same x y e = cc
+-- each worker keeps its promise
+module _ (steps : List Step) (shards n : ℕ) (results : Results) (len : length results ≡ n) (each : (i : ℕ) (d : Result Found WorkFault) → i < n → IsResult steps shards i n (get_or results i d)) where
+  pub all-worked : (all : List Found) → AreOks results all → AllWorked steps shards n all
+  all-worked all same = record {
+    count = count;
+    each = λ worker found is. (
+        let below : worker < n = omega (arith, in_range all worker found is, count) in
+        let here : slice_get results worker ≡ Some (Ok found) = ap (λ (xs : Results). slice_get xs worker) same ∙ (slice_get-map Ok all worker ∙ ap (option_map Ok) is) in
+        let what = each worker (Ok found) below in
+        rw (get_or_from_slice_get results worker (Ok found) (Ok found) here) at what);
+  }
+    where
+      count : length all ≡ n
+      count = sym (length-map {B = Result Found WorkFault} all (λ (v : Found). Ok v)) ∙ (sym (ap length same) ∙ len)
 
-pub work-more : (steps : List Step) (parts : Parts) (worker workers shard : ℕ) (all now : List Answered) (items : Vec Item) (worked : Answered) →
-    HasWorkedSoFar steps parts worker workers all → shard ≡ worker + length all * workers → slice_get parts.lists.items shard ≡ Some items →
-    worked.part ≡ placed_by steps parts.sets items.items → now ≡ all ++ worked ∷ [] → HasWorkedSoFar steps parts worker workers now
-work-more steps parts worker workers shard all now items worked far here there is grown i other at =
-    by (rw grown at at) (below_or_at i (length all) (omega (arith, in_range now i other at, ap length grown, length-more all worked)))
-  where
-    by : slice_get (all ++ worked ∷ []) i ≡ Some other → (i < length all) ⊎ (i ≡ length all) →
-        (items : Vec Item) × (slice_get parts.lists.items (worker + i * workers) ≡ Some items) × (other.part ≡ placed_by steps parts.sets items.items)
-    by at (inl low) = far i other (sym (get-before all (worked ∷ []) i low) ∙ at)
-    by at (inr end) =
-        let last : slice_get (all ++ worked ∷ []) (length all) ≡ Some other = ap (slice_get (all ++ worked ∷ [])) (sym end) ∙ at in
-        let same : worked ≡ other = some_same worked other (sym (get-last all worked) ∙ last) in
-        (items, ap (λ (k : ℕ). slice_get parts.lists.items (worker + k * workers)) end ∙ (ap (slice_get parts.lists.items) (sym here) ∙ there), sym (ap (λ (w : Answered). w.part) same) ∙ is)
-
-below_of : (n k m : ℕ) → k * n < m * n → k < m
-below_of n k m h = elim (cases_lt k m) [ inl low ↦ low | inr high ↦ absurd (omega (arith, mul-le-mul_right n high)) ]
-
-pub work-all : (steps : List Step) (parts : Parts) (worker workers shard : ℕ) (all : List Answered) → HasWorkedSoFar steps parts worker workers all →
-    shard ≡ worker + length all * workers → length parts.lists.items ≤ shard → HasWorked steps parts worker workers all
-work-all steps parts worker workers shard all far here past = record {
-  each = far;
-  whole = λ i within. below_of workers i (length all) (omega arith);
-}
-
-pub next-shard : (shard worker workers m k : ℕ) → k ≡ m + 1 → shard ≡ worker + m * workers → shard + workers ≡ worker + k * workers
-next-shard shard worker workers m k e h = rw e (omega (arith, h))
-
--- the results of all workers, of which none is a fault
-pub all-worked : (steps : List Step) (parts : Parts) (n : ℕ) (results : List (Result (Vec Answered) PartFault)) (all : List (Vec Answered)) → AreOks results all → length results ≡ n →
-    ((i : ℕ) (d : Result (Vec Answered) PartFault) → i < n → IfOk (get_or results i d) (λ v. HasWorked steps parts i n v.items)) → AllWorked steps parts n all
-all-worked steps parts n results all same len each = record {
-  count = count;
-  each = λ worker one is. (
-      let below : worker < n = omega (arith, in_range all worker one is, count) in
-      let here : slice_get results worker ≡ Some (Ok one) = ap (λ (xs : List (Result (Vec Answered) PartFault)). slice_get xs worker) same ∙ (slice_get-map Ok all worker ∙ ap (option_map Ok) is) in
-      let what = each worker (Ok one) below in
-      rw (get_or_from_slice_get results worker (Ok one) (Ok one) here) at what);
-}
-  where
-    count : length all ≡ n
-    count = sym (length-map {B = Result (Vec Answered) PartFault} all (λ (v : Vec Answered). Ok v)) ∙ (sym (ap length same) ∙ len)
-
-pub ok-then : {T E : Type 0} (r : Result T E) (P Q : T → Type 0) → IfOk r P → ((v : T) → P v → Q v) → IfOk r Q
-ok-then (Ok v) P Q h f = f v h
-ok-then (Err e) P Q h f = h
+  -- also where it has no answers
+  pub full-among : (fault : WorkFault) → IsFaultAmong results fault → MayBeFull steps fault
+  full-among fault (i, is) =
+      let below : i < n = omega (arith, in_range results i (Err fault) is) in
+      let what = each i (Err fault) below in
+      rw (get_or_from_slice_get results i (Err fault) (Err fault) is) at what
 
 -- work as another promise names it
-pub kept-work : (steps steps' : List Step) (parts parts' : Parts) (i w n n' : ℕ) (r : Result (Vec Answered) PartFault) → steps' ≡ steps → parts' ≡ parts → w ≡ i → n' ≡ n →
-    IfOk r (λ v. HasWorked steps' parts' w n' v.items) → IfOk r (λ v. HasWorked steps parts i n v.items)
-kept-work steps steps' parts parts' i w n n' r s p a b h = rw (← s, ← p, ← a, ← b) h
+pub kept-work : (steps steps' : List Step) (shards shards' i w n n' : ℕ) (r : Result Found WorkFault) → steps' ≡ steps → shards' ≡ shards → w ≡ i → n' ≡ n →
+    IsResult steps' shards' w n' r → IsResult steps shards i n r
+kept-work steps steps' shards shards' i w n n' r s p a b h = rw (← s, ← p, ← a, ← b) h
+
+-- the fault of a replay that a worker's fault makes
+pub may-fail : (steps : List Step) (fault : WorkFault) (given : ReplayFault) → given ≡ fault_of fault.cause → MayBeFull steps fault → MayFail steps given
+may-fail steps fault given is full = rw is (by fault.cause full)
+  where
+    by : (cause : NoRoom) → (cause ≡ TableFull → AsksForSet steps) → MayFail steps (fault_of cause)
+    by TableFull full = full refl
+    by JournalFull full = tt
+    by OutOfMemory full = tt
+
+-- a fault behind results that are there
+pub fault-next : (before : List Found) (results rest : Results) (fault : WorkFault) → map Ok before ++ Err fault ∷ rest ≡ results → IsFaultAmong results fault
+fault-next before results rest fault is = (length before, rw (← is) (by before))
+  where
+    by : (xs : List Found) → slice_get (map Ok xs ++ Err fault ∷ rest) (length xs) ≡ Some (Err fault)
+    by [] = refl
+    by (x ∷ xs) = by xs
+
+pub fault-behind : (before : List Found) (results behind rest : Results) (fault : WorkFault) → map Ok before ++ behind ≡ results → behind ≡ Err fault ∷ rest → IsFaultAmong results fault
+fault-behind before results behind rest fault is next = fault-next before results rest fault (rw next at is)
+
+-- what holds of each of some items, first of all of the first
+pub head-of : {H : Type 0} (f : H → List Step) (items rest : List H) (h : H) (steps : List Step) → items ≡ h ∷ rest → ((i : ℕ) (d : H) → i < length items → f (get_or items i d) ≡ steps) → f h ≡ steps
+head-of {H = H} f items rest h steps is all =
+    let P : List H → Type 0 = λ (xs : List H). (i : ℕ) (d : H) → i < length xs → f (get_or xs i d) ≡ steps in
+    subst P is all 0 h (omega arith)
+
+pub rest-of : {H : Type 0} (f : H → List Step) (items rest : List H) (h : H) (steps : List Step) → items ≡ h ∷ rest → ((i : ℕ) (d : H) → i < length items → f (get_or items i d) ≡ steps) →
+    (i : ℕ) (d : H) → i < length rest → f (get_or rest i d) ≡ steps
+rest-of {H = H} f items rest h steps is all i d below =
+    let P : List H → Type 0 = λ (xs : List H). (i : ℕ) (d : H) → i < length xs → f (get_or xs i d) ≡ steps in
+    subst P is all (suc i) d (omega arith)
+
+-- of two faults either is one that may be
+pub lesser-full : (steps : List Step) (known : Option WorkFault) (other given : WorkFault) → (given ≡ other) ⊎ (known ≡ Some given) → IfSome known (λ fault. MayBeFull steps fault) →
+    MayBeFull steps other → MayBeFull steps given
+lesser-full steps known other given (inl is) least full = λ cause. full (sym (ap (λ (f : WorkFault). f.cause) is) ∙ cause)
+lesser-full steps known other given (inr is) least full = rw is at least
+
+pub full-kept : (steps' steps : List Step) (fault : WorkFault) → steps' ≡ steps → MayBeFull steps' fault → MayBeFull steps fault
+full-kept steps' steps fault same full = λ cause. subst (λ (s : List Step). AsksForSet s) same (full cause)

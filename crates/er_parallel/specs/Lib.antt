@@ -1,7 +1,7 @@
-pub mod Dealing
-pub mod Holders
+pub mod Faults
+pub mod Found
+pub mod Inner
 pub mod Limits
-pub mod Parts
 pub mod Putting
-pub mod Shares
+pub mod Tasks
 pub mod Work

@@ -16,12 +16,22 @@ pub enum ReplayFault {
 }
 
 impl From<AllocError> for ReplayFault {
+    ghost use Rattle.std.specs.Prelude.{◌≡◌};
+    ghost use Rattle.er_parallel.specs.declared.faults.ReplayFault.TheVariants.{Memory};
+
+    ghost from_gives = { λ _ fault. fault ≡ Memory };
+
     fn from(_error: AllocError) -> ReplayFault {
         ReplayFault::Memory
     }
 }
 
 impl From<NoRoom> for ReplayFault {
+    ghost use Rattle.std.specs.Prelude.{◌≡◌};
+    ghost use Rattle.er_parallel.specs.Faults.{fault_of};
+
+    ghost from_gives = { λ cause fault. fault ≡ fault_of cause };
+
     fn from(cause: NoRoom) -> ReplayFault {
         match cause {
             NoRoom::TableFull => ReplayFault::TableFull,

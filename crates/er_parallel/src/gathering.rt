@@ -1,31 +1,50 @@
-//! The answers of the parts, put in their places.
-ghost use Rattle.std.specs.Prelude.{◌≡◌, ℕ, List, length, OnOk};
-ghost use Rattle.er_event.specs.declared.steps.Step.{Step};
-ghost use Rattle.er_parallel.specs.Putting.{AreShares, AreAllShares, AreWithin, AreAllWithin, ArePut, AreAllPut};
+//! The answers of all workers, put in their places.
+ghost use Rattle.std.specs.Prelude.{◌≡◌, List, length, IfOk, OnOk};
+ghost use Rattle.er_event.specs.declared.steps.Step.{Step as Steps};
+ghost use Rattle.er_parallel.specs.Found.{usual};
+ghost use Rattle.er_parallel.specs.Putting.{AreAllPut, AreAsLong, AreOf, usual_answers};
 
-use crate::parts::Worked;
-use er_model::Answers;
-use std::alloc::AllocError;
+use crate::worked::Worked;
+use er_event::{Event, Refusal, Reply, Step};
+use er_journal::Answers;
+use std::alloc::{AllocError, Global};
 
-/// Puts the answers of all workers in their places.
-pub(crate) fn gather(answers: &mut Answers, all: &[Vec<Worked<'_, '_>>]) -> Result<(), AllocError>
-    requires { AreAllWithin (length answers.old) all.now }
-    ensures put { OnOk result ((shards : ℕ) (steps : List Step) → AreAllShares shards steps all.now → AreAllPut steps all.now answers.old answers.new) }
-    ensures length { length answers.new ≡ length answers.old }
+/// The usual answer to each step.
+pub(crate) fn usual_answers(alloc: Global, steps: &[Step]) -> Result<Answers, AllocError>
+    ensures { IfOk result (λ answers. answers ≡ usual_answers steps.now) }
 {
-    for parts in all {
-        gather_parts(answers, parts.as_slice())?;
+    let mut answers = Answers::new(alloc);
+    answers.reserve(steps.len())?;
+    for step in steps {
+        answers.push(usual_answer(step.event))?;
     }
-    Ok(())
+    Ok(answers)
 }
 
-// Puts the answers of one worker's parts in their places.
-fn gather_parts(answers: &mut Answers, parts: &[Worked<'_, '_>]) -> Result<(), AllocError>
-    requires { AreWithin (length answers.old) parts.now }
-    ensures put { OnOk result ((shards : ℕ) (steps : List Step) → AreShares shards steps parts.now → ArePut steps parts.now answers.old answers.new) }
+// The usual answer to a step with this event.
+#[inline]
+fn usual_answer(event: Event) -> Result<Reply, Refusal>
+    ensures { result ≡ usual event }
+{
+    match event {
+        Event::Access(..) => Ok(Reply::Quiet),
+        Event::Acquire(..)
+        | Event::Release(..)
+        | Event::Reuse(_)
+        | Event::IgnoreOn
+        | Event::IgnoreOff
+        | Event::Show(_)
+        | Event::Level(_) => Ok(Reply::Done),
+    }
+}
+
+/// Puts the answers of all workers in their places.
+pub(crate) fn gather(answers: &mut Answers, all: &[Worked<'_>]) -> Result<(), AllocError>
+    requires { AreAsLong (length answers.old) all.now }
+    ensures put { OnOk result ((steps : List Steps) → AreOf steps all.now → AreAllPut steps all.now answers.old answers.new) }
     ensures length { length answers.new ≡ length answers.old }
 {
-    for worked in parts {
+    for worked in all {
         worked.put(answers)?;
     }
     Ok(())

@@ -5,7 +5,8 @@
 //! passes a [`Gate`] before each shard, by which tests see that workers are at work at once.
 //!
 //! What it promises, by the names of clauses: where there is an outcome nothing stopped (`stopped`), and the answers are those that the
-//! definitions give to the list, whatever the numbers of workers and shards (`answers`).
+//! definitions give to the list, whatever the numbers of workers and shards (`answers`). The fault that the table is full comes only
+//! if some step of the list asks it for a set of locks (`table_full`).
 //!
 //! ```text
 //! let config = ReplayConfig::new(8, 1_048_576).ok_or("out of the limits")?;
@@ -19,11 +20,11 @@ pub use faults::ReplayFault;
 pub use replay::replay_parallel;
 
 mod config;
-mod dealing;
 mod faults;
+mod following;
 mod gathering;
 mod holders;
-mod parts;
 mod replay;
-mod sets;
+mod task;
+mod worked;
 mod workers;

@@ -1,25 +1,27 @@
 //! The replay of a list of steps by several workers.
-ghost use Rattle.std.specs.Prelude.{◌≡◌, ◌≤◌, IfOk, None};
+ghost use Rattle.std.specs.Prelude.{◌≡◌, ◌≤◌, IfOk, IsErrOf, None};
 ghost use Rattle.er_model.specs.Answers.{answers};
+ghost use Rattle.er_parallel.specs.Faults.{AsksForSet};
 
-use crate::dealing::deal;
 use crate::gathering::gather;
 use crate::workers::work_all;
 use crate::{ReplayConfig, ReplayFault};
 use er_event::Step;
 use er_gate::Gate;
-use er_model::{Answers, Outcome};
+use er_journal::Outcome;
 use er_table::LocksetTable;
 use std::alloc::Global;
 use std::sync::Wait;
 use std::thread::Threads;
 
-/// Answers a list of steps, by so many workers (own). The words are in shards by their pages, and worker `w` replays the shards whose
-/// number is `w` modulo the number of workers, by rising number, each on words of its own. It passes the gate under each shard's number
-/// before the shard's first step, also where the shard has none.
+/// Answers a list of steps, by so many workers (own). The words are in shards by their pages, and worker `w` answers the steps of the
+/// shards whose number is `w` modulo the number of workers, on words of its own. Every worker goes over the whole list, since it needs
+/// the locks of every thread. It passes the gate under each of its shards' numbers, by rising number, before the shard's first step,
+/// also if the shard has no step.
 ///
-/// Where a worker can't be started the fault is `WorkerNotStarted`. Else it is that of the least shard that has one, `TableFull` or
-/// `Memory`. `Memory` also comes where the pass over the list or the gathering of the answers finds no memory.
+/// If a worker can't be started the fault is `WorkerNotStarted`. Otherwise each worker stops at the first of its steps that finds no
+/// room, and the fault is that of the least shard that has one, `TableFull` or `Memory`. `Memory` also comes if the answers find none.
+/// `TableFull` comes only if some step needs a set of locks, so never for a list on which each word has one thread.
 pub fn replay_parallel<G: Gate, R: Threads + Wait + Sync>(
     rt: &R,
     alloc: Global,
@@ -31,11 +33,14 @@ pub fn replay_parallel<G: Gate, R: Threads + Wait + Sync>(
     requires { (1 ≤ workers) × (workers ≤ 16) }
     ensures stopped { IfOk result (λ outcome. outcome.stopped ≡ None) }
     ensures answers { IfOk result (λ outcome. outcome.answers ≡ answers steps.now) }
+
+    // The table is full only if some step, as the list stands before it, asks for a set. No worker that was started is lost.
+    ensures table_full { IsErrOf result ReplayFault.TableFull → AsksForSet steps.now }
+    ensures none_lost { ¬ IsErrOf result ReplayFault.WorkerLost }
 {
     let table = LocksetTable::new(alloc, config.max_sets)?;
-    let mut given = Answers::of_len(alloc, steps.len())?;
-    let parts = deal(alloc, steps, config.shards, &mut given)?;
-    let all = work_all(rt, alloc, &table, steps, &parts, workers as usize, gate)?;
+    let worked = work_all(rt, alloc, &table, config, steps, workers, gate)?;
+    let (mut given, all) = worked;
     gather(&mut given, all.as_slice())?;
     Ok(Outcome {
         answers: given,

@@ -1,120 +1,93 @@
-//! Workers, each of which answers the parts of its shards.
-ghost use Rattle.std.specs.Prelude.{◌≡◌, ◌<◌, ◌≤◌, ℕ, length, IfOk};
-ghost use Rattle.er_parallel.specs.Work.{HasWorked, IsWork, IsTask, AllWorked, AreOks};
+//! Workers, each of which answers the steps of its shards.
+ghost use Rattle.std.specs.Prelude.{◌≡◌, ◌⊎◌, ◌<◌, ◌≤◌, ℕ, List, length, get_or, IfOk, IfSome, IfErr, MatchResult, Some};
+ghost use Rattle.er_event.specs.declared.steps.Step.{Step as Steps};
+ghost use Rattle.er_parallel.specs.Faults.{MayFail};
+ghost use Rattle.er_parallel.specs.Putting.{usual_answers};
+ghost use Rattle.er_parallel.specs.Tasks.{IsTask};
+ghost use Rattle.er_parallel.specs.declared.worked.WorkFault.{WorkFault as Faults};
+ghost use Rattle.er_parallel.specs.Work.{HasWorked, IsWork, IsFault, MayBeFull, AllWorked, AreOks, IsFaultAmong};
 
-use crate::ReplayFault;
-use crate::parts::{Part, Parts, Worked};
+use crate::gathering::usual_answers;
+use crate::task::Task;
+use crate::worked::{WorkFault, Worked};
+use crate::{ReplayConfig, ReplayFault};
 use er_event::Step;
 use er_gate::Gate;
+use er_journal::Answers;
 use er_table::LocksetTable;
 use std::alloc::Global;
 use std::sync::Wait;
 use std::thread;
 use std::thread::{Promise, PromisedHandle, Threads};
 
-/// What a worker is to do: of so many workers the one of this number answers the parts of the shards that have its number modulo
-/// theirs.
-#[derive(Clone, Copy)]
-pub(crate) struct Task<'s, 'p> {
-    pub(crate) steps: &'s [Step],
-    pub(crate) parts: &'p Parts,
-    pub(crate) worker: usize,
-    pub(crate) workers: usize,
+// What a worker promises: its own steps' answers, or why it has none.
+impl<'s> Promise<Result<Worked<'s>, WorkFault>> for Task<'s> {
+    ghost use Rattle.std.specs.Prelude.{MatchResult};
+    ghost use Rattle.er_parallel.specs.Work.{IsWork, IsFault};
+
+    ghost kept_by = { λ p r. MatchResult r (λ worked. IsWork p worked) (λ fault. IsFault p fault) };
 }
 
-// What a worker promises: its shards' parts with their answers.
-impl<'s, 'p> Promise<Result<Vec<Worked<'s, 'p>>, PartFault>> for Task<'s, 'p> {
-    ghost use Rattle.std.specs.Prelude.{IfOk};
-    ghost use Rattle.er_parallel.specs.Work.{IsWork};
-
-    ghost kept_by = { λ p r. IfOk r (λ all. IsWork p all.items) };
-}
-
-/// Why a shard's part has no answers.
-#[derive(Clone, Copy, Debug, Drop)]
-pub(crate) struct PartFault {
-    shard: usize,
-    cause: ReplayFault,
-}
-
-// Answers the parts of the task, by rising shard. The gate is passed before each.
-fn work<'s, 'p, R: Wait, G: Gate>(
+// Passes the gate of each of the worker's shards, by rising number, and answers their steps.
+fn work<'s, R: Wait, G: Gate>(
     rt: &R,
     alloc: Global,
     table: &LocksetTable,
-    task: Task<'s, 'p>,
+    task: Task<'s>,
     gate: &G,
-) -> Result<Vec<Worked<'s, 'p>>, PartFault>
+) -> Result<Worked<'s>, WorkFault>
     requires { IsTask task }
-    ensures { IfOk result (λ all. IsWork task.entry all.items) }
+    ensures { MatchResult result (λ worked. IsWork task.entry worked) (λ fault. IsFault task.entry fault) }
 {
-    let lists = task.parts.lists.as_slice();
-    let mut all = Vec::new(alloc);
-    let mut shard = task.worker;
-    while shard < lists.len() {
-        gate.enter(shard as u32);
-        let part = Part {
-            steps: task.steps,
-            sets: &task.parts.sets,
-            items: lists[shard].as_slice(),
-        };
-        let worked = match Worked::of(rt, alloc, table, part) {
-            Ok(worked) => worked,
-            Err(cause) => {
-                return Err(PartFault {
-                    shard,
-                    cause: ReplayFault::from(cause),
-                });
-            }
-        };
-        let Ok(()) = all.push(worked) else {
-            return Err(PartFault {
-                shard,
-                cause: ReplayFault::Memory,
-            });
-        };
-        shard += task.workers;
+    for shard in 0..task.shards {
+        if shard % task.workers == task.worker {
+            gate.enter(shard);
+        }
     }
-    Ok(all)
+    Worked::of(rt, alloc, table, task)
 }
 
-/// The parts of all shards with their answers, by worker. All workers that were started are joined, whatever they answer.
-pub(crate) fn work_all<'s, 'p, R: Threads + Wait + Sync, G: Gate>(
+/// The usual answers to all steps, and what each worker found beside them. All workers that were started are joined, whatever they answer.
+pub(crate) fn work_all<'s, R: Threads + Wait + Sync, G: Gate>(
     rt: &R,
     alloc: Global,
     table: &LocksetTable,
+    config: ReplayConfig,
     steps: &'s [Step],
-    parts: &'p Parts,
-    workers: usize,
+    workers: u32,
     gate: &G,
-) -> Result<Vec<Vec<Worked<'s, 'p>>>, ReplayFault>
-    requires few { length parts.now.lists.items ≤ 64 }
-    requires some { (1 ≤ workers) × (workers ≤ 16) }
-    ensures { IfOk result (λ all. AllWorked steps.entry.now parts.entry.now workers all.items) }
+) -> Result<(Answers, Vec<Worked<'s>>), ReplayFault>
+    requires { (1 ≤ workers) × (workers ≤ 16) }
+    ensures usual { IfOk result (λ r. r.0 ≡ usual_answers steps.entry.now) }
+    ensures worked { IfOk result (λ r. AllWorked steps.entry.now config.shards workers r.1.items) }
+    ensures fault { IfErr result (λ fault. MayFail steps.entry.now fault) }
 {
+    let ReplayConfig { shards, .. } = config;
     thread::scope(
         thread::scope_env(),
         rt,
-        |scope| -> Result<Vec<Vec<Worked>>, ReplayFault>
-            requires { (length parts.now.lists.items ≤ 64) × (1 ≤ workers) × (workers ≤ 16) }
-            ensures { IfOk result (λ all. AllWorked steps.entry.now parts.entry.now workers all.items) }
+        |scope| -> Result<(Answers, Vec<Worked>), ReplayFault>
+            requires { (1 ≤ shards) × (shards ≤ 64) × (1 ≤ workers) × (workers ≤ 16) }
+            ensures usual { IfOk result (λ r. r.0 ≡ usual_answers steps.entry.now) }
+            ensures worked { IfOk result (λ r. AllWorked steps.entry.now shards workers r.1.items) }
+            ensures fault { IfErr result (λ fault. MayFail steps.entry.now fault) }
         {
-            let mut handles = Vec::with_capacity(alloc, workers)?;
+            let mut handles = Vec::with_capacity(alloc, workers as usize)?;
             for worker in 0..workers {
                 let started = scope.spawn_with(
                     Task {
                         steps,
-                        parts,
+                        shards,
                         worker,
                         workers,
                     },
-                    move || -> Result<Vec<Worked>, PartFault>
-                        requires { (length parts.now.lists.items ≤ 64) × (workers ≤ 16) × (worker < workers) }
-                        ensures { IfOk result (λ all. HasWorked steps.entry.now parts.entry.now worker workers all.items) }
+                    move || -> Result<Worked, WorkFault>
+                        requires { (1 ≤ shards) × (shards ≤ 64) × (workers ≤ 16) × (worker < workers) }
+                        ensures { MatchResult result (λ worked. HasWorked steps.entry.now shards worker workers worked) (λ fault. MayBeFull steps.entry.now fault) }
                     {
                         let task = Task {
                             steps,
-                            parts,
+                            shards,
                             worker,
                             workers,
                         };
@@ -128,19 +101,28 @@ pub(crate) fn work_all<'s, 'p, R: Threads + Wait + Sync, G: Gate>(
                 };
                 handles.push_reserved(handle);
             }
-            match thread::join_promised(rt, handles) {
-                Ok(all) => all_or_fault(alloc, all),
-                Err(refused) => Err(fault_of(rt, refused.value)),
+            // This thread makes the list of answers meanwhile.
+            let usual = usual_answers(alloc, steps);
+            let results = match thread::join_promised(rt, handles) {
+                Ok(results) => results,
+                Err(refused) => return Err(fault_of(rt, refused.value)),
+            };
+            match (all_or_fault(alloc, results), usual) {
+                (Ok(all), Ok(usual)) => Ok((usual, all)),
+                (Err(fault), _) => Err(fault),
+                (Ok(_), Err(_)) => Err(ReplayFault::Memory),
             }
         },
     )
 }
 
 // Joins workers for whose results there is no room, and says why there are none.
-fn fault_of<'s, 'p, R: Threads>(
+fn fault_of<'s, R: Threads>(
     rt: &R,
-    handles: Vec<PromisedHandle<Result<Vec<Worked<'s, 'p>>, PartFault>, Task<'s, 'p>>>,
-) -> ReplayFault {
+    handles: Vec<PromisedHandle<Result<Worked<'s>, WorkFault>, Task<'s>>>,
+) -> ReplayFault
+    ensures { (steps : List Steps) → ((i : ℕ) (d : _) → i < length handles.entry.items → (get_or handles.entry.items i d).promise.steps.now ≡ steps) → MayFail steps result }
+{
     let mut least = None;
     for handle in handles {
         if let Err(fault) = handle.join(rt) {
@@ -148,20 +130,21 @@ fn fault_of<'s, 'p, R: Threads>(
         }
     }
     match least {
-        Some(fault) => fault.cause,
+        Some(fault) => ReplayFault::from(fault.cause),
         None => ReplayFault::Memory,
     }
 }
 
 // The results of all workers, or the fault of the least shard that has one.
-fn all_or_fault<'s, 'p>(
+fn all_or_fault<'s>(
     alloc: Global,
-    results: Vec<Result<Vec<Worked<'s, 'p>>, PartFault>>,
-) -> Result<Vec<Vec<Worked<'s, 'p>>>, ReplayFault>
-    ensures { IfOk result (λ all. AreOks results.entry.items all.items) }
+    results: Vec<Result<Worked<'s>, WorkFault>>,
+) -> Result<Vec<Worked<'s>>, ReplayFault>
+    ensures ok { IfOk result (λ all. AreOks results.entry.items all.items) }
+    ensures fault { (steps : List Steps) → ((fault : Faults) → IsFaultAmong results.entry.items fault → MayBeFull steps fault) → IfErr result (λ fault. MayFail steps fault) }
 {
-    if let Some(cause) = least_fault(results.as_slice()) {
-        return Err(cause);
+    if let Some(fault) = least_fault(results.as_slice()) {
+        return Err(ReplayFault::from(fault.cause));
     }
     let mut all = Vec::new(alloc);
     for result in results {
@@ -171,28 +154,29 @@ fn all_or_fault<'s, 'p>(
                     return Err(ReplayFault::Memory);
                 };
             }
-            Err(fault) => return Err(fault.cause),
+            Err(fault) => return Err(ReplayFault::from(fault.cause)),
         }
     }
     Ok(all)
 }
 
 // The fault of the least shard that has one.
-fn least_fault(results: &[Result<Vec<Worked<'_, '_>>, PartFault>]) -> Option<ReplayFault> {
+fn least_fault(results: &[Result<Worked<'_>, WorkFault>]) -> Option<WorkFault>
+    ensures { IfSome result (λ fault. IsFaultAmong results.now fault) }
+{
     let mut least = None;
     for result in results {
         if let Err(fault) = result {
             least = Some(lesser(least, *fault));
         }
     }
-    match least {
-        Some(fault) => Some(fault.cause),
-        None => None,
-    }
+    least
 }
 
 // The fault of the lesser shard.
-fn lesser(known: Option<PartFault>, other: PartFault) -> PartFault {
+fn lesser(known: Option<WorkFault>, other: WorkFault) -> WorkFault
+    ensures { (result ≡ other) ⊎ (known ≡ Some result) }
+{
     match known {
         Some(known) if known.shard < other.shard => known,
         _ => other,

@@ -1,15 +1,43 @@
-use Rattle.std.proofs.Common.{◌≡◌, ◌<◌, ◌∙◌, length, arith, ap}
-use Rattle.er_parallel.proofs.WorkLemmas.{all-worked, kept-work, ok-then}
+use Rattle.std.proofs.Common.{◌≡◌, ◌<◌, ◌∙◌, length, get_or, arith, ap}
+use Rattle.er_parallel.proofs.WorkLemmas.{all-worked, full-among, kept-work}
 use Rattle.er_parallel.proofs.workers.fn.work_all.scope.Goals as goal
 
-pub returns-in-Ok-join_promised : goal.returns-in-Ok-join_promised
-returns-in-Ok-join_promised g c =
+pub returns-in-Err : goal.returns-in-Err
+returns-in-Err g c = record {
+  usual = tt;
+  worked = tt;
+  fault = c.fault_of-in-Err.ensures c.captures.steps.now (λ i d below.
+      let low : i < c.loop-worker.worker = omega (arith, below, ap (λ v. length v.items) c.in-Err.ensures.err, c.loop-worker.invariant.count) in
+      ap (λ v. (get_or v.items i d).promise.steps.now) c.in-Err.ensures.err ∙ (c.loop-worker.invariant.promised i d low).0);
+}
+
+pub returns-in-Ok-Ok : goal.returns-in-Ok-Ok
+returns-in-Ok-Ok g c =
     let ended : c.loop-worker.worker ≡ c.captures.workers = omega arith in
-    let count : length c.in-Ok-join_promised.all.items ≡ c.captures.workers = omega (arith, c.in-Ok-join_promised.ensures.len, c.loop-worker.invariant.count) in
-    ok-then c.all_or_fault.result _ _ c.all_or_fault.ensures (λ all same.
-    all-worked c.captures.steps.now c.captures.parts.now c.captures.workers c.in-Ok-join_promised.all.items all.items same count (λ i d below.
-    let started : i < c.loop-worker.worker = omega arith in
-    let kept = (c.in-Ok-join_promised.ensures.each i d (omega (arith, c.loop-worker.invariant.count))).1 in
-    let was = c.loop-worker.invariant.promised i kept.handle started in
-    kept-work _ _ _ _ _ _ _ _ _ (ap (λ h. h.promise.steps.now) kept.handle_is ∙ was.0) (ap (λ h. h.promise.parts.now) kept.handle_is ∙ was.1)
-    (ap (λ h. h.promise.worker) kept.handle_is ∙ was.2) (ap (λ h. h.promise.workers) kept.handle_is ∙ was.3) kept.kept))
+    let count : length c.in-Ok-join_promised.results.items ≡ c.captures.workers = omega (arith, c.in-Ok-join_promised.ensures.len, c.loop-worker.invariant.count) in
+    record {
+      usual = rw c.in-Ok-Ok.is-1 at c.usual_answers-usual.ensures;
+      worked = all-worked c.captures.steps.now c.captures.shards c.captures.workers c.in-Ok-join_promised.results.items count (λ i d below.
+          let started : i < c.loop-worker.worker = omega arith in
+          let kept = (c.in-Ok-join_promised.ensures.each i d (omega (arith, c.loop-worker.invariant.count))).1 in
+          let was = c.loop-worker.invariant.promised i kept.handle started in
+          kept-work _ _ _ _ _ _ _ _ _ (ap (λ h. h.promise.steps.now) kept.handle_is ∙ was.0) (ap (λ h. h.promise.shards) kept.handle_is ∙ was.1)
+          (ap (λ h. h.promise.worker) kept.handle_is ∙ was.2) (ap (λ h. h.promise.workers) kept.handle_is ∙ was.3) kept.kept) c.in-Ok-Ok.all.items c.in-Ok-Ok.ensures.ok;
+      fault = tt;
+    }
+
+pub returns-in-Err-default : goal.returns-in-Err-default
+returns-in-Err-default g c =
+    let ended : c.loop-worker.worker ≡ c.captures.workers = omega arith in
+    let count : length c.in-Ok-join_promised.results.items ≡ c.captures.workers = omega (arith, c.in-Ok-join_promised.ensures.len, c.loop-worker.invariant.count) in
+    record {
+      usual = tt;
+      worked = tt;
+      fault = c.in-Err-default.ensures.fault c.captures.steps.now
+          (full-among c.captures.steps.now c.captures.shards c.captures.workers c.in-Ok-join_promised.results.items count (λ i d below.
+          let started : i < c.loop-worker.worker = omega arith in
+          let kept = (c.in-Ok-join_promised.ensures.each i d (omega (arith, c.loop-worker.invariant.count))).1 in
+          let was = c.loop-worker.invariant.promised i kept.handle started in
+          kept-work _ _ _ _ _ _ _ _ _ (ap (λ h. h.promise.steps.now) kept.handle_is ∙ was.0) (ap (λ h. h.promise.shards) kept.handle_is ∙ was.1)
+          (ap (λ h. h.promise.worker) kept.handle_is ∙ was.2) (ap (λ h. h.promise.workers) kept.handle_is ∙ was.3) kept.kept));
+    }

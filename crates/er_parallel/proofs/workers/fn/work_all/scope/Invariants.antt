@@ -7,6 +7,6 @@ invariant-loop-worker g l = record {
   count : vec_len l.handles ≡ l.worker;
   room : l.workers ≤ vec_capacity l.handles;
   promised : (k : ℕ) (d : _) → k < l.worker →
-      ((get_or l.handles.items k d).promise.steps.now ≡ l.steps.now) × ((get_or l.handles.items k d).promise.parts.now ≡ l.parts.now)
+      ((get_or l.handles.items k d).promise.steps.now ≡ l.steps.now) × ((get_or l.handles.items k d).promise.shards ≡ l.shards)
       × ((get_or l.handles.items k d).promise.worker ≡ k) × ((get_or l.handles.items k d).promise.workers ≡ l.workers);
 }
