@@ -1,13 +1,8 @@
 -- Which entries of a journal tell of a race.
-use Rattle.std.specs.Prelude.{◌≡◌, Bool, true, false}
-use Rattle.er_event.specs.declared.steps.Reply.{Reply}
+use Rattle.std.specs.Prelude.{◌≡◌, Bool}
 use Rattle.er_event.specs.declared.steps.Reply.TheVariants.{Race}
-use Rattle.er_model.specs.declared.stamps.Entry.{Entry}
-
--- the reply is a race
-abbrev pub answers_race : Reply → Bool
-answers_race Race = true
-answers_race _ = false
+use Rattle.er_journal.specs.declared.entries.Entry.{Entry}
+use Rattle.er_settle.specs.Runs.{answers_race}
 
 -- the entry's call was answered so
 abbrev pub is_race : Entry → Bool

@@ -2,10 +2,10 @@
 ghost use Rattle.std.specs.Prelude.{◌≡◌, ◌≤◌, IsSome, IfSome};
 ghost use Rattle.er_detector.specs.Limits.{IsShardCount, IsLimit};
 
-/// How a detector is made (own). The numbers are in their limits.
+/// How a detector is made. The numbers are in their limits.
 #[derive(Clone, Copy, Debug, PartialEq, Eq)]
 pub struct Config {
-    /// What tells the detector's seats and shards from another's.
+    /// The name that its seats and shards carry. Give each detector a name of its own.
     pub name: u64,
     /// How many shards it has, 1 to 64.
     pub shards: u32,

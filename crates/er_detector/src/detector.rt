@@ -3,11 +3,11 @@ ghost use Rattle.std.specs.Prelude.{◌≡◌, ◌<◌, ◌≤◌, ◌⊎◌, �
 ghost use Rattle.std.specs.List.{All};
 ghost use Rattle.er_event.specs.Span.{page_count, part_lo, parts_below, parts_of};
 ghost use Rattle.er_held.specs.Held.{nothing_held};
-ghost use Rattle.er_model.specs.Journals.{journal_state};
-ghost use Rattle.er_model.specs.Merges.{shard_of};
+ghost use Rattle.er_journal.specs.Journals.{journal_state};
+ghost use Rattle.er_journal.specs.Merges.{shard_of};
 ghost use Rattle.er_shadow.specs.Shadows.{needs_set};
 ghost use Rattle.er_seat.specs.Seats.{holdings_of};
-ghost use Rattle.er_detector.specs.Calls.{is_seat_of, is_shard_of, IsListed, IsEntered, IsIgnored, IsReused, HasReused, may_refuse, may_refuse_reuse};
+ghost use Rattle.er_detector.specs.Calls.{is_seat_of, is_shard_of, IsListed, IsEntered, IsIgnored, IsReused, HasReused, is_want_of_room, may_refuse, may_refuse_reuse};
 ghost use Rattle.er_detector.specs.Limits.{IsShardCount};
 ghost use Rattle.er_detector.specs.Races.{IsRace};
 
@@ -15,7 +15,7 @@ use crate::Config;
 use crate::races::add_races;
 use crossbeam_utils::CachePadded;
 use er_event::{Kind, PageRange, Refusal, Reply, Site, ThreadId, Word, WordRange};
-use er_model::Entry;
+use er_journal::Entry;
 use er_seat::{Seat, VacantSeat};
 use er_shard::Shard;
 use er_table::LocksetTable;
@@ -24,8 +24,8 @@ use std::marker::Model;
 use std::sync::atomic::{AtomicU64, Ordering};
 use std::sync::{Mutex, MutexGuard, Wait};
 
-/// Shards under locks of their own, with the counters of tickets and of seats (own: the tool of the 1997 paper has one memory for all
-/// threads, which it runs in turn). Contracts see how it was made.
+/// Shards under locks of their own, with the counters of tickets and of seats. Contracts see how it was made. (The tool of the 1997
+/// paper has one memory for all threads, which it runs in turn.)
 #[derive(Drop)]
 pub struct Detector<'t> {
     config: Config,
@@ -59,7 +59,7 @@ pub struct Parts<'t> {
     pub ghost shard_count: { IsShardCount (vec_len shards) },
 }
 
-/// Where a reuse stopped, and why (own). All words of its range before that one were reset.
+/// Where a reuse stopped, and why. All words of its range before that one were reset.
 #[derive(Clone, Copy, Debug, PartialEq, Eq)]
 pub struct ReuseStopped {
     /// The first word of the first page that was refused.
@@ -69,7 +69,8 @@ pub struct ReuseStopped {
 }
 
 impl<'t> Detector<'t> {
-    /// A detector to which nothing was done. The sets of locks that its shards need go into the table.
+    /// A detector to which nothing was done. The sets of locks that its shards need go into the table. The only error is that there is
+    /// no memory.
     pub fn new(
         alloc: Global,
         table: &'t LocksetTable,
@@ -91,8 +92,8 @@ impl<'t> Detector<'t> {
         })
     }
 
-    /// A seat that made no call and whose thread holds nothing (own). Threads are numbered by their seats, from 0. Refused where there
-    /// is no memory for the first call (`OutOfMemory`), and where all seats are taken (`TooManyThreads`).
+    /// A seat that made no call and whose thread holds nothing. Threads are numbered by their seats, from 0. Refused if there is no
+    /// memory for the first call (`OutOfMemory`), and if all seats are taken (`TooManyThreads`).
     pub fn open_seat(&self) -> Result<Seat, Refusal>
         ensures name { IfOk result (λ seat. seat.name ≡ self.now.name) }
         ensures thread { IfOk result (λ seat. seat.thread < self.now.max_threads) }
@@ -103,7 +104,7 @@ impl<'t> Detector<'t> {
         let vacant = VacantSeat::new(self.alloc, self.config.name)?;
         let number = self.opened.fetch_add(1, Ordering::SeqCst);
         match thread_of(self.config, number) {
-            Some(thread) => Ok(vacant.taken_by(thread)),
+            Some(thread) => Ok(vacant.into_seat(thread)),
             None => Err(Refusal::TooManyThreads),
         }
     }
@@ -123,16 +124,18 @@ impl<'t> Detector<'t> {
         (word.page() % u64::from(self.config.shards)) as u32
     }
 
-    /// A shard, under its lock.
+    /// A shard, under its lock. It waits until no other caller holds the lock.
     pub fn shard<R: Wait>(&self, rt: &R, number: u32) -> MutexGuard<'_, Shard<'t>>
         requires { number < self.now.shards }
     {
         self.shards[number as usize].lock(rt)
     }
 
-    /// Makes an access in a shard whose lock the caller has (section 2 of the 1997 paper; seats and journals are own). Where the seat
-    /// ignores, the access is listed and changes no shard. Refused where the seat or the shard isn't the detector's or the word isn't
-    /// the shard's (`ForeignSeat`), where the shard's journal or the table of sets is full, and where there is no memory.
+    /// Makes an access in a shard whose lock the caller holds (section 2 of the 1997 paper). If the seat ignores, the access is listed
+    /// and changes no shard.
+    ///
+    /// Refused if the seat or the shard isn't the detector's, or the word isn't the shard's (`ForeignSeat`), if the shard's journal is
+    /// full (`JournalFull`), if a set of locks finds no place in the table (`TableFull`), and if there is no memory (`OutOfMemory`).
     pub fn access_in<R: Wait>(
         &self,
         rt: &R,
@@ -162,12 +165,11 @@ impl<'t> Detector<'t> {
         if seat.ignoring() {
             return ignored(seat, word, kind, site);
         }
-        let ticket = self.draw();
-        Ok(seat.count(rt, shard, ticket, word, kind, site)?)
+        self.record(rt, shard, seat, word, kind, site)
     }
 
-    /// The same under the lock of the word's shard, which isn't taken where the seat ignores (section 2 of the 1997 paper; seats are
-    /// own).
+    /// The same under the lock of the word's shard, which isn't taken if the seat ignores (section 2 of the 1997 paper). `ForeignSeat`
+    /// also means that a caller of `shard` put another shard behind the lock.
     pub fn access<R: Wait>(
         &self,
         rt: &R,
@@ -193,12 +195,16 @@ impl<'t> Detector<'t> {
         if seat.ignoring() {
             return ignored(seat, word, kind, site);
         }
+        // A caller of `shard` may have put another shard behind the lock.
         let mut shard = self.shard(rt, self.shard_of(word));
-        self.access_in(rt, &mut shard, seat, word, kind, site)
+        if !self.has(&shard, word) {
+            return Err(Refusal::ForeignSeat);
+        }
+        self.record(rt, &mut shard, seat, word, kind, site)
     }
 
-    /// Puts a range of words to a new use, page by page and each page under its shard's lock (section 3.3 of the 1997 paper; seats are
-    /// own). Where a page is refused, those before it stay done.
+    /// Puts a range of words to a new use, page by page and each page under its shard's lock (section 3.3 of the 1997 paper). If a page
+    /// is refused, those before it stay done. Refused as `access`, but never for a full table.
     pub fn reuse<R: Wait>(
         &self,
         rt: &R,
@@ -223,8 +229,8 @@ impl<'t> Detector<'t> {
         Ok(())
     }
 
-    /// The entries of races, shard by shard and each shard under its lock (own). Other threads may go on meanwhile, so it shows no one
-    /// moment of all shards.
+    /// The entries of races, shard by shard and each shard under its lock. Other threads may go on meanwhile, so it shows no one
+    /// moment of all shards. The only error is that there is no memory.
     pub fn races<R: Wait>(&self, rt: &R) -> Result<Vec<Entry>, AllocError>
         ensures { IfOk result (λ races. All IsRace races.items) }
     {
@@ -236,7 +242,7 @@ impl<'t> Detector<'t> {
         Ok(races)
     }
 
-    /// Takes the shards out of their locks.
+    /// Takes the shards out of their locks. The only error is that there is no memory; the shards are then dropped.
     pub fn into_parts(self) -> Result<Parts<'t>, AllocError>
         ensures name { IfOk result (λ parts. parts.name ≡ self.entry.name) }
         ensures opened { IfOk result (λ parts. parts.opened ≤ self.entry.max_threads) }
@@ -260,6 +266,30 @@ impl<'t> Detector<'t> {
         })
     }
 
+    // Makes an access that counts, under the next ticket.
+    fn record<R: Wait>(
+        &self,
+        rt: &R,
+        shard: &mut Shard<'t>,
+        seat: &mut Seat,
+        word: Word,
+        kind: Kind,
+        site: Site,
+    ) -> Result<Reply, Refusal>
+        requires { (holdings_of seat.old).depth ≡ 0 }
+        ensures counted { IfOk result (λ reply. (ticket : ℕ) × (IsListed seat.old seat.new word kind site ticket reply × IsEntered seat.old shard.old shard.new word kind site ticket reply)) }
+        ensures race_or_quiet { IfOk result (λ reply. (reply ≡ Reply.Race) ⊎ (reply ≡ Reply.Quiet)) }
+        ensures err { OnErr result (seat.new ≡ seat.old) }
+        ensures err_shard { OnErr result (shard.new ≡ shard.old) }
+        ensures full { shard.old.limit ≤ length shard.old.journal → IsErrAnd result (λ why. (why ≡ Refusal.JournalFull) ⊎ (why ≡ Refusal.OutOfMemory)) }
+        ensures full_only { IsErrOf result Refusal.JournalFull → shard.old.limit ≤ length shard.old.journal }
+        ensures table_full { IsErrOf result Refusal.TableFull → IsTrue (needs_set (journal_state shard.old.journal word) seat.old.thread) }
+        ensures refusals { IfErr result (λ why. IsTrue (is_want_of_room why)) }
+    {
+        let ticket = self.next_ticket();
+        Ok(seat.record_access(rt, shard, ticket, word, kind, site)?)
+    }
+
     // One page of a reuse, under its shard's lock.
     fn reuse_part<R: Wait>(&self, rt: &R, seat: &mut Seat, part: PageRange) -> Result<(), Refusal>
         ensures done { OnOk result ((ticket : ℕ) × IsReused seat.old seat.new part ticket) }
@@ -275,7 +305,7 @@ impl<'t> Detector<'t> {
         if !self.has(&shard, part.lo) {
             return Err(Refusal::ForeignSeat);
         }
-        let ticket = self.draw();
+        let ticket = self.next_ticket();
         Ok(seat.reuse(&mut shard, ticket, *part)?)
     }
 
@@ -294,7 +324,7 @@ impl<'t> Detector<'t> {
     }
 
     // The next ticket.
-    fn draw(&self) -> u64 {
+    fn next_ticket(&self) -> u64 {
         self.tickets.fetch_add(1, Ordering::SeqCst)
     }
 }
@@ -332,6 +362,6 @@ fn ignored(seat: &mut Seat, word: Word, kind: Kind, site: Site) -> Result<Reply,
     ensures err { OnErr result (seat.new ≡ seat.old) }
     ensures memory { IfErr result (λ why. why ≡ Refusal.OutOfMemory) }
 {
-    seat.list_ignored(word, kind, site)?;
+    seat.record_ignored(word, kind, site)?;
     Ok(Reply::Ignored)
 }

@@ -3,7 +3,7 @@ ghost use Rattle.std.specs.Prelude.{◌≡◌, ◌++◌, filter, IfOk, OnOk};
 ghost use Rattle.er_detector.specs.Races.{is_race};
 
 use er_event::Reply;
-use er_model::{Entry, Stamp, What};
+use er_journal::{Entry, Stamp, What};
 use std::alloc::AllocError;
 
 /// Adds copies of the journal's entries of races, in order.

@@ -16,14 +16,15 @@ use Rattle.er_event.specs.Span.{parts_of}
 use Rattle.er_held.specs.Held.{nothing_held}
 use Rattle.er_model.specs.Holdings.{Holdings, acquired_among, holdings_end, refused_by, changed_by}
 use Rattle.er_model.specs.Locality.{steps_by}
-use Rattle.er_model.specs.Merges.{events_in}
+use Rattle.er_journal.specs.Merges.{events_in}
 use Rattle.er_model.proofs.Prefixes.{holdings-empty, holdings-grow}
-use Rattle.er_seat.specs.Seats.{Seated, held_after, holdings_of}
-use Rattle.er_load.specs.Accepted.{accepts, after}
-use Rattle.er_load.specs.Parts.{HasMade, IsSeatAt, done_before}
-use Rattle.er_load.specs.Scripts.{events_by, events_in_all}
+use Rattle.er_settle.specs.Seats.{SeatList}
+use Rattle.er_seat.specs.Seats.{held_after, holdings_of}
+use Rattle.er_load.specs.Inner.Accepted.{accepts, after}
+use Rattle.er_load.specs.Inner.Progress.{HasMade, IsSeatAt, done_before}
+use Rattle.er_load.specs.Inner.Scripts.{events_by, events_in_all}
 use Rattle.er_load.specs.declared.scripts.Action.{Action}
-use Rattle.er_load.specs.Workloads.{part, times, each_word, locked, page, page_events, count_events, table_events}
+use Rattle.er_load.specs.Workloads.{stage_events, times, each_word, locked, page, page_events, count_events, table_events}
 use Rattle.er_load.specs.declared.workloads.Workload.{Workload}
 use Rattle.er_load.specs.declared.workloads.Workload.TheVariants.{LockedCounter, RacyCounter, InitThenRead, RwTable, ReusePool, IgnoredStats}
 use Rattle.er_load.specs.declared.workloads.Stage.{Stage}
@@ -72,7 +73,7 @@ held-more t es (e ∷ later) accepted =
     ∙ ap (λ (h : Holdings). after h later) one
 
 -- what a seat's thread holds once the seat made more calls
-pub made-held : (seat now : Seated) (es : List Event) → HasMade seat now es → accepts (holdings_of seat) es ≡ true → holdings_of now ≡ after (holdings_of seat) es
+pub made-held : (seat now : SeatList) (es : List Event) → HasMade seat now es → accepts (holdings_of seat) es ≡ true → holdings_of now ≡ after (holdings_of seat) es
 unfolding held_after
 made-held seat now es made accepted = rw (made.thread, made.events) (held-more seat.thread (events_in seat.calls) es accepted)
 
@@ -132,8 +133,8 @@ ignored-accepted =
       after-append h (times 10 count_events) (IgnoreOff ∷ []) ∙ rw rest.1 refl,
     )
 
-first-accepted : (w : Workload) (t : ℕ) → IsAccepted (part w First t)
-unfolding IsAccepted part
+first-accepted : (w : Workload) (t : ℕ) → IsAccepted (stage_events w First t)
+unfolding IsAccepted stage_events
 first-accepted LockedCounter t = times-accepted nothing_held 100 (locked mode.Write count_events) counted-accepted.0 counted-accepted.1
 first-accepted RacyCounter t = times-accepted nothing_held 2 (Access kind.Write 1024 0 ∷ []) refl refl
 first-accepted InitThenRead t = (words-or-none (t == 0) kind.Write).0
@@ -141,8 +142,8 @@ first-accepted RwTable t = times-accepted nothing_held 10 (table_events t) (tabl
 first-accepted ReusePool t = page-accepted (1 + t)
 first-accepted IgnoredStats t = ignored-accepted
 
-second-accepted : (w : Workload) (t : ℕ) → accepts nothing_held (part w Second t) ≡ true
-unfolding IsAccepted part
+second-accepted : (w : Workload) (t : ℕ) → accepts nothing_held (stage_events w Second t) ≡ true
+unfolding IsAccepted stage_events
 second-accepted LockedCounter t = refl
 second-accepted RacyCounter t = refl
 second-accepted InitThenRead t = (words-or-none (t == 0) kind.Read).1.0
@@ -151,20 +152,20 @@ second-accepted ReusePool t = (page-accepted (2 - t)).0
 second-accepted IgnoredStats t = refl
 
 -- what a seat holds that made these calls
-held-at : (t : ℕ) (all : List Event) (seat : Seated) → IsSeatAt t all seat → holdings_of seat ≡ held_by t all
+held-at : (t : ℕ) (all : List Event) (seat : SeatList) → IsSeatAt t all seat → holdings_of seat ≡ held_by t all
 unfolding held_after
 held-at t all seat at = rw (at.thread, at.events) refl
 
 held-start : (t : ℕ) (all : List Event) → accepts nothing_held all ≡ true → held_by t all ≡ after nothing_held all
 held-start t all accepted = held-more t [] all (rw (holdings-empty t) accepted) ∙ ap (λ (h : Holdings). after h all) (holdings-empty t)
 
--- each part is accepted by the seat that comes to it
-pub part-accepted : (w : Workload) (s : Stage) (t : ℕ) (seat : Seated) → IsSeatAt t (done_before w s t) seat → accepts (holdings_of seat) (part w s t) ≡ true
+-- each task is accepted by the seat that comes to it
+pub stage_events-accepted : (w : Workload) (s : Stage) (t : ℕ) (seat : SeatList) → IsSeatAt t (done_before w s t) seat → accepts (holdings_of seat) (stage_events w s t) ≡ true
 unfolding IsAccepted
-part-accepted w First t seat at = rw (held-at t [] seat at, holdings-empty t) (first-accepted w t).0
-part-accepted w Second t seat at =
+stage_events-accepted w First t seat at = rw (held-at t [] seat at, holdings-empty t) (first-accepted w t).0
+stage_events-accepted w Second t seat at =
     let first = first-accepted w t in
-    rw (held-at t (part w First t) seat at, held-start t (part w First t) first.0, first.1) (second-accepted w t)
+    rw (held-at t (stage_events w First t) seat at, held-start t (stage_events w First t) first.0, first.1) (second-accepted w t)
 
 -- and so is each action of a script, where the whole of it is
 script-at : (script : List Action) (i : ℕ) (action : Action) → i < length script → action ≡ get_or script i action → events_in_all script ≡ events_in_all (take i script) ++ (events_by action ++ events_in_all (drop (suc i) script))
@@ -173,7 +174,7 @@ script-at [] i action below is = absurd (omega arith)
 script-at (x ∷ script) zero action below is = rw is refl
 script-at (x ∷ script) (suc i) action below is = ap (λ (es : List Event). events_by x ++ es) (script-at script i action (omega arith) is) ∙ sym (append_assoc (events_by x) (events_in_all (take i script)) (events_by action ++ events_in_all (drop (suc i) script)))
 
-pub action-accepted : (seat now : Seated) (script : List Action) (i : ℕ) (action : Action) → accepts (holdings_of seat) (events_in_all script) ≡ true →
+pub action-accepted : (seat now : SeatList) (script : List Action) (i : ℕ) (action : Action) → accepts (holdings_of seat) (events_in_all script) ≡ true →
     HasMade seat now (events_in_all (take i script)) → i < length script → action ≡ get_or script i action → accepts (holdings_of now) (events_by action) ≡ true
 action-accepted seat now script i action accepted made below is =
     let front = events_in_all (take i script) in

@@ -4,52 +4,52 @@ use Rattle.std.specs.Prelude.{Result, Ok, Err, IfOk, OnOk}
 use Rattle.std.proofs.lemmas.Bool.{cases_lt}
 use Rattle.std.proofs.lemmas.List.{map-append, take_more}
 use Rattle.er_event.specs.declared.steps.Event.{Event}
-use Rattle.er_model.specs.declared.stamps.Call.{Call}
-use Rattle.er_model.specs.Merges.{events_in}
+use Rattle.er_journal.specs.declared.entries.Call.{Call}
+use Rattle.er_journal.specs.Merges.{events_in}
 use Rattle.er_event.specs.declared.refusals.Refusal.{Refusal}
 use Rattle.er_event.specs.declared.steps.Event.TheVariants.{Access}
 use Rattle.er_event.specs.declared.steps.Kind.{Kind}
 use Rattle.er_event.specs.declared.steps.Reply.{Reply}
-use Rattle.er_seat.specs.Seats.{Seated, with_call, holdings_of, ticketed, ignored}
+use Rattle.er_settle.specs.Seats.{SeatList}
+use Rattle.er_seat.specs.Seats.{with_call, holdings_of, ticketed, ignored}
 use Rattle.er_detector.specs.Calls.{IsListed, IsIgnored}
 use Rattle.er_load.specs.declared.scripts.Action.{Action}
-use Rattle.er_load.specs.Parts.{HasMade}
-use Rattle.er_load.specs.Scripts.{events_by, events_in_all}
+use Rattle.er_load.specs.Inner.Progress.{HasMade}
+use Rattle.er_load.specs.Inner.Scripts.{events_by, events_in_all}
+use Rattle.er_event.proofs.Results.{on_ok}
 use Rattle.er_load.proofs.ScriptLemmas.{events-push}
 
 -- no call
-pub made-none : (seat : Seated) → HasMade seat seat []
-made-none seat = record { thread = refl; events = sym (append-nil (events_in seat.calls)) }
+pub made-none : (seat : SeatList) → HasMade seat seat []
+made-none seat = record { name = refl; thread = refl; events = sym (append-nil (events_in seat.calls)) }
 
 -- these calls
-pub made-calls : (seat next : Seated) (more : List Call) (es : List Event) → next ≡ record seat { calls = seat.calls ++ more } → events_in more ≡ es → HasMade seat next es
+pub made-calls : (seat next : SeatList) (more : List Call) (es : List Event) → next ≡ record seat { calls = seat.calls ++ more } → events_in more ≡ es → HasMade seat next es
 made-calls seat next more es grown are = record {
-  thread = ap (λ (s : Seated). s.thread) grown;
-  events = ap (λ (s : Seated). events_in s.calls) grown ∙ (map-append (λ (c : Call). c.event) seat.calls more ∙ ap (λ (fs : List Event). events_in seat.calls ++ fs) are);
+  name = ap (λ (s : SeatList). s.name) grown;
+  thread = ap (λ (s : SeatList). s.thread) grown;
+  events = ap (λ (s : SeatList). events_in s.calls) grown ∙ (map-append (λ (c : Call). c.event) seat.calls more ∙ ap (λ (fs : List Event). events_in seat.calls ++ fs) are);
 }
 
 -- one call
-pub made-call : (seat next : Seated) (call : Call) (e : Event) → next ≡ with_call seat call → call.event ≡ e → HasMade seat next (e ∷ [])
+pub made-call : (seat next : SeatList) (call : Call) (e : Event) → next ≡ with_call seat call → call.event ≡ e → HasMade seat next (e ∷ [])
 unfolding with_call
 made-call seat next call e grown is = made-calls seat next (call ∷ []) (e ∷ []) grown (ap (λ (f : Event). f ∷ []) is)
 
 -- some calls, and then some more
-pub made-more : (seat mid next : Seated) (es fs : List Event) → HasMade seat mid es → HasMade mid next fs → HasMade seat next (es ++ fs)
+pub made-more : (seat mid next : SeatList) (es fs : List Event) → HasMade seat mid es → HasMade mid next fs → HasMade seat next (es ++ fs)
 made-more seat mid next es fs far then = record {
+  name = then.name ∙ far.name;
   thread = then.thread ∙ far.thread;
   events = then.events ∙ (ap (λ (gs : List Event). gs ++ fs) far.events ∙ append_assoc (events_in seat.calls) es fs);
 }
 
-pub on_ok : {T E : Type 0} (r : Result T E) (P Q : Type 0) → OnOk r P → (P → Q) → OnOk r Q
-on_ok (Ok v) P Q p f = f p
-on_ok (Err e) P Q p f = tt
-
 -- one call, where it was accepted
-pub ok-made : {T : Type 0} (r : Result T Refusal) (seat next : Seated) (call : Call) (e : Event) → OnOk r (next ≡ with_call seat call) → call.event ≡ e → OnOk r (HasMade seat next (e ∷ []))
+pub ok-made : {T : Type 0} (r : Result T Refusal) (seat next : SeatList) (call : Call) (e : Event) → OnOk r (next ≡ with_call seat call) → call.event ≡ e → OnOk r (HasMade seat next (e ∷ []))
 ok-made r seat next call e ok is = on_ok r _ _ ok (λ grown. made-call seat next call e grown is)
 
 -- an access, counted or in a bracket
-pub accessed : (r : Result Reply Refusal) (seat next : Seated) (word : ℕ) (kind : Kind)
+pub accessed : (r : Result Reply Refusal) (seat next : SeatList) (word : ℕ) (kind : Kind)
     → ((holdings_of seat).depth ≡ 0 → IfOk r (λ reply. (ticket : ℕ) × IsListed seat next word kind 0 ticket reply))
     → (0 < (holdings_of seat).depth → OnOk r (IsIgnored seat next word kind 0)) → OnOk r (HasMade seat next (Access kind word 0 ∷ []))
 accessed (Ok reply) seat next word kind counted listed = elim (cases_lt 0 (holdings_of seat).depth) [
@@ -58,14 +58,14 @@ accessed (Ok reply) seat next word kind counted listed = elim (cases_lt 0 (holdi
 ]
 accessed (Err e) seat next word kind counted listed = tt
 
--- a script played so far, and one action more
-pub played-none : (seat : Seated) → HasMade seat seat (events_in_all [])
+-- the calls of a script so far, and of one action more
+pub scripted-none : (seat : SeatList) → HasMade seat seat (events_in_all [])
 unfolding events_in_all
-played-none seat = made-none seat
+scripted-none seat = made-none seat
 
-pub played-more : (seat mid next : Seated) (script : List Action) (k : ℕ) (d x : Action) → HasMade seat mid (events_in_all (take k script)) → k < length script → x ≡ get_or script k d → HasMade mid next (events_by x)
+pub scripted-more : (seat mid next : SeatList) (script : List Action) (k : ℕ) (d x : Action) → HasMade seat mid (events_in_all (take k script)) → k < length script → x ≡ get_or script k d → HasMade mid next (events_by x)
     → HasMade seat next (events_in_all (take (k + 1) script))
-played-more seat mid next script k d x far below is made =
+scripted-more seat mid next script k d x far below is made =
     let more : take (k + 1) script ≡ take k script ++ x ∷ [] = take_more script k d below ∙ ap (λ (y : Action). take k script ++ y ∷ []) (sym is) in
     let all : events_in_all (take (k + 1) script) ≡ events_in_all (take k script) ++ events_by x = ap events_in_all more ∙ events-push (take k script) x in
     rw all (made-more seat mid next (events_in_all (take k script)) (events_by x) far made)

@@ -7,20 +7,16 @@ use Rattle.std.proofs.lemmas.Option.{slice_get_within}
 use Rattle.er_event.specs.declared.refusals.Refusal.{Refusal}
 use Rattle.er_event.specs.declared.refusals.Refusal.TheVariants.{OutOfMemory}
 use Rattle.er_event.specs.declared.steps.Event.{Event}
-use Rattle.er_seat.specs.Seats.{Seated}
+use Rattle.er_settle.specs.Seats.{SeatList}
 use Rattle.er_settle.proofs.PairLemmas.{to_map}
 use Rattle.er_load.specs.declared.stages.Worker.{Worker}
 use Rattle.er_load.specs.declared.workloads.Workload.{Workload}
 use Rattle.er_load.specs.declared.workloads.Stage.{Stage}
-use Rattle.er_load.specs.Accepted.{may_meet}
-use Rattle.er_load.specs.Faults.{MayFail}
+use Rattle.er_load.specs.Faults.{MayFail, may_meet}
 use Rattle.er_load.specs.declared.faults.LoadFault.{LoadFault}
 use Rattle.er_load.specs.declared.faults.LoadFault.TheVariants.{Refused}
-use Rattle.er_load.specs.Parts.{IsSeatAt, AreSeatsAt, EndsAt, AreWorkers, AreAnswersAt, AreMet, first_refusal, done_after}
-
-pub get_seam : {A : Type 0} (xs ys : List A) (y : A) → slice_get (xs ++ y ∷ ys) (length xs) ≡ Some y
-get_seam [] ys y = refl
-get_seam (z ∷ xs) ys y = get_seam xs ys y
+use Rattle.er_event.proofs.Lists.{get_seam}
+use Rattle.er_load.specs.Inner.Progress.{IsSeatAt, AreSeatsAt, EndsAt, AreWorkers, AreAnswersAt, AreMet, first_refusal, done_after}
 
 pub get_left : {A : Type 0} (xs : List A) (y : A) (k : ℕ) → k < length xs → slice_get (xs ++ y ∷ []) k ≡ slice_get xs k
 get_left [] y k below = absurd (omega arith)
@@ -41,23 +37,23 @@ placed-push {A = A} P xs y each last k x is = elim (cases_lt k (length xs)) [
 ]
 
 -- the answers of those that are gone
-pub record AreJoined (workers rest : List Worker) (answers : List (Result Seated Refusal)) : Type 0 where
+pub record AreJoined (workers rest : List Worker) (answers : List (Result SeatList Refusal)) : Type 0 where
   pub gone : List Worker
   pub split : workers ≡ gone ++ rest
   pub count : length answers ≡ length gone
   pub answered : (workload : Workload) (stage : Stage) → AreWorkers workload stage workers → AreAnswersAt (done_after workload stage) answers
   pub met : AreMet answers
 
-pub joined-none : (workers rest : List Worker) (answers : List (Result Seated Refusal)) → answers ≡ [] → rest ≡ workers → AreJoined workers rest answers
+pub joined-none : (workers rest : List Worker) (answers : List (Result SeatList Refusal)) → answers ≡ [] → rest ≡ workers → AreJoined workers rest answers
 joined-none workers rest answers empty all = record {
   gone = [];
   split = sym all;
   count = ap length empty;
-  met = λ t answer is. absurd (let nowhere : slice_get [] t ≡ Some answer = sym (ap (λ (xs : List (Result Seated Refusal)). slice_get xs t) empty) ∙ is in let within = slice_get_within [] t answer nowhere in omega arith);
-  answered = λ workload stage are t answer is. absurd (let nowhere : slice_get [] t ≡ Some answer = sym (ap (λ (xs : List (Result Seated Refusal)). slice_get xs t) empty) ∙ is in let within = slice_get_within [] t answer nowhere in omega arith);
+  met = λ t answer is. absurd (let nowhere : slice_get [] t ≡ Some answer = sym (ap (λ (xs : List (Result SeatList Refusal)). slice_get xs t) empty) ∙ is in let within = slice_get_within [] t answer nowhere in omega arith);
+  answered = λ workload stage are t answer is. absurd (let nowhere : slice_get [] t ≡ Some answer = sym (ap (λ (xs : List (Result SeatList Refusal)). slice_get xs t) empty) ∙ is in let within = slice_get_within [] t answer nowhere in omega arith);
 }
 
-pub joined-more : (workers rest left : List Worker) (answers now : List (Result Seated Refusal)) (w : Worker) (answer : Result Seated Refusal)
+pub joined-more : (workers rest left : List Worker) (answers now : List (Result SeatList Refusal)) (w : Worker) (answer : Result SeatList Refusal)
     → AreJoined workers rest answers → rest ≡ w ∷ left → now ≡ answers ++ answer ∷ []
     → ((workload : Workload) (stage : Stage) (t : ℕ) → EndsAt workload stage t w → IfOk answer (λ seat. IsSeatAt t (done_after workload stage t) seat))
     → IfErr answer (λ why. IsTrue (may_meet why)) → AreJoined workers left now
@@ -73,42 +69,42 @@ joined-more workers rest left answers now w answer far next grown ends meets = r
 }
 
 -- the seats among the answers so far
-pub seats-more : (all rest left : List (Result Seated Refusal)) (seats now : List Seated) (seat : Seated)
+pub seats-more : (all rest left : List (Result SeatList Refusal)) (seats now : List SeatList) (seat : SeatList)
     → all ≡ map Ok seats ++ rest → rest ≡ Ok seat ∷ left → now ≡ seats ++ seat ∷ [] → all ≡ map Ok now ++ left
 seats-more all rest left seats now seat far next grown =
-    far ∙ ap (λ (xs : List (Result Seated Refusal)). map Ok seats ++ xs) next
+    far ∙ ap (λ (xs : List (Result SeatList Refusal)). map Ok seats ++ xs) next
     ∙ sym (append_assoc (map Ok seats) (Ok seat ∷ []) left)
-    ∙ ap (λ (xs : List (Result Seated Refusal)). xs ++ left) (sym (map-append Ok seats (seat ∷ [])))
-    ∙ ap (λ (ss : List Seated). map Ok ss ++ left) (sym grown)
+    ∙ ap (λ (xs : List (Result SeatList Refusal)). xs ++ left) (sym (map-append Ok seats (seat ∷ [])))
+    ∙ ap (λ (ss : List SeatList). map Ok ss ++ left) (sym grown)
 
-first-behind : (seats : List Seated) (why : Refusal) (left : List (Result Seated Refusal)) → first_refusal (map Ok seats ++ Err why ∷ left) ≡ Some why
+first-behind : (seats : List SeatList) (why : Refusal) (left : List (Result SeatList Refusal)) → first_refusal (map Ok seats ++ Err why ∷ left) ≡ Some why
 first-behind [] why left = refl
 first-behind (s ∷ seats) why left = first-behind seats why left
 
-pub first-at : (all rest left : List (Result Seated Refusal)) (seats : List Seated) (answer : Result Seated Refusal) (why : Refusal)
+pub first-at : (all rest left : List (Result SeatList Refusal)) (seats : List SeatList) (answer : Result SeatList Refusal) (why : Refusal)
     → all ≡ map Ok seats ++ rest → rest ≡ answer ∷ left → answer ≡ Err why → first_refusal all ≡ Some why
 first-at all rest left seats answer why far next is = rw (far, next, is) (first-behind seats why left)
 
 -- where every answer is a seat, the seats are done as the answers are
-pub seats-are : (events : ℕ → List Event) (answers : List (Result Seated Refusal)) (seats : List Seated) → answers ≡ map Ok seats → AreAnswersAt events answers → AreSeatsAt events seats
+pub seats-are : (events : ℕ → List Event) (answers : List (Result SeatList Refusal)) (seats : List SeatList) → answers ≡ map Ok seats → AreAnswersAt events answers → AreSeatsAt events seats
 seats-are events answers seats all each t seat is = each t (Ok seat) (rw all (to_map Ok seats t seat is))
 
-pub seats-count : (answers : List (Result Seated Refusal)) (seats : List Seated) → answers ≡ map Ok seats → length seats ≡ length answers
+pub seats-count : (answers : List (Result SeatList Refusal)) (seats : List SeatList) → answers ≡ map Ok seats → length seats ≡ length answers
 seats-count answers seats all = rw all (sym (length-map seats Ok))
 
 -- the error that a `?` hands on is the first refusal
-pub hands-first : {T : Type 0} (r : Result T Refusal) (G : Refusal → Type 0) (all : List (Result Seated Refusal)) → IsErrAnd r G → ((why : Refusal) → G why → first_refusal all ≡ Some why)
+pub hands-first : {T : Type 0} (r : Result T Refusal) (G : Refusal → Type 0) (all : List (Result SeatList Refusal)) → IsErrAnd r G → ((why : Refusal) → G why → first_refusal all ≡ Some why)
     → IfErr r (λ why. (why ≡ OutOfMemory) ⊎ (first_refusal all ≡ Some why))
 hands-first (Ok seat) G all is first = absurd is
 hands-first (Err why) G all is first = inr (first why is)
 
-first-met-at : (answers : List (Result Seated Refusal)) (why : Refusal) → AreMet answers → first_refusal answers ≡ Some why → IsTrue (may_meet why)
+first-met-at : (answers : List (Result SeatList Refusal)) (why : Refusal) → AreMet answers → first_refusal answers ≡ Some why → IsTrue (may_meet why)
 first-met-at [] why met is = absurd (cc)
 first-met-at (Ok seat ∷ later) why met is = first-met-at later why (λ t answer there. met (suc t) answer there) is
 first-met-at (Err other ∷ later) why met is = (let same : other ≡ why = cc in rw (← same) (met zero (Err other) refl))
 
 -- what all_seats refuses is such a refusal, too
-pub first-met : {T : Type 0} (r : Result T Refusal) (answers : List (Result Seated Refusal)) → AreMet answers → IfErr r (λ why. (why ≡ OutOfMemory) ⊎ (first_refusal answers ≡ Some why)) → IfErr r (λ why. IsTrue (may_meet why))
+pub first-met : {T : Type 0} (r : Result T Refusal) (answers : List (Result SeatList Refusal)) → AreMet answers → IfErr r (λ why. (why ≡ OutOfMemory) ⊎ (first_refusal answers ≡ Some why)) → IfErr r (λ why. IsTrue (may_meet why))
 first-met (Ok v) answers met told = tt
 first-met (Err why) answers met (inl memory) = rw memory refl
 first-met (Err why) answers met (inr first) = first-met-at answers why met first

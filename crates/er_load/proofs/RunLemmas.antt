@@ -7,24 +7,23 @@ use Rattle.er_event.specs.declared.steps.Event.{Event}
 use Rattle.er_event.specs.declared.steps.Reply.{Reply}
 use Rattle.er_event.specs.declared.steps.Step.{Step}
 use Rattle.er_model.specs.Locality.{event_by, events_of}
-use Rattle.er_model.specs.Merges.{events_in}
-use Rattle.er_seat.specs.Seats.{Seated}
+use Rattle.er_journal.specs.Merges.{events_in}
 use Rattle.er_settle.specs.Runs.{TurnShown, calls_of, steps_of, IsInTurn}
 use Rattle.er_settle.specs.Seats.{calls_by}
-use Rattle.er_gather.specs.Gathered.{shown_of, seats_of, MayBeFirst}
-use Rattle.er_settle.specs.Faults.{AreOnce}
-use Rattle.er_settle.specs.declared.faults.Unsettled.{Unsettled}
-use Rattle.er_settle.specs.declared.faults.Unsettled.TheVariants.{ForeignSeat, SeatTwice, SeatMissing, Order, Entries, Answer, Memory}
-use Rattle.er_settle.specs.Seats.{SeatShown}
-use Rattle.er_settle.proofs.OrderLemmas.{mapped}
+use Rattle.er_detector.specs.Settlement.{MayBeFirst}
+use Rattle.er_settle.specs.Faults.{AreOfDetector, AreDistinct}
+use Rattle.er_settle.specs.declared.unsettled.Unsettled.{Unsettled}
+use Rattle.er_settle.specs.declared.unsettled.Unsettled.TheVariants.{ForeignSeat, SeatTwice, SeatMissing, Order, Entries, Answer, Memory}
+use Rattle.er_settle.specs.Seats.{SeatList}
 use Rattle.er_load.specs.Faults.{MayFail}
 use Rattle.er_load.specs.declared.faults.LoadFault.TheVariants.{Unsettled as NotSettled}
 use Rattle.er_load.specs.declared.workloads.Workload.{Workload}
 use Rattle.er_load.specs.declared.workloads.Stage.TheVariants.{First, Second}
-use Rattle.er_load.specs.Parts.{IsSeatAt, AreSeatsAt, done_before, done_after}
+use Rattle.er_load.specs.Inner.Progress.{detector_name, IsSeatAt, AreSeatsAt, done_before, done_after}
 use Rattle.er_load.specs.declared.workloads.Workload.TheVariants.{LockedCounter, RacyCounter, InitThenRead, RwTable, ReusePool, IgnoredStats}
-use Rattle.er_load.specs.Workloads.{workload_events, thread_count, step_count, part, times, each_word}
+use Rattle.er_load.specs.Workloads.{workload_events, thread_count, step_count, stage_events, times, each_word}
 use Rattle.er_load.proofs.JoinLemmas.{placed-push}
+use Rattle.er_event.proofs.Lists.{get_front, get_seam}
 use Rattle.er_event.specs.Span.{parts_below, part_of}
 
 -- a thread's own events in a list of steps
@@ -36,15 +35,6 @@ own-both : (t : ℕ) (xs ys : List Step) → own t (xs ++ ys) ≡ own t xs ++ ow
 unfolding own
 own-both t [] ys = refl
 own-both t (x ∷ xs) ys = ap (λ (es : List Event). event_by t (Some x) ++ es) (own-both t xs ys) ∙ sym (append_assoc (event_by t (Some x)) (own t xs) (own t ys))
-
-get_front : {A : Type 0} (xs ys : List A) (k : ℕ) → k < length xs → slice_get (xs ++ ys) k ≡ slice_get xs k
-get_front [] ys k below = absurd (omega arith)
-get_front (x ∷ xs) ys zero below = refl
-get_front (x ∷ xs) ys (suc k) below = get_front xs ys k (omega arith)
-
-get_next : {A : Type 0} (xs ys : List A) (y : A) → slice_get (xs ++ y ∷ ys) (length xs) ≡ Some y
-get_next [] ys y = refl
-get_next (x ∷ xs) ys y = get_next xs ys y
 
 -- what comes behind changes nothing before
 events-front : (t n : ℕ) (xs ys : List Step) → n ≤ length xs → events_of (xs ++ ys) t n ≡ events_of xs t n
@@ -59,7 +49,7 @@ events-more : (t : ℕ) (xs ys : List Step) (y : Step) → events_of (xs ++ y �
 unfolding events_of
 events-more t xs ys y =
     ap (λ (es : List Event). es ++ event_by t (slice_get (xs ++ y ∷ ys) (length xs))) (events-front t (length xs) xs (y ∷ ys) (omega arith))
-    ∙ ap (λ (s : _). events_of xs t (length xs) ++ event_by t s) (get_next xs ys y)
+    ∙ ap (λ (s : _). events_of xs t (length xs) ++ event_by t s) (get_seam xs ys y)
 
 events-own-from : (t : ℕ) (front back : List Step) → events_of front t (length front) ≡ own t front → events_of (front ++ back) t (length (front ++ back)) ≡ own t (front ++ back)
 unfolding own
@@ -90,31 +80,31 @@ pub events-turns : (t : ℕ) (turns : List TurnShown) → events_of (steps_of tu
 events-turns t turns = events-own t (steps_of turns) ∙ own-turns t turns
 
 -- seats that are opened one by one
-pub opened-none : (w : Workload) (seats : List Seated) → seats ≡ [] → AreSeatsAt (done_before w First) seats
-opened-none w seats empty t seat is = absurd (let nowhere : slice_get [] t ≡ Some seat = sym (ap (λ (xs : List Seated). slice_get xs t) empty) ∙ is in let within = slice_get_within [] t seat nowhere in omega arith)
+pub opened-none : (w : Workload) (seats : List SeatList) → seats ≡ [] → AreSeatsAt (done_before w First) seats
+opened-none w seats empty t seat is = absurd (let nowhere : slice_get [] t ≡ Some seat = sym (ap (λ (xs : List SeatList). slice_get xs t) empty) ∙ is in let within = slice_get_within [] t seat nowhere in omega arith)
 
-pub opened-more : (w : Workload) (seats now : List Seated) (seat : Seated) → AreSeatsAt (done_before w First) seats → now ≡ seats ++ seat ∷ [] → seat.thread ≡ length seats → seat.calls ≡ []
+pub opened-more : (w : Workload) (seats now : List SeatList) (seat : SeatList) → AreSeatsAt (done_before w First) seats → now ≡ seats ++ seat ∷ [] → seat.name ≡ detector_name → seat.thread ≡ length seats → seat.calls ≡ []
     → AreSeatsAt (done_before w First) now
-opened-more w seats now seat far grown thread none =
-    rw grown (placed-push (λ t s. IsSeatAt t (done_before w First t) s) seats seat far (record { thread = thread; events = ap events_in none }))
+opened-more w seats now seat far grown named thread none =
+    rw grown (placed-push (λ t s. IsSeatAt t (done_before w First t) s) seats seat far (record { name = named; thread = thread; events = ap events_in none }))
 
 -- seats by their places, numbered from o on
-SeatsFrom : ℕ → (ℕ → List Event) → List Seated → Type 0
-SeatsFrom o f seats = (k : ℕ) (seat : Seated) → slice_get seats k ≡ Some seat → IsSeatAt (o + k) (f (o + k)) seat
+SeatsFrom : ℕ → (ℕ → List Event) → List SeatList → Type 0
+SeatsFrom o f seats = (k : ℕ) (seat : SeatList) → slice_get seats k ≡ Some seat → IsSeatAt (o + k) (f (o + k)) seat
 
-seats-next : (o : ℕ) (f : ℕ → List Event) (s : Seated) (seats : List Seated) → SeatsFrom o f (s ∷ seats) → SeatsFrom (o + 1) f seats
+seats-next : (o : ℕ) (f : ℕ → List Event) (s : SeatList) (seats : List SeatList) → SeatsFrom o f (s ∷ seats) → SeatsFrom (o + 1) f seats
 unfolding SeatsFrom
 seats-next o f s seats each k seat is =
     let at : o + 1 + k ≡ o + suc k = omega arith in
     rw at (each (suc k) seat is)
 
-seat-here : (o : ℕ) (f : ℕ → List Event) (s : Seated) (seats : List Seated) → SeatsFrom o f (s ∷ seats) → IsSeatAt o (f o) s
+seat-here : (o : ℕ) (f : ℕ → List Event) (s : SeatList) (seats : List SeatList) → SeatsFrom o f (s ∷ seats) → IsSeatAt o (f o) s
 unfolding SeatsFrom
 seat-here o f s seats each = let here : o + 0 ≡ o = omega arith in rw here at (each 0 s refl)
 
-seat-first : (o : ℕ) (s : Seated) (seats : List Seated) (f : ℕ → List Event) (t : ℕ) (b : Bool) → IsSeatAt o (f o) s → o ≤ t → (s.thread == t) ≡ b
-    → (o + 1 ≤ t → events_in (calls_by (seats_of seats) t) ≡ cond (nat_lt t (o + 1 + length seats)) (f t) [])
-    → events_in (cond b s.calls (calls_by (seats_of seats) t)) ≡ cond (nat_lt t (o + suc (length seats))) (f t) []
+seat-first : (o : ℕ) (s : SeatList) (seats : List SeatList) (f : ℕ → List Event) (t : ℕ) (b : Bool) → IsSeatAt o (f o) s → o ≤ t → (s.thread == t) ≡ b
+    → (o + 1 ≤ t → events_in (calls_by seats t) ≡ cond (nat_lt t (o + 1 + length seats)) (f t) [])
+    → events_in (cond b s.calls (calls_by seats t)) ≡ cond (nat_lt t (o + suc (length seats))) (f t) []
 seat-first o s seats f t true at low is rest =
     let same : t ≡ o = sym (eqb-true s.thread t is) ∙ at.thread in
     rw (lt-ltb t (o + suc (length seats)) (omega arith), same) at.events
@@ -125,18 +115,18 @@ seat-first o s seats f t false at low is rest = elim (cases_lt o t) [
   | inr here ↦ (let yes : (s.thread == t) ≡ true = eq-eqb s.thread t (let thread = at.thread in omega arith) in absurd (cc))
 ]
 
-seats-events : (o : ℕ) (seats : List Seated) (f : ℕ → List Event) (t : ℕ) → SeatsFrom o f seats → o ≤ t → events_in (calls_by (seats_of seats) t) ≡ cond (nat_lt t (o + length seats)) (f t) []
+seats-events : (o : ℕ) (seats : List SeatList) (f : ℕ → List Event) (t : ℕ) → SeatsFrom o f seats → o ≤ t → events_in (calls_by seats t) ≡ cond (nat_lt t (o + length seats)) (f t) []
 unfolding calls_by
 seats-events o [] f t each low = rw (le-ltb t (o + 0) (omega arith)) refl
 seats-events o (s ∷ seats) f t each low =
     seat-first o s seats f t (s.thread == t) (seat-here o f s seats each) low refl (λ later. seats-events (o + 1) seats f t (seats-next o f s seats each) later)
 
-from-zero : (f : ℕ → List Event) (seats : List Seated) → AreSeatsAt f seats → SeatsFrom 0 f seats
+from-zero : (f : ℕ → List Event) (seats : List SeatList) → AreSeatsAt f seats → SeatsFrom 0 f seats
 unfolding SeatsFrom
 from-zero f seats each k seat is = let here : 0 + k ≡ k = omega arith in rw here (each k seat is)
 
 -- the run of seats that are done with all
-pub run-events : (w : Workload) (seats : List Seated) (steps : List Step) (replies : List Reply) → IsInTurn (seats_of seats) steps replies → length seats ≡ thread_count w
+pub run-events : (w : Workload) (seats : List SeatList) (steps : List Step) (replies : List Reply) → IsInTurn seats steps replies → length seats ≡ thread_count w
     → AreSeatsAt (done_after w Second) seats → (t : ℕ) → events_of steps t (length steps) ≡ workload_events w t
 unfolding workload_events
 run-events w seats steps replies turn count each t =
@@ -201,7 +191,7 @@ no-thread w t high = rw (le-ltb t (thread_count w) (few w)) refl
 
 -- what all threads do, counted
 all-counted : (w : Workload) → length (workload_events w 0) + length (workload_events w 1) + length (workload_events w 2) ≡ step_count w
-unfolding workload_events part times each_word parts_below part_of
+unfolding workload_events stage_events times each_word parts_below part_of
 all-counted LockedCounter = refl
 all-counted RacyCounter = refl
 all-counted InitThenRead = refl
@@ -216,22 +206,19 @@ run-count w steps each =
     sum ∙ (rw (are 0, are 1, are 2) (all-counted w))
 
 -- seats at their places have numbers of their own
-pub seats-once : (events : ℕ → List Event) (seats : List Seated) → AreSeatsAt events seats → AreOnce (seats_of seats)
-seats-once events seats are = record {
-  apart = λ j k x y below here there same. (
-      let a = mapped shown_of seats j x here in
-      let b = mapped shown_of seats k y there in
-      let p : x.thread ≡ j = ap (λ (s : SeatShown). s.thread) (sym a.2) ∙ (are j a.0 a.1).thread in
-      let q : y.thread ≡ k = ap (λ (s : SeatShown). s.thread) (sym b.2) ∙ (are k b.0 b.1).thread in
-      absurd (omega arith));
-}
+pub seats-once : (events : ℕ → List Event) (seats : List SeatList) → AreSeatsAt events seats → AreDistinct seats
+seats-once events seats are = record { apart = λ j k x y below here there same. (let p = (are j x here).thread in let q = (are k y there).thread in absurd (omega arith)) }
 
--- so none is given twice
-pub may-fail : (name most : ℕ) (seats : List SeatShown) (fault : Unsettled) → MayBeFirst name most seats fault → AreOnce seats → MayFail (NotSettled fault)
-may-fail name most seats ForeignSeat first once = tt
-may-fail name most seats SeatTwice first once = first.1 once
-may-fail name most seats SeatMissing first once = tt
-may-fail name most seats Order first once = tt
-may-fail name most seats Entries first once = tt
-may-fail name most seats Answer first once = tt
-may-fail name most seats Memory first once = tt
+-- and are all the detector's
+pub seats-named : (events : ℕ → List Event) (name : ℕ) (seats : List SeatList) → AreSeatsAt events seats → name ≡ detector_name → AreOfDetector name seats
+seats-named events name seats are is i s here = (are i s here).name ∙ sym is
+
+-- so none is foreign and none is given twice
+pub may-fail : (name most : ℕ) (seats : List SeatList) (fault : Unsettled) → MayBeFirst name most seats fault → AreOfDetector name seats → AreDistinct seats → MayFail (NotSettled fault)
+may-fail name most seats ForeignSeat first own once = first own
+may-fail name most seats SeatTwice first own once = first.1 once
+may-fail name most seats SeatMissing first own once = tt
+may-fail name most seats Order first own once = tt
+may-fail name most seats Entries first own once = tt
+may-fail name most seats Answer first own once = tt
+may-fail name most seats Memory first own once = tt

@@ -5,7 +5,7 @@ use Rattle.er_event.specs.declared.steps.Event.{Event}
 use Rattle.er_event.specs.declared.steps.Kind.{Kind}
 use Rattle.er_load.specs.declared.scripts.Action.{Action}
 use Rattle.er_load.specs.declared.scripts.Action.TheVariants.{Access}
-use Rattle.er_load.specs.Scripts.{events_by, events_in_all}
+use Rattle.er_load.specs.Inner.Scripts.{events_by, events_in_all}
 use Rattle.er_load.specs.Workloads.{times, each_word, access}
 
 pub events-append : (xs ys : List Action) → events_in_all (xs ++ ys) ≡ events_in_all xs ++ events_in_all ys

@@ -1,5 +1,3 @@
-pub mod Accepted
 pub mod Faults
-pub mod Parts
-pub mod Scripts
 pub mod Workloads
+pub mod Inner

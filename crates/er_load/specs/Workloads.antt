@@ -57,20 +57,20 @@ thread_count RwTable = 3
 thread_count _ = 2
 
 -- what a thread does in a stage; all threads are done with the first one before the second one begins
-unfoldable pub part : Workload → Stage → ℕ → List Event
-part LockedCounter First t = times 100 (locked mode.Write count_events)
-part RacyCounter First t = times 2 (access kind.Write 1024 ∷ [])
-part InitThenRead First t = cond (t == 0) (each_word kind.Write 1024 16) []
-part InitThenRead Second t = cond (t == 0) [] (each_word kind.Read 1024 16)
-part RwTable First t = times 10 (table_events t)
-part ReusePool First t = page_events (1 + t)
-part ReusePool Second t = page_events (2 - t)
-part IgnoredStats First t = ignored_events
-part _ Second t = []
+unfoldable pub stage_events : Workload → Stage → ℕ → List Event
+stage_events LockedCounter First t = times 100 (locked mode.Write count_events)
+stage_events RacyCounter First t = times 2 (access kind.Write 1024 ∷ [])
+stage_events InitThenRead First t = cond (t == 0) (each_word kind.Write 1024 16) []
+stage_events InitThenRead Second t = cond (t == 0) [] (each_word kind.Read 1024 16)
+stage_events RwTable First t = times 10 (table_events t)
+stage_events ReusePool First t = page_events (1 + t)
+stage_events ReusePool Second t = page_events (2 - t)
+stage_events IgnoredStats First t = ignored_events
+stage_events _ Second t = []
 
 -- what a thread does in all
 unfoldable pub workload_events : Workload → ℕ → List Event
-workload_events workload t = cond (nat_lt t (thread_count workload)) (part workload First t ++ part workload Second t) []
+workload_events workload t = cond (nat_lt t (thread_count workload)) (stage_events workload First t ++ stage_events workload Second t) []
 
 -- how many steps all threads make
 abbrev pub step_count : Workload → ℕ

@@ -3,11 +3,11 @@ ghost use Rattle.er_event.specs.declared.refusals.Refusal.TheVariants.{OutOfMemo
 ghost use Rattle.er_load.specs.declared.faults.LoadFault.TheVariants.{Refused};
 ghost use Rattle.std.specs.Prelude.{◌≡◌};
 
+use er_detector::Unsettled;
 use er_event::Refusal;
-use er_gather::Unsettled;
 use std::alloc::AllocError;
 
-/// Why a workload has no run (own).
+/// Why a workload has no run.
 #[derive(Clone, Copy, Debug, PartialEq, Eq)]
 pub enum LoadFault {
     /// A call was refused, or there was no memory.

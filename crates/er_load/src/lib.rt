@@ -1,6 +1,6 @@
 //! Workloads on threads, each at a detector of its own.
 //!
-//! Begin with [`run_workload`], which plays one of the [`Workload`]s and settles it: it answers the [`Run`] that the threads made, or
+//! Begin with [`run_workload`], which runs one of the [`Workload`]s and settles it: it returns the [`Run`] that the threads made, or
 //! why there is none, a [`LoadFault`].
 //!
 //! What it promises, by the names of clauses: thread by thread the run's steps are the workload's (`events`), and so it has as many as
@@ -15,13 +15,13 @@
 //! ```
 #![tactic(auto)]
 
-pub use er_gather::{Run, Unsettled};
+pub use er_detector::{Run, Unsettled};
 pub use faults::LoadFault;
 pub use runs::run_workload;
 pub use workloads::Workload;
 
 mod faults;
-mod plays;
+mod runner;
 mod runs;
 mod scripts;
 mod stages;

@@ -3,19 +3,18 @@ ghost use Rattle.std.specs.Prelude.{◌≡◌, ◌≤◌, ℕ, IfOk, IfErr, Ok, 
 ghost use Rattle.er_event.specs.declared.steps.Step.{Step as StepShown};
 ghost use Rattle.er_model.specs.Answers.{answer};
 ghost use Rattle.er_model.specs.Locality.{events_of};
-ghost use Rattle.er_model.specs.Merges.{reply_at};
+ghost use Rattle.er_journal.specs.Merges.{reply_at};
 ghost use Rattle.er_load.specs.declared.workloads.Workload.{Workload as WorkloadShown};
 ghost use Rattle.er_load.specs.Faults.{MayFail};
-ghost use Rattle.er_load.specs.Parts.{AreSeatsAt, done_before, done_after};
+ghost use Rattle.er_load.specs.Inner.Progress.{detector_name, AreSeatsAt, done_before, done_after};
 ghost use Rattle.er_load.specs.Workloads.{workload_events, step_count, thread_count};
 
-use crate::plays::Stand;
-use crate::stages::play_stage;
+use crate::runner::DetectorRunner;
+use crate::stages::run_stage;
 use crate::workloads::Stage;
 use crate::{LoadFault, Workload};
-use er_detector::{Config, Detector, Gate};
+use er_detector::{Config, Detector, Gate, Run, Unsettled, settle};
 use er_event::Refusal;
-use er_gather::{Run, Unsettled, settle};
 use er_seat::Seat;
 use er_table::LocksetTable;
 use std::alloc::Global;
@@ -25,7 +24,7 @@ use std::thread::Threads;
 // How many sets of locks a workload's table takes.
 const MAX_SETS: u32 = 1024;
 
-/// Runs a workload, each of its threads on a thread of its own, and settles it (own). Each passes the gate under its number before its
+/// Runs a workload, each of its threads on a thread of its own, and settles it. Each passes the gate under its number before its
 /// first call.
 ///
 /// If a call is refused or there is no memory the fault is `Refused`, if a thread can't be started `WorkerNotStarted`, if the seats
@@ -46,7 +45,7 @@ pub fn run_workload<G: Gate, R: Threads + Wait + Sync>(
 {
     let table = LocksetTable::new(alloc, MAX_SETS)?;
     let detector = Detector::new(alloc, &table, config())?;
-    let seats = play_all(rt, alloc, &detector, workload, gate)?;
+    let seats = run_stages(rt, alloc, &detector, workload, gate)?;
     match settle(alloc, detector, seats) {
         Ok(run) => Ok(run),
         Err(fault) => Err(LoadFault::Unsettled(fault)),
@@ -55,6 +54,7 @@ pub fn run_workload<G: Gate, R: Threads + Wait + Sync>(
 
 // The detector that a workload calls: it has a seat for each thread, and a journal that takes an entry for every step.
 fn config() -> Config
+    ensures name { result.name ≡ detector_name }
     ensures seats { (workload : WorkloadShown) → thread_count workload ≤ result.max_threads }
     ensures entries { (workload : WorkloadShown) → step_count workload ≤ result.journal_limit }
 {
@@ -63,21 +63,22 @@ fn config() -> Config
 }
 
 // The seats of all threads, once they are done with all.
-fn play_all<G: Gate, R: Threads + Wait + Sync>(
+fn run_stages<G: Gate, R: Threads + Wait + Sync>(
     rt: &R,
     alloc: Global,
     detector: &Detector<'_>,
     workload: Workload,
     gate: &G,
 ) -> Result<Vec<Seat>, LoadFault>
+    requires { detector.now.name ≡ detector_name }
     ensures count { IfOk result (λ seats. vec_len seats ≡ thread_count workload) }
     ensures seats { IfOk result (λ seats. AreSeatsAt (done_after workload Stage.Second) seats.items) }
     ensures faults { IfErr result MayFail }
 {
-    let stand = Stand { detector, gate };
+    let runner = DetectorRunner { detector, gate };
     let seats = open_seats(alloc, detector, workload)?;
-    let seats = play_stage(rt, alloc, &stand, workload, Stage::First, seats)?;
-    play_stage(rt, alloc, &stand, workload, Stage::Second, seats)
+    let seats = run_stage(rt, alloc, &runner, workload, Stage::First, seats)?;
+    run_stage(rt, alloc, &runner, workload, Stage::Second, seats)
 }
 
 // A seat for each thread, by its number.
@@ -86,6 +87,7 @@ fn open_seats(
     detector: &Detector<'_>,
     workload: Workload,
 ) -> Result<Vec<Seat>, LoadFault>
+    requires { detector.now.name ≡ detector_name }
     ensures count { IfOk result (λ seats. vec_len seats ≡ thread_count workload) }
     ensures seats { IfOk result (λ seats. AreSeatsAt (done_before workload Stage.First) seats.items) }
     ensures faults { IfErr result MayFail }

@@ -1,9 +1,9 @@
 //! What one thread of a workload does in one stage, as a list of actions.
 ghost use Rattle.std.specs.Prelude.{◌≡◌, ◌+◌, ◌*◌, ◌<◌, ◌≤◌, ◌++◌, ◌^◌, IfOk, OnOk};
-ghost use Rattle.er_load.specs.Scripts.{events_in_all};
-ghost use Rattle.er_load.specs.Workloads.{each_word, times, locked, page, page_events, count_events, ignored_events, table_events, part, thread_count};
+ghost use Rattle.er_load.specs.Inner.Scripts.{events_in_all};
+ghost use Rattle.er_load.specs.Workloads.{each_word, times, locked, page, page_events, count_events, ignored_events, table_events, stage_events, thread_count};
 
-use crate::workloads::{Part, Stage, Workload};
+use crate::workloads::{Stage, Task, Workload};
 use er_event::{Kind, Mode, Refusal, Word, WordRange};
 use std::alloc::{AllocError, Global};
 
@@ -27,12 +27,12 @@ pub(crate) enum Action {
 // The first word that a workload touches.
 const FIRST_WORD: u64 = 0x400;
 
-/// The actions of a part.
-pub(crate) fn script_of(alloc: Global, whose: Part) -> Result<Vec<Action>, AllocError>
+/// The actions of a task.
+pub(crate) fn script_of(alloc: Global, whose: Task) -> Result<Vec<Action>, AllocError>
     requires { whose.thread < thread_count whose.workload }
-    ensures { IfOk result (λ script. events_in_all script.items ≡ part whose.workload whose.stage whose.thread) }
+    ensures { IfOk result (λ script. events_in_all script.items ≡ stage_events whose.workload whose.stage whose.thread) }
 {
-    let Part {
+    let Task {
         workload,
         stage,
         thread,
@@ -43,14 +43,14 @@ pub(crate) fn script_of(alloc: Global, whose: Part) -> Result<Vec<Action>, Alloc
     }
 }
 
-#[tactic(auto, unfolding(crate::specs::Workloads::part, crate::specs::Scripts::events_in_all))]
+#[tactic(auto, unfolding(crate::specs::Workloads::stage_events, crate::specs::Inner::Scripts::events_in_all))]
 fn first_script_of(
     alloc: Global,
     workload: Workload,
     thread: u32,
 ) -> Result<Vec<Action>, AllocError>
     requires { thread < thread_count workload }
-    ensures { IfOk result (λ script. events_in_all script.items ≡ part workload Stage.First thread) }
+    ensures { IfOk result (λ script. events_in_all script.items ≡ stage_events workload Stage.First thread) }
 {
     match workload {
         Workload::LockedCounter => locked_counts(alloc),
@@ -71,14 +71,14 @@ fn first_script_of(
     }
 }
 
-#[tactic(auto, unfolding(crate::specs::Workloads::part, crate::specs::Scripts::events_in_all))]
+#[tactic(auto, unfolding(crate::specs::Workloads::stage_events, crate::specs::Inner::Scripts::events_in_all))]
 fn second_script_of(
     alloc: Global,
     workload: Workload,
     thread: u32,
 ) -> Result<Vec<Action>, AllocError>
     requires { thread < thread_count workload }
-    ensures { IfOk result (λ script. events_in_all script.items ≡ part workload Stage.Second thread) }
+    ensures { IfOk result (λ script. events_in_all script.items ≡ stage_events workload Stage.Second thread) }
 {
     match workload {
         Workload::InitThenRead => {
@@ -94,7 +94,7 @@ fn second_script_of(
 }
 
 // Counts up a word under the lock.
-#[tactic(auto, unfolding(crate::specs::Scripts::events_in_all))]
+#[tactic(auto, unfolding(crate::specs::Inner::Scripts::events_in_all))]
 fn locked_counts(alloc: Global) -> Result<Vec<Action>, AllocError>
     ensures { IfOk result (λ script. events_in_all script.items ≡ times 100 (locked Mode.Write count_events)) }
 {

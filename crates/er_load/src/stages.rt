@@ -2,14 +2,13 @@
 ghost use Rattle.std.specs.Prelude.{◌≡◌, ◌<◌, ◌≤◌, ◌⊎◌, [], ℕ, map, IsTrue, IfOk, IfErr, Ok, Some, vec_len, vec_capacity};
 ghost use Rattle.er_load.specs.declared.workloads.Stage.{Stage as StageShown};
 ghost use Rattle.er_load.specs.declared.workloads.Workload.{Workload as WorkloadShown};
-ghost use Rattle.er_load.specs.Accepted.{may_meet};
-ghost use Rattle.er_load.specs.Faults.{MayFail};
-ghost use Rattle.er_load.specs.Parts.{IsSeatAt, AreSeatsAt, EndsAt, AreWorkers, AreAnswersAt, AreMet, first_refusal, done_before, done_after};
+ghost use Rattle.er_load.specs.Faults.{MayFail, may_meet};
+ghost use Rattle.er_load.specs.Inner.Progress.{IsSeatAt, AreSeatsAt, EndsAt, AreWorkers, AreAnswersAt, AreMet, first_refusal, done_before, done_after};
 ghost use Rattle.er_load.specs.Workloads.{thread_count};
 
 use crate::LoadFault;
-use crate::plays::Player;
-use crate::workloads::{Part, Stage, Workload};
+use crate::runner::Runner;
+use crate::workloads::{Stage, Task, Workload};
 use er_event::Refusal;
 use er_seat::Seat;
 use std::alloc::Global;
@@ -17,20 +16,20 @@ use std::sync::Wait;
 use std::thread;
 use std::thread::{Promise, PromisedHandle, Threads};
 
-// What a thread promises: its seat, which is done with the part, or a refusal that no definition gives.
-impl Promise<Result<Seat, Refusal>> for Part {
+// What a thread promises: its seat, which is done with the task, or a refusal that no definition gives.
+impl Promise<Result<Seat, Refusal>> for Task {
     ghost use Rattle.std.specs.Prelude.{IsTrue, IfOk, IfErr};
-    ghost use Rattle.er_load.specs.Accepted.{may_meet};
-    ghost use Rattle.er_load.specs.Parts.{IsSeatAt, done_after};
+    ghost use Rattle.er_load.specs.Faults.{may_meet};
+    ghost use Rattle.er_load.specs.Inner.Progress.{IsSeatAt, done_after};
 
     ghost kept_by = { λ p r. IfOk r (λ seat. IsSeatAt p.thread (done_after p.workload p.stage p.thread) seat) × IfErr r (λ why. IsTrue (may_meet why)) };
 }
 
-// The thread that plays a seat's part, or the seat where its part is nothing.
+// The thread that runs a seat's task, or the seat if its task is nothing.
 #[derive(Drop)]
 enum Worker {
     Idle(Seat),
-    Started(PromisedHandle<Result<Seat, Refusal>, Part>),
+    Started(PromisedHandle<Result<Seat, Refusal>, Task>),
 }
 
 impl Worker {
@@ -46,11 +45,11 @@ impl Worker {
     }
 }
 
-/// Plays one stage of a workload, each part on a thread of its own. All threads are joined, whatever they answer.
-pub(crate) fn play_stage<P: Player, R: Threads + Wait + Sync>(
+/// Runs one stage of a workload, each task on a thread of its own. All threads are joined, whatever they answer.
+pub(crate) fn run_stage<P: Runner, R: Threads + Wait + Sync>(
     rt: &R,
     alloc: Global,
-    player: &P,
+    runner: &P,
     workload: Workload,
     stage: Stage,
     seats: Vec<Seat>,
@@ -73,21 +72,21 @@ pub(crate) fn play_stage<P: Player, R: Threads + Wait + Sync>(
             let room = Vec::with_capacity(alloc, seats.len())?;
             let mut workers = Vec::with_capacity(alloc, seats.len())?;
             for seat in seats {
-                let part = Part {
+                let task = Task {
                     workload,
                     stage,
                     thread: seat.thread(),
                 };
-                if part.is_idle() {
+                if task.is_idle() {
                     workers.push_reserved(Worker::Idle(seat));
                     continue;
                 }
                 let started = scope.spawn_with(
-                    part,
+                    task,
                     move || -> Result<Seat, Refusal>
-                        requires { (part.thread < thread_count part.workload) × IsSeatAt part.thread (done_before part.workload part.stage part.thread) seat }
-                        ensures { IfOk result (λ seat. IsSeatAt part.thread (done_after part.workload part.stage part.thread) seat) × IfErr result (λ why. IsTrue (may_meet why)) }
-                    { player.play_part(rt, alloc, part, seat) },
+                        requires { (task.thread < thread_count task.workload) × IsSeatAt task.thread (done_before task.workload task.stage task.thread) seat }
+                        ensures { IfOk result (λ seat. IsSeatAt task.thread (done_after task.workload task.stage task.thread) seat) × IfErr result (λ why. IsTrue (may_meet why)) }
+                    { runner.run_task(rt, alloc, task, seat) },
                 );
                 let Ok(handle) = started else {
                     // Those that were started are waited for all the same.

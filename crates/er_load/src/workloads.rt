@@ -1,10 +1,10 @@
 //! The workloads, by name.
 ghost use Rattle.std.specs.Prelude.{◌≡◌, [], IsTrue};
-ghost use Rattle.er_load.specs.Workloads.{name_of, part, thread_count};
+ghost use Rattle.er_load.specs.Workloads.{name_of, stage_events, thread_count};
 
 use er_event::ThreadId;
 
-/// What some threads do at one detector (own).
+/// What some threads do at one detector.
 #[derive(Clone, Copy, Debug, PartialEq, Eq, Hash)]
 pub enum Workload {
     /// Two threads count up 100 times each, under a lock.
@@ -30,7 +30,7 @@ pub(crate) enum Stage {
 
 /// What one thread does in one stage.
 #[derive(Clone, Copy)]
-pub(crate) struct Part {
+pub(crate) struct Task {
     pub(crate) workload: Workload,
     pub(crate) stage: Stage,
     pub(crate) thread: ThreadId,
@@ -72,11 +72,11 @@ impl Workload {
     }
 }
 
-impl Part {
+impl Task {
     /// Whether there is nothing to do.
-    #[tactic(auto, unfolding(crate::specs::Workloads::part))]
+    #[tactic(auto, unfolding(crate::specs::Workloads::stage_events))]
     pub(crate) fn is_idle(self) -> bool
-        ensures { IsTrue result → part self.workload self.stage self.thread ≡ [] }
+        ensures { IsTrue result → stage_events self.workload self.stage self.thread ≡ [] }
     {
         let writes_first = self.thread.number() == 0;
         match self.stage {

@@ -1,5 +1,5 @@
--- A seat's list that grows by one call, and how many calls it owes.
-use Rattle.std.proofs.Common.{◌≡◌, ℕ, zero, suc, ◌+◌, ◌-◌, ◌<◌, ◌≤◌, Bool, true, false, not, ◌||◌, cond, ◌==◌, nat_le, nat_lt, List, [], ◌∷◌, ◌++◌, filter, length, length-append, slice_get, Some, None, Ok, is_some, refl, ap, sym, ◌∙◌, arith, inl, inr, ◌⊎◌}
+-- A seat's list that grows by one call, and how many calls give back what is held.
+use Rattle.std.proofs.Common.{◌≡◌, ℕ, zero, suc, ◌+◌, ◌<◌, ◌≤◌, Bool, true, false, not, ◌||◌, cond, ◌==◌, nat_le, nat_lt, List, [], ◌∷◌, ◌++◌, filter, length, length-append, slice_get, Some, None, Ok, is_some, refl, ap, sym, ◌∙◌, arith, inl, inr, ◌⊎◌}
 use Rattle.std.proofs.lemmas.Bool.{eqb-true, eq-eqb, lt-ltb, or_right}
 use Rattle.er_event.specs.declared.addresses.PageRange.{PageRange}
 use Rattle.er_event.specs.declared.steps.Event.{Event}
@@ -12,9 +12,9 @@ use Rattle.er_event.specs.declared.steps.Step.{Step}
 use Rattle.er_event.specs.declared.steps.WordState.{WordState}
 use Rattle.er_event.specs.declared.refusals.Refusal.TheVariants.{LevelLock, AlreadyHeld, HeldFull, WrongMode, NotHeld, IgnoreNotOn}
 use Rattle.er_event.specs.Lockset.{has, with_lock, without_lock, is_level_lock, level_locks, locks_from}
-use Rattle.er_event.proofs.LocksetLemmas.{has-with_lock, itself, without_absent, length-filter-≤}
+use Rattle.er_event.proofs.LocksetLemmas.{has-with_lock, without_absent}
 use Rattle.er_held.proofs.HeldLemmas.{without-with_lock}
-use Rattle.er_model.specs.declared.stamps.Call.{Call}
+use Rattle.er_journal.specs.declared.entries.Call.{Call}
 use Rattle.er_model.specs.Answers.{answer, answer_unless, state_end}
 use Rattle.er_model.specs.Following.{replied}
 use Rattle.er_model.specs.Holdings.{Holdings, holdings, acquired_among, at_level, holdings_at, holdings_end, after_step, refused_by, changed_by}
@@ -24,7 +24,9 @@ use Rattle.er_model.specs.Threads.{accepted, holds, refusal_if, held}
 use Rattle.er_model.proofs.Levels.{level-room, level-counted, level-remove, level-stays}
 use Rattle.er_model.proofs.Prefixes.{holdings-empty, holdings-front, holdings-grow, answer-front, answer-grow}
 use Rattle.er_model.proofs.Threads.{has-held, has-write_held, held-ends, no_level_lock}
-use Rattle.er_seat.specs.Seats.{done, ignored, ticketed, steps_in, held_after, is_show, IsOwnList, IsSeat, owed}
+use Rattle.er_event.proofs.Bools.{itself}
+use Rattle.er_event.proofs.Lists.{length_filter}
+use Rattle.er_seat.specs.Seats.{done, ignored, ticketed, steps_in, held_after, is_show, IsOwnList, IsSeat, calls_to_unwind}
 
 -- the step of a call
 abbrev step_of : ℕ → Call → Step
@@ -80,14 +82,16 @@ module _ (t : ℕ) (calls : List Call) (last : Call) (own : IsOwnList t calls) (
   pub own-more : ((f : ℕ → WordState) → is_own_call (held_after t calls) last.event ≡ true → replied (held_after t calls) f t last.event ≡ last.reply) →
       is_some last.ticket ≡ not (is_own_call (held_after t calls) last.event) → is_show last.event ≡ false → IsOwnList t (calls ++ last ∷ [])
   own-more replies ticket no_show = record {
-    legal = λ j call is mine. elim (get-more calls last call j is) [
-      | inl p ↦ answer-before j p.0 ∙ own.legal j call p.1 (sym (ap (λ h. is_own_call h call.event) (held-before j (omega (arith, p.0)))) ∙ mine)
-      | inr q ↦ at_end j call q.0 q.1 mine
-    ];
-    tickets = λ j call is. elim (get-more calls last call j is) [
-      | inl p ↦ own.tickets j call p.1 ∙ sym (ap (λ h. not (is_own_call h call.event)) (held-before j (omega (arith, p.0))))
-      | inr q ↦ rw (q.0, q.1, held-last) ticket
-    ];
+    list = record {
+      replies = λ j call is mine. elim (get-more calls last call j is) [
+        | inl p ↦ answer-before j p.0 ∙ own.list.replies j call p.1 (sym (ap (λ h. is_own_call h call.event) (held-before j (omega (arith, p.0)))) ∙ mine)
+        | inr q ↦ at_end j call q.0 q.1 mine
+      ];
+      tickets = λ j call is. elim (get-more calls last call j is) [
+        | inl p ↦ own.list.tickets j call p.1 ∙ sym (ap (λ h. not (is_own_call h call.event)) (held-before j (omega (arith, p.0))))
+        | inr q ↦ rw (q.0, q.1, held-last) ticket
+      ];
+    };
     no_show = λ j call is. elim (get-more calls last call j is) [ inl p ↦ own.no_show j call p.1 | inr q ↦ rw q.1 no_show ];
   }
     where
@@ -99,7 +103,7 @@ module _ (t : ℕ) (calls : List Call) (last : Call) (own : IsOwnList t calls) (
 
 -- a list without calls
 pub own-none : (t : ℕ) → IsOwnList t []
-own-none t = record { legal = λ j call is own. cc; tickets = λ j call is. cc; no_show = λ j call is. cc }
+own-none t = record { list = record { replies = λ j call is own. cc; tickets = λ j call is. cc }; no_show = λ j call is. cc }
 
 pub held-none : (t : ℕ) (calls : List Call) → calls ≡ [] → held_after t calls ≡ record { held = []; write_held = []; level = 0; depth = 0 }
 unfolding held_after
@@ -114,7 +118,7 @@ pub seat-more : (t : ℕ) (calls now : List Call) (held next : Holdings) (room l
     refused_by held last.event ≡ None → next ≡ changed_by held last.event →
     ((f : ℕ → WordState) → is_own_call held last.event ≡ true → replied held f t last.event ≡ last.reply) →
     is_some last.ticket ≡ not (is_own_call held last.event) → is_show last.event ≡ false →
-    (length calls + 1) + owed next ≤ left → IsSeat t now next left
+    (length calls + 1) + calls_to_unwind next ≤ left → IsSeat t now next left
 seat-more t calls now held next room left last seat grown accepted after replies ticket no_show fits =
     let is = seat.holds in
     let accepted' : refused_by (held_after t calls) last.event ≡ None = rw is at accepted in
@@ -128,13 +132,13 @@ seat-more t calls now held next room left last seat grown accepted after replies
 pub seat-done : (t : ℕ) (calls mid now : List Call) (held next : Holdings) (room left : ℕ) (e : Event) (last : Call) → IsSeat t calls held room →
     mid ≡ calls → now ≡ mid ++ last ∷ [] → last ≡ done e → refused_by held e ≡ None → next ≡ changed_by held e →
     is_own_call held e ≡ true → ((f : ℕ → WordState) → replied held f t e ≡ Done) → is_show e ≡ false →
-    (length calls + 1) + owed next ≤ left → IsSeat t now next left
+    (length calls + 1) + calls_to_unwind next ≤ left → IsSeat t now next left
 seat-done t calls mid now held next room left e last seat kept grown is accepted after mine replies no_show fits =
     seat-more t calls now held next room left (done e) seat (rw (kept, is) at grown) accepted after (λ f own. replies f) (rw mine refl) no_show fits
 
 -- with an access in a bracket, which stands in no journal either
 pub seat-ignored : (t : ℕ) (calls mid now : List Call) (held : Holdings) (room left word site : ℕ) (kind : Kind) → IsSeat t calls held room →
-    mid ≡ calls → now ≡ mid ++ ignored (Access kind word site) ∷ [] → 0 < (held_after t calls).depth → (length calls + 1) + owed held ≤ left → IsSeat t now held left
+    mid ≡ calls → now ≡ mid ++ ignored (Access kind word site) ∷ [] → 0 < (held_after t calls).depth → (length calls + 1) + calls_to_unwind held ≤ left → IsSeat t now held left
 seat-ignored t calls mid now held room left word site kind seat kept grown deep fits =
     let mine : nat_lt 0 held.depth ≡ true = rw seat.holds (lt-ltb 0 (held_after t calls).depth deep) in
     seat-more t calls now held held room left (ignored (Access kind word site)) seat (rw kept at grown) refl refl (λ f own. rw mine refl) (rw mine refl) refl fits
@@ -142,19 +146,19 @@ seat-ignored t calls mid now held room left word site kind seat kept grown deep 
 -- with a call that stands in a journal, which drew a ticket
 pub seat-ticketed : (t : ℕ) (calls mid now : List Call) (held : Holdings) (room left ticket : ℕ) (e : Event) (reply : Reply) → IsSeat t calls held room →
     mid ≡ calls → now ≡ mid ++ ticketed e ticket reply ∷ [] → refused_by held e ≡ None → held ≡ changed_by held e → is_own_call held e ≡ false → is_show e ≡ false →
-    (length calls + 1) + owed held ≤ left → IsSeat t now held left
+    (length calls + 1) + calls_to_unwind held ≤ left → IsSeat t now held left
 seat-ticketed t calls mid now held room left ticket e reply seat kept grown accepted same journaled no_show fits =
     seat-more t calls now held held room left (ticketed e ticket reply) seat (rw kept at grown) accepted same (λ f own. absurd (let never = sym journaled ∙ own in cc)) (rw journaled refl) no_show fits
 
 -- a counted access is such a call, and so is a reuse
 pub seat-counted : (t : ℕ) (calls mid now : List Call) (held : Holdings) (room left ticket word site : ℕ) (kind : Kind) (reply : Reply) → IsSeat t calls held room →
-    mid ≡ calls → now ≡ mid ++ ticketed (Access kind word site) ticket reply ∷ [] → (held_after t calls).depth ≡ 0 → (length calls + 1) + owed held ≤ left → IsSeat t now held left
+    mid ≡ calls → now ≡ mid ++ ticketed (Access kind word site) ticket reply ∷ [] → (held_after t calls).depth ≡ 0 → (length calls + 1) + calls_to_unwind held ≤ left → IsSeat t now held left
 seat-counted t calls mid now held room left ticket word site kind reply seat kept grown flat fits =
     let counts : nat_lt 0 held.depth ≡ false = rw (seat.holds, flat) refl in
     seat-ticketed t calls mid now held room left ticket (Access kind word site) reply seat kept grown refl refl counts refl fits
 
 pub seat-reused : (t : ℕ) (calls mid now : List Call) (held : Holdings) (room left ticket : ℕ) (range : PageRange) → IsSeat t calls held room →
-    mid ≡ calls → now ≡ mid ++ ticketed (Reuse range) ticket Done ∷ [] → (length calls + 1) + owed held ≤ left → IsSeat t now held left
+    mid ≡ calls → now ≡ mid ++ ticketed (Reuse range) ticket Done ∷ [] → (length calls + 1) + calls_to_unwind held ≤ left → IsSeat t now held left
 seat-reused t calls mid now held room left ticket range seat kept grown fits =
     seat-ticketed t calls mid now held room left ticket (Reuse range) Done seat kept grown refl refl refl refl fits
 
@@ -173,14 +177,6 @@ held-within t calls l there =
     let steps = steps_in t calls in
     let past = accepted steps (length steps) in
     has-held past t l ∙ or_right (holds past t l Read) (holds past t l Write) (sym (has-write_held past t l) ∙ there)
-
--- and after one more
-pub ends-next : (t : ℕ) (calls : List Call) (held next : Holdings) (room : ℕ) (e : Event) → IsSeat t calls held room → refused_by held e ≡ None → next ≡ changed_by held e → at_level next.level next.held ≡ next.held
-ends-next t calls held next room e seat accepted after =
-    let call : Call = record { event = e; reply = Done; ticket = None } in
-    let accepted' : refused_by (held_after t calls) e ≡ None = rw seat.holds at accepted in
-    let is : next ≡ held_after t (calls ++ call ∷ []) = after ∙ rw seat.holds (sym (held-more t calls call accepted')) in
-    rw is (held-ends_in t (calls ++ call ∷ []))
 
 pub ends-now : (t : ℕ) (calls : List Call) (held : Holdings) (room : ℕ) → IsSeat t calls held room → at_level held.level held.held ≡ held.held
 ends-now t calls held room seat = rw seat.holds (held-ends_in t calls)
@@ -242,7 +238,7 @@ shorter-tail l x locks false same apart there = there
 
 shorter-cases : (l x : ℕ) (locks : List ℕ) (b : Bool) → (l == x) ≡ b → has (x ∷ locks) l ≡ true → (has locks l ≡ true → length (filter (λ y. not (l == y)) locks) + 1 ≤ length locks) →
     length (cond (not b) (x ∷ filter (λ y. not (l == y)) locks) (filter (λ y. not (l == y)) locks)) + 1 ≤ suc (length locks)
-shorter-cases l x locks true same there rest = let few = length-filter-≤ (λ y. not (l == y)) locks in omega arith
+shorter-cases l x locks true same there rest = let few = length_filter (λ y. not (l == y)) locks in omega arith
 shorter-cases l x locks false apart there rest = let few = rest (shorter-tail l x locks (x == l) refl apart there) in omega arith
 
 without-shorter : (l : ℕ) (locks : List ℕ) → has locks l ≡ true → length (without_lock l locks) + 1 ≤ length locks
@@ -250,9 +246,9 @@ unfolding without_lock
 without-shorter l [] there = cc
 without-shorter l (x ∷ locks) there = shorter-cases l x locks (l == x) refl there (without-shorter l locks)
 
--- what is owed after a release, after an ignore-off and after a level
-pub owed-release : (t : ℕ) (calls : List Call) (h next : Holdings) (room l : ℕ) (m : Mode) → IsSeat t calls h room → refused_by h (Release l m) ≡ None → next ≡ changed_by h (Release l m) → owed next + 1 ≤ owed h
-owed-release t calls h next room l m seat accepted after =
+-- what is calls_to_unwind after a release, after an ignore-off and after a level
+pub unwind-release : (t : ℕ) (calls : List Call) (h next : Holdings) (room l : ℕ) (m : Mode) → IsSeat t calls h room → refused_by h (Release l m) ≡ None → next ≡ changed_by h (Release l m) → calls_to_unwind next + 1 ≤ calls_to_unwind h
+unwind-release t calls h next room l m seat accepted after =
     let there = release_there t calls l h m seat.holds accepted in
     let ends = ends-now t calls h room seat in
     let fewer = without-shorter l h.held there.1 in
@@ -263,8 +259,8 @@ owed-release t calls h next room l m seat accepted after =
     let room' = level-room (without_lock l h.held) h.level ends' in
     rw after (omega arith)
 
-pub owed-ignore_off : (h next : Holdings) → refused_by h IgnoreOff ≡ None → next ≡ changed_by h IgnoreOff → owed next + 1 ≤ owed h
-owed-ignore_off h next accepted after = rw after (let deep = open_bracket h.depth accepted in omega arith)
+pub unwind-ignore_off : (h next : Holdings) → refused_by h IgnoreOff ≡ None → next ≡ changed_by h IgnoreOff → calls_to_unwind next + 1 ≤ calls_to_unwind h
+unwind-ignore_off h next accepted after = rw after (let deep = open_bracket h.depth accepted in omega arith)
   where
     open_bracket : (n : ℕ) → refusal_if (n == 0) IgnoreNotOn ≡ None → 0 < n
     open_bracket zero is = cc
@@ -275,13 +271,9 @@ unfolding locks_from
 length-locks l zero = refl
 length-locks l (suc n) = ap suc (length-locks (suc l) n)
 
-pub owed-level : (h next : Holdings) (n : ℕ) → next ≡ changed_by h (Level n) → owed next ≡ owed h
-owed-level h next n after =
+pub unwind-level : (h next : Holdings) (n : ℕ) → next ≡ changed_by h (Level n) → calls_to_unwind next ≡ calls_to_unwind h
+unwind-level h next n after =
     let counted = level-counted (at_level n h.held) n (level-stays h.held n) in
     let size = length-append (acquired_among h.held) (level_locks n) in
     let levels = length-locks 4294967265 n in
     rw after (omega arith)
-
--- how many locks are acquired, by the length of the list and the level
-pub owed-counted : (h : Holdings) → at_level h.level h.held ≡ h.held → (h.level ≤ length h.held) × (owed h ≡ (length h.held - h.level) + h.depth)
-owed-counted h ends = (level-room h.held h.level ends, ap (λ n. n + h.depth) (level-counted h.held h.level ends))

@@ -10,9 +10,9 @@
 //! calls that stand in no journal have the replies that the list gives (`legal`), and the others drew tickets (`tickets`).
 //!
 //! ```text
-//! let mut seat = VacantSeat::new(alloc, name)?.taken_by(thread);
+//! let mut seat = VacantSeat::new(alloc, name)?.into_seat(thread);
 //! seat.acquire(lock, Mode::Write)?;
-//! seat.count(rt, &mut shard, ticket, word, Kind::Write, site)?;
+//! seat.record_access(rt, &mut shard, ticket, word, Kind::Write, site)?;
 //! seat.release(lock, Mode::Write)?;
 //! seat.calls() // an acquire, a write with its ticket and its reply, and a release
 //! ```

@@ -1,22 +1,22 @@
 //! `Seat`, one thread's handle.
 ghost use Rattle.std.specs.Prelude.{◌≡◌, ◌≤◌, ◌<◌, ◌+◌, ◌↔◌, ◌⊎◌, [], ℕ, Bool, cond, length, IsTrue, IsFalse, IsOk, IfOk, IsOkUnless, IsErrAnd, IsErrOf, OnOk, OnErr, None, Some, slice_get, is_some, not};
 ghost use Rattle.er_held.specs.Held.{nothing_held};
-ghost use Rattle.er_model.specs.declared.stamps.Call.{Call as Calls};
-ghost use Rattle.er_model.specs.Holdings.{at_level, refused_by, changed_by, holdings_at};
-ghost use Rattle.er_model.specs.Journals.{journal_state};
-ghost use Rattle.er_model.specs.Locality.{is_own_call};
-ghost use Rattle.er_model.specs.Merges.{IsLegalSeat};
+ghost use Rattle.er_journal.specs.declared.entries.Call.{Call as Calls};
+ghost use Rattle.er_model.specs.Holdings.{refused_by, changed_by};
+ghost use Rattle.er_journal.specs.Journals.{journal_state};
+ghost use Rattle.er_journal.specs.Merges.{IsLegalSeat};
 ghost use Rattle.er_shadow.specs.Shadows.{needs_set};
 ghost use Rattle.er_shard.specs.Journaled.{entry_of, with_entry};
-ghost use Rattle.er_seat.specs.Seats.{Seated, holdings_of, stamp_of, steps_in, with_call, done, ignored, ticketed, is_show, owed};
+ghost use Rattle.er_settle.specs.Seats.{AreTicketed};
+ghost use Rattle.er_seat.specs.Seats.{holdings_of, access_stamp, with_call, done, ignored, ticketed, is_show, calls_to_unwind};
 
 use er_event::{
     Event, Kind, Level, LockId, Lockset, Mode, NoRoom, PageRange, Refusal, Reply, Site, ThreadId,
     Word,
 };
 use er_held::Held;
-use er_model::{BriefReply, Call, Stamp, What};
-use er_shard::Shard;
+use er_journal::{BriefReply, Call, Stamp, What};
+use er_shard::{Shard, in_brief};
 use std::alloc::{AllocError, Global};
 use std::marker::Model;
 use std::sync::Wait;
@@ -40,7 +40,7 @@ impl Model for VacantSeat {
 }
 
 impl VacantSeat {
-    /// A seat at the detector of this name (own).
+    /// A vacant seat at the detector of this name. The only error is that there is no memory for the first call.
     pub fn new(alloc: Global, name: u64) -> Result<VacantSeat, AllocError>
         ensures { IfOk result (λ seat. seat ≡ name) }
     {
@@ -49,8 +49,8 @@ impl VacantSeat {
         Ok(VacantSeat { name, calls, alloc })
     }
 
-    /// The seat, taken by a thread, which has made no call and holds nothing (own). It takes no memory.
-    pub fn taken_by(self, thread: ThreadId) -> Seat
+    /// The seat of a thread, which has made no call and holds nothing. It takes no memory.
+    pub fn into_seat(self, thread: ThreadId) -> Seat
         ensures seat { result ≡ record { name = self; thread = thread; calls = [] } }
         ensures nothing { holdings_of result ≡ nothing_held }
     {
@@ -67,7 +67,7 @@ impl VacantSeat {
 /// What one thread holds, and the calls that it made. Contracts see its detector's name, its thread and the calls.
 ///
 /// The list always has room for the calls that give back what is held: a thread can let go of its locks and close its brackets
-/// where no memory is left.
+/// if no memory is left.
 #[derive(Drop)]
 pub struct Seat {
     name: u64,
@@ -78,9 +78,10 @@ pub struct Seat {
 
 impl Model for Seat {
     ghost use Rattle.std.specs.Prelude.{vec_capacity};
-    ghost use Rattle.er_seat.specs.Seats.{Seated, IsSeat};
+    ghost use Rattle.er_settle.specs.Seats.{SeatList};
+    ghost use Rattle.er_seat.specs.Seats.{IsSeat};
 
-    ghost Value = { Seated };
+    ghost Value = { SeatList };
 
     ghost view = { λ s. record { name = s.name; thread = s.thread; calls = s.calls.items } };
 
@@ -88,7 +89,7 @@ impl Model for Seat {
 }
 
 impl Seat {
-    /// The name of its detector (own).
+    /// The name of its detector.
     pub fn name(&self) -> u64
         ensures { result ≡ self.now.name }
     {
@@ -130,7 +131,7 @@ impl Seat {
         self.held.ignoring()
     }
 
-    /// The calls that were accepted, in order (own).
+    /// The calls that were accepted, in order.
     pub fn calls(&self) -> &[Call]
         ensures calls { result.now ≡ self.now.calls }
 
@@ -138,13 +139,14 @@ impl Seat {
         ensures legal { IsLegalSeat self.now.thread self.now.calls }
 
         // The others, which are counted accesses and reuses, drew tickets.
-        ensures tickets { (j : ℕ) (call : Calls) → slice_get self.now.calls j ≡ Some call → is_some call.ticket ≡ not (is_own_call (holdings_at (steps_in self.now.thread self.now.calls) self.now.thread j) call.event) }
+        ensures tickets { AreTicketed self.now.thread self.now.calls }
         ensures no_show { (j : ℕ) (call : Calls) → slice_get self.now.calls j ≡ Some call → IsFalse (is_show call.event) }
     {
         self.calls.as_slice()
     }
 
-    /// Takes a lock that is held in neither mode (section 2 of the 1997 paper; the refusals are own).
+    /// Takes a lock that is held in neither mode (section 2 of the 1997 paper). Refused if it is a level's lock (`LevelLock`), if it is
+    /// held (`AlreadyHeld`), if 64 locks were acquired (`HeldFull`), and if there is no memory (`OutOfMemory`).
     #[tactic(auto, unfolding(crate::specs::Seats::with_call))]
     pub fn acquire(&mut self, lock: LockId, mode: Mode) -> Result<(), Refusal>
         ensures refused { (why : Refusal) → refused_by (holdings_of self.old) (Event.Acquire lock mode) ≡ Some why → result ≡ Err why }
@@ -154,7 +156,7 @@ impl Seat {
         ensures memory { refused_by (holdings_of self.old) (Event.Acquire lock mode) ≡ None → IsOkUnless result Refusal.OutOfMemory }
     {
         self.held.acquire(lock, mode)?;
-        let with_release = 1 + owed(&self.held);
+        let with_release = 1 + calls_to_unwind(&self.held);
         if let Err(refused) = self.calls.reserve(with_release) {
             give_back(&mut self.held, lock, mode);
             return Err(refused.into());
@@ -163,7 +165,8 @@ impl Seat {
         Ok(())
     }
 
-    /// Gives up a lock that is held in this mode (section 2 of the 1997 paper; the refusals are own). It takes no memory.
+    /// Gives up a lock that is held in this mode (section 2 of the 1997 paper). It takes no memory. Refused if it is a level's lock
+    /// (`LevelLock`), if it isn't held (`NotHeld`), and if it is held in the other mode (`WrongMode`).
     #[tactic(auto, unfolding(crate::specs::Seats::with_call))]
     pub fn release(&mut self, lock: LockId, mode: Mode) -> Result<(), Refusal>
         ensures refused { (why : Refusal) → refused_by (holdings_of self.old) (Event.Release lock mode) ≡ Some why → result ≡ Err why }
@@ -177,7 +180,8 @@ impl Seat {
         Ok(())
     }
 
-    /// Opens an ignore bracket (section 3 of the 1997 paper; the limit is own).
+    /// Opens an ignore bracket (section 3 of the 1997 paper). Refused if 255 are open (`IgnoreTooDeep`), and if there is no memory
+    /// (`OutOfMemory`).
     #[tactic(auto, unfolding(crate::specs::Seats::with_call))]
     pub fn ignore_on(&mut self) -> Result<(), Refusal>
         ensures refused { (why : Refusal) → refused_by (holdings_of self.old) Event.IgnoreOn ≡ Some why → result ≡ Err why }
@@ -187,7 +191,7 @@ impl Seat {
         ensures memory { refused_by (holdings_of self.old) Event.IgnoreOn ≡ None → IsOkUnless result Refusal.OutOfMemory }
     {
         self.held.ignore_on()?;
-        let with_close = 1 + owed(&self.held);
+        let with_close = 1 + calls_to_unwind(&self.held);
         if let Err(refused) = self.calls.reserve(with_close) {
             close_bracket(&mut self.held);
             return Err(refused.into());
@@ -196,7 +200,7 @@ impl Seat {
         Ok(())
     }
 
-    /// Closes the innermost ignore bracket (section 3 of the 1997 paper; the refusal is own). It takes no memory.
+    /// Closes the innermost ignore bracket (section 3 of the 1997 paper). It takes no memory. Refused if none is open (`IgnoreNotOn`).
     #[tactic(auto, unfolding(crate::specs::Seats::with_call))]
     pub fn ignore_off(&mut self) -> Result<(), Refusal>
         ensures refused { (why : Refusal) → refused_by (holdings_of self.old) Event.IgnoreOff ≡ Some why → result ≡ Err why }
@@ -210,28 +214,29 @@ impl Seat {
         Ok(())
     }
 
-    /// Goes to an interrupt level (section 3.4 of the 1997 paper), also to the one that stands already. The call's own entry may take
-    /// memory, even where the level doesn't rise.
+    /// Goes to an interrupt level (section 3.4 of the 1997 paper), which may be the present one. Refused if there is no memory
+    /// (`OutOfMemory`): the call's own entry may take some, even if the level doesn't rise.
     #[tactic(auto, unfolding(crate::specs::Seats::with_call))]
     pub fn set_level(&mut self, level: Level) -> Result<(), Refusal>
         ensures ok { OnOk result (self.new ≡ with_call self.old (done (Event.Level level))) }
         ensures err { OnErr result (self.new ≡ self.old) }
         ensures memory { IsOkUnless result Refusal.OutOfMemory }
     {
-        self.calls.reserve(1 + owed(&self.held))?;
+        self.calls.reserve(1 + calls_to_unwind(&self.held))?;
         self.held.set_level(level)?;
         self.calls.push_reserved(done(Event::Level(level)));
         Ok(())
     }
 
-    /// Lists an access inside an ignore bracket, which doesn't count and is answered so (section 3 of the 1997 paper; the list is own).
+    /// Lists an access inside an ignore bracket, which doesn't count: its reply is `Ignored` (section 3 of the 1997 paper). The only
+    /// error is that there is no memory.
     #[tactic(auto, unfolding(crate::specs::Seats::with_call))]
-    pub fn list_ignored(&mut self, word: Word, kind: Kind, site: Site) -> Result<(), AllocError>
+    pub fn record_ignored(&mut self, word: Word, kind: Kind, site: Site) -> Result<(), AllocError>
         requires { 0 < (holdings_of self.old).depth }
         ensures ok { OnOk result (self.new ≡ with_call self.old (ignored (Event.Access kind word site))) }
         ensures err { OnErr result (self.new ≡ self.old) }
     {
-        self.calls.reserve(1 + owed(&self.held))?;
+        self.calls.reserve(1 + calls_to_unwind(&self.held))?;
         self.calls.push_reserved(Call {
             event: Event::Access(kind, word, site),
             reply: BriefReply::ignored(),
@@ -240,10 +245,10 @@ impl Seat {
         Ok(())
     }
 
-    /// Makes an access outside any bracket in a shard, under a ticket, and lists it (section 2 of the 1997 paper; the list is own).
-    /// Refused where there is no memory for the list and the stamp (`OutOfMemory`), and then where the shard refuses it.
-    #[tactic(auto, unfolding(crate::specs::Seats::with_call, crate::specs::Seats::stamp_of))]
-    pub fn count<R: Wait>(
+    /// Makes an access outside any bracket in a shard, under a ticket, and lists it (section 2 of the 1997 paper). Refused if there is
+    /// no memory for the list and the stamp (`OutOfMemory`), and then if the shard refuses it.
+    #[tactic(auto, unfolding(crate::specs::Seats::with_call, crate::specs::Seats::access_stamp))]
+    pub fn record_access<R: Wait>(
         &mut self,
         rt: &R,
         shard: &mut Shard,
@@ -254,7 +259,7 @@ impl Seat {
     ) -> Result<Reply, NoRoom>
         requires { (holdings_of self.old).depth ≡ 0 }
         ensures call { IfOk result (λ reply. self.new ≡ with_call self.old (ticketed (Event.Access kind word site) ticket reply)) }
-        ensures entry { IfOk result (λ reply. shard.new ≡ with_entry shard.old (entry_of ticket self.old.thread (What.Access (stamp_of self.old word kind site)) reply)) }
+        ensures entry { IfOk result (λ reply. shard.new ≡ with_entry shard.old (entry_of ticket self.old.thread (What.Access (access_stamp self.old word kind site)) reply)) }
         ensures race_or_quiet { IfOk result (λ reply. (reply ≡ Reply.Race) ⊎ (reply ≡ Reply.Quiet)) }
         ensures err { OnErr result (self.new ≡ self.old) }
         ensures err_shard { OnErr result (shard.new ≡ shard.old) }
@@ -264,19 +269,19 @@ impl Seat {
         // The table isn't asked for a set while one thread alone has accessed the word.
         ensures table_full { IsErrOf result NoRoom.TableFull → IsTrue (needs_set (journal_state shard.old.journal word) self.old.thread) }
     {
-        self.calls.reserve(1 + owed(&self.held))?;
+        self.calls.reserve(1 + calls_to_unwind(&self.held))?;
         let stamp = stamp(self.thread, &self.held, word, kind, site)?;
         let reply = shard.apply(rt, ticket, stamp)?;
         self.calls.push_reserved(Call {
             event: Event::Access(kind, word, site),
-            reply: same_reply(&reply),
+            reply: in_brief(&reply),
             ticket: Some(ticket),
         });
         Ok(reply)
     }
 
-    /// Makes one page part of a reuse in a shard, under a ticket, and lists it (section 3.3 of the 1997 paper; the list is own).
-    /// Refused where there is no memory for the list (`OutOfMemory`), and then where the shard refuses it.
+    /// Makes one page part of a reuse in a shard, under a ticket, and lists it (section 3.3 of the 1997 paper). Refused if there is no
+    /// memory for the list (`OutOfMemory`), and then if the shard refuses it.
     #[tactic(auto, unfolding(crate::specs::Seats::with_call))]
     pub fn reuse(&mut self, shard: &mut Shard, ticket: u64, range: PageRange) -> Result<(), NoRoom>
         ensures call { OnOk result (self.new ≡ with_call self.old (ticketed (Event.Reuse range) ticket Reply.Done)) }
@@ -287,7 +292,7 @@ impl Seat {
         ensures full_only { IsErrOf result NoRoom.JournalFull → shard.old.limit ≤ length shard.old.journal }
         ensures refusals { ¬ IsErrOf result NoRoom.TableFull }
     {
-        self.calls.reserve(1 + owed(&self.held))?;
+        self.calls.reserve(1 + calls_to_unwind(&self.held))?;
         let range = &range;
         shard.reset(ticket, self.thread, *range)?;
         self.calls.push_reserved(Call {
@@ -319,13 +324,6 @@ fn stamp(
     })
 }
 
-// The same reply in brief, of those that a counted access is given.
-fn same_reply(reply: &Reply) -> BriefReply
-    ensures { (reported : Bool) → reply.now ≡ cond reported Reply.Race Reply.Quiet → result ≡ reply.now }
-{
-    BriefReply::of_access(matches!(reply, Reply::Race))
-}
-
 // A call that no shard sees, and that is done.
 fn done(event: Event) -> Call
     ensures { result ≡ done event }
@@ -338,13 +336,11 @@ fn done(event: Event) -> Call
 }
 
 // How many calls give back what is held.
-fn owed(held: &Held) -> usize
-    requires { at_level held.now.level held.now.held ≡ held.now.held }
-    ensures owed { result ≡ owed held.now }
-    ensures limit { result ≤ 350 }
+fn calls_to_unwind(held: &Held) -> usize
+    ensures count { result ≡ calls_to_unwind held.now }
+    ensures limit { result ≤ 319 }
 {
-    let acquired = held.held().len() - usize::from(held.level().number());
-    acquired + usize::from(held.depth())
+    held.acquired() + usize::from(held.depth())
 }
 
 // Releases a lock that was just acquired.

@@ -1,26 +1,26 @@
--- A call with a ticket meets the entry of its place in its thread's hand, so the two are a pair.
+-- A call with a ticket meets the entry of its place in its thread's group, so the two are a pair.
 use Rattle.std.proofs.Common.{◌≡◌, ℕ, ◌+◌, ◌<◌, List, [], ◌∷◌, true, false, length, length-append, get_or, take, refl, sym, ap, ◌∙◌, arith, suc, inl, inr}
 use Rattle.std.specs.Prelude.{slice_get, Some, None, Option, ◌==◌}
 use Rattle.std.specs.Option.{is_some}
 use Rattle.std.proofs.lemmas.Bool.{eqb-true, eq-eqb, cases_order}
 use Rattle.std.proofs.lemmas.Option.{slice_get_within, slice_get_read}
 use Rattle.er_event.specs.declared.steps.Event.{Event}
-use Rattle.er_model.specs.declared.stamps.Call.{Call}
-use Rattle.er_model.specs.declared.stamps.Entry.{Entry}
+use Rattle.er_journal.specs.declared.entries.Call.{Call}
+use Rattle.er_journal.specs.declared.entries.Entry.{Entry}
 use Rattle.er_model.specs.Threads.{accepted}
 use Rattle.er_model.specs.Holdings.{Holdings, changed_unless, refused_by, after_step}
 use Rattle.er_model.specs.Locality.{steps_by}
-use Rattle.er_model.specs.Merges.{events_in}
+use Rattle.er_journal.specs.Merges.{events_in}
 use Rattle.er_model.proofs.Threads.{holdings-step}
 use Rattle.er_model.proofs.Prefixes.{holdings-empty}
 use Rattle.er_held.specs.Held.{nothing_held}
-use Rattle.er_settle.specs.Seats.{SeatShown, holdings_by}
+use Rattle.er_settle.specs.Seats.{SeatList, holdings_by}
 use Rattle.er_settle.specs.Faults.{IsAlike, IsAnswered, AreAnswered, event_of, Not}
-use Rattle.er_settle.specs.Orders.{PlacedShown, entries_by, IsOrder}
-use Rattle.er_settle.specs.Pairs.{asks, tells, AllAgree, AreInTurn, AreDealt}
-use Rattle.er_settle.specs.Answers.{AreAlikeBelow, AreAlike, AllAlike}
+use Rattle.er_settle.specs.Inner.JournalOrder.{EntryAt, entries_by, IsOrder}
+use Rattle.er_settle.specs.Inner.EntryMatches.{ticketed_calls, ticketed_entries, AllAgree, AreInTurn, AreGrouped}
+use Rattle.er_settle.specs.Inner.ReplyMatches.{AreAlikeBelow, AreAlike, AllAlike}
 use Rattle.er_settle.proofs.OrderLemmas.{in_filter, in_place, one_ticket, mapped}
-use Rattle.er_settle.proofs.PairLemmas.{asks_at, asks-skip, asks-more, some_ticket, is_some_true, to_map, in_journal}
+use Rattle.er_settle.proofs.PairLemmas.{asks_at, ticketed_calls-skip, ticketed_calls-more, some_ticket, is_some_true, to_map, in_journal}
 
 -- What a thread holds as its own list goes by.
 
@@ -42,25 +42,25 @@ holdings-next t calls k c here =
 
 -- The entry that a call meets.
 
-pub met : (calls : List Call) (hand : List PlacedShown) (k : ℕ) (c : Call) → asks calls ≡ tells hand → slice_get calls k ≡ Some c → is_some c.ticket ≡ true →
-    (d : PlacedShown) × (slice_get hand (length (asks (take k calls))) ≡ Some d) × (c.ticket ≡ Some d.entry.ticket) × (c.event ≡ event_of d.entry.what)
-met calls hand k c same here some =
+pub met : (calls : List Call) (group : List EntryAt) (k : ℕ) (c : Call) → ticketed_calls calls ≡ ticketed_entries group → slice_get calls k ≡ Some c → is_some c.ticket ≡ true →
+    (d : EntryAt) × (slice_get group (length (ticketed_calls (take k calls))) ≡ Some d) × (c.ticket ≡ Some d.entry.ticket) × (c.event ≡ event_of d.entry.what)
+met calls group k c same here some =
     let t = some_ticket c.ticket some in
-    let asked : slice_get (asks calls) (length (asks (take k calls))) ≡ Some (c.ticket, c.event) = asks_at calls k t.0 c here t.1 in
-    let x = mapped {B = Option ℕ × Event} (λ (d : PlacedShown). (Some d.entry.ticket, event_of d.entry.what)) hand (length (asks (take k calls))) (c.ticket, c.event) (rw same at asked) in
+    let asked : slice_get (ticketed_calls calls) (length (ticketed_calls (take k calls))) ≡ Some (c.ticket, c.event) = asks_at calls k t.0 c here t.1 in
+    let x = mapped {B = Option ℕ × Event} (λ (d : EntryAt). (Some d.entry.ticket, event_of d.entry.what)) group (length (ticketed_calls (take k calls))) (c.ticket, c.event) (rw same at asked) in
     (x.0, x.1, ap (λ (w : Option ℕ × Event). w.0) (sym x.2), ap (λ (w : Option ℕ × Event). w.1) (sym x.2))
 
-one_of : (o : Option PlacedShown) (d e : PlacedShown) → o ≡ Some d → o ≡ Some e → d ≡ e
+one_of : (o : Option EntryAt) (d e : EntryAt) → o ≡ Some d → o ≡ Some e → d ≡ e
 one_of o d e first second = let both : Some d ≡ Some e = sym first ∙ second in cc
 
-pub met-event : (calls : List Call) (hand : List PlacedShown) (k : ℕ) (c : Call) (d : PlacedShown) → asks calls ≡ tells hand → slice_get calls k ≡ Some c → is_some c.ticket ≡ true → slice_get hand (length (asks (take k calls))) ≡ Some d →
+pub met-event : (calls : List Call) (group : List EntryAt) (k : ℕ) (c : Call) (d : EntryAt) → ticketed_calls calls ≡ ticketed_entries group → slice_get calls k ≡ Some c → is_some c.ticket ≡ true → slice_get group (length (ticketed_calls (take k calls))) ≡ Some d →
     c.event ≡ event_of d.entry.what
-met-event calls hand k c d same here some there =
-    let m = met calls hand k c same here some in
-    m.3 ∙ ap (λ (x : PlacedShown). event_of x.entry.what) (one_of (slice_get hand (length (asks (take k calls)))) m.0 d m.1 there)
+met-event calls group k c d same here some there =
+    let m = met calls group k c same here some in
+    m.3 ∙ ap (λ (x : EntryAt). event_of x.entry.what) (one_of (slice_get group (length (ticketed_calls (take k calls)))) m.0 d m.1 there)
 
-pub met-within : (calls : List Call) (hand : List PlacedShown) (k : ℕ) (c : Call) → asks calls ≡ tells hand → slice_get calls k ≡ Some c → is_some c.ticket ≡ true → length (asks (take k calls)) < length hand
-met-within calls hand k c same here some = let m = met calls hand k c same here some in slice_get_within hand (length (asks (take k calls))) m.0 m.1
+pub met-within : (calls : List Call) (group : List EntryAt) (k : ℕ) (c : Call) → ticketed_calls calls ≡ ticketed_entries group → slice_get calls k ≡ Some c → is_some c.ticket ≡ true → length (ticketed_calls (take k calls)) < length group
+met-within calls group k c same here some = let m = met calls group k c same here some in slice_get_within group (length (ticketed_calls (take k calls))) m.0 m.1
 
 -- One more call.
 
@@ -71,8 +71,8 @@ no_ticket (Some t) h = absurd (cc)
 one_call : (calls : List Call) (j k : ℕ) (c d : Call) → j ≡ k → slice_get calls j ≡ Some c → slice_get calls k ≡ Some d → c ≡ d
 one_call calls j k c d same hc hd = let both : Some c ≡ Some d = sym hc ∙ (ap (slice_get calls) same ∙ hd) in cc
 
-module _ (s : SeatShown) (hand : List PlacedShown) (k : ℕ) (c : Call) (here : slice_get s.calls k ≡ Some c) (old : AreAlikeBelow k s hand) where
-  pub alike-skip : is_some c.ticket ≡ false → AreAlikeBelow (k + 1) s hand
+module _ (s : SeatList) (group : List EntryAt) (k : ℕ) (c : Call) (here : slice_get s.calls k ≡ Some c) (old : AreAlikeBelow k s group) where
+  pub alike-skip : is_some c.ticket ≡ false → AreAlikeBelow (k + 1) s group
   alike-skip bare = let none = no_ticket c.ticket bare in record {
     each = λ j x d below h some there. elim (cases_order j k) [
       | inl same ↦ absurd (let e = one_call s.calls j k x c same h here in let gone : x.ticket ≡ None = ap (λ (y : Call). y.ticket) e ∙ none in let has = rw gone at some in cc)
@@ -80,64 +80,64 @@ module _ (s : SeatShown) (hand : List PlacedShown) (k : ℕ) (c : Call) (here : 
     ];
   }
 
-  pub alike-more : (d : PlacedShown) → slice_get hand (length (asks (take k s.calls))) ≡ Some d → IsAnswered s k c d.entry → AreAlikeBelow (k + 1) s hand
+  pub alike-more : (d : EntryAt) → slice_get group (length (ticketed_calls (take k s.calls))) ≡ Some d → IsAnswered s k c d.entry → AreAlikeBelow (k + 1) s group
   alike-more d next alike = record {
     each = λ j x e below h some there. elim (cases_order j k) [
       | inl same ↦ (
           let call : x ≡ c = one_call s.calls j k x c same h here in
-          let entry : e ≡ d = one_of (slice_get hand (length (asks (take k s.calls)))) e d (rw same at there) next in
+          let entry : e ≡ d = one_of (slice_get group (length (ticketed_calls (take k s.calls)))) e d (rw same at there) next in
           rw (same, call, entry) alike)
       | inr other ↦ elim other [ inl less ↦ old.each j x e less h some there | inr more ↦ absurd (omega arith) ]
     ];
   }
 
-pub not-alike : (s : SeatShown) (hand : List PlacedShown) (k : ℕ) (c : Call) (d : PlacedShown) (t : ℕ) (h : Holdings) (e : Entry) → slice_get s.calls k ≡ Some c → is_some c.ticket ≡ true → slice_get hand (length (asks (take k s.calls))) ≡ Some d → t ≡ s.thread → h ≡ holdings_by s.thread s.calls k → e ≡ d.entry → Not (IsAlike h t c e) → Not (AreAlike s hand)
-not-alike s hand k c d t h e here some there thread held entry other all = other (rw (thread, held, entry) (all.each k c d (slice_get_within s.calls k c here) here some there))
+pub not-alike : (s : SeatList) (group : List EntryAt) (k : ℕ) (c : Call) (d : EntryAt) (t : ℕ) (h : Holdings) (e : Entry) → slice_get s.calls k ≡ Some c → is_some c.ticket ≡ true → slice_get group (length (ticketed_calls (take k s.calls))) ≡ Some d → t ≡ s.thread → h ≡ holdings_by s.thread s.calls k → e ≡ d.entry → Not (IsAlike h t c e) → Not (AreAlike s group)
+not-alike s group k c d t h e here some there thread held entry other all = other (rw (thread, held, entry) (all.each k c d (slice_get_within s.calls k c here) here some there))
 
-pub alike-none : (s : SeatShown) (hand : List PlacedShown) → AreAlikeBelow 0 s hand
-alike-none s hand = record { each = λ j c d below h some there. absurd (omega arith) }
+pub alike-none : (s : SeatList) (group : List EntryAt) → AreAlikeBelow 0 s group
+alike-none s group = record { each = λ j c d below h some there. absurd (omega arith) }
 
-pub some-count : (calls : List Call) (k : ℕ) (c : Call) (at : ℕ) → slice_get calls k ≡ Some c → is_some c.ticket ≡ true → at ≡ length (asks (take k calls)) → at + 1 ≡ length (asks (take (k + 1) calls))
+pub some-count : (calls : List Call) (k : ℕ) (c : Call) (at : ℕ) → slice_get calls k ≡ Some c → is_some c.ticket ≡ true → at ≡ length (ticketed_calls (take k calls)) → at + 1 ≡ length (ticketed_calls (take (k + 1) calls))
 some-count calls k c at here some is =
     let t = some_ticket c.ticket some in
-    rw (asks-more calls k t.0 c here t.1) (let e = length-append (asks (take k calls)) ((c.ticket, c.event) ∷ []) in omega (arith, e, is))
+    rw (ticketed_calls-more calls k t.0 c here t.1) (let e = length-append (ticketed_calls (take k calls)) ((c.ticket, c.event) ∷ []) in omega (arith, e, is))
 
-pub none-count : (calls : List Call) (k : ℕ) (c : Call) (at : ℕ) → slice_get calls k ≡ Some c → is_some c.ticket ≡ false → at ≡ length (asks (take k calls)) → at ≡ length (asks (take (k + 1) calls))
-none-count calls k c at here none is = rw (asks-skip calls k c here (no_ticket c.ticket none)) is
+pub none-count : (calls : List Call) (k : ℕ) (c : Call) (at : ℕ) → slice_get calls k ≡ Some c → is_some c.ticket ≡ false → at ≡ length (ticketed_calls (take k calls)) → at ≡ length (ticketed_calls (take (k + 1) calls))
+none-count calls k c at here none is = rw (ticketed_calls-skip calls k c here (no_ticket c.ticket none)) is
 
-pub hand-read : (seats : List SeatShown) (order : List PlacedShown) (hands : List (List PlacedShown)) (k : ℕ) (s : SeatShown) (hand : List PlacedShown) → AreDealt seats order hands → slice_get seats k ≡ Some s → hand ≡ get_or hands k hand → hand ≡ entries_by s.thread order
-hand-read seats order hands k s hand dealt here is =
+pub group-read : (seats : List SeatList) (order : List EntryAt) (groups : List (List EntryAt)) (k : ℕ) (s : SeatList) (group : List EntryAt) → AreGrouped seats order groups → slice_get seats k ≡ Some s → group ≡ get_or groups k group → group ≡ entries_by s.thread order
+group-read seats order groups k s group dealt here is =
     let there = dealt.each k s here in
-    let within = slice_get_within hands k (entries_by s.thread order) there in
-    let got : slice_get hands k ≡ Some hand = slice_get_read hands (length hands) k hand refl within is in
-    let both : Some hand ≡ Some (entries_by s.thread order) = sym got ∙ there in
+    let within = slice_get_within groups k (entries_by s.thread order) there in
+    let got : slice_get groups k ≡ Some group = slice_get_read groups (length groups) k group refl within is in
+    let both : Some group ≡ Some (entries_by s.thread order) = sym got ∙ there in
     cc
 
 -- Pairs are answered alike exactly where calls and the entries that they meet are.
 
-module _ (seats : List SeatShown) (journals : List (List Entry)) (order : List PlacedShown) (is : IsOrder journals order) where
+module _ (seats : List SeatList) (journals : List (List Entry)) (order : List EntryAt) (is : IsOrder journals order) where
   pub alike-answered : AllAgree seats order → AllAlike seats order → AreAnswered seats journals
   alike-answered agree alike i s j c p k e call entry pair =
       let some : is_some c.ticket ≡ true = is_some_true c.ticket e.ticket pair.ticket in
       let m = met s.calls (entries_by s.thread order) j c (agree i s call.0) call.1 some in
       let a = in_place journals order p k e is entry in
-      let b = in_filter (λ (x : PlacedShown). x.entry.thread == s.thread) order (length (asks (take j s.calls))) m.0 m.1 in
+      let b = in_filter (λ (x : EntryAt). x.entry.thread == s.thread) order (length (ticketed_calls (take j s.calls))) m.0 m.1 in
       let tickets : Some m.0.entry.ticket ≡ Some a.1.entry.ticket = sym m.2 ∙ (pair.ticket ∙ ap (λ (x : Entry). Some x.ticket) (sym a.4)) in
       let one : m.0 ≡ a.1 = one_ticket order b.0 a.0 m.0 a.1 is.rise b.1 a.2 (let t : m.0.entry.ticket ≡ a.1.entry.ticket = cc in t) in
-      let whole : m.0.entry ≡ e = ap (λ (x : PlacedShown). x.entry) one ∙ a.4 in
+      let whole : m.0.entry ≡ e = ap (λ (x : EntryAt). x.entry) one ∙ a.4 in
       rw (← whole) ((alike i s call.0).each j c m.0 (slice_get_within s.calls j c call.1) call.1 some m.1)
 
   pub answered-alike : AreInTurn seats journals order → AreAnswered seats journals → AllAlike seats order
   answered-alike turn answered i s seat = record {
     each = λ j c d below call some there.
         let m = met s.calls (entries_by s.thread order) j c (turn.turn i s seat) call some in
-        let one : m.0 ≡ d = one_of (slice_get (entries_by s.thread order) (length (asks (take j s.calls)))) m.0 d m.1 there in
-        let b = in_filter (λ (x : PlacedShown). x.entry.thread == s.thread) order (length (asks (take j s.calls))) d there in
+        let one : m.0 ≡ d = one_of (slice_get (entries_by s.thread order) (length (ticketed_calls (take j s.calls)))) m.0 d m.1 there in
+        let b = in_filter (λ (x : EntryAt). x.entry.thread == s.thread) order (length (ticketed_calls (take j s.calls))) d there in
         let z = in_journal journals order b.0 d is b.1 in
         answered i s j c d.place z.0 d.entry (seat, call) z.1 (record {
-          ticket = m.2 ∙ ap (λ (x : PlacedShown). Some x.entry.ticket) one;
+          ticket = m.2 ∙ ap (λ (x : EntryAt). Some x.entry.ticket) one;
           thread = sym (eqb-true d.entry.thread s.thread b.2);
-          event = m.3 ∙ ap (λ (x : PlacedShown). event_of x.entry.what) one;
+          event = m.3 ∙ ap (λ (x : EntryAt). event_of x.entry.what) one;
           place = turn.placed b.0 d b.1;
         });
   }

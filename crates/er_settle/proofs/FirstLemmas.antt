@@ -1,43 +1,43 @@
 -- Why a fault of the entries or of the answers is the first, and that there is none.
 use Rattle.std.proofs.Common.{◌≡◌, ℕ, List, inl, inr, length}
-use Rattle.er_model.specs.declared.stamps.Entry.{Entry}
-use Rattle.er_settle.specs.Seats.{SeatShown}
-use Rattle.er_settle.specs.declared.faults.Unsettled.{Unsettled}
-use Rattle.er_settle.specs.declared.faults.Unsettled.TheVariants.{Entries, Answer}
-use Rattle.er_settle.specs.Faults.{AreOwn, AreOnce, AreAll, AreOrdered, ArePaired, IsFirst, IsSettled, Not}
-use Rattle.er_settle.specs.Orders.{PlacedShown, IsOrder}
-use Rattle.er_settle.specs.Pairs.{AreInTurn, AllGiven, AllPlaced, AllAgree, IsUngiven}
-use Rattle.er_settle.specs.Answers.{AllAlike}
+use Rattle.er_journal.specs.declared.entries.Entry.{Entry}
+use Rattle.er_settle.specs.Seats.{SeatList}
+use Rattle.er_settle.specs.declared.unsettled.Unsettled.{Unsettled}
+use Rattle.er_settle.specs.declared.unsettled.Unsettled.TheVariants.{Entries, Answer}
+use Rattle.er_settle.specs.Faults.{AreOfDetector, AreDistinct, AreComplete, AreOrdered, ArePaired, IsFirst, IsSettled, Not}
+use Rattle.er_settle.specs.Inner.JournalOrder.{EntryAt, IsOrder}
+use Rattle.er_settle.specs.Inner.EntryMatches.{AreInTurn, AllGiven, AllInPlace, AllAgree, IsUngiven}
+use Rattle.er_settle.specs.Inner.ReplyMatches.{AllAlike}
 use Rattle.er_settle.proofs.PairLemmas.{turn-paired, paired-turn}
 use Rattle.er_settle.proofs.AnswerLemmas.{alike-answered, answered-alike}
 
-module _ (name opened : ℕ) (seats : List SeatShown) (journals : List (List Entry)) (order : List PlacedShown) (is : IsOrder journals order) (own : AreOwn name seats) (once : AreOnce seats) (all : AreAll opened seats) (ordered : AreOrdered seats journals) where
+module _ (name opened : ℕ) (seats : List SeatList) (journals : List (List Entry)) (order : List EntryAt) (is : IsOrder journals order) (own : AreOfDetector name seats) (once : AreDistinct seats) (all : AreComplete opened seats) (ordered : AreOrdered seats journals) where
   entries_first : Not (AreInTurn seats journals order) → IsFirst name opened seats journals Entries
   entries_first not_so = (own, once, all, ordered, λ paired. not_so (paired-turn seats journals order is once ordered.0 paired))
 
-  pub ungiven_first : (slice : List PlacedShown) (fault : Unsettled) → slice ≡ order → IsUngiven seats slice fault → IsFirst name opened seats journals fault
+  pub ungiven_first : (slice : List EntryAt) (fault : Unsettled) → slice ≡ order → IsUngiven seats slice fault → IsFirst name opened seats journals fault
   ungiven_first slice fault same (inl memory) = rw memory tt
   ungiven_first slice fault same (inr other) = rw other.0 (entries_first (λ turn. other.1 (rw same turn.given)))
 
-  pub unplaced_first : (slice : List PlacedShown) → slice ≡ order → Not (AllPlaced (length journals) slice) → IsFirst name opened seats journals Entries
+  pub unplaced_first : (slice : List EntryAt) → slice ≡ order → Not (AllInPlace (length journals) slice) → IsFirst name opened seats journals Entries
   unplaced_first slice same not_so = entries_first (λ turn. not_so (rw same turn.placed))
 
-  pub unlike_first : (slice : List PlacedShown) → slice ≡ order → Not (AllAgree seats slice) → IsFirst name opened seats journals Entries
+  pub unlike_first : (slice : List EntryAt) → slice ≡ order → Not (AllAgree seats slice) → IsFirst name opened seats journals Entries
   unlike_first slice same not_so = entries_first (λ turn. not_so (rw same turn.turn))
 
-pub all_turn : (seats : List SeatShown) (journals : List (List Entry)) (order one two three : List PlacedShown) → one ≡ order → two ≡ order → three ≡ order → AllGiven seats one → AllPlaced (length journals) two → AllAgree seats three → AreInTurn seats journals order
+pub all_turn : (seats : List SeatList) (journals : List (List Entry)) (order one two three : List EntryAt) → one ≡ order → two ≡ order → three ≡ order → AllGiven seats one → AllInPlace (length journals) two → AllAgree seats three → AreInTurn seats journals order
 all_turn seats journals order one two three a b c given placed turn = record { given = rw a at given; placed = rw b at placed; turn = rw c at turn }
 
-pub all_paired : (seats : List SeatShown) (journals : List (List Entry)) (order one two three : List PlacedShown) → IsOrder journals order → one ≡ order → two ≡ order → three ≡ order → AllGiven seats one → AllPlaced (length journals) two → AllAgree seats three → ArePaired seats journals
+pub all_paired : (seats : List SeatList) (journals : List (List Entry)) (order one two three : List EntryAt) → IsOrder journals order → one ≡ order → two ≡ order → three ≡ order → AllGiven seats one → AllInPlace (length journals) two → AllAgree seats three → ArePaired seats journals
 all_paired seats journals order one two three is a b c given placed turn = turn-paired seats journals order is (all_turn seats journals order one two three a b c given placed turn)
 
-module _ (name opened : ℕ) (seats : List SeatShown) (journals : List (List Entry)) (order slice : List PlacedShown) (is : IsOrder journals order) (same : slice ≡ order) (turn : AreInTurn seats journals order)
-    (own : AreOwn name seats) (once : AreOnce seats) (all : AreAll opened seats) (ordered : AreOrdered seats journals) (paired : ArePaired seats journals) where
+module _ (name opened : ℕ) (seats : List SeatList) (journals : List (List Entry)) (order slice : List EntryAt) (is : IsOrder journals order) (same : slice ≡ order) (turn : AreInTurn seats journals order)
+    (own : AreOfDetector name seats) (once : AreDistinct seats) (all : AreComplete opened seats) (ordered : AreOrdered seats journals) (paired : ArePaired seats journals) where
   pub unanswered_first : Not (AllAlike seats slice) → IsFirst name opened seats journals Answer
   unanswered_first not_so = (own, once, all, ordered, paired, λ answered. not_so (rw same (answered-alike seats journals order is turn answered)))
 
   pub settled : AllAlike seats slice → IsSettled name opened seats journals
   settled alike = record { own = own; once = once; all = all; ordered = ordered; paired = paired; answered = alike-answered seats journals order is turn.turn (rw same at alike) }
 
-pub agree_at : (seats : List SeatShown) (journals : List (List Entry)) (order slice : List PlacedShown) → slice ≡ order → AreInTurn seats journals order → AllAgree seats slice
+pub agree_at : (seats : List SeatList) (journals : List (List Entry)) (order slice : List EntryAt) → slice ≡ order → AreInTurn seats journals order → AllAgree seats slice
 agree_at seats journals order slice same turn = rw same turn.turn

@@ -4,9 +4,10 @@ use Rattle.std.proofs.lemmas.Option.{slice_get_within, slice_get_read, get_or_fr
 use Rattle.std.proofs.lemmas.List.{take_more}
 use Rattle.std.specs.Prelude.{slice_get, slice_index, Some, None, Option}
 use Rattle.std.proofs.lemmas.Bool.{cases_order}
-use Rattle.er_model.specs.declared.stamps.Call.{Call}
+use Rattle.er_journal.specs.declared.entries.Call.{Call}
 use Rattle.er_settle.specs.Faults.{EachTwo, CallsRise, IsSooner, Not}
-use Rattle.er_settle.specs.Passes.{IsAbove, IsLast}
+use Rattle.er_event.proofs.Lists.{get_last}
+use Rattle.er_settle.specs.Inner.SeatChecks.{IsAbove, IsLast}
 
 -- what stands at a place of a list that grew: what stood there, or the new last element
 pub get_push : {A : Type 0} (es : List A) (e x : A) (k : ℕ) → slice_get (es ++ e ∷ []) k ≡ Some x → (slice_get es k ≡ Some x) ⊎ ((k ≡ length es) × (x ≡ e))
@@ -71,10 +72,6 @@ each_next A P xs i x here holds before k y below h = elim (cases_order k i) [
 ]
 
 -- Tickets of calls.
-
-pub get_last : {A : Type 0} (xs : List A) (x : A) → slice_get (xs ++ x ∷ []) (length xs) ≡ Some x
-get_last [] x = refl
-get_last (y ∷ xs) x = get_last xs x
 
 pub got_before : {A : Type 0} (xs : List A) (e : A) (k : ℕ) (x : A) → slice_get xs k ≡ Some x → slice_get (xs ++ e ∷ []) k ≡ Some x
 got_before [] e k x h = absurd (cc)

@@ -7,11 +7,11 @@ use Rattle.std.proofs.lemmas.List.{map-append}
 use Rattle.std.proofs.lemmas.List.Elements.{filter-append}
 use Rattle.std.proofs.lemmas.Option.{slice_get_within, slice_get_read}
 use Rattle.er_settle.proofs.ListLemmas.{get_push}
-use Rattle.er_model.specs.declared.stamps.Entry.{Entry}
+use Rattle.er_journal.specs.declared.entries.Entry.{Entry}
 use Rattle.er_settle.proofs.ListLemmas.{index_same, index_other, number_read}
 use Rattle.er_settle.specs.Faults.{EachTwo, EntriesRise, JournalsRise, IsEntry, Not}
-use Rattle.er_settle.specs.Passes.{IsAbove}
-use Rattle.er_settle.specs.Orders.{PlacedShown, placed, PlacedRise, entries_at, IsOrder, IsNext, IsSoonest, IsLeast, sooner_of, IsLastTaken, IsOrderSoFar}
+use Rattle.er_settle.specs.Inner.SeatChecks.{IsAbove}
+use Rattle.er_settle.specs.Inner.JournalOrder.{EntryAt, entry_at, OrderRises, entries_at, IsOrder, IsNext, IsSoonest, IsLeast, sooner_of, IsLastTaken, IsOrderSoFar}
 use Rattle.er_settle.proofs.ListLemmas.{take_next, each_two-push, each_two-none, all_taken}
 use Rattle.er_settle.proofs.NumberLemmas.{eq_or}
 
@@ -93,41 +93,41 @@ soonest-past journals read k s old here done was = soonest-none journals read k 
 
 -- The order grows.
 
-pub entries_at-push : (p : ℕ) (order : List PlacedShown) (d : PlacedShown) → entries_at p (order ++ d ∷ []) ≡ entries_at p order ++ entries_at p (d ∷ [])
+pub entries_at-push : (p : ℕ) (order : List EntryAt) (d : EntryAt) → entries_at p (order ++ d ∷ []) ≡ entries_at p order ++ entries_at p (d ∷ [])
 entries_at-push p order d =
-    ap (map (λ (x : PlacedShown). x.entry)) (filter-append (λ (x : PlacedShown). x.place == p) order (d ∷ [])) ∙ map-append (λ (x : PlacedShown). x.entry) (filter (λ (x : PlacedShown). x.place == p) order) (filter (λ (x : PlacedShown). x.place == p) (d ∷ []))
+    ap (map (λ (x : EntryAt). x.entry)) (filter-append (λ (x : EntryAt). x.place == p) order (d ∷ [])) ∙ map-append (λ (x : EntryAt). x.entry) (filter (λ (x : EntryAt). x.place == p) order) (filter (λ (x : EntryAt). x.place == p) (d ∷ []))
 
-at_yes : (p q : ℕ) (e : Entry) → q ≡ p → entries_at p (placed q e ∷ []) ≡ e ∷ []
+at_yes : (p q : ℕ) (e : Entry) → q ≡ p → entries_at p (entry_at q e ∷ []) ≡ e ∷ []
 at_yes p q e same = elim (eqb_tells q p) [ inl hit ↦ rw hit.0 refl | inr miss ↦ absurd (miss.1 same) ]
 
-at_no : (p q : ℕ) (e : Entry) → Not (q ≡ p) → entries_at p (placed q e ∷ []) ≡ []
+at_no : (p q : ℕ) (e : Entry) → Not (q ≡ p) → entries_at p (entry_at q e ∷ []) ≡ []
 at_no p q e apart = elim (eqb_tells q p) [ inl hit ↦ absurd (apart hit.1) | inr miss ↦ rw miss.0 refl ]
 
-above_all : (journals : List (List Entry)) (read : List ℕ) (order : List PlacedShown) (last : Option ℕ) (t : ℕ) → IsLastTaken journals read order last → IsAbove last t → (k : ℕ) (d : PlacedShown) → slice_get order k ≡ Some d → d.entry.ticket < t
+above_all : (journals : List (List Entry)) (read : List ℕ) (order : List EntryAt) (last : Option ℕ) (t : ℕ) → IsLastTaken journals read order last → IsAbove last t → (k : ℕ) (d : EntryAt) → slice_get order k ≡ Some d → d.entry.ticket < t
 above_all journals read order None t was above k d h = absurd (let e = rw was at h in cc)
 above_all journals read order (Some last) t was above k d h = let low = was.0 k d h in omega (arith, low, above)
 
 -- one more entry, the least
-pub order-more : (journals : List (List Entry)) (read later : List ℕ) (order now : List PlacedShown) (last : Option ℕ) (q : ℕ) (e : Entry) → IsOrderSoFar journals read order last → IsLeast journals read q → IsNext journals read q e → IsAbove last e.ticket
-    → later ≡ set read q (slice_index read q + 1) → now ≡ order ++ placed q e ∷ [] → IsOrderSoFar journals later now (Some e.ticket)
+pub order-more : (journals : List (List Entry)) (read later : List ℕ) (order now : List EntryAt) (last : Option ℕ) (q : ℕ) (e : Entry) → IsOrderSoFar journals read order last → IsLeast journals read q → IsNext journals read q e → IsAbove last e.ticket
+    → later ≡ set read q (slice_index read q + 1) → now ≡ order ++ entry_at q e ∷ [] → IsOrderSoFar journals later now (Some e.ticket)
 order-more journals read later order now last q e old least next above reads grown =
     let inside : q < length journals = in_shards journals read q e next in
     let known : q < length read = omega (arith, old.places, inside) in
     let before = above_all journals read order last e.ticket old.ends above in
     rw (reads, grown) (record {
-      rise = record { each = each_two-push PlacedShown (λ d f. d.entry.ticket < f.entry.ticket) order (placed q e) old.rise.each before };
-      entries = λ p s h. entries_at-push p order (placed q e) ∙ elim (eq_or p q) [
+      rise = record { each = each_two-push EntryAt (λ d f. d.entry.ticket < f.entry.ticket) order (entry_at q e) old.rise.each before };
+      entries = λ p s h. entries_at-push p order (entry_at q e) ∙ elim (eq_or p q) [
         | inl same ↦ (
             let own : slice_get s (slice_index read p) ≡ Some e = journal_next p s h same in
-            ap (λ (es : List Entry). es ++ entries_at p (placed q e ∷ [])) (old.entries p s h) ∙ (ap (λ (es : List Entry). take (slice_index read p) s ++ es) (at_yes p q e (sym same))
+            ap (λ (es : List Entry). es ++ entries_at p (entry_at q e ∷ [])) (old.entries p s h) ∙ (ap (λ (es : List Entry). take (slice_index read p) s ++ es) (at_yes p q e (sym same))
             ∙ (sym (take_next s (slice_index read p) e own) ∙ ap (λ (k : ℕ). take k s) (ap (λ (k : ℕ). slice_index read k + 1) same ∙ sym (index_same read q p (slice_index read q + 1) (sym same) known)))))
         | inr apart ↦ (
             ap (λ (es : List Entry). entries_at p order ++ es) (at_no p q e (λ (w : q ≡ p). apart (sym w))) ∙ (append-nil (entries_at p order)
             ∙ (old.entries p s h ∙ ap (λ (k : ℕ). take k s) (sym (index_other read q p (slice_index read q + 1) apart)))))
       ];
-      inside = λ k d h. elim (get_push order (placed q e) d k h) [ inl w ↦ old.inside k d w | inr w ↦ rw w.1 inside ];
+      inside = λ k d h. elim (get_push order (entry_at q e) d k h) [ inl w ↦ old.inside k d w | inr w ↦ rw w.1 inside ];
       ends = (
-        (λ k d h. elim (get_push order (placed q e) d k h) [ inl w ↦ (let low = before k d w in omega (arith, low)) | inr w ↦ rw w.1 (omega arith) ]),
+        (λ k d h. elim (get_push order (entry_at q e) d k h) [ inl w ↦ (let low = before k d w in omega (arith, low)) | inr w ↦ rw w.1 (omega arith) ]),
         (q, slice_index read q, e, next, refl, grew known, λ p d apart other. least_one p d (still_next p d apart other)),
       );
       places = length-set read q (slice_index read q + 1) ∙ old.places;
@@ -151,7 +151,7 @@ order-more journals read later order now last q e old least next above reads gro
         omega (arith, low, tickets)
 
 -- the next entry isn't above the last one taken
-pub order-not : (journals : List (List Entry)) (read : List ℕ) (order : List PlacedShown) (last : Option ℕ) (q : ℕ) (e : Entry) → IsOrderSoFar journals read order last → IsNext journals read q e → Not (IsAbove last e.ticket) → Not (JournalsRise journals)
+pub order-not : (journals : List (List Entry)) (read : List ℕ) (order : List EntryAt) (last : Option ℕ) (q : ℕ) (e : Entry) → IsOrderSoFar journals read order last → IsNext journals read q e → Not (IsAbove last e.ticket) → Not (JournalsRise journals)
 order-not journals read order None q e old next low up = low tt
 order-not journals read order (Some t) q e old next low up =
     let w = old.ends.1 in
@@ -237,27 +237,27 @@ mapped f [] k y h = absurd (cc)
 mapped f (x ∷ xs) zero y h = (x, refl, (cc))
 mapped f (x ∷ xs) (suc k) y h = mapped f xs k y h
 
-entries_rise : (p : ℕ) (order : List PlacedShown) → PlacedRise order → EntriesRise (entries_at p order)
+entries_rise : (p : ℕ) (order : List EntryAt) → OrderRises order → EntriesRise (entries_at p order)
 entries_rise p order up = record {
   each = λ j k d e below hd he.
-      let a = mapped (λ (x : PlacedShown). x.entry) (filter (λ (x : PlacedShown). x.place == p) order) j d hd in
-      let b = mapped (λ (x : PlacedShown). x.entry) (filter (λ (x : PlacedShown). x.place == p) order) k e he in
-      let less = filter_two PlacedShown (λ x y. x.entry.ticket < y.entry.ticket) (λ (x : PlacedShown). x.place == p) order up.each j k a.0 b.0 below a.1 b.1 in
+      let a = mapped (λ (x : EntryAt). x.entry) (filter (λ (x : EntryAt). x.place == p) order) j d hd in
+      let b = mapped (λ (x : EntryAt). x.entry) (filter (λ (x : EntryAt). x.place == p) order) k e he in
+      let less = filter_two EntryAt (λ x y. x.entry.ticket < y.entry.ticket) (λ (x : EntryAt). x.place == p) order up.each j k a.0 b.0 below a.1 b.1 in
       let low : a.0.entry.ticket ≡ d.ticket = ap (λ (x : Entry). x.ticket) a.2 in
       let high : b.0.entry.ticket ≡ e.ticket = ap (λ (x : Entry). x.ticket) b.2 in
       omega (arith, less, low, high);
 }
 
 -- where an entry of a journal stands in the order
-pub in_place : (journals : List (List Entry)) (order : List PlacedShown) (p k : ℕ) (e : Entry) → IsOrder journals order → IsEntry journals p k e → (m : ℕ) × (d : PlacedShown) × (slice_get order m ≡ Some d) × (d.place ≡ p) × (d.entry ≡ e)
+pub in_place : (journals : List (List Entry)) (order : List EntryAt) (p k : ℕ) (e : Entry) → IsOrder journals order → IsEntry journals p k e → (m : ℕ) × (d : EntryAt) × (slice_get order m ≡ Some d) × (d.place ≡ p) × (d.entry ≡ e)
 in_place journals order p k e is here =
     let there : slice_get (entries_at p order) k ≡ Some e = rw (is.entries p here.0 here.1) here.2 in
-    let a = mapped (λ (x : PlacedShown). x.entry) (filter (λ (x : PlacedShown). x.place == p) order) k e there in
-    let b = in_filter (λ (x : PlacedShown). x.place == p) order k a.0 a.1 in
+    let a = mapped (λ (x : EntryAt). x.entry) (filter (λ (x : EntryAt). x.place == p) order) k e there in
+    let b = in_filter (λ (x : EntryAt). x.place == p) order k a.0 a.1 in
     (b.0, a.0, b.1, eqb-true a.0.place p b.2, a.2)
 
 -- two of the order with one ticket are one
-pub one_ticket : (order : List PlacedShown) (m n : ℕ) (d e : PlacedShown) → PlacedRise order → slice_get order m ≡ Some d → slice_get order n ≡ Some e → d.entry.ticket ≡ e.entry.ticket → d ≡ e
+pub one_ticket : (order : List EntryAt) (m n : ℕ) (d e : EntryAt) → OrderRises order → slice_get order m ≡ Some d → slice_get order n ≡ Some e → d.entry.ticket ≡ e.entry.ticket → d ≡ e
 one_ticket order m n d e up hd he same = elim (cases_order m n) [
   | inl at ↦ (let both : Some d ≡ Some e = sym hd ∙ (ap (slice_get order) at ∙ he) in cc)
   | inr apart ↦ elim apart [
@@ -266,7 +266,7 @@ one_ticket order m n d e up hd he same = elim (cases_order m n) [
   ]
 ]
 
-pub order-rises : (journals : List (List Entry)) (order : List PlacedShown) → IsOrder journals order → JournalsRise journals
+pub order-rises : (journals : List (List Entry)) (order : List EntryAt) → IsOrder journals order → JournalsRise journals
 order-rises journals order is = record {
   rise = λ p s h. rw (← is.entries p s h) (entries_rise p order is.rise);
   apart = λ p q j k d e hd he same.
@@ -275,7 +275,7 @@ order-rises journals order is = record {
       let low : a.1.entry.ticket ≡ d.ticket = ap (λ (x : Entry). x.ticket) a.4 in
       let high : b.1.entry.ticket ≡ e.ticket = ap (λ (x : Entry). x.ticket) b.4 in
       let one : a.1 ≡ b.1 = one_ticket order a.0 b.0 a.1 b.1 is.rise a.2 b.2 (omega (arith, low, high, same)) in
-      sym a.3 ∙ (ap (λ (x : PlacedShown). x.place) one ∙ b.3);
+      sym a.3 ∙ (ap (λ (x : EntryAt). x.place) one ∙ b.3);
 }
 
 pub get_below : {A : Type 0} (xs : List A) (k : ℕ) → k < length xs → (e : A) × (slice_get xs k ≡ Some e)
@@ -284,7 +284,7 @@ get_below (x ∷ xs) zero below = (x, refl)
 get_below (x ∷ xs) (suc k) below = get_below xs k (omega arith)
 
 -- where no journal has a next entry, all are read
-pub order-done : (journals : List (List Entry)) (read : List ℕ) (order : List PlacedShown) (last : Option ℕ) → IsOrderSoFar journals read order last → ((p : ℕ) (e : Entry) → Not (IsNext journals read p e)) → IsOrder journals order
+pub order-done : (journals : List (List Entry)) (read : List ℕ) (order : List EntryAt) (last : Option ℕ) → IsOrderSoFar journals read order last → ((p : ℕ) (e : Entry) → Not (IsNext journals read p e)) → IsOrder journals order
 order-done journals read order last far none = record {
   rise = far.rise;
   entries = λ p s h. far.entries p s h ∙ all_taken s (slice_index read p) (long p s h);
@@ -301,8 +301,8 @@ order-done journals read order last far none = record {
     ]
 
 -- the same, as the code reads it
-pub order-step : (journals : List (List Entry)) (read later : List ℕ) (order now : List PlacedShown) (last : Option ℕ) (q at : ℕ) (e : Entry) → IsOrderSoFar journals read order last → IsLeast journals read q → IsNext journals read q e → IsAbove last e.ticket
-    → at ≡ get_or read q at → later ≡ set read q (at + 1) → now ≡ order ++ placed q e ∷ [] → IsOrderSoFar journals later now (Some e.ticket)
+pub order-step : (journals : List (List Entry)) (read later : List ℕ) (order now : List EntryAt) (last : Option ℕ) (q at : ℕ) (e : Entry) → IsOrderSoFar journals read order last → IsLeast journals read q → IsNext journals read q e → IsAbove last e.ticket
+    → at ≡ get_or read q at → later ≡ set read q (at + 1) → now ≡ order ++ entry_at q e ∷ [] → IsOrderSoFar journals later now (Some e.ticket)
 order-step journals read later order now last q at e old least next above number reads grown =
     let same : at ≡ slice_index read q = number_read read q at (place_within journals read q least old.places) number in
     order-more journals read later order now last q e old least next above (rw (← same) reads) grown

@@ -17,14 +17,14 @@ use Rattle.er_settle.proofs.ListLemmas.{take_next, all_taken}
 use Rattle.er_event.specs.declared.addresses.PageRange.{PageRange}
 use Rattle.er_event.specs.declared.steps.Event.{Event}
 use Rattle.er_event.specs.declared.steps.Event.TheVariants.{Reuse}
-use Rattle.er_model.specs.declared.stamps.Call.{Call}
-use Rattle.er_model.specs.declared.stamps.Entry.{Entry}
-use Rattle.er_settle.specs.Seats.{SeatShown}
+use Rattle.er_journal.specs.declared.entries.Call.{Call}
+use Rattle.er_journal.specs.declared.entries.Entry.{Entry}
+use Rattle.er_settle.specs.Seats.{SeatList}
 use Rattle.er_settle.specs.Faults.{place_of}
-use Rattle.er_settle.specs.Faults.{EachTwo, AreOnce, ListsRise, CallsRise, IsSooner, IsEntry, ArePaired, event_of, Not}
-use Rattle.er_settle.specs.Passes.{IsIndex}
-use Rattle.er_settle.specs.Orders.{PlacedShown, PlacedRise, entries_by, IsOrder}
-use Rattle.er_settle.specs.Pairs.{asks, tells, AreInTurn, AreDealt, AllGiven}
+use Rattle.er_settle.specs.Faults.{EachTwo, AreDistinct, ListsRise, CallsRise, IsSooner, IsEntry, ArePaired, event_of, Not}
+use Rattle.er_settle.specs.Inner.SeatChecks.{IsIndex}
+use Rattle.er_settle.specs.Inner.JournalOrder.{EntryAt, OrderRises, entries_by, IsOrder}
+use Rattle.er_settle.specs.Inner.EntryMatches.{ticketed_calls, ticketed_entries, AreInTurn, AreGrouped, AllGiven}
 use Rattle.er_settle.proofs.OrderLemmas.{in_filter, filter_two, in_place, mapped, head_to, tail_two, get_below, past}
 
 -- the element stands in the list
@@ -84,7 +84,7 @@ pub some_ticket : (o : Option ℕ) → is_some o ≡ true → (t : ℕ) × (o �
 some_ticket None h = absurd (cc)
 some_ticket (Some t) h = (t, refl)
 
-asks_rise : (calls : List Call) → CallsRise calls → EachTwo (Option ℕ × Event) AreRising (asks calls)
+asks_rise : (calls : List Call) → CallsRise calls → EachTwo (Option ℕ × Event) AreRising (ticketed_calls calls)
 asks_rise calls up j k a b below ha hb =
     let f = λ (c : Call). is_some c.ticket in
     let x = mapped {B = Option ℕ × Event} (λ (c : Call). (c.ticket, c.event)) (filter f calls) j a ha in
@@ -96,23 +96,23 @@ asks_rise calls up j k a b below ha hb =
     let less = filter_two Call IsSooner f calls up.each j k x.0 y.0 below x.1 y.1 t.0 u.0 t.1 u.1 in
     (t.0, u.0, ap (λ (w : Option ℕ × Event). w.0) (sym x.2) ∙ t.1, ap (λ (w : Option ℕ × Event). w.0) (sym y.2) ∙ u.1, less)
 
-tells_rise : (t : ℕ) (order : List PlacedShown) → PlacedRise order → EachTwo (Option ℕ × Event) AreRising (tells (entries_by t order))
+tells_rise : (t : ℕ) (order : List EntryAt) → OrderRises order → EachTwo (Option ℕ × Event) AreRising (ticketed_entries (entries_by t order))
 tells_rise t order up j k a b below ha hb =
-    let f = λ (d : PlacedShown). d.entry.thread == t in
-    let x = mapped {B = Option ℕ × Event} (λ (d : PlacedShown). (Some d.entry.ticket, event_of d.entry.what)) (filter f order) j a ha in
-    let y = mapped {B = Option ℕ × Event} (λ (d : PlacedShown). (Some d.entry.ticket, event_of d.entry.what)) (filter f order) k b hb in
-    let less = filter_two PlacedShown (λ d e. d.entry.ticket < e.entry.ticket) f order up.each j k x.0 y.0 below x.1 y.1 in
+    let f = λ (d : EntryAt). d.entry.thread == t in
+    let x = mapped {B = Option ℕ × Event} (λ (d : EntryAt). (Some d.entry.ticket, event_of d.entry.what)) (filter f order) j a ha in
+    let y = mapped {B = Option ℕ × Event} (λ (d : EntryAt). (Some d.entry.ticket, event_of d.entry.what)) (filter f order) k b hb in
+    let less = filter_two EntryAt (λ d e. d.entry.ticket < e.entry.ticket) f order up.each j k x.0 y.0 below x.1 y.1 in
     (x.0.entry.ticket, y.0.entry.ticket, ap (λ (w : Option ℕ × Event). w.0) (sym x.2), ap (λ (w : Option ℕ × Event). w.0) (sym y.2), less)
 
 -- where an entry of the order stands in its journal
-pub in_journal : (journals : List (List Entry)) (order : List PlacedShown) (m : ℕ) (d : PlacedShown) → IsOrder journals order → slice_get order m ≡ Some d → (k : ℕ) × IsEntry journals d.place k d.entry
+pub in_journal : (journals : List (List Entry)) (order : List EntryAt) (m : ℕ) (d : EntryAt) → IsOrder journals order → slice_get order m ≡ Some d → (k : ℕ) × IsEntry journals d.place k d.entry
 in_journal journals order m d is h =
     let s = get_below journals d.place (is.inside m d h) in
-    let one = to_filter (λ (x : PlacedShown). x.place == d.place) order d (eq-eqb d.place d.place refl) m h in
-    let two = to_map (λ (x : PlacedShown). x.entry) (filter (λ (x : PlacedShown). x.place == d.place) order) one.0 d one.1 in
+    let one = to_filter (λ (x : EntryAt). x.place == d.place) order d (eq-eqb d.place d.place refl) m h in
+    let two = to_map (λ (x : EntryAt). x.entry) (filter (λ (x : EntryAt). x.place == d.place) order) one.0 d one.1 in
     (one.0, (s.0, s.1, rw (← is.entries d.place s.0 s.1) two))
 
-pub once_same : (seats : List SeatShown) (i j : ℕ) (r s : SeatShown) → AreOnce seats → slice_get seats i ≡ Some r → slice_get seats j ≡ Some s → r.thread ≡ s.thread → r ≡ s
+pub once_same : (seats : List SeatList) (i j : ℕ) (r s : SeatList) → AreDistinct seats → slice_get seats i ≡ Some r → slice_get seats j ≡ Some s → r.thread ≡ s.thread → r ≡ s
 once_same seats i j r s once hr hs same = elim (cases_order i j) [
   | inl at ↦ (let both : Some r ≡ Some s = sym hr ∙ (ap (slice_get seats) at ∙ hs) in cc)
   | inr apart ↦ elim apart [ inl less ↦ absurd (once.apart i j r s less hr hs same) | inr more ↦ absurd (once.apart j i s r more hs hr (sym same)) ]
@@ -124,7 +124,7 @@ key_is t u e f a xs k h ticket event is = h ∙ ((λ i. Some (ticket i, event i)
 pub is_some_true : (o : Option ℕ) (t : ℕ) → o ≡ Some t → is_some o ≡ true
 is_some_true o t h = rw h refl
 
-module _ (seats : List SeatShown) (journals : List (List Entry)) (order : List PlacedShown) (is : IsOrder journals order) where
+module _ (seats : List SeatList) (journals : List (List Entry)) (order : List EntryAt) (is : IsOrder journals order) where
   -- where they agree in turn, they have one another
   pub turn-paired : AreInTurn seats journals order → ArePaired seats journals
   turn-paired turn = record {
@@ -132,8 +132,8 @@ module _ (seats : List SeatShown) (journals : List (List Entry)) (order : List P
         let a = in_place journals order p k e is here in
         let g = turn.given a.0 a.1 a.2 in
         let thread : a.1.entry.thread ≡ g.1.thread = sym g.3 in
-        let one = to_filter (λ (d : PlacedShown). d.entry.thread == g.1.thread) order a.1 (eq-eqb a.1.entry.thread g.1.thread thread) a.0 a.2 in
-        let two = to_map {B = Option ℕ × Event} (λ (d : PlacedShown). (Some d.entry.ticket, event_of d.entry.what)) (entries_by g.1.thread order) one.0 a.1 one.1 in
+        let one = to_filter (λ (d : EntryAt). d.entry.thread == g.1.thread) order a.1 (eq-eqb a.1.entry.thread g.1.thread thread) a.0 a.2 in
+        let two = to_map {B = Option ℕ × Event} (λ (d : EntryAt). (Some d.entry.ticket, event_of d.entry.what)) (entries_by g.1.thread order) one.0 a.1 one.1 in
         let three = rw (← turn.turn g.0 g.1 g.2) at two in
         let x = mapped {B = Option ℕ × Event} (λ (c : Call). (c.ticket, c.event)) (filter (λ (c : Call). is_some c.ticket) g.1.calls) one.0 (Some a.1.entry.ticket, event_of a.1.entry.what) three in
         let y = in_filter (λ (c : Call). is_some c.ticket) g.1.calls one.0 x.0 x.1 in (
@@ -153,8 +153,8 @@ module _ (seats : List SeatShown) (journals : List (List Entry)) (order : List P
         let one = to_filter (λ (x : Call). is_some x.ticket) s.calls c some j here.1 in
         let two = to_map {B = Option ℕ × Event} (λ (x : Call). (x.ticket, x.event)) (filter (λ (x : Call). is_some x.ticket) s.calls) one.0 c one.1 in
         let three = rw (turn.turn i s here.0) at two in
-        let x = mapped {B = Option ℕ × Event} (λ (d : PlacedShown). (Some d.entry.ticket, event_of d.entry.what)) (entries_by s.thread order) one.0 (c.ticket, c.event) three in
-        let y = in_filter (λ (d : PlacedShown). d.entry.thread == s.thread) order one.0 x.0 x.1 in
+        let x = mapped {B = Option ℕ × Event} (λ (d : EntryAt). (Some d.entry.ticket, event_of d.entry.what)) (entries_by s.thread order) one.0 (c.ticket, c.event) three in
+        let y = in_filter (λ (d : EntryAt). d.entry.thread == s.thread) order one.0 x.0 x.1 in
         let z = in_journal journals order y.0 x.0 is y.1 in (
           x.0.place,
           z.0,
@@ -170,92 +170,92 @@ module _ (seats : List SeatShown) (journals : List (List Entry)) (order : List P
   }
 
   -- where they have one another, they agree in turn
-  pub paired-turn : AreOnce seats → ListsRise seats → ArePaired seats journals → AreInTurn seats journals order
+  pub paired-turn : AreDistinct seats → ListsRise seats → ArePaired seats journals → AreInTurn seats journals order
   paired-turn once lists paired = record {
     given = λ m d h. let z = in_journal journals order m d is h in let c = paired.calls d.place z.0 d.entry z.1 in (c.0, c.1, c.4.0, c.5.thread);
     placed = λ m d h. let z = in_journal journals order m d is h in let c = paired.calls d.place z.0 d.entry z.1 in c.5.place;
-    turn = λ i s h. same_turn (Option ℕ × Event) AreRising not_both (asks s.calls) (tells (entries_by s.thread order)) (asks_rise s.calls (lists i s h)) (tells_rise s.thread order is.rise)
+    turn = λ i s h. same_turn (Option ℕ × Event) AreRising not_both (ticketed_calls s.calls) (ticketed_entries (entries_by s.thread order)) (asks_rise s.calls (lists i s h)) (tells_rise s.thread order is.rise)
         (λ a here. told i s h a here) (λ a here. asked i s h a here);
   }
     where
-      told : (i : ℕ) (s : SeatShown) → slice_get seats i ≡ Some s → (a : Option ℕ × Event) → IsIn (Option ℕ × Event) (asks s.calls) a → IsIn (Option ℕ × Event) (tells (entries_by s.thread order)) a
+      told : (i : ℕ) (s : SeatList) → slice_get seats i ≡ Some s → (a : Option ℕ × Event) → IsIn (Option ℕ × Event) (ticketed_calls s.calls) a → IsIn (Option ℕ × Event) (ticketed_entries (entries_by s.thread order)) a
       told i s h a here =
           let x = mapped {B = Option ℕ × Event} (λ (c : Call). (c.ticket, c.event)) (filter (λ (c : Call). is_some c.ticket) s.calls) here.0 a here.1 in
           let y = in_filter (λ (c : Call). is_some c.ticket) s.calls here.0 x.0 x.1 in
           let e = paired.entries i s y.0 x.0 (h, y.1) y.2 in
           let m = in_place journals order e.0 e.1 e.2 is e.3 in
           let thread : m.1.entry.thread ≡ s.thread = ap (λ (z : Entry). z.thread) m.4 ∙ sym e.4.thread in
-          let one = to_filter (λ (d : PlacedShown). d.entry.thread == s.thread) order m.1 (eq-eqb m.1.entry.thread s.thread thread) m.0 m.2 in
-          let two = to_map {B = Option ℕ × Event} (λ (d : PlacedShown). (Some d.entry.ticket, event_of d.entry.what)) (entries_by s.thread order) one.0 m.1 one.1 in
+          let one = to_filter (λ (d : EntryAt). d.entry.thread == s.thread) order m.1 (eq-eqb m.1.entry.thread s.thread thread) m.0 m.2 in
+          let two = to_map {B = Option ℕ × Event} (λ (d : EntryAt). (Some d.entry.ticket, event_of d.entry.what)) (entries_by s.thread order) one.0 m.1 one.1 in
           let ticket : Some m.1.entry.ticket ≡ x.0.ticket = ap (λ (z : Entry). Some z.ticket) m.4 ∙ sym e.4.ticket in
           let event : event_of m.1.entry.what ≡ x.0.event = ap (λ (z : Entry). event_of z.what) m.4 ∙ sym e.4.event in
-          (one.0, key_is (Some m.1.entry.ticket) x.0.ticket (event_of m.1.entry.what) x.0.event a (tells (entries_by s.thread order)) one.0 two ticket event x.2)
+          (one.0, key_is (Some m.1.entry.ticket) x.0.ticket (event_of m.1.entry.what) x.0.event a (ticketed_entries (entries_by s.thread order)) one.0 two ticket event x.2)
 
-      asked : (i : ℕ) (s : SeatShown) → slice_get seats i ≡ Some s → (a : Option ℕ × Event) → IsIn (Option ℕ × Event) (tells (entries_by s.thread order)) a → IsIn (Option ℕ × Event) (asks s.calls) a
+      asked : (i : ℕ) (s : SeatList) → slice_get seats i ≡ Some s → (a : Option ℕ × Event) → IsIn (Option ℕ × Event) (ticketed_entries (entries_by s.thread order)) a → IsIn (Option ℕ × Event) (ticketed_calls s.calls) a
       asked i s h a here =
-          let x = mapped {B = Option ℕ × Event} (λ (d : PlacedShown). (Some d.entry.ticket, event_of d.entry.what)) (entries_by s.thread order) here.0 a here.1 in
-          let y = in_filter (λ (d : PlacedShown). d.entry.thread == s.thread) order here.0 x.0 x.1 in
+          let x = mapped {B = Option ℕ × Event} (λ (d : EntryAt). (Some d.entry.ticket, event_of d.entry.what)) (entries_by s.thread order) here.0 a here.1 in
+          let y = in_filter (λ (d : EntryAt). d.entry.thread == s.thread) order here.0 x.0 x.1 in
           let z = in_journal journals order y.0 x.0 is y.1 in
           let e = paired.calls x.0.place z.0 x.0.entry z.1 in
           let thread : e.1.thread ≡ s.thread = e.5.thread ∙ eqb-true x.0.entry.thread s.thread y.2 in
           let same : e.1 ≡ s = once_same seats e.0 i e.1 s once e.4.0 h thread in
-          let call : slice_get s.calls e.2 ≡ Some e.3 = ap (λ (w : SeatShown). slice_get w.calls e.2) (sym same) ∙ e.4.1 in
+          let call : slice_get s.calls e.2 ≡ Some e.3 = ap (λ (w : SeatList). slice_get w.calls e.2) (sym same) ∙ e.4.1 in
           let one = to_filter (λ (c : Call). is_some c.ticket) s.calls e.3 (is_some_true e.3.ticket x.0.entry.ticket e.5.ticket) e.2 call in
           let two = to_map {B = Option ℕ × Event} (λ (c : Call). (c.ticket, c.event)) (filter (λ (c : Call). is_some c.ticket) s.calls) one.0 e.3 one.1 in
-          (one.0, key_is e.3.ticket (Some x.0.entry.ticket) e.3.event (event_of x.0.entry.what) a (asks s.calls) one.0 two e.5.ticket e.5.event x.2)
+          (one.0, key_is e.3.ticket (Some x.0.entry.ticket) e.3.event (event_of x.0.entry.what) a (ticketed_calls s.calls) one.0 two e.5.ticket e.5.event x.2)
 
 -- One seat's calls against the entries of its thread.
 
-asks_push : (calls : List Call) (c : Call) → asks (calls ++ c ∷ []) ≡ asks calls ++ asks (c ∷ [])
+asks_push : (calls : List Call) (c : Call) → ticketed_calls (calls ++ c ∷ []) ≡ ticketed_calls calls ++ ticketed_calls (c ∷ [])
 asks_push calls c = ap (map {B = Option ℕ × Event} (λ (x : Call). (x.ticket, x.event))) (filter-append (λ (x : Call). is_some x.ticket) calls (c ∷ []))
     ∙ map-append {B = Option ℕ × Event} (λ (x : Call). (x.ticket, x.event)) (filter (λ (x : Call). is_some x.ticket) calls) (filter (λ (x : Call). is_some x.ticket) (c ∷ []))
 
-asks_some : (c : Call) (t : ℕ) → c.ticket ≡ Some t → asks (c ∷ []) ≡ (c.ticket, c.event) ∷ []
+asks_some : (c : Call) (t : ℕ) → c.ticket ≡ Some t → ticketed_calls (c ∷ []) ≡ (c.ticket, c.event) ∷ []
 asks_some c t h = rw (is_some_true c.ticket t h) refl
 
-asks_none : (c : Call) → c.ticket ≡ None → asks (c ∷ []) ≡ []
+asks_none : (c : Call) → c.ticket ≡ None → ticketed_calls (c ∷ []) ≡ []
 asks_none c h = let e : is_some c.ticket ≡ false = rw h refl in rw e refl
 
 -- the calls with tickets among one more call
-pub asks-skip : (calls : List Call) (k : ℕ) (c : Call) → slice_get calls k ≡ Some c → c.ticket ≡ None → asks (take (k + 1) calls) ≡ asks (take k calls)
-asks-skip calls k c here none =
-    ap asks (take_next calls k c here) ∙ (asks_push (take k calls) c ∙ (ap (λ (xs : List (Option ℕ × Event)). asks (take k calls) ++ xs) (asks_none c none) ∙ append-nil (asks (take k calls))))
+pub ticketed_calls-skip : (calls : List Call) (k : ℕ) (c : Call) → slice_get calls k ≡ Some c → c.ticket ≡ None → ticketed_calls (take (k + 1) calls) ≡ ticketed_calls (take k calls)
+ticketed_calls-skip calls k c here none =
+    ap ticketed_calls (take_next calls k c here) ∙ (asks_push (take k calls) c ∙ (ap (λ (xs : List (Option ℕ × Event)). ticketed_calls (take k calls) ++ xs) (asks_none c none) ∙ append-nil (ticketed_calls (take k calls))))
 
-pub asks-more : (calls : List Call) (k t : ℕ) (c : Call) → slice_get calls k ≡ Some c → c.ticket ≡ Some t → asks (take (k + 1) calls) ≡ asks (take k calls) ++ (c.ticket, c.event) ∷ []
-asks-more calls k t c here has =
-    ap asks (take_next calls k c here) ∙ (asks_push (take k calls) c ∙ ap (λ (xs : List (Option ℕ × Event)). asks (take k calls) ++ xs) (asks_some c t has))
+pub ticketed_calls-more : (calls : List Call) (k t : ℕ) (c : Call) → slice_get calls k ≡ Some c → c.ticket ≡ Some t → ticketed_calls (take (k + 1) calls) ≡ ticketed_calls (take k calls) ++ (c.ticket, c.event) ∷ []
+ticketed_calls-more calls k t c here has =
+    ap ticketed_calls (take_next calls k c here) ∙ (asks_push (take k calls) c ∙ ap (λ (xs : List (Option ℕ × Event)). ticketed_calls (take k calls) ++ xs) (asks_some c t has))
 
 -- a call without a ticket
-pub agree-skip : (calls : List Call) (hand : List PlacedShown) (k at : ℕ) (c : Call) → slice_get calls k ≡ Some c → c.ticket ≡ None → asks (take k calls) ≡ take at (tells hand) → asks (take (k + 1) calls) ≡ take at (tells hand)
-agree-skip calls hand k at c here none old =
-    asks-skip calls k c here none ∙ old
+pub agree-skip : (calls : List Call) (group : List EntryAt) (k at : ℕ) (c : Call) → slice_get calls k ≡ Some c → c.ticket ≡ None → ticketed_calls (take k calls) ≡ take at (ticketed_entries group) → ticketed_calls (take (k + 1) calls) ≡ take at (ticketed_entries group)
+agree-skip calls group k at c here none old =
+    ticketed_calls-skip calls k c here none ∙ old
 
 -- a call that agrees with the next entry
-pub agree-more : (calls : List Call) (hand : List PlacedShown) (k at t : ℕ) (c : Call) (e : PlacedShown) → slice_get calls k ≡ Some c → c.ticket ≡ Some t → asks (take k calls) ≡ take at (tells hand) → slice_get hand at ≡ Some e
-    → t ≡ e.entry.ticket → c.event ≡ event_of e.entry.what → asks (take (k + 1) calls) ≡ take (at + 1) (tells hand)
-agree-more calls hand k at t c e here has old next ticket event =
-    let told : slice_get (tells hand) at ≡ Some (Some e.entry.ticket, event_of e.entry.what) = to_map {B = Option ℕ × Event} (λ (x : PlacedShown). (Some x.entry.ticket, event_of x.entry.what)) hand at e next in
-    let key : slice_get (tells hand) at ≡ Some (c.ticket, c.event) = told ∙ sym (λ i. Some ((has ∙ ap (λ (n : ℕ). Some n) ticket) i, event i)) in
-    asks-more calls k t c here has
-    ∙ (ap (λ (xs : List (Option ℕ × Event)). xs ++ (c.ticket, c.event) ∷ []) old ∙ sym (take_next (tells hand) at (c.ticket, c.event) key))
+pub agree-more : (calls : List Call) (group : List EntryAt) (k at t : ℕ) (c : Call) (e : EntryAt) → slice_get calls k ≡ Some c → c.ticket ≡ Some t → ticketed_calls (take k calls) ≡ take at (ticketed_entries group) → slice_get group at ≡ Some e
+    → t ≡ e.entry.ticket → c.event ≡ event_of e.entry.what → ticketed_calls (take (k + 1) calls) ≡ take (at + 1) (ticketed_entries group)
+agree-more calls group k at t c e here has old next ticket event =
+    let told : slice_get (ticketed_entries group) at ≡ Some (Some e.entry.ticket, event_of e.entry.what) = to_map {B = Option ℕ × Event} (λ (x : EntryAt). (Some x.entry.ticket, event_of x.entry.what)) group at e next in
+    let key : slice_get (ticketed_entries group) at ≡ Some (c.ticket, c.event) = told ∙ sym (λ i. Some ((has ∙ ap (λ (n : ℕ). Some n) ticket) i, event i)) in
+    ticketed_calls-more calls k t c here has
+    ∙ (ap (λ (xs : List (Option ℕ × Event)). xs ++ (c.ticket, c.event) ∷ []) old ∙ sym (take_next (ticketed_entries group) at (c.ticket, c.event) key))
 
-asks_at_if : (x : Call) (calls : List Call) (n : ℕ) (a : Option ℕ × Event) (b : Bool) → is_some x.ticket ≡ b → slice_get (asks calls) n ≡ Some a
+asks_at_if : (x : Call) (calls : List Call) (n : ℕ) (a : Option ℕ × Event) (b : Bool) → is_some x.ticket ≡ b → slice_get (ticketed_calls calls) n ≡ Some a
     → slice_get (map {B = Option ℕ × Event} (λ (c : Call). (c.ticket, c.event)) (cond b (x ∷ filter (λ (c : Call). is_some c.ticket) calls) (filter (λ (c : Call). is_some c.ticket) calls))) (cond b (n + 1) n) ≡ Some a
 asks_at_if x calls n a true is rest = rw add-one rest
 asks_at_if x calls n a false is rest = rest
 
-asks_count_if : (x : Call) (front : List Call) (b : Bool) → is_some x.ticket ≡ b → length (asks (x ∷ front)) ≡ cond b (length (asks front) + 1) (length (asks front))
+asks_count_if : (x : Call) (front : List Call) (b : Bool) → is_some x.ticket ≡ b → length (ticketed_calls (x ∷ front)) ≡ cond b (length (ticketed_calls front) + 1) (length (ticketed_calls front))
 asks_count_if x front true is = rw is (omega arith)
 asks_count_if x front false is = rw is refl
 
 -- where a call with a ticket stands among those that have one
-pub asks_at : (calls : List Call) (k t : ℕ) (c : Call) → slice_get calls k ≡ Some c → c.ticket ≡ Some t → slice_get (asks calls) (length (asks (take k calls))) ≡ Some (c.ticket, c.event)
+pub asks_at : (calls : List Call) (k t : ℕ) (c : Call) → slice_get calls k ≡ Some c → c.ticket ≡ Some t → slice_get (ticketed_calls calls) (length (ticketed_calls (take k calls))) ≡ Some (c.ticket, c.event)
 asks_at [] k t c h has = absurd (cc)
 asks_at (x ∷ calls) zero t c h has =
     let same : x ≡ c = cc in
     rw (same, is_some_true c.ticket t has) refl
 asks_at (x ∷ calls) (suc k) t c h has =
-    rw (asks_count_if x (take k calls) (is_some x.ticket) refl) (asks_at_if x calls (length (asks (take k calls))) (c.ticket, c.event) (is_some x.ticket) refl (asks_at calls k t c h has))
+    rw (asks_count_if x (take k calls) (is_some x.ticket) refl) (asks_at_if x calls (length (ticketed_calls (take k calls))) (c.ticket, c.event) (is_some x.ticket) refl (asks_at calls k t c h has))
 
 length_take : {A : Type 0} (xs : List A) (k : ℕ) → k ≤ length xs → length (take k xs) ≡ k
 length_take [] zero h = refl
@@ -263,8 +263,8 @@ length_take [] (suc k) h = absurd (omega arith)
 length_take (x ∷ xs) zero h = refl
 length_take (x ∷ xs) (suc k) h = let e = length_take xs k (omega arith) in omega (arith, e)
 
-pub tells_length : (hand : List PlacedShown) → length (tells hand) ≡ length hand
-tells_length hand = length-map {B = Option ℕ × Event} hand (λ (x : PlacedShown). (Some x.entry.ticket, event_of x.entry.what))
+pub tells_length : (group : List EntryAt) → length (ticketed_entries group) ≡ length group
+tells_length group = length-map {B = Option ℕ × Event} group (λ (x : EntryAt). (Some x.entry.ticket, event_of x.entry.what))
 
 some_inside : (x y : Option ℕ × Event) → Some x ≡ Some y → x ≡ y
 some_inside x y same = cc
@@ -276,29 +276,29 @@ pair_parts t u x y is that same =
     ((cc), ap (λ (w : Option ℕ × Event). w.1) both)
 
 -- where they agree, the next entry is the next call's
-module _ (calls : List Call) (hand : List PlacedShown) (k at t : ℕ) (c : Call) (here : slice_get calls k ≡ Some c) (has : c.ticket ≡ Some t) (old : asks (take k calls) ≡ take at (tells hand)) (within : at ≤ length hand) where
-  next_told : asks calls ≡ tells hand → slice_get (tells hand) at ≡ Some (c.ticket, c.event)
+module _ (calls : List Call) (group : List EntryAt) (k at t : ℕ) (c : Call) (here : slice_get calls k ≡ Some c) (has : c.ticket ≡ Some t) (old : ticketed_calls (take k calls) ≡ take at (ticketed_entries group)) (within : at ≤ length group) where
+  next_told : ticketed_calls calls ≡ ticketed_entries group → slice_get (ticketed_entries group) at ≡ Some (c.ticket, c.event)
   next_told same =
-      let count : length (asks (take k calls)) ≡ at = ap length old ∙ length_take (tells hand) at (rw (tells_length hand) within) in
-      ap (λ (xs : List (Option ℕ × Event)). slice_get xs at) (sym same) ∙ (ap (slice_get (asks calls)) (sym count) ∙ asks_at calls k t c here has)
+      let count : length (ticketed_calls (take k calls)) ≡ at = ap length old ∙ length_take (ticketed_entries group) at (rw (tells_length group) within) in
+      ap (λ (xs : List (Option ℕ × Event)). slice_get xs at) (sym same) ∙ (ap (slice_get (ticketed_calls calls)) (sym count) ∙ asks_at calls k t c here has)
 
-  pub agree-past : length hand ≤ at → Not (asks calls ≡ tells hand)
+  pub agree-past : length group ≤ at → Not (ticketed_calls calls ≡ ticketed_entries group)
   agree-past all same =
-      let none = past (tells hand) at (rw (tells_length hand) all) in
+      let none = past (ticketed_entries group) at (rw (tells_length group) all) in
       let some = next_told same in
       cc
 
-  pub agree-not : (e : PlacedShown) → slice_get hand at ≡ Some e → Not ((t ≡ e.entry.ticket) × (c.event ≡ event_of e.entry.what)) → Not (asks calls ≡ tells hand)
+  pub agree-not : (e : EntryAt) → slice_get group at ≡ Some e → Not ((t ≡ e.entry.ticket) × (c.event ≡ event_of e.entry.what)) → Not (ticketed_calls calls ≡ ticketed_entries group)
   agree-not e next other same =
-      let told : slice_get (tells hand) at ≡ Some (Some e.entry.ticket, event_of e.entry.what) = to_map {B = Option ℕ × Event} (λ (x : PlacedShown). (Some x.entry.ticket, event_of x.entry.what)) hand at e next in
+      let told : slice_get (ticketed_entries group) at ≡ Some (Some e.entry.ticket, event_of e.entry.what) = to_map {B = Option ℕ × Event} (λ (x : EntryAt). (Some x.entry.ticket, event_of x.entry.what)) group at e next in
       other (pair_parts t e.entry.ticket (c.ticket, c.event) (Some e.entry.ticket, event_of e.entry.what) has refl (sym (next_told same) ∙ told))
 
 -- all calls are gone through
-pub agree-end : (calls : List Call) (hand : List PlacedShown) (k at : ℕ) → length calls ≤ k → asks (take k calls) ≡ take at (tells hand) → at ≤ length hand → (length hand ≡ at → asks calls ≡ tells hand) × (asks calls ≡ tells hand → length hand ≡ at)
-agree-end calls hand k at all old within =
-    let whole : asks calls ≡ take at (tells hand) = ap asks (sym (all_taken calls k all)) ∙ old in (
-      λ is. whole ∙ all_taken (tells hand) at (rw (tells_length hand) (omega (arith, is))),
-      λ same. let a : length (tells hand) ≡ at = ap length (sym same ∙ whole) ∙ length_take (tells hand) at (rw (tells_length hand) within) in sym (tells_length hand) ∙ a,
+pub agree-end : (calls : List Call) (group : List EntryAt) (k at : ℕ) → length calls ≤ k → ticketed_calls (take k calls) ≡ take at (ticketed_entries group) → at ≤ length group → (length group ≡ at → ticketed_calls calls ≡ ticketed_entries group) × (ticketed_calls calls ≡ ticketed_entries group → length group ≡ at)
+agree-end calls group k at all old within =
+    let whole : ticketed_calls calls ≡ take at (ticketed_entries group) = ap ticketed_calls (sym (all_taken calls k all)) ∙ old in (
+      λ is. whole ∙ all_taken (ticketed_entries group) at (rw (tells_length group) (omega (arith, is))),
+      λ same. let a : length (ticketed_entries group) ≡ at = ap length (sym same ∙ whole) ∙ length_take (ticketed_entries group) at (rw (tells_length group) within) in sym (tells_length group) ∙ a,
     )
 
 -- Dealing the entries out.
@@ -315,43 +315,43 @@ get_set_other (x ∷ xs) zero (suc j) y apart = refl
 get_set_other (x ∷ xs) (suc i) zero y apart = refl
 get_set_other (x ∷ xs) (suc i) (suc j) y apart = get_set_other xs i j y (λ e. apart (ap suc e))
 
-pub once_at : (seats : List SeatShown) (i j : ℕ) (r s : SeatShown) → AreOnce seats → slice_get seats i ≡ Some r → slice_get seats j ≡ Some s → r.thread ≡ s.thread → i ≡ j
+pub once_at : (seats : List SeatList) (i j : ℕ) (r s : SeatList) → AreDistinct seats → slice_get seats i ≡ Some r → slice_get seats j ≡ Some s → r.thread ≡ s.thread → i ≡ j
 once_at seats i j r s once hr hs same = elim (cases_order i j) [
   | inl at ↦ at
   | inr apart ↦ elim apart [ inl less ↦ absurd (once.apart i j r s less hr hs same) | inr more ↦ absurd (once.apart j i s r more hs hr (sym same)) ]
 ]
 
-by_push : (t : ℕ) (order : List PlacedShown) (d : PlacedShown) → entries_by t (order ++ d ∷ []) ≡ entries_by t order ++ entries_by t (d ∷ [])
-by_push t order d = filter-append (λ (x : PlacedShown). x.entry.thread == t) order (d ∷ [])
+by_push : (t : ℕ) (order : List EntryAt) (d : EntryAt) → entries_by t (order ++ d ∷ []) ≡ entries_by t order ++ entries_by t (d ∷ [])
+by_push t order d = filter-append (λ (x : EntryAt). x.entry.thread == t) order (d ∷ [])
 
-by_yes : (t : ℕ) (d : PlacedShown) → d.entry.thread ≡ t → entries_by t (d ∷ []) ≡ d ∷ []
+by_yes : (t : ℕ) (d : EntryAt) → d.entry.thread ≡ t → entries_by t (d ∷ []) ≡ d ∷ []
 by_yes t d same = let e = eq-eqb d.entry.thread t same in rw e refl
 
-by_no : (t : ℕ) (d : PlacedShown) → Not (d.entry.thread ≡ t) → entries_by t (d ∷ []) ≡ []
+by_no : (t : ℕ) (d : EntryAt) → Not (d.entry.thread ≡ t) → entries_by t (d ∷ []) ≡ []
 by_no t d apart = elim (eqb_tells d.entry.thread t) [ inl hit ↦ absurd (apart hit.1) | inr miss ↦ rw miss.0 refl ]
 
-pub deal-more : (seats : List SeatShown) (order : List PlacedShown) (k i : ℕ) (d : PlacedShown) (hands later : List (List PlacedShown)) (hand now : List PlacedShown) (s : SeatShown) → AreOnce seats → AreDealt seats (take k order) hands → AllGiven seats (take k order)
-    → slice_get order k ≡ Some d → slice_get seats i ≡ Some s → s.thread ≡ d.entry.thread → slice_get hands i ≡ Some hand → now ≡ hand ++ d ∷ [] → later ≡ set hands i now → AreDealt seats (take (k + 1) order) later × AllGiven seats (take (k + 1) order)
-deal-more seats order k i d hands later hand now s once old given here seat thread had grown is = rw (take_next order k d here, is) (
+pub deal-more : (seats : List SeatList) (order : List EntryAt) (k i : ℕ) (d : EntryAt) (groups later : List (List EntryAt)) (group now : List EntryAt) (s : SeatList) → AreDistinct seats → AreGrouped seats (take k order) groups → AllGiven seats (take k order)
+    → slice_get order k ≡ Some d → slice_get seats i ≡ Some s → s.thread ≡ d.entry.thread → slice_get groups i ≡ Some group → now ≡ group ++ d ∷ [] → later ≡ set groups i now → AreGrouped seats (take (k + 1) order) later × AllGiven seats (take (k + 1) order)
+deal-more seats order k i d groups later group now s once old given here seat thread had grown is = rw (take_next order k d here, is) (
   record {
-    count = length-set hands i now ∙ old.count;
+    count = length-set groups i now ∙ old.count;
     each = λ j r h. elim (eq_or j i) [
       | inl same ↦ (
           let one : Some r ≡ Some s = sym h ∙ (ap (slice_get seats) same ∙ seat) in
           let whose : r ≡ s = cc in
-          let was : Some hand ≡ Some (entries_by r.thread (take k order)) = sym had ∙ (ap (slice_get hands) (sym same) ∙ old.each j r h) in
-          let own : hand ≡ entries_by r.thread (take k order) = cc in
-          let mine : d.entry.thread ≡ r.thread = sym thread ∙ ap (λ (x : SeatShown). x.thread) (sym whose) in
-          rw same (get_set_same hands i now (slice_get_within hands i hand had)) ∙ ap (λ (x : List PlacedShown). Some x) (grown ∙ (ap (λ (x : List PlacedShown). x ++ d ∷ []) own ∙ (ap (λ (x : List PlacedShown). entries_by r.thread (take k order) ++ x) (sym (by_yes r.thread d mine)) ∙ sym (by_push r.thread (take k order) d)))))
+          let was : Some group ≡ Some (entries_by r.thread (take k order)) = sym had ∙ (ap (slice_get groups) (sym same) ∙ old.each j r h) in
+          let own : group ≡ entries_by r.thread (take k order) = cc in
+          let mine : d.entry.thread ≡ r.thread = sym thread ∙ ap (λ (x : SeatList). x.thread) (sym whose) in
+          rw same (get_set_same groups i now (slice_get_within groups i group had)) ∙ ap (λ (x : List EntryAt). Some x) (grown ∙ (ap (λ (x : List EntryAt). x ++ d ∷ []) own ∙ (ap (λ (x : List EntryAt). entries_by r.thread (take k order) ++ x) (sym (by_yes r.thread d mine)) ∙ sym (by_push r.thread (take k order) d)))))
       | inr apart ↦ (
           let other : Not (d.entry.thread ≡ r.thread) = λ e. apart (once_at seats j i r s once h seat (sym e ∙ sym thread)) in
-          get_set_other hands i j now apart ∙ (old.each j r h ∙ ap (λ (x : List PlacedShown). Some x) (sym (by_push r.thread (take k order) d ∙ (ap (λ (x : List PlacedShown). entries_by r.thread (take k order) ++ x) (by_no r.thread d other) ∙ append-nil (entries_by r.thread (take k order)))))))
+          get_set_other groups i j now apart ∙ (old.each j r h ∙ ap (λ (x : List EntryAt). Some x) (sym (by_push r.thread (take k order) d ∙ (ap (λ (x : List EntryAt). entries_by r.thread (take k order) ++ x) (by_no r.thread d other) ∙ append-nil (entries_by r.thread (take k order)))))))
     ];
   },
-  λ m x h. elim (get_push (take k order) d x m h) [ inl p ↦ given m x p | inr p ↦ (i, s, seat, thread ∙ ap (λ (y : PlacedShown). y.entry.thread) (sym p.1)) ],
+  λ m x h. elim (get_push (take k order) d x m h) [ inl p ↦ given m x p | inr p ↦ (i, s, seat, thread ∙ ap (λ (y : EntryAt). y.entry.thread) (sym p.1)) ],
 )
 
-pub deal-not : (seats : List SeatShown) (order : List PlacedShown) (index : BTreeMap ℕ ℕ) (k : ℕ) (d : PlacedShown) → IsIndex seats index → slice_get order k ≡ Some d → get nat_cmp index d.entry.thread ≡ None → Not (AllGiven seats order)
+pub deal-not : (seats : List SeatList) (order : List EntryAt) (index : BTreeMap ℕ ℕ) (k : ℕ) (d : EntryAt) → IsIndex seats index → slice_get order k ≡ Some d → get nat_cmp index d.entry.thread ≡ None → Not (AllGiven seats order)
 deal-not seats order index k d at here none given =
     let seat = given k d here in
     some_is (get nat_cmp index d.entry.thread) (rw (← seat.3) (at.found seat.0 seat.1 seat.2)) (rw none refl)

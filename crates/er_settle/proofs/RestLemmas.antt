@@ -13,19 +13,20 @@ use Rattle.std.proofs.lemmas.Map.Entries.{btree_map_get_place, place_from_lookup
 use Rattle.std.proofs.lemmas.List.{take-append-drop, append_cancel_left}
 use Rattle.std.proofs.lemmas.Option.{slice_get_within, get_or_from_slice_get}
 use Rattle.er_event.specs.declared.steps.Event.{Event}
-use Rattle.er_model.specs.declared.stamps.Call.{Call}
-use Rattle.er_settle.specs.Seats.{SeatShown, calls_by}
-use Rattle.er_settle.specs.Faults.{EachTwo, AreOnce, IsGiven, IsSooner, event_of, Not}
-use Rattle.er_settle.specs.Passes.{IsIndex}
-use Rattle.er_settle.specs.Orders.{PlacedShown, PlacedRise, entries_by}
-use Rattle.er_settle.specs.Pairs.{asks, tells, AllAgree}
-use Rattle.er_settle.specs.Turns.{turns_by, next_turn, asked_in, told_in, AreTaken, AreByNumber}
+use Rattle.er_journal.specs.declared.entries.Call.{Call}
+use Rattle.er_settle.specs.Seats.{SeatList, calls_by}
+use Rattle.er_settle.specs.Faults.{EachTwo, AreDistinct, IsGiven, IsSooner, event_of, Not}
+use Rattle.er_settle.specs.Inner.SeatChecks.{IsIndex}
+use Rattle.er_settle.specs.Inner.JournalOrder.{EntryAt, OrderRises, entries_by}
+use Rattle.er_settle.specs.Inner.EntryMatches.{ticketed_calls, ticketed_entries, AllAgree}
+use Rattle.er_settle.specs.Inner.CallOrder.{turns_by, next_turn, ticketed_turns, entry_turns, AreTaken, AreByNumber}
 use Rattle.er_settle.specs.Runs.{TurnShown, turn_of, calls_of, HasLater, IsInOrder}
 use Rattle.er_settle.proofs.ListLemmas.{each_two-none}
 use Rattle.er_settle.proofs.NumberLemmas.{is_some-of}
 use Rattle.er_settle.proofs.OrderLemmas.{mapped, head_to, tail_two, cons_two}
 use Rattle.er_settle.proofs.PairLemmas.{to_map, to_filter, once_at, is_some_true}
-use Rattle.er_settle.proofs.TurnLemmas.{got_front, get_both, asks_both, whole_turn, all_bare, calls_both, asked_both, calls_same, calls_other, own_told, turns_whose}
+use Rattle.er_event.proofs.Lists.{get_still}
+use Rattle.er_settle.proofs.TurnLemmas.{get_both, asks_both, whole_turn, all_bare, calls_both, asked_both, calls_same, calls_other, own_told, turns_whose}
 
 abbrev Key : Type 0
 Key = Option ℕ × Event
@@ -35,8 +36,8 @@ Key = Option ℕ × Event
 less : (a b : ℕ) → nat_cmp a b ≡ Less → a < b
 less a b h = grind (arith, nat_tests)
 
-module _ (seats : List SeatShown) (index : BTreeMap ℕ ℕ) (once : AreOnce seats) (at : IsIndex seats index) (ordered : IsOrdered nat_cmp index) where
-  number_at : (k p : ℕ) → slice_get (values index) k ≡ Some p → (n : ℕ) × (s : SeatShown) × (slice_get (keys index) k ≡ Some n) × (slice_get seats p ≡ Some s) × (s.thread ≡ n)
+module _ (seats : List SeatList) (index : BTreeMap ℕ ℕ) (once : AreDistinct seats) (at : IsIndex seats index) (ordered : IsOrdered nat_cmp index) where
+  number_at : (k p : ℕ) → slice_get (values index) k ≡ Some p → (n : ℕ) × (s : SeatList) × (slice_get (keys index) k ≡ Some n) × (slice_get seats p ≡ Some s) × (s.thread ≡ n)
   number_at k p h =
       let e = mapped {B = ℕ} (λ (x : ℕ × ℕ). x.1) index.entries k p h in
       let pair : slice_get index.entries k ≡ Some (e.0.0, p) = e.1 ∙ ap (λ (v : ℕ). Some (e.0.0, v)) e.2 in
@@ -50,8 +51,8 @@ module _ (seats : List SeatShown) (index : BTreeMap ℕ ℕ) (once : AreOnce sea
         let b = number_at k q hq in
         let sorted = Less-from_sorted nat_cmp (keys index) j k 0 ordered below (slice_get_within (keys index) k b.0 b.2) in
         let numbers : nat_cmp a.0 b.0 ≡ Less = rw (get_or_from_slice_get (keys index) j a.0 0 a.2, get_or_from_slice_get (keys index) k b.0 0 b.2) at sorted in
-        let low : r.thread ≡ a.0 = ap (λ (x : SeatShown). x.thread) (seat_is p r a.1 hr a.3) ∙ a.4 in
-        let high : s.thread ≡ b.0 = ap (λ (x : SeatShown). x.thread) (seat_is q s b.1 hs b.3) ∙ b.4 in
+        let low : r.thread ≡ a.0 = ap (λ (x : SeatList). x.thread) (seat_is p r a.1 hr a.3) ∙ a.4 in
+        let high : s.thread ≡ b.0 = ap (λ (x : SeatList). x.thread) (seat_is q s b.1 hs b.3) ∙ b.4 in
         (let l = less a.0 b.0 numbers in omega (arith, l, low, high));
     inside = λ k p h. let a = number_at k p h in slice_get_within seats p a.1 a.3;
     all = λ i s h.
@@ -62,26 +63,26 @@ module _ (seats : List SeatShown) (index : BTreeMap ℕ ℕ) (once : AreOnce sea
         (place.0, to_map {B = ℕ} (λ (x : ℕ × ℕ). x.1) index.entries place.0 (place.1, found.0) place.2 ∙ ap (λ (n : ℕ). Some n) same_place);
   })
     where
-      seat_is : (p : ℕ) (r s : SeatShown) → slice_get seats p ≡ Some r → slice_get seats p ≡ Some s → r ≡ s
+      seat_is : (p : ℕ) (r s : SeatList) → slice_get seats p ≡ Some r → slice_get seats p ≡ Some s → r ≡ s
       seat_is p r s hr hs = let both : Some r ≡ Some s = sym hr ∙ hs in cc
 
 -- The calls of every thread.
 
-unfold_calls : (s : SeatShown) (seats : List SeatShown) (t : ℕ) → calls_by (s ∷ seats) t ≡ cond (s.thread == t) s.calls (calls_by seats t)
+unfold_calls : (s : SeatList) (seats : List SeatList) (t : ℕ) → calls_by (s ∷ seats) t ≡ cond (s.thread == t) s.calls (calls_by seats t)
 unfolding calls_by
 unfold_calls s seats t = refl
 
-tail_once : (s : SeatShown) (seats : List SeatShown) → AreOnce (s ∷ seats) → AreOnce seats
-tail_once s seats once = record { apart = tail_two SeatShown (λ r q. Not (r.thread ≡ q.thread)) s seats once.apart }
+tail_once : (s : SeatList) (seats : List SeatList) → AreDistinct (s ∷ seats) → AreDistinct seats
+tail_once s seats once = record { apart = tail_two SeatList (λ r q. Not (r.thread ≡ q.thread)) s seats once.apart }
 
-pub calls_given : (seats : List SeatShown) (i : ℕ) (s : SeatShown) → AreOnce seats → slice_get seats i ≡ Some s → calls_by seats s.thread ≡ s.calls
+pub calls_given : (seats : List SeatList) (i : ℕ) (s : SeatList) → AreDistinct seats → slice_get seats i ≡ Some s → calls_by seats s.thread ≡ s.calls
 calls_given [] i s once h = absurd (cc)
 calls_given (r ∷ seats) zero s once h = let same : r ≡ s = cc in rw same (unfold_calls s seats s.thread ∙ rw (eq-eqb s.thread s.thread refl) refl)
 calls_given (r ∷ seats) (suc i) s once h =
-    let apart : Not (r.thread ≡ s.thread) = head_to SeatShown (λ x y. Not (x.thread ≡ y.thread)) r seats once.apart i s h in
+    let apart : Not (r.thread ≡ s.thread) = head_to SeatList (λ x y. Not (x.thread ≡ y.thread)) r seats once.apart i s h in
     elim (eqb_tells r.thread s.thread) [ inl hit ↦ absurd (apart hit.1) | inr miss ↦ unfold_calls r seats s.thread ∙ rw miss.0 (calls_given seats i s (tail_once r seats once) h) ]
 
-pub given_or : (seats : List SeatShown) (t : ℕ) → IsGiven seats t ⊎ (((i : ℕ) (s : SeatShown) → slice_get seats i ≡ Some s → Not (s.thread ≡ t)) × (calls_by seats t ≡ []))
+pub given_or : (seats : List SeatList) (t : ℕ) → IsGiven seats t ⊎ (((i : ℕ) (s : SeatList) → slice_get seats i ≡ Some s → Not (s.thread ≡ t)) × (calls_by seats t ≡ []))
 unfolding calls_by
 given_or [] t = inr ((λ i s h. absurd (cc)), refl)
 given_or (r ∷ seats) t = elim (eqb_tells r.thread t) [
@@ -92,15 +93,15 @@ given_or (r ∷ seats) t = elim (eqb_tells r.thread t) [
   ]
 ]
   where
-    others : ((i : ℕ) (s : SeatShown) → slice_get seats i ≡ Some s → Not (s.thread ≡ t)) → Not (r.thread ≡ t) → (i : ℕ) (s : SeatShown) → slice_get (r ∷ seats) i ≡ Some s → Not (s.thread ≡ t)
-    others rest apart zero s h same = let e : r ≡ s = cc in apart (ap (λ (x : SeatShown). x.thread) e ∙ same)
+    others : ((i : ℕ) (s : SeatList) → slice_get seats i ≡ Some s → Not (s.thread ≡ t)) → Not (r.thread ≡ t) → (i : ℕ) (s : SeatList) → slice_get (r ∷ seats) i ≡ Some s → Not (s.thread ≡ t)
+    others rest apart zero s h same = let e : r ≡ s = cc in apart (ap (λ (x : SeatList). x.thread) e ∙ same)
     others rest apart (suc i) s h same = rest i s h same
 
 no_calls : (t : ℕ) (turns : List TurnShown) → ((m : ℕ) (a : TurnShown) → slice_get turns m ≡ Some a → Not (a.thread ≡ t)) → calls_of t turns ≡ []
 no_calls t [] other = refl
 no_calls t (a ∷ turns) other = elim (eqb_tells a.thread t) [ inl hit ↦ absurd (other zero a refl hit.1) | inr miss ↦ rw miss.0 (no_calls t turns (λ m x h. other (suc m) x h)) ]
 
-pub each-thread : (seats : List SeatShown) (turns : List TurnShown) → AreOnce seats → ((k : ℕ) (a : TurnShown) → slice_get turns k ≡ Some a → IsGiven seats a.thread) → ((i : ℕ) (s : SeatShown) → slice_get seats i ≡ Some s → calls_of s.thread turns ≡ s.calls) →
+pub each-thread : (seats : List SeatList) (turns : List TurnShown) → AreDistinct seats → ((k : ℕ) (a : TurnShown) → slice_get turns k ≡ Some a → IsGiven seats a.thread) → ((i : ℕ) (s : SeatList) → slice_get seats i ≡ Some s → calls_of s.thread turns ≡ s.calls) →
     (t : ℕ) → calls_of t turns ≡ calls_by seats t
 each-thread seats turns once given each t = elim (given_or seats t) [
   | inl w ↦ rw (← w.3) (each w.0 w.1 w.2 ∙ sym (calls_given seats w.0 w.1 once w.2))
@@ -119,23 +120,23 @@ each_two-both A R xs ys front behind across j k x y below hx hy = elim (get_both
 ]
 
 -- the turns at the end: of the seats at the first k places all calls are taken
-pub record AreResting (seats : List SeatShown) (places next : List ℕ) (k : ℕ) (front turns : List TurnShown) : Type 0 where
+pub record AreResting (seats : List SeatList) (places next : List ℕ) (k : ℕ) (front turns : List TurnShown) : Type 0 where
   pub rest : List TurnShown
   pub whole : turns ≡ front ++ rest
   pub bare : (m : ℕ) (a : TurnShown) → slice_get rest m ≡ Some a → a.call.ticket ≡ None
-  pub whose : (m : ℕ) (a : TurnShown) → slice_get rest m ≡ Some a → (j : ℕ) × (p : ℕ) × (s : SeatShown) × (j < k) × (slice_get places j ≡ Some p) × (slice_get seats p ≡ Some s) × (a.thread ≡ s.thread)
+  pub whose : (m : ℕ) (a : TurnShown) → slice_get rest m ≡ Some a → (j : ℕ) × (p : ℕ) × (s : SeatList) × (j < k) × (slice_get places j ≡ Some p) × (slice_get seats p ≡ Some s) × (a.thread ≡ s.thread)
   pub rise : EachTwo TurnShown (λ a b. a.thread ≤ b.thread) rest
-  pub done : (j i : ℕ) (s : SeatShown) → j < k → slice_get places j ≡ Some i → slice_get seats i ≡ Some s → calls_of s.thread turns ≡ s.calls
-  pub todo : (j i : ℕ) (s : SeatShown) → k ≤ j → slice_get places j ≡ Some i → slice_get seats i ≡ Some s → calls_of s.thread turns ≡ take (slice_index next i) s.calls
+  pub done : (j i : ℕ) (s : SeatList) → j < k → slice_get places j ≡ Some i → slice_get seats i ≡ Some s → calls_of s.thread turns ≡ s.calls
+  pub todo : (j i : ℕ) (s : SeatList) → k ≤ j → slice_get places j ≡ Some i → slice_get seats i ≡ Some s → calls_of s.thread turns ≡ take (slice_index next i) s.calls
 
 -- no call that is left has a ticket
-left_none : (s : SeatShown) (order : List PlacedShown) (from : ℕ) (front : List TurnShown) → asks s.calls ≡ tells (entries_by s.thread order) → asked_in front ≡ told_in order → calls_of s.thread front ≡ take from s.calls → asks (drop from s.calls) ≡ []
+left_none : (s : SeatList) (order : List EntryAt) (from : ℕ) (front : List TurnShown) → ticketed_calls s.calls ≡ ticketed_entries (entries_by s.thread order) → ticketed_turns front ≡ entry_turns order → calls_of s.thread front ≡ take from s.calls → ticketed_calls (drop from s.calls) ≡ []
 left_none s order from front agree told calls =
-    let before : asks (take from s.calls) ≡ tells (entries_by s.thread order) = ap asks (sym calls) ∙ own_told s.thread front order told in
-    let split : asks s.calls ≡ asks (take from s.calls) ++ asks (drop from s.calls) = ap asks (sym (take-append-drop from s.calls)) ∙ asks_both (take from s.calls) (drop from s.calls) in
-    append_cancel_left (asks (take from s.calls)) (asks (drop from s.calls)) [] (sym split ∙ (agree ∙ (sym before ∙ sym (append-nil (asks (take from s.calls))))))
+    let before : ticketed_calls (take from s.calls) ≡ ticketed_entries (entries_by s.thread order) = ap ticketed_calls (sym calls) ∙ own_told s.thread front order told in
+    let split : ticketed_calls s.calls ≡ ticketed_calls (take from s.calls) ++ ticketed_calls (drop from s.calls) = ap ticketed_calls (sym (take-append-drop from s.calls)) ∙ asks_both (take from s.calls) (drop from s.calls) in
+    append_cancel_left (ticketed_calls (take from s.calls)) (ticketed_calls (drop from s.calls)) [] (sym split ∙ (agree ∙ (sym before ∙ sym (append-nil (ticketed_calls (take from s.calls))))))
 
-place_seat : (seats : List SeatShown) (i j : ℕ) (r s : SeatShown) → i ≡ j → slice_get seats i ≡ Some r → slice_get seats j ≡ Some s → r ≡ s
+place_seat : (seats : List SeatList) (i j : ℕ) (r s : SeatList) → i ≡ j → slice_get seats i ≡ Some r → slice_get seats j ≡ Some s → r ≡ s
 place_seat seats i j r s same hr hs = let both : Some r ≡ Some s = sym hr ∙ (ap (slice_get seats) same ∙ hs) in cc
 
 place_is : (places : List ℕ) (j k p q : ℕ) → j ≡ k → slice_get places j ≡ Some p → slice_get places k ≡ Some q → p ≡ q
@@ -146,7 +147,7 @@ turns_bare t [] none m a h = absurd (cc)
 turns_bare t (c ∷ calls) none zero a h = let e : turn_of t c ≡ a = cc in ap (λ (x : TurnShown). x.call.ticket) (sym e) ∙ none zero c refl
 turns_bare t (c ∷ calls) none (suc m) a h = turns_bare t calls (λ k x i. none (suc k) x i) m a h
 
-pub resting-none : (seats : List SeatShown) (order : List PlacedShown) (places next : List ℕ) (front : List TurnShown) → AreTaken seats order next front → AreResting seats places next 0 front front
+pub resting-none : (seats : List SeatList) (order : List EntryAt) (places next : List ℕ) (front : List TurnShown) → AreTaken seats order next front → AreResting seats places next 0 front front
 resting-none seats order places next front taken = record {
   rest = [];
   whole = sym (append-nil front);
@@ -157,15 +158,15 @@ resting-none seats order places next front taken = record {
   todo = λ j i s low hp hs. (taken.calls i s hs).0;
 }
 
-module _ (seats : List SeatShown) (order : List PlacedShown) (places next : List ℕ) (k p : ℕ) (s : SeatShown) (front turns : List TurnShown) (agree : AllAgree seats order) (by : AreByNumber seats places) (taken : AreTaken seats order next front)
+module _ (seats : List SeatList) (order : List EntryAt) (places next : List ℕ) (k p : ℕ) (s : SeatList) (front turns : List TurnShown) (agree : AllAgree seats order) (by : AreByNumber seats places) (taken : AreTaken seats order next front)
     (old : AreResting seats places next k front turns) (here : slice_get places k ≡ Some p) (seat : slice_get seats p ≡ Some s) where
   abbrev left : List Call
   left = drop (slice_index next p) s.calls
 
-  left_asks : asks left ≡ []
+  left_asks : ticketed_calls left ≡ []
   left_asks = left_none s order (slice_index next p) front (agree p s seat) taken.told (taken.calls p s seat).0
 
-  other_calls : (r : SeatShown) → Not (s.thread ≡ r.thread) → calls_of r.thread (turns ++ turns_by s.thread left) ≡ calls_of r.thread turns
+  other_calls : (r : SeatList) → Not (s.thread ≡ r.thread) → calls_of r.thread (turns ++ turns_by s.thread left) ≡ calls_of r.thread turns
   other_calls r apart = calls_both r.thread turns (turns_by s.thread left) ∙ (ap (λ (xs : List Call). calls_of r.thread turns ++ xs) (calls_other s.thread r.thread left apart) ∙ append-nil (calls_of r.thread turns))
 
   own_calls : calls_of s.thread (turns ++ turns_by s.thread left) ≡ s.calls
@@ -206,7 +207,7 @@ module _ (seats : List SeatShown) (order : List PlacedShown) (places next : List
 
 -- At the end.
 
-bare_asked : (turns : List TurnShown) → ((m : ℕ) (a : TurnShown) → slice_get turns m ≡ Some a → a.call.ticket ≡ None) → asked_in turns ≡ []
+bare_asked : (turns : List TurnShown) → ((m : ℕ) (a : TurnShown) → slice_get turns m ≡ Some a → a.call.ticket ≡ None) → ticketed_turns turns ≡ []
 bare_asked [] none = refl
 bare_asked (a ∷ turns) none = let e : is_some a.call.ticket ≡ false = rw (none zero a refl) refl in rw e (bare_asked turns (λ m x h. none (suc m) x h))
 
@@ -226,16 +227,16 @@ KeyRise a b = (t u : ℕ) → a.1.0 ≡ Some t → b.1.0 ≡ Some u → t < u
 some_is : (t u : ℕ) → Some t ≡ Some u → t ≡ u
 some_is t u same = cc
 
-told_rise : (order : List PlacedShown) → PlacedRise order → EachTwo (ℕ × Key) KeyRise (told_in order)
+told_rise : (order : List EntryAt) → OrderRises order → EachTwo (ℕ × Key) KeyRise (entry_turns order)
 told_rise order up j k a b below ha hb t u ta ub =
-    let x = mapped {B = ℕ × Key} (λ (d : PlacedShown). (d.entry.thread, (Some d.entry.ticket, event_of d.entry.what))) order j a ha in
-    let y = mapped {B = ℕ × Key} (λ (d : PlacedShown). (d.entry.thread, (Some d.entry.ticket, event_of d.entry.what))) order k b hb in
+    let x = mapped {B = ℕ × Key} (λ (d : EntryAt). (d.entry.thread, (Some d.entry.ticket, event_of d.entry.what))) order j a ha in
+    let y = mapped {B = ℕ × Key} (λ (d : EntryAt). (d.entry.thread, (Some d.entry.ticket, event_of d.entry.what))) order k b hb in
     let low : x.0.entry.ticket ≡ t = some_is x.0.entry.ticket t (ap (λ (w : ℕ × Key). w.1.0) x.2 ∙ ta) in
     let high : y.0.entry.ticket ≡ u = some_is y.0.entry.ticket u (ap (λ (w : ℕ × Key). w.1.0) y.2 ∙ ub) in
     let less = up.each j k x.0 y.0 below x.1 y.1 in
     omega (arith, less, low, high)
 
-tickets_rise : (turns : List TurnShown) (order : List PlacedShown) → PlacedRise order → asked_in turns ≡ told_in order → EachTwo TurnShown (λ a b. IsSooner a.call b.call) turns
+tickets_rise : (turns : List TurnShown) (order : List EntryAt) → OrderRises order → ticketed_turns turns ≡ entry_turns order → EachTwo TurnShown (λ a b. IsSooner a.call b.call) turns
 tickets_rise turns order up told j k a b below ha hb t u ta ub =
     two_filter TurnShown (λ x y. IsSooner x.call y.call) (λ (x : TurnShown). is_some x.call.ticket) turns
     (λ i m x y low hx hy v w vx wy. (rw (sym told) at (told_rise order up)) i m (x.thread, (x.call.ticket, x.call.event)) (y.thread, (y.call.ticket, y.call.event)) low
@@ -243,15 +244,15 @@ tickets_rise turns order up told j k a b below ha hb t u ta ub =
     (to_map {B = ℕ × Key} (λ (z : TurnShown). (z.thread, (z.call.ticket, z.call.event))) (filter (λ (z : TurnShown). is_some z.call.ticket) turns) m y hy) v w vx wy)
     j k a b below ha hb (is_some_true a.call.ticket t ta) (is_some_true b.call.ticket u ub) t u ta ub
 
-module _ (seats : List SeatShown) (order : List PlacedShown) (places next : List ℕ) (k : ℕ) (front turns : List TurnShown) (once : AreOnce seats) (up : PlacedRise order) (by : AreByNumber seats places) (taken : AreTaken seats order next front)
+module _ (seats : List SeatList) (order : List EntryAt) (places next : List ℕ) (k : ℕ) (front turns : List TurnShown) (once : AreDistinct seats) (up : OrderRises order) (by : AreByNumber seats places) (taken : AreTaken seats order next front)
     (far : AreResting seats places next k front turns) (all : length places ≤ k) where
   pub rest-calls : (t : ℕ) → calls_of t turns ≡ calls_by seats t
   rest-calls = each-thread seats turns once
       (λ m a h. elim (get_both front far.rest m a (rw far.whole at h)) [ inl w ↦ taken.given m a w | inr w ↦ (let o = far.whose w.0 a w.2 in (o.1, o.2, o.5, sym o.6)) ])
       (λ i s h. let place = by.all i s h in far.done place.0 i s (let w = slice_get_within places place.0 i place.1 in omega (arith, w, all)) place.1 h)
 
-  pub rest-told : asked_in turns ≡ told_in order
-  rest-told = rw far.whole (asked_both front far.rest ∙ (rw (bare_asked far.rest far.bare) (append-nil (asked_in front)) ∙ taken.told))
+  pub rest-told : ticketed_turns turns ≡ entry_turns order
+  rest-told = rw far.whole (asked_both front far.rest ∙ (rw (bare_asked far.rest far.bare) (append-nil (ticketed_turns front)) ∙ taken.told))
 
   -- a position of the end has no ticket behind it
   none_later : (m t : ℕ) → length front ≤ m → Not (HasLater (front ++ far.rest) m t)
@@ -261,13 +262,13 @@ module _ (seats : List SeatShown) (order : List PlacedShown) (places next : List
   ]
 
   later_front : (m : ℕ) (a : TurnShown) → slice_get front m ≡ Some a → a.call.ticket ≡ None → HasLater (front ++ far.rest) m a.thread
-  later_front m a h none = let e = taken.closed.each m a h none in (e.1.0, e.1.1, e.1.2, got_front front far.rest e.1.0 e.1.1 e.1.3, e.1.4, e.1.5)
+  later_front m a h none = let e = taken.closed.each m a h none in (e.1.0, e.1.1, e.1.2, get_still front far.rest e.1.0 e.1.1 e.1.3, e.1.4, e.1.5)
 
   pub rest-order : IsInOrder turns
   rest-order = rw far.whole (record {
     rise = rw far.whole at (tickets_rise turns order up rest-told);
     before = λ m a h none later. elim (get_both front far.rest m a h) [
-      | inl w ↦ (let e = taken.closed.each m a w none in (e.0.0, got_front front far.rest (m + 1) e.0.0 e.0.1, e.0.2))
+      | inl w ↦ (let e = taken.closed.each m a w none in (e.0.0, get_still front far.rest (m + 1) e.0.0 e.0.1, e.0.2))
       | inr w ↦ absurd (none_later m a.thread (let e = w.1 in omega (arith, e)) later)
     ];
     rest = λ i j a b below ha hb none not_later. elim (get_both front far.rest i a ha) [

@@ -12,27 +12,23 @@ use Rattle.std.proofs.Math.Seq.{take-add}
 use Rattle.std.proofs.Math.ListN.{drop_of_length-le}
 use Rattle.std.proofs.lemmas.Option.{slice_get_within, slice_get_read, get_or_from_slice_get}
 use Rattle.er_event.specs.declared.steps.Event.{Event}
-use Rattle.er_model.specs.declared.stamps.Call.{Call}
-use Rattle.er_settle.specs.Seats.{SeatShown}
-use Rattle.er_settle.specs.Faults.{AreOnce, event_of, Not}
-use Rattle.er_settle.specs.Passes.{IsIndex}
-use Rattle.er_settle.specs.Orders.{PlacedShown, entries_by}
-use Rattle.er_settle.specs.Pairs.{asks, tells, AllAgree}
-use Rattle.er_settle.specs.Turns.{turns_by, next_turn, asked_in, told_in, IsClosed, AreTaken}
+use Rattle.er_journal.specs.declared.entries.Call.{Call}
+use Rattle.er_settle.specs.Seats.{SeatList}
+use Rattle.er_settle.specs.Faults.{AreDistinct, event_of, Not}
+use Rattle.er_settle.specs.Inner.SeatChecks.{IsIndex}
+use Rattle.er_settle.specs.Inner.JournalOrder.{EntryAt, entries_by}
+use Rattle.er_settle.specs.Inner.EntryMatches.{ticketed_calls, ticketed_entries, AllAgree}
+use Rattle.er_settle.specs.Inner.CallOrder.{turns_by, next_turn, ticketed_turns, entry_turns, IsClosed, AreTaken}
 use Rattle.er_settle.specs.Runs.{TurnShown, turn_of, calls_of, HasLater, HasNext}
 use Rattle.er_settle.proofs.ListLemmas.{take_next, index_same, index_other, number_read}
 use Rattle.er_settle.proofs.NumberLemmas.{eq_or}
+use Rattle.er_event.proofs.Lists.{get_still}
 use Rattle.er_settle.proofs.PairLemmas.{once_at}
 
 abbrev Key : Type 0
 Key = Option ℕ × Event
 
 -- Places of a list that two make.
-
-pub got_front : {A : Type 0} (xs ys : List A) (k : ℕ) (x : A) → slice_get xs k ≡ Some x → slice_get (xs ++ ys) k ≡ Some x
-got_front [] ys k x h = absurd (cc)
-got_front (y ∷ xs) ys zero x h = h
-got_front (y ∷ xs) ys (suc k) x h = got_front xs ys k x h
 
 pub got_behind : {A : Type 0} (xs ys : List A) (k : ℕ) (x : A) → slice_get ys k ≡ Some x → slice_get (xs ++ ys) (length xs + k) ≡ Some x
 got_behind [] ys k x h = let e : 0 + k ≡ k = omega arith in rw e h
@@ -108,37 +104,37 @@ take_block calls from within =
 
 -- Tickets of the calls.
 
-pub asks_both : (xs ys : List Call) → asks (xs ++ ys) ≡ asks xs ++ asks ys
+pub asks_both : (xs ys : List Call) → ticketed_calls (xs ++ ys) ≡ ticketed_calls xs ++ ticketed_calls ys
 asks_both xs ys = ap (map {B = Key} (λ (x : Call). (x.ticket, x.event))) (filter-append (λ (x : Call). is_some x.ticket) xs ys)
     ∙ map-append {B = Key} (λ (x : Call). (x.ticket, x.event)) (filter (λ (x : Call). is_some x.ticket) xs) (filter (λ (x : Call). is_some x.ticket) ys)
 
-asks_if : (c : Call) (calls : List Call) (b : Bool) → is_some c.ticket ≡ b → asks (c ∷ calls) ≡ cond b ((c.ticket, c.event) ∷ asks calls) (asks calls)
+asks_if : (c : Call) (calls : List Call) (b : Bool) → is_some c.ticket ≡ b → ticketed_calls (c ∷ calls) ≡ cond b ((c.ticket, c.event) ∷ ticketed_calls calls) (ticketed_calls calls)
 asks_if c calls true is = rw is refl
 asks_if c calls false is = rw is refl
 
 head_is : (a b : Key) (xs ys : List Key) → a ∷ xs ≡ b ∷ ys → a ≡ b
 head_is a b xs ys same = cc
 
-asks_next_if : (c : Call) (calls : List Call) (a : Key) (more : List Key) (b : Bool) → is_some c.ticket ≡ b → cond b ((c.ticket, c.event) ∷ asks calls) (asks calls) ≡ a ∷ more → (asks calls ≡ a ∷ more → asks (next_turn calls) ≡ a ∷ []) →
-    asks (cond b (c ∷ []) (c ∷ next_turn calls)) ≡ a ∷ []
-asks_next_if c calls a more true is same rest = asks_if c [] true is ∙ ap (λ (x : Key). x ∷ []) (head_is (c.ticket, c.event) a (asks calls) more same)
+asks_next_if : (c : Call) (calls : List Call) (a : Key) (more : List Key) (b : Bool) → is_some c.ticket ≡ b → cond b ((c.ticket, c.event) ∷ ticketed_calls calls) (ticketed_calls calls) ≡ a ∷ more → (ticketed_calls calls ≡ a ∷ more → ticketed_calls (next_turn calls) ≡ a ∷ []) →
+    ticketed_calls (cond b (c ∷ []) (c ∷ next_turn calls)) ≡ a ∷ []
+asks_next_if c calls a more true is same rest = asks_if c [] true is ∙ ap (λ (x : Key). x ∷ []) (head_is (c.ticket, c.event) a (ticketed_calls calls) more same)
 asks_next_if c calls a more false is same rest = asks_if c (next_turn calls) false is ∙ rest same
 
 -- of a turn, the first of the calls
-pub asks_next : (calls : List Call) (a : Key) (more : List Key) → asks calls ≡ a ∷ more → asks (next_turn calls) ≡ a ∷ []
+pub asks_next : (calls : List Call) (a : Key) (more : List Key) → ticketed_calls calls ≡ a ∷ more → ticketed_calls (next_turn calls) ≡ a ∷ []
 asks_next [] a more same = absurd (cc)
 asks_next (c ∷ calls) a more same =
-    ap asks (next_if c calls (is_some c.ticket) refl) ∙ asks_next_if c calls a more (is_some c.ticket) refl (sym (asks_if c calls (is_some c.ticket) refl) ∙ same) (λ e. asks_next calls a more e)
+    ap ticketed_calls (next_if c calls (is_some c.ticket) refl) ∙ asks_next_if c calls a more (is_some c.ticket) refl (sym (asks_if c calls (is_some c.ticket) refl) ∙ same) (λ e. asks_next calls a more e)
 
-bare_if : (c : Call) (calls : List Call) (b : Bool) → is_some c.ticket ≡ b → cond b ((c.ticket, c.event) ∷ asks calls) (asks calls) ≡ [] → (is_some c.ticket ≡ false) × (asks calls ≡ [])
+bare_if : (c : Call) (calls : List Call) (b : Bool) → is_some c.ticket ≡ b → cond b ((c.ticket, c.event) ∷ ticketed_calls calls) (ticketed_calls calls) ≡ [] → (is_some c.ticket ≡ false) × (ticketed_calls calls ≡ [])
 bare_if c calls true is same = absurd (cc)
 bare_if c calls false is same = (is, same)
 
-asks_none : (c : Call) (calls : List Call) → asks (c ∷ calls) ≡ [] → (is_some c.ticket ≡ false) × (asks calls ≡ [])
+asks_none : (c : Call) (calls : List Call) → ticketed_calls (c ∷ calls) ≡ [] → (is_some c.ticket ≡ false) × (ticketed_calls calls ≡ [])
 asks_none c calls same = bare_if c calls (is_some c.ticket) refl (sym (asks_if c calls (is_some c.ticket) refl) ∙ same)
 
 -- calls without a ticket are all in one turn
-pub whole_turn : (calls : List Call) → asks calls ≡ [] → next_turn calls ≡ calls
+pub whole_turn : (calls : List Call) → ticketed_calls calls ≡ [] → next_turn calls ≡ calls
 unfolding next_turn
 whole_turn [] same = refl
 whole_turn (c ∷ calls) same = let e = asks_none c calls same in next_if c calls false e.0 ∙ ap (λ (xs : List Call). c ∷ xs) (whole_turn calls e.1)
@@ -147,7 +143,7 @@ no_ticket : (o : Option ℕ) → is_some o ≡ false → o ≡ None
 no_ticket None h = refl
 no_ticket (Some t) h = absurd (cc)
 
-pub all_bare : (calls : List Call) → asks calls ≡ [] → (k : ℕ) (c : Call) → slice_get calls k ≡ Some c → c.ticket ≡ None
+pub all_bare : (calls : List Call) → ticketed_calls calls ≡ [] → (k : ℕ) (c : Call) → slice_get calls k ≡ Some c → c.ticket ≡ None
 all_bare [] same k c h = absurd (cc)
 all_bare (x ∷ calls) same zero c h = let is : x ≡ c = cc in rw (← is) (no_ticket x.ticket (asks_none x calls same).0)
 all_bare (x ∷ calls) same (suc k) c h = all_bare calls (asks_none x calls same).1 k c h
@@ -158,7 +154,7 @@ pub calls_both : (t : ℕ) (xs ys : List TurnShown) → calls_of t (xs ++ ys) �
 calls_both t xs ys = ap (map (λ (a : TurnShown). a.call)) (filter-append (λ (a : TurnShown). a.thread == t) xs ys)
     ∙ map-append (λ (a : TurnShown). a.call) (filter (λ (a : TurnShown). a.thread == t) xs) (filter (λ (a : TurnShown). a.thread == t) ys)
 
-pub asked_both : (xs ys : List TurnShown) → asked_in (xs ++ ys) ≡ asked_in xs ++ asked_in ys
+pub asked_both : (xs ys : List TurnShown) → ticketed_turns (xs ++ ys) ≡ ticketed_turns xs ++ ticketed_turns ys
 asked_both xs ys = ap (map {B = ℕ × Key} (λ (a : TurnShown). (a.thread, (a.call.ticket, a.call.event)))) (filter-append (λ (a : TurnShown). is_some a.call.ticket) xs ys)
     ∙ map-append {B = ℕ × Key} (λ (a : TurnShown). (a.thread, (a.call.ticket, a.call.event))) (filter (λ (a : TurnShown). is_some a.call.ticket) xs) (filter (λ (a : TurnShown). is_some a.call.ticket) ys)
 
@@ -170,12 +166,12 @@ pub calls_other : (t u : ℕ) (calls : List Call) → Not (t ≡ u) → calls_of
 calls_other t u [] apart = refl
 calls_other t u (c ∷ calls) apart = elim (eqb_tells t u) [ inl hit ↦ absurd (apart hit.1) | inr miss ↦ rw miss.0 (calls_other t u calls apart) ]
 
-asked_by_if : (t : ℕ) (c : Call) (calls : List Call) (b : Bool) → is_some c.ticket ≡ b → asked_in (turns_by t calls) ≡ map {B = ℕ × Key} (λ (p : Key). (t, p)) (asks calls) →
-    asked_in (turn_of t c ∷ turns_by t calls) ≡ map {B = ℕ × Key} (λ (p : Key). (t, p)) (cond b ((c.ticket, c.event) ∷ asks calls) (asks calls))
+asked_by_if : (t : ℕ) (c : Call) (calls : List Call) (b : Bool) → is_some c.ticket ≡ b → ticketed_turns (turns_by t calls) ≡ map {B = ℕ × Key} (λ (p : Key). (t, p)) (ticketed_calls calls) →
+    ticketed_turns (turn_of t c ∷ turns_by t calls) ≡ map {B = ℕ × Key} (λ (p : Key). (t, p)) (cond b ((c.ticket, c.event) ∷ ticketed_calls calls) (ticketed_calls calls))
 asked_by_if t c calls true is rest = rw is (ap (λ (xs : List (ℕ × Key)). (t, (c.ticket, c.event)) ∷ xs) rest)
 asked_by_if t c calls false is rest = rw is rest
 
-pub asked_by : (t : ℕ) (calls : List Call) → asked_in (turns_by t calls) ≡ map {B = ℕ × Key} (λ (p : Key). (t, p)) (asks calls)
+pub asked_by : (t : ℕ) (calls : List Call) → ticketed_turns (turns_by t calls) ≡ map {B = ℕ × Key} (λ (p : Key). (t, p)) (ticketed_calls calls)
 asked_by t [] = refl
 asked_by t (c ∷ calls) = asked_by_if t c calls (is_some c.ticket) refl (asked_by t calls) ∙ ap (map {B = ℕ × Key} (λ (p : Key). (t, p))) (sym (asks_if c calls (is_some c.ticket) refl))
 
@@ -184,26 +180,26 @@ abbrev own_of : ℕ → List (ℕ × Key) → List Key
 own_of t xs = map (λ (p : ℕ × Key). p.1) (filter (λ (p : ℕ × Key). p.0 == t) xs)
 
 module _ (t : ℕ) where
-  asks_own_if : (a : TurnShown) (turns : List TurnShown) (own some : Bool) → (a.thread == t) ≡ own → is_some a.call.ticket ≡ some → asks (calls_of t turns) ≡ own_of t (asked_in turns) → asks (calls_of t (a ∷ turns)) ≡ own_of t (asked_in (a ∷ turns))
+  asks_own_if : (a : TurnShown) (turns : List TurnShown) (own some : Bool) → (a.thread == t) ≡ own → is_some a.call.ticket ≡ some → ticketed_calls (calls_of t turns) ≡ own_of t (ticketed_turns turns) → ticketed_calls (calls_of t (a ∷ turns)) ≡ own_of t (ticketed_turns (a ∷ turns))
   asks_own_if a turns true true own some rest = rw (own, some, own) (ap (λ (xs : List Key). (a.call.ticket, a.call.event) ∷ xs) rest)
   asks_own_if a turns true false own some rest = rw (own, some) rest
   asks_own_if a turns false true own some rest = rw (own, some, own) rest
   asks_own_if a turns false false own some rest = rw (own, some) rest
 
-  pub asks_own : (turns : List TurnShown) → asks (calls_of t turns) ≡ own_of t (asked_in turns)
+  pub asks_own : (turns : List TurnShown) → ticketed_calls (calls_of t turns) ≡ own_of t (ticketed_turns turns)
   asks_own [] = refl
   asks_own (a ∷ turns) = asks_own_if a turns (a.thread == t) (is_some a.call.ticket) refl refl (asks_own turns)
 
-  tells_own_if : (d : PlacedShown) (order : List PlacedShown) (own : Bool) → (d.entry.thread == t) ≡ own → tells (entries_by t order) ≡ own_of t (told_in order) → tells (entries_by t (d ∷ order)) ≡ own_of t (told_in (d ∷ order))
+  tells_own_if : (d : EntryAt) (order : List EntryAt) (own : Bool) → (d.entry.thread == t) ≡ own → ticketed_entries (entries_by t order) ≡ own_of t (entry_turns order) → ticketed_entries (entries_by t (d ∷ order)) ≡ own_of t (entry_turns (d ∷ order))
   tells_own_if d order true own rest = rw own (ap (λ (xs : List Key). (Some d.entry.ticket, event_of d.entry.what) ∷ xs) rest)
   tells_own_if d order false own rest = rw own rest
 
-  pub tells_own : (order : List PlacedShown) → tells (entries_by t order) ≡ own_of t (told_in order)
+  pub tells_own : (order : List EntryAt) → ticketed_entries (entries_by t order) ≡ own_of t (entry_turns order)
   tells_own [] = refl
   tells_own (d ∷ order) = tells_own_if d order (d.entry.thread == t) refl (tells_own order)
 
   -- what a thread asked is what it was told
-  pub own_told : (turns : List TurnShown) (order : List PlacedShown) → asked_in turns ≡ told_in order → asks (calls_of t turns) ≡ tells (entries_by t order)
+  pub own_told : (turns : List TurnShown) (order : List EntryAt) → ticketed_turns turns ≡ entry_turns order → ticketed_calls (calls_of t turns) ≡ ticketed_entries (entries_by t order)
   own_told turns order told = asks_own turns ∙ (ap (own_of t) told ∙ sym (tells_own order))
 
 -- Closed lists.
@@ -213,7 +209,7 @@ closed-both xs ys front behind = record {
   each = λ k a h none. elim (get_both xs ys k a h) [
     | inl p ↦ (
         let e = front.each k a p none in
-        ((e.0.0, got_front xs ys (k + 1) e.0.0 e.0.1, e.0.2), (e.1.0, e.1.1, e.1.2, got_front xs ys e.1.0 e.1.1 e.1.3, e.1.4, e.1.5)))
+        ((e.0.0, get_still xs ys (k + 1) e.0.0 e.0.1, e.0.2), (e.1.0, e.1.1, e.1.2, get_still xs ys e.1.0 e.1.1 e.1.3, e.1.4, e.1.5)))
     | inr q ↦ (
         let e = behind.each q.0 a q.2 none in
         let place : length xs + (q.0 + 1) ≡ k + 1 = (let s = q.1 in omega (arith, s)) in (
@@ -224,13 +220,13 @@ closed-both xs ys front behind = record {
 }
 
 -- the turn ends in a call with a ticket
-ends_if : (t : ℕ) (c : Call) (calls : List Call) (a : Key) (more : List Key) (b : Bool) → is_some c.ticket ≡ b → cond b ((c.ticket, c.event) ∷ asks calls) (asks calls) ≡ a ∷ more →
-    (asks calls ≡ a ∷ more → (m : ℕ) × (x : TurnShown) × (slice_get (turns_by t (next_turn calls)) m ≡ Some x) × (x.thread ≡ t) × IsSome x.call.ticket) →
+ends_if : (t : ℕ) (c : Call) (calls : List Call) (a : Key) (more : List Key) (b : Bool) → is_some c.ticket ≡ b → cond b ((c.ticket, c.event) ∷ ticketed_calls calls) (ticketed_calls calls) ≡ a ∷ more →
+    (ticketed_calls calls ≡ a ∷ more → (m : ℕ) × (x : TurnShown) × (slice_get (turns_by t (next_turn calls)) m ≡ Some x) × (x.thread ≡ t) × IsSome x.call.ticket) →
     (m : ℕ) × (x : TurnShown) × (slice_get (turns_by t (cond b (c ∷ []) (c ∷ next_turn calls))) m ≡ Some x) × (x.thread ≡ t) × IsSome x.call.ticket
 ends_if t c calls a more true is same rest = (zero, turn_of t c, refl, refl, is)
 ends_if t c calls a more false is same rest = let r = rest same in (suc r.0, r.1, r.2, r.3, r.4)
 
-ends : (t : ℕ) (calls : List Call) (a : Key) (more : List Key) → asks calls ≡ a ∷ more → (m : ℕ) × (x : TurnShown) × (slice_get (turns_by t (next_turn calls)) m ≡ Some x) × (x.thread ≡ t) × IsSome x.call.ticket
+ends : (t : ℕ) (calls : List Call) (a : Key) (more : List Key) → ticketed_calls calls ≡ a ∷ more → (m : ℕ) × (x : TurnShown) × (slice_get (turns_by t (next_turn calls)) m ≡ Some x) × (x.thread ≡ t) × IsSome x.call.ticket
 unfolding next_turn
 ends t [] a more same = absurd (cc)
 ends t (c ∷ calls) a more same = ends_if t c calls a more (is_some c.ticket) refl (sym (asks_if c calls (is_some c.ticket) refl) ∙ same) (λ e. ends t calls a more e)
@@ -256,7 +252,7 @@ closed_cons t c calls end old (suc k) a h none =
     suc_more : (n : ℕ) → suc n + 1 ≡ suc (n + 1)
     suc_more n = omega arith
 
-closed_if : (t : ℕ) (c : Call) (calls : List Call) (a : Key) (more : List Key) (b : Bool) → is_some c.ticket ≡ b → cond b ((c.ticket, c.event) ∷ asks calls) (asks calls) ≡ a ∷ more → (asks calls ≡ a ∷ more → IsClosed (turns_by t (next_turn calls))) →
+closed_if : (t : ℕ) (c : Call) (calls : List Call) (a : Key) (more : List Key) (b : Bool) → is_some c.ticket ≡ b → cond b ((c.ticket, c.event) ∷ ticketed_calls calls) (ticketed_calls calls) ≡ a ∷ more → (ticketed_calls calls ≡ a ∷ more → IsClosed (turns_by t (next_turn calls))) →
     IsClosed (turns_by t (cond b (c ∷ []) (c ∷ next_turn calls)))
 closed_if t c calls a more true is same rest = record { each = λ k x h none. absurd (only k x h none) }
   where
@@ -265,35 +261,35 @@ closed_if t c calls a more true is same rest = record { each = λ k x h none. ab
     only (suc k) x h none = cc
 closed_if t c calls a more false is same rest = record { each = closed_cons t c (next_turn calls) (ends t calls a more same) (rest same) }
 
-pub closed-turn : (t : ℕ) (calls : List Call) (a : Key) (more : List Key) → asks calls ≡ a ∷ more → IsClosed (turns_by t (next_turn calls))
+pub closed-turn : (t : ℕ) (calls : List Call) (a : Key) (more : List Key) → ticketed_calls calls ≡ a ∷ more → IsClosed (turns_by t (next_turn calls))
 unfolding next_turn
 closed-turn t [] a more same = absurd (cc)
 closed-turn t (c ∷ calls) a more same = closed_if t c calls a more (is_some c.ticket) refl (sym (asks_if c calls (is_some c.ticket) refl) ∙ same) (λ e. closed-turn t calls a more e)
 
 -- The next entry.
 
-told_push : (order : List PlacedShown) (k : ℕ) (d : PlacedShown) → slice_get order k ≡ Some d → told_in (take (k + 1) order) ≡ told_in (take k order) ++ (d.entry.thread, (Some d.entry.ticket, event_of d.entry.what)) ∷ []
-told_push order k d here = ap told_in (take_next order k d here) ∙ map-append {B = ℕ × Key} (λ (x : PlacedShown). (x.entry.thread, (Some x.entry.ticket, event_of x.entry.what))) (take k order) (d ∷ [])
+told_push : (order : List EntryAt) (k : ℕ) (d : EntryAt) → slice_get order k ≡ Some d → entry_turns (take (k + 1) order) ≡ entry_turns (take k order) ++ (d.entry.thread, (Some d.entry.ticket, event_of d.entry.what)) ∷ []
+told_push order k d here = ap entry_turns (take_next order k d here) ∙ map-append {B = ℕ × Key} (λ (x : EntryAt). (x.entry.thread, (Some x.entry.ticket, event_of x.entry.what))) (take k order) (d ∷ [])
 
-tells_from : (t : ℕ) (order : List PlacedShown) (k : ℕ) (d : PlacedShown) → slice_get order k ≡ Some d → d.entry.thread ≡ t →
-    tells (entries_by t order) ≡ tells (entries_by t (take k order)) ++ (Some d.entry.ticket, event_of d.entry.what) ∷ tells (entries_by t (drop (k + 1) order))
+tells_from : (t : ℕ) (order : List EntryAt) (k : ℕ) (d : EntryAt) → slice_get order k ≡ Some d → d.entry.thread ≡ t →
+    ticketed_entries (entries_by t order) ≡ ticketed_entries (entries_by t (take k order)) ++ (Some d.entry.ticket, event_of d.entry.what) ∷ ticketed_entries (entries_by t (drop (k + 1) order))
 tells_from t order k d here own =
-    let whole : order ≡ take k order ++ d ∷ drop (k + 1) order = sym (take-append-drop k order) ∙ ap (λ (xs : List PlacedShown). take k order ++ xs) (drop_next order k d here) in
+    let whole : order ≡ take k order ++ d ∷ drop (k + 1) order = sym (take-append-drop k order) ∙ ap (λ (xs : List EntryAt). take k order ++ xs) (drop_next order k d here) in
     let mine : entries_by t (d ∷ drop (k + 1) order) ≡ d ∷ entries_by t (drop (k + 1) order) = rw (eq-eqb d.entry.thread t own) refl in
-    ap (λ (xs : List PlacedShown). tells (entries_by t xs)) whole
-    ∙ (ap tells (filter-append (λ (x : PlacedShown). x.entry.thread == t) (take k order) (d ∷ drop (k + 1) order) ∙ ap (λ (xs : List PlacedShown). entries_by t (take k order) ++ xs) mine)
-    ∙ map-append {B = Key} (λ (x : PlacedShown). (Some x.entry.ticket, event_of x.entry.what)) (entries_by t (take k order)) (d ∷ entries_by t (drop (k + 1) order)))
+    ap (λ (xs : List EntryAt). ticketed_entries (entries_by t xs)) whole
+    ∙ (ap ticketed_entries (filter-append (λ (x : EntryAt). x.entry.thread == t) (take k order) (d ∷ drop (k + 1) order) ∙ ap (λ (xs : List EntryAt). entries_by t (take k order) ++ xs) mine)
+    ∙ map-append {B = Key} (λ (x : EntryAt). (Some x.entry.ticket, event_of x.entry.what)) (entries_by t (take k order)) (d ∷ entries_by t (drop (k + 1) order)))
 
 -- what is left of the seat's calls begins with what the entry tells
-pub left_asks : (s : SeatShown) (order : List PlacedShown) (k from : ℕ) (d : PlacedShown) (turns : List TurnShown) → asks s.calls ≡ tells (entries_by s.thread order) → asked_in turns ≡ told_in (take k order) → calls_of s.thread turns ≡ take from s.calls →
-    slice_get order k ≡ Some d → d.entry.thread ≡ s.thread → asks (drop from s.calls) ≡ (Some d.entry.ticket, event_of d.entry.what) ∷ tells (entries_by s.thread (drop (k + 1) order))
+pub left_asks : (s : SeatList) (order : List EntryAt) (k from : ℕ) (d : EntryAt) (turns : List TurnShown) → ticketed_calls s.calls ≡ ticketed_entries (entries_by s.thread order) → ticketed_turns turns ≡ entry_turns (take k order) → calls_of s.thread turns ≡ take from s.calls →
+    slice_get order k ≡ Some d → d.entry.thread ≡ s.thread → ticketed_calls (drop from s.calls) ≡ (Some d.entry.ticket, event_of d.entry.what) ∷ ticketed_entries (entries_by s.thread (drop (k + 1) order))
 left_asks s order k from d turns agree told calls here own =
-    let before : asks (take from s.calls) ≡ tells (entries_by s.thread (take k order)) = ap asks (sym calls) ∙ own_told s.thread turns (take k order) told in
-    let split : asks s.calls ≡ asks (take from s.calls) ++ asks (drop from s.calls) = ap asks (sym (take-append-drop from s.calls)) ∙ asks_both (take from s.calls) (drop from s.calls) in
-    append_cancel_left (asks (take from s.calls)) (asks (drop from s.calls)) ((Some d.entry.ticket, event_of d.entry.what) ∷ tells (entries_by s.thread (drop (k + 1) order)))
-    (sym split ∙ (agree ∙ (tells_from s.thread order k d here own ∙ ap (λ (xs : List Key). xs ++ (Some d.entry.ticket, event_of d.entry.what) ∷ tells (entries_by s.thread (drop (k + 1) order))) (sym before))))
+    let before : ticketed_calls (take from s.calls) ≡ ticketed_entries (entries_by s.thread (take k order)) = ap ticketed_calls (sym calls) ∙ own_told s.thread turns (take k order) told in
+    let split : ticketed_calls s.calls ≡ ticketed_calls (take from s.calls) ++ ticketed_calls (drop from s.calls) = ap ticketed_calls (sym (take-append-drop from s.calls)) ∙ asks_both (take from s.calls) (drop from s.calls) in
+    append_cancel_left (ticketed_calls (take from s.calls)) (ticketed_calls (drop from s.calls)) ((Some d.entry.ticket, event_of d.entry.what) ∷ ticketed_entries (entries_by s.thread (drop (k + 1) order)))
+    (sym split ∙ (agree ∙ (tells_from s.thread order k d here own ∙ ap (λ (xs : List Key). xs ++ (Some d.entry.ticket, event_of d.entry.what) ∷ ticketed_entries (entries_by s.thread (drop (k + 1) order))) (sym before))))
 
-same_seat : (seats : List SeatShown) (i j : ℕ) (r s : SeatShown) → i ≡ j → slice_get seats i ≡ Some r → slice_get seats j ≡ Some s → r ≡ s
+same_seat : (seats : List SeatList) (i j : ℕ) (r s : SeatList) → i ≡ j → slice_get seats i ≡ Some r → slice_get seats j ≡ Some s → r ≡ s
 same_seat seats i j r s same hr hs = let both : Some r ≡ Some s = sym hr ∙ (ap (slice_get seats) same ∙ hs) in cc
 
 pub turns_whose : (t : ℕ) (calls : List Call) (m : ℕ) (a : TurnShown) → slice_get (turns_by t calls) m ≡ Some a → a.thread ≡ t
@@ -301,22 +297,22 @@ turns_whose t [] m a h = absurd (cc)
 turns_whose t (c ∷ calls) zero a h = let e : turn_of t c ≡ a = cc in ap (λ (x : TurnShown). x.thread) (sym e)
 turns_whose t (c ∷ calls) (suc m) a h = turns_whose t calls m a h
 
-module _ (seats : List SeatShown) (order : List PlacedShown) (k i : ℕ) (d : PlacedShown) (s : SeatShown) (next : List ℕ) (turns : List TurnShown) (once : (j : ℕ) (r : SeatShown) → slice_get seats j ≡ Some r → r.thread ≡ s.thread → j ≡ i) (agree : AllAgree seats order)
+module _ (seats : List SeatList) (order : List EntryAt) (k i : ℕ) (d : EntryAt) (s : SeatList) (next : List ℕ) (turns : List TurnShown) (once : (j : ℕ) (r : SeatList) → slice_get seats j ≡ Some r → r.thread ≡ s.thread → j ≡ i) (agree : AllAgree seats order)
     (old : AreTaken seats (take k order) next turns) (here : slice_get order k ≡ Some d) (seat : slice_get seats i ≡ Some s) (thread : s.thread ≡ d.entry.thread) where
   abbrev block : List Call
   block = next_turn (drop (slice_index next i) s.calls)
 
-  block_asks : asks block ≡ (Some d.entry.ticket, event_of d.entry.what) ∷ []
-  block_asks = asks_next (drop (slice_index next i) s.calls) (Some d.entry.ticket, event_of d.entry.what) (tells (entries_by s.thread (drop (k + 1) order)))
+  block_asks : ticketed_calls block ≡ (Some d.entry.ticket, event_of d.entry.what) ∷ []
+  block_asks = asks_next (drop (slice_index next i) s.calls) (Some d.entry.ticket, event_of d.entry.what) (ticketed_entries (entries_by s.thread (drop (k + 1) order)))
       (left_asks s order k (slice_index next i) d turns (agree i s seat) old.told (old.calls i s seat).0 here (sym thread))
 
-  told_more : asked_in (turns ++ turns_by s.thread block) ≡ told_in (take (k + 1) order)
+  told_more : ticketed_turns (turns ++ turns_by s.thread block) ≡ entry_turns (take (k + 1) order)
   told_more = asked_both turns (turns_by s.thread block)
-      ∙ (ap (λ (xs : List (ℕ × Key)). xs ++ asked_in (turns_by s.thread block)) old.told
-      ∙ (ap (λ (xs : List (ℕ × Key)). told_in (take k order) ++ xs) (asked_by s.thread block ∙ (ap (map {B = ℕ × Key} (λ (p : Key). (s.thread, p))) block_asks ∙ ap (λ (t : ℕ). (t, (Some d.entry.ticket, event_of d.entry.what)) ∷ []) thread))
+      ∙ (ap (λ (xs : List (ℕ × Key)). xs ++ ticketed_turns (turns_by s.thread block)) old.told
+      ∙ (ap (λ (xs : List (ℕ × Key)). entry_turns (take k order) ++ xs) (asked_by s.thread block ∙ (ap (map {B = ℕ × Key} (λ (p : Key). (s.thread, p))) block_asks ∙ ap (λ (t : ℕ). (t, (Some d.entry.ticket, event_of d.entry.what)) ∷ []) thread))
       ∙ sym (told_push order k d here)))
 
-  calls_more : (j : ℕ) (r : SeatShown) → slice_get seats j ≡ Some r → (calls_of r.thread (turns ++ turns_by s.thread block) ≡ take (slice_index (set next i (slice_index next i + length block)) j) r.calls) × (slice_index (set next i (slice_index next i + length block)) j ≤ length r.calls)
+  calls_more : (j : ℕ) (r : SeatList) → slice_get seats j ≡ Some r → (calls_of r.thread (turns ++ turns_by s.thread block) ≡ take (slice_index (set next i (slice_index next i + length block)) j) r.calls) × (slice_index (set next i (slice_index next i + length block)) j ≤ length r.calls)
   calls_more j r h = elim (eq_or j i) [
     | inl same ↦ (
         let whose : r ≡ s = same_seat seats j i r s same h seat in
@@ -340,21 +336,21 @@ module _ (seats : List SeatShown) (order : List PlacedShown) (k i : ℕ) (d : Pl
     calls = calls_more;
     given = λ m a h. elim (get_both turns (turns_by s.thread block) m a h) [ inl p ↦ old.given m a p | inr q ↦ (i, s, seat, sym (turns_whose s.thread block q.0 a q.2)) ];
     told = told_more;
-    closed = closed-both turns (turns_by s.thread block) old.closed (closed-turn s.thread (drop (slice_index next i) s.calls) (Some d.entry.ticket, event_of d.entry.what) (tells (entries_by s.thread (drop (k + 1) order)))
+    closed = closed-both turns (turns_by s.thread block) old.closed (closed-turn s.thread (drop (slice_index next i) s.calls) (Some d.entry.ticket, event_of d.entry.what) (ticketed_entries (entries_by s.thread (drop (k + 1) order)))
         (left_asks s order k (slice_index next i) d turns (agree i s seat) old.told (old.calls i s seat).0 here (sym thread)));
   }
 
 -- what the code finds by a number
-pub seat_read : (seats : List SeatShown) (index : BTreeMap ℕ ℕ) (number i : ℕ) (s : SeatShown) → IsIndex seats index → get nat_cmp index number ≡ Some i → s ≡ get_or seats i s → (slice_get seats i ≡ Some s) × (s.thread ≡ number)
+pub seat_read : (seats : List SeatList) (index : BTreeMap ℕ ℕ) (number i : ℕ) (s : SeatList) → IsIndex seats index → get nat_cmp index number ≡ Some i → s ≡ get_or seats i s → (slice_get seats i ≡ Some s) × (s.thread ≡ number)
 seat_read seats index number i s at found read =
     let seat = at.there number i found in
     let got : slice_get seats i ≡ Some s = slice_get_read seats (length seats) i s refl (slice_get_within seats i seat.0 seat.1) read in
     let both : Some seat.0 ≡ Some s = sym seat.1 ∙ got in
     let same : seat.0 ≡ s = cc in
-    (got, ap (λ (x : SeatShown). x.thread) (sym same) ∙ seat.2)
+    (got, ap (λ (x : SeatList). x.thread) (sym same) ∙ seat.2)
 
 -- the same, as the code reads it
-pub taken-step : (seats : List SeatShown) (order : List PlacedShown) (k i number from v : ℕ) (d : PlacedShown) (s : SeatShown) (next later : List ℕ) (turns now : List TurnShown) (index : BTreeMap ℕ ℕ) → AreOnce seats → IsIndex seats index → AllAgree seats order →
+pub taken-step : (seats : List SeatList) (order : List EntryAt) (k i number from v : ℕ) (d : EntryAt) (s : SeatList) (next later : List ℕ) (turns now : List TurnShown) (index : BTreeMap ℕ ℕ) → AreDistinct seats → IsIndex seats index → AllAgree seats order →
     AreTaken seats (take k order) next turns → slice_get order k ≡ Some d → get nat_cmp index number ≡ Some i → number ≡ d.entry.thread → s ≡ get_or seats i s → from ≡ get_or next i from →
     v ≡ from + length (next_turn (drop from s.calls)) → now ≡ turns ++ turns_by s.thread (next_turn (drop from s.calls)) → later ≡ set next i v → AreTaken seats (take (k + 1) order) later now
 taken-step seats order k i number from v d s next later turns now index once at agree old here found thread read place count grown is =
@@ -363,17 +359,17 @@ taken-step seats order k i number from v d s next later turns now index once at 
     let from_is : from ≡ slice_index next i = number_read next i from inside place in
     rw (is, count, grown, from_is) (taken-more seats order k i d s next turns (λ j r h e. once_at seats j i r s once h seat.0 e) agree old here seat.0 (seat.1 ∙ thread))
 
-pub seat_inside : (seats : List SeatShown) (index : BTreeMap ℕ ℕ) (number i : ℕ) → IsIndex seats index → get nat_cmp index number ≡ Some i → i < length seats
+pub seat_inside : (seats : List SeatList) (index : BTreeMap ℕ ℕ) (number i : ℕ) → IsIndex seats index → get nat_cmp index number ≡ Some i → i < length seats
 seat_inside seats index number i at found = let seat = at.there number i found in slice_get_within seats i seat.0 seat.1
 
-pub from_within : (seats : List SeatShown) (order : List PlacedShown) (i from : ℕ) (s : SeatShown) (next : List ℕ) (turns : List TurnShown) → AreTaken seats order next turns → i < length seats → s ≡ get_or seats i s → from ≡ get_or next i from → from ≤ length s.calls
+pub from_within : (seats : List SeatList) (order : List EntryAt) (i from : ℕ) (s : SeatList) (next : List ℕ) (turns : List TurnShown) → AreTaken seats order next turns → i < length seats → s ≡ get_or seats i s → from ≡ get_or next i from → from ≤ length s.calls
 from_within seats order i from s next turns old inside read place =
     let seat : slice_get seats i ≡ Some s = slice_get_read seats (length seats) i s refl inside read in
     let is : from ≡ slice_index next i = number_read next i from (let n = old.places in omega (arith, n, inside)) place in
     rw is (old.calls i s seat).1
 
 -- before the first entry nothing is taken
-pub taken-none : (seats : List SeatShown) (next : List ℕ) → length next ≡ length seats → ((k : ℕ) → slice_index next k ≡ 0) → AreTaken seats [] next []
+pub taken-none : (seats : List SeatList) (next : List ℕ) → length next ≡ length seats → ((k : ℕ) → slice_index next k ≡ 0) → AreTaken seats [] next []
 taken-none seats next count zeros = record {
   places = count;
   calls = λ i s h. rw (zeros i) (refl, (omega arith));

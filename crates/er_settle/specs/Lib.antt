@@ -1,9 +1,5 @@
 pub mod Seats
 pub mod Texts
 pub mod Faults
-pub mod Passes
-pub mod Orders
-pub mod Pairs
-pub mod Answers
 pub mod Runs
-pub mod Turns
+pub mod Inner

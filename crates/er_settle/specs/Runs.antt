@@ -1,10 +1,11 @@
 -- The run that seats' calls make, and the order that it has.
-use Rattle.std.specs.Prelude.{◌≡◌, ◌<◌, ◌≤◌, ◌+◌, ◌==◌, ℕ, List, [], map, filter, slice_get, slice_index_or, Some, None, IsSome}
+use Rattle.std.specs.Prelude.{◌≡◌, ◌<◌, ◌≤◌, ◌+◌, ◌==◌, ℕ, Bool, true, false, List, [], map, filter, count_by, slice_get, slice_index_or, Some, None, IsSome}
 use Rattle.er_event.specs.declared.steps.Reply.{Reply}
+use Rattle.er_event.specs.declared.steps.Reply.TheVariants.{Race}
 use Rattle.er_event.specs.declared.steps.Step.{Step}
-use Rattle.er_model.specs.declared.stamps.Call.{Call}
-use Rattle.er_model.specs.declared.stamps.Entry.{Entry}
-use Rattle.er_settle.specs.Seats.{SeatShown, calls_by}
+use Rattle.er_journal.specs.declared.entries.Call.{Call}
+use Rattle.er_journal.specs.declared.entries.Entry.{Entry}
+use Rattle.er_settle.specs.Seats.{SeatList, calls_by}
 use Rattle.er_settle.specs.Faults.{EachTwo, IsSooner, Not}
 
 -- one call of one thread
@@ -28,6 +29,15 @@ steps_of turns = map (λ a. record { thread = a.thread; event = a.call.event }) 
 abbrev pub replies_to : List TurnShown → List Reply
 replies_to turns = map (λ a. a.call.reply) turns
 
+-- the reply is a race
+abbrev pub answers_race : Reply → Bool
+answers_race Race = true
+answers_race _ = false
+
+-- how many of the replies are races
+abbrev pub races_in : List Reply → ℕ
+races_in replies = count_by answers_race replies
+
 -- behind the position the thread has a call with a ticket
 abbrev pub HasLater : List TurnShown → ℕ → ℕ → Type 0
 HasLater turns k t = (m : ℕ) × (a : TurnShown) × (k < m) × (slice_get turns m ≡ Some a) × (a.thread ≡ t) × IsSome a.call.ticket
@@ -43,7 +53,7 @@ pub record IsInOrder (turns : List TurnShown) : Type 0 where
   pub rest : (j k : ℕ) (a b : TurnShown) → j < k → slice_get turns j ≡ Some a → slice_get turns k ≡ Some b → a.call.ticket ≡ None → Not (HasLater turns j a.thread) → (b.call.ticket ≡ None) × (a.thread ≤ b.thread)
 
 -- the steps and replies are the calls of the seats, each once and in their order, in turns that are in order
-abbrev pub IsInTurn : List SeatShown → List Step → List Reply → Type 0
+abbrev pub IsInTurn : List SeatList → List Step → List Reply → Type 0
 IsInTurn seats steps replies = (turns : List TurnShown) × (steps ≡ steps_of turns) × (replies ≡ replies_to turns) × ((t : ℕ) → calls_of t turns ≡ calls_by seats t) × IsInOrder turns
 
 -- the journal at a place

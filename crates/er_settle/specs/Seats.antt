@@ -1,13 +1,13 @@
--- What contracts see of a seat that is given to be settled.
+-- A seat as contracts see it: its detector's name, its thread, and the calls that it accepted.
 use Rattle.std.specs.Prelude.{◌≡◌, ◌==◌, not, ℕ, cond, List, [], ◌∷◌, slice_get, Some}
 use Rattle.std.specs.Option.{is_some}
-use Rattle.er_model.specs.declared.stamps.Call.{Call}
+use Rattle.er_journal.specs.declared.entries.Call.{Call}
 use Rattle.er_model.specs.Holdings.{Holdings, holdings_at}
 use Rattle.er_model.specs.Locality.{steps_by, is_own_call}
-use Rattle.er_model.specs.Merges.{events_in, IsLegalSeat}
+use Rattle.er_journal.specs.Merges.{events_in, IsLegalSeat}
 
--- the detector's name, the thread's number, and the thread's accepted calls in order
-pub record SeatShown : Type 0 where
+-- a seat's detector's name, its thread, and its accepted calls in order
+pub record SeatList : Type 0 where
   pub name : ℕ
   pub thread : ℕ
   pub calls : List Call
@@ -16,7 +16,7 @@ pub record SeatShown : Type 0 where
 abbrev pub holdings_by : ℕ → List Call → ℕ → Holdings
 holdings_by t calls n = holdings_at (steps_by t (events_in calls)) t n
 
--- a call has a ticket exactly where it is one that stands in a journal
+-- a call has a ticket exactly if it stands in a journal: a counted access or a reuse
 abbrev pub AreTicketed : ℕ → List Call → Type 0
 AreTicketed t calls = (j : ℕ) (call : Call) → slice_get calls j ≡ Some call → is_some call.ticket ≡ not (is_own_call (holdings_by t calls j) call.event)
 
@@ -26,6 +26,6 @@ pub record IsSeatList (t : ℕ) (calls : List Call) : Type 0 where
   pub tickets : AreTicketed t calls
 
 -- the calls of the thread's seat, or none where it isn't given
-unfoldable pub calls_by : List SeatShown → ℕ → List Call
+unfoldable pub calls_by : List SeatList → ℕ → List Call
 calls_by [] t = []
 calls_by (s ∷ seats) t = cond (s.thread == t) s.calls (calls_by seats t)

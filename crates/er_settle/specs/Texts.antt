@@ -1,7 +1,7 @@
 -- The faults of settling in words.
 use Rattle.std.specs.Prelude.{ℕ, List, codes}
-use Rattle.er_settle.specs.declared.faults.Unsettled.{Unsettled}
-use Rattle.er_settle.specs.declared.faults.Unsettled.TheVariants.{ForeignSeat, SeatTwice, SeatMissing, Order, Entries, Answer, Memory}
+use Rattle.er_settle.specs.declared.unsettled.Unsettled.{Unsettled}
+use Rattle.er_settle.specs.declared.unsettled.Unsettled.TheVariants.{ForeignSeat, SeatTwice, SeatMissing, Order, Entries, Answer, Memory}
 
 -- a fault in words, as it is printed
 abbrev pub text_of : Unsettled → List ℕ

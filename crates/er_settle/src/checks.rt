@@ -1,32 +1,32 @@
-//! The faults in their order.
+//! The faults in their order. `check_lists`, `check_pairs` and `check_all` are one check, split for the prover.
 ghost use Rattle.std.specs.Prelude.{◌<◌, IfOk, IfErr, length};
-ghost use Rattle.er_settle.specs.Faults.{IsFirst, IsSettled, AreOwn, AreOnce, AreAll, AreOrdered, ArePaired};
-ghost use Rattle.er_settle.specs.Passes.{IsIndex};
-ghost use Rattle.er_settle.specs.Orders.{IsOrder};
-ghost use Rattle.er_settle.specs.Pairs.{AreDealt, AreInTurn};
+ghost use Rattle.er_settle.specs.Faults.{IsFirst, IsSettled, AreOfDetector, AreDistinct, AreComplete, AreOrdered, ArePaired};
+ghost use Rattle.er_settle.specs.Inner.SeatChecks.{AreLegal, IsIndex};
+ghost use Rattle.er_settle.specs.Inner.JournalOrder.{IsOrder};
+ghost use Rattle.er_settle.specs.Inner.EntryMatches.{AreGrouped, AreInTurn};
 
-use crate::answers::all_answered;
-use crate::hands::{Hand, deal};
-use crate::names::{are_all, are_own, by_number};
-use crate::orders::{Placed, in_order};
-use crate::pairs::{all_agree, all_placed};
-use crate::rising::lists_rise;
+use crate::entry_groups::{EntryGroup, group_by_thread};
+use crate::entry_matches::{all_in_place, all_matched};
+use crate::journal_order::{PlacedEntry, merge_journals};
+use crate::reply_matches::all_answered;
+use crate::seat_checks::{are_complete, are_of_detector, index_by_thread};
+use crate::ticket_order::lists_rise;
 use crate::{JournalView, SeatView, Unsettled};
 use std::alloc::Global;
 use std::collections::BTreeMap;
 
-/// What the checks of names, numbers and tickets leave: where each number's seat stands, and the entries by rising ticket.
+/// What the checks of names, numbers and tickets find: where the seat of each thread stands, and the entries by rising ticket.
 #[derive(Drop)]
 pub(crate) struct Checked<'a> {
     pub(crate) index: BTreeMap<u32, usize>,
-    pub(crate) order: Vec<Placed<'a>>,
+    pub(crate) order: Vec<PlacedEntry<'a>>,
 }
 
 /// The same, with the entries of each seat's thread.
 #[derive(Drop)]
-pub(crate) struct Dealt<'a> {
+pub(crate) struct Grouped<'a> {
     pub(crate) lists: Checked<'a>,
-    pub(crate) hands: Vec<Hand<'a>>,
+    pub(crate) groups: Vec<EntryGroup<'a>>,
 }
 
 /// Checks names, numbers and tickets. The fault is the first that applies.
@@ -38,68 +38,71 @@ pub(crate) fn check_lists<'a>(
     journals: &[JournalView<'a>],
 ) -> Result<Checked<'a>, Unsettled>
     ensures first { IfErr result (IsFirst name opened seats.now journals.now) }
-    ensures own { IfOk result (λ lists. AreOwn name seats.now) }
-    ensures once { IfOk result (λ lists. AreOnce seats.now) }
-    ensures all { IfOk result (λ lists. AreAll opened seats.now) }
+    ensures own { IfOk result (λ lists. AreOfDetector name seats.now) }
+    ensures once { IfOk result (λ lists. AreDistinct seats.now) }
+    ensures all { IfOk result (λ lists. AreComplete opened seats.now) }
     ensures ordered { IfOk result (λ lists. AreOrdered seats.now journals.now) }
+    ensures legal { IfOk result (λ lists. AreLegal seats.now journals.now) }
     ensures index { IfOk result (λ lists. IsIndex seats.now lists.index) }
     ensures order { IfOk result (λ lists. IsOrder journals.now lists.order.items) }
 {
-    if !are_own(name, seats) {
+    if !are_of_detector(name, seats) {
         return Err(Unsettled::ForeignSeat);
     }
-    let index = match by_number(alloc, seats) {
+    let index = match index_by_thread(alloc, seats) {
         Ok(index) => index,
         Err(fault) => return Err(fault),
     };
-    if !are_all(opened, seats, &index) {
+    if !are_complete(opened, seats, &index) {
         return Err(Unsettled::SeatMissing);
     }
     if !lists_rise(seats) {
         return Err(Unsettled::Order);
     }
-    let order = match in_order(alloc, journals) {
+    let order = match merge_journals(alloc, journals) {
         Ok(order) => order,
         Err(fault) => return Err(fault),
     };
     Ok(Checked { index, order })
 }
 
-/// Checks names, numbers, tickets, and that calls and entries have one another. The fault is the first that applies.
+/// Checks names, numbers and tickets, and that each call with a ticket has its entry and each entry its call. The fault is the first
+/// that applies.
 pub(crate) fn check_pairs<'a>(
     alloc: Global,
     name: u64,
     opened: u32,
     seats: &[SeatView<'_>],
     journals: &[JournalView<'a>],
-) -> Result<Dealt<'a>, Unsettled>
+) -> Result<Grouped<'a>, Unsettled>
     requires { 0 < length journals.now }
     ensures first { IfErr result (IsFirst name opened seats.now journals.now) }
-    ensures own { IfOk result (λ dealt. AreOwn name seats.now) }
-    ensures once { IfOk result (λ dealt. AreOnce seats.now) }
-    ensures all { IfOk result (λ dealt. AreAll opened seats.now) }
-    ensures ordered { IfOk result (λ dealt. AreOrdered seats.now journals.now) }
-    ensures paired { IfOk result (λ dealt. ArePaired seats.now journals.now) }
-    ensures index { IfOk result (λ dealt. IsIndex seats.now dealt.lists.index) }
-    ensures order { IfOk result (λ dealt. IsOrder journals.now dealt.lists.order.items) }
-    ensures turn { IfOk result (λ dealt. AreInTurn seats.now journals.now dealt.lists.order.items) }
-    ensures hands { IfOk result (λ dealt. AreDealt seats.now dealt.lists.order.items dealt.hands.items) }
+    ensures own { IfOk result (λ grouped. AreOfDetector name seats.now) }
+    ensures once { IfOk result (λ grouped. AreDistinct seats.now) }
+    ensures all { IfOk result (λ grouped. AreComplete opened seats.now) }
+    ensures ordered { IfOk result (λ grouped. AreOrdered seats.now journals.now) }
+    ensures paired { IfOk result (λ grouped. ArePaired seats.now journals.now) }
+    ensures legal { IfOk result (λ grouped. AreLegal seats.now journals.now) }
+    ensures index { IfOk result (λ grouped. IsIndex seats.now grouped.lists.index) }
+    ensures order { IfOk result (λ grouped. IsOrder journals.now grouped.lists.order.items) }
+    ensures turn { IfOk result (λ grouped. AreInTurn seats.now journals.now grouped.lists.order.items) }
+    ensures groups { IfOk result (λ grouped. AreGrouped seats.now grouped.lists.order.items grouped.groups.items) }
 {
     let lists = match check_lists(alloc, name, opened, seats, journals) {
         Ok(lists) => lists,
         Err(fault) => return Err(fault),
     };
-    let hands = match deal(alloc, &lists.index, seats, lists.order.as_slice()) {
-        Ok(hands) => hands,
+    let groups = match group_by_thread(alloc, &lists.index, seats, lists.order.as_slice()) {
+        Ok(groups) => groups,
         Err(fault) => return Err(fault),
     };
-    if !all_placed(journals.len(), lists.order.as_slice()) {
+    if !all_in_place(journals.len(), lists.order.as_slice()) {
         return Err(Unsettled::Entries);
     }
-    if !all_agree(seats, hands.as_slice(), lists.order.as_slice()) {
+    if !all_matched(seats, groups.as_slice(), lists.order.as_slice()) {
         return Err(Unsettled::Entries);
     }
-    Ok(Dealt { lists, hands })
+    Ok(Grouped { lists, groups })
 }
 
 /// Checks all that can be wrong. The fault is the first that applies.
@@ -113,15 +116,16 @@ pub(crate) fn check_all<'a>(
     requires { 0 < length journals.now }
     ensures first { IfErr result (IsFirst name opened seats.now journals.now) }
     ensures settled { IfOk result (λ lists. IsSettled name opened seats.now journals.now) }
+    ensures legal { IfOk result (λ lists. AreLegal seats.now journals.now) }
     ensures index { IfOk result (λ lists. IsIndex seats.now lists.index) }
     ensures order { IfOk result (λ lists. IsOrder journals.now lists.order.items) }
     ensures turn { IfOk result (λ lists. AreInTurn seats.now journals.now lists.order.items) }
 {
-    let Dealt { lists, hands } = match check_pairs(alloc, name, opened, seats, journals) {
-        Ok(dealt) => dealt,
+    let Grouped { lists, groups } = match check_pairs(alloc, name, opened, seats, journals) {
+        Ok(grouped) => grouped,
         Err(fault) => return Err(fault),
     };
-    match all_answered(alloc, seats, hands.as_slice(), lists.order.as_slice()) {
+    match all_answered(alloc, seats, groups.as_slice(), lists.order.as_slice()) {
         Ok(true) => Ok(lists),
         Ok(false) => Err(Unsettled::Answer),
         Err(_) => Err(Unsettled::Memory),

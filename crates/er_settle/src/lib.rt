@@ -1,9 +1,9 @@
 //! Whether seats' calls and shards' journals agree, and the one run that they make.
 //!
-//! Begin with [`SeatView`] and [`JournalView`], which borrow what a detector's seats and shards kept, and give them to
-//! [`settle_lists`]. It answers the [`Run`] that they make, or the first thing that is wrong, an [`Unsettled`].
+//! Begin with [`SeatView`] and [`JournalView`], which borrow what a detector's seats and shards kept, and pass them to
+//! [`settle_lists`]. It returns the [`Run`] that they make, or the first thing that is wrong, an [`Unsettled`].
 //!
-//! What it promises, by the names of clauses: a fault but want of memory is the first that applies (`first`), and where there
+//! What it promises, by the names of clauses: a fault other than `Memory` is the first that applies (`first`), and if there
 //! is a run, none applies (`settled`); the run is a merge of the seats' calls and the journals (`merge`), in the stated order
 //! (`order`); each of its replies, and each word's state in its journal, is what the whole run gives (`replies`, `states`).
 //!
@@ -20,19 +20,18 @@
 //! ```
 #![tactic(auto)]
 
-pub use faults::Unsettled;
-pub use pairs::pairs_are_in_turn;
 pub use settling::{Run, settle_lists};
+pub use unsettled::Unsettled;
 pub use views::{JournalView, SeatView};
 
-mod answers;
+mod call_order;
 mod checks;
-mod faults;
-mod hands;
-mod names;
-mod orders;
-mod pairs;
-mod rising;
+mod entry_groups;
+mod entry_matches;
+mod journal_order;
+mod reply_matches;
+mod seat_checks;
 mod settling;
-mod turns;
+mod ticket_order;
+mod unsettled;
 mod views;

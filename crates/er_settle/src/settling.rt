@@ -2,15 +2,14 @@
 ghost use Rattle.std.specs.Prelude.{◌≡◌, ◌<◌, ℕ, length, slice_get, Some, Ok, IfOk, IfErr};
 ghost use Rattle.er_event.specs.declared.steps.Step.{Step as StepShown};
 ghost use Rattle.er_model.specs.Answers.{answer, state_end};
-ghost use Rattle.er_model.specs.Journals.{IsLegalJournal, journal_state};
-ghost use Rattle.er_model.specs.Merges.{IsMerge, reply_at, shard_of};
+ghost use Rattle.er_journal.specs.Journals.{journal_state};
+ghost use Rattle.er_journal.specs.Merges.{IsMerge, reply_at, shard_of};
 ghost use Rattle.er_settle.specs.Seats.{calls_by};
 ghost use Rattle.er_settle.specs.Faults.{IsFirst, IsSettled};
-ghost use Rattle.er_settle.specs.Turns.{AreSeatLists};
-ghost use Rattle.er_settle.specs.Runs.{steps_of, replies_to, journal_at, IsInTurn};
+ghost use Rattle.er_settle.specs.Runs.{steps_of, replies_to, races_in, journal_at, IsInTurn};
 
+use crate::call_order::{Turn, merge_calls};
 use crate::checks::check_all;
-use crate::turns::{Turn, in_turn};
 use crate::{JournalView, SeatView, Unsettled};
 use er_event::{Reply, Step};
 use std::alloc::{AllocError, Global};
@@ -24,9 +23,21 @@ pub struct Run {
     pub replies: Vec<Reply>,
 }
 
-/// Settles seats and journals: checks that they agree, and merges them. The journals stand by the places of their shards.
+impl Run {
+    /// How many of its steps were answered with a race.
+    pub fn races(&self) -> usize
+        ensures { result ≡ races_in self.now.replies.items }
+    {
+        self.replies
+            .iter()
+            .filter(|reply| matches!(reply, Reply::Race))
+            .count()
+    }
+}
+
+/// Settles seats and journals: checks that they agree, and merges them. The journals are given by the places of their shards.
 ///
-/// A fault but want of memory is the first that applies. The run has each seat's calls in their order, those with tickets by rising
+/// A fault other than `Memory` is the first that applies. The run has each seat's calls in their order, those with tickets by rising
 /// ticket, one without a ticket directly before its seat's next call with one, and the rest at the end by seat number.
 pub fn settle_lists(
     alloc: Global,
@@ -47,9 +58,7 @@ pub fn settle_lists(
         Ok(lists) => lists,
         Err(fault) => return Err(fault),
     };
-    all_seats_are_legal(seats);
-    all_journals_are_legal(journals);
-    let Ok(turns) = in_turn(alloc, &lists.index, seats, lists.order.as_slice()) else {
+    let Ok(turns) = merge_calls(alloc, &lists.index, seats, lists.order.as_slice()) else {
         return Err(Unsettled::Memory);
     };
     let Ok(run) = run_of(alloc, turns.as_slice()) else {
@@ -74,22 +83,4 @@ fn run_of(alloc: Global, turns: &[Turn<'_>]) -> Result<Run, AllocError>
         replies.push(call.reply.reply())?;
     }
     Ok(Run { steps, replies })
-}
-
-// Each view keeps that its list is legal, and so all are.
-fn all_seats_are_legal(seats: &[SeatView<'_>])
-    ensures { AreSeatLists seats.now }
-{
-    for seat in seats {
-        seat.calls();
-    }
-}
-
-// The same of the journals.
-fn all_journals_are_legal(journals: &[JournalView<'_>])
-    ensures { (i : ℕ) → i < length journals.now → IsLegalJournal (journal_at journals.now i) }
-{
-    for journal in journals {
-        journal.entries();
-    }
 }

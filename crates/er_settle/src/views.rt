@@ -1,14 +1,14 @@
 //! What is settled: seats' calls and shards' journals, borrowed.
 ghost use Rattle.std.specs.Prelude.{◌≡◌};
-ghost use Rattle.er_model.specs.Journals.{IsLegalJournal};
+ghost use Rattle.er_journal.specs.Journals.{IsLegalJournal};
 ghost use Rattle.er_settle.specs.Seats.{IsSeatList};
 
 use er_event::ThreadId;
-use er_model::{Call, Entry};
+use er_journal::{Call, Entry};
 use std::marker::Model;
 
-/// One seat's calls. They are those that a seat can have: each without a ticket has the reply that the list itself gives, and
-/// just counted accesses and reuses have tickets.
+/// One seat's calls, such as a seat can have: a call without a ticket has the reply that the list itself gives, and exactly the
+/// counted accesses and the reuses have tickets.
 #[derive(Drop)]
 pub struct SeatView<'a> {
     name: u64,
@@ -17,9 +17,9 @@ pub struct SeatView<'a> {
 }
 
 impl<'a> Model for SeatView<'a> {
-    ghost use Rattle.er_settle.specs.Seats.{SeatShown, IsSeatList};
+    ghost use Rattle.er_settle.specs.Seats.{SeatList, IsSeatList};
 
-    ghost Value = { SeatShown };
+    ghost Value = { SeatList };
 
     ghost view = { λ s. record { name = s.name; thread = s.thread; calls = s.calls.now } };
 
@@ -27,7 +27,7 @@ impl<'a> Model for SeatView<'a> {
 }
 
 impl<'a> SeatView<'a> {
-    /// The calls of the detector's of this name, by the thread of this number.
+    /// The calls of a thread's seat at the detector of this name.
     pub fn new(name: u64, thread: ThreadId, calls: &'a [Call]) -> Self
         requires { IsSeatList thread calls.now }
         ensures { result ≡ record { name = name; thread = thread; calls = calls.now } }
@@ -46,7 +46,7 @@ impl<'a> SeatView<'a> {
         self.name
     }
 
-    /// The number of the seat's thread.
+    /// The seat's thread.
     pub fn thread(&self) -> ThreadId
         ensures { result ≡ self.now.thread }
     {
@@ -70,8 +70,8 @@ pub struct JournalView<'a> {
 
 impl<'a> Model for JournalView<'a> {
     ghost use Rattle.std.specs.Prelude.{List};
-    ghost use Rattle.er_model.specs.declared.stamps.Entry.{Entry as EntryShown};
-    ghost use Rattle.er_model.specs.Journals.{IsLegalJournal};
+    ghost use Rattle.er_journal.specs.declared.entries.Entry.{Entry as EntryShown};
+    ghost use Rattle.er_journal.specs.Journals.{IsLegalJournal};
 
     ghost Value = { List EntryShown };
 

@@ -1,13 +1,14 @@
 -- A shard's words go on being the replay of its journal, while the journal grows by one entry.
-use Rattle.std.proofs.Common.{◌≡◌, ◌∙◌, ◌<◌, ℕ, List, [], ◌∷◌, ◌++◌, length, slice_get, Some, sym, ap, arith}
+use Rattle.std.proofs.Common.{◌≡◌, ◌∙◌, ◌⊎◌, inl, inr, Bool, true, false, ◌<◌, ℕ, List, [], ◌∷◌, ◌++◌, length, slice_get, Some, sym, ap, arith}
 use Rattle.std.proofs.lemmas.List.{map-append, length-append}
 use Rattle.std.proofs.lemmas.List.Elements.{All-nil, All-push}
 use Rattle.er_event.specs.declared.steps.Reply.{Reply}
+use Rattle.er_event.specs.declared.steps.Reply.TheVariants.{Race, Quiet}
 use Rattle.er_event.specs.declared.steps.WordState.TheVariants.{Virgin}
-use Rattle.er_model.specs.declared.stamps.Entry.{Entry}
-use Rattle.er_model.specs.declared.stamps.Stamp.{Stamp}
-use Rattle.er_model.specs.declared.stamps.What.TheVariants.{Access}
-use Rattle.er_model.specs.Journals.{stamped, mark_of_what, note_of, notes_of}
+use Rattle.er_journal.specs.declared.entries.Entry.{Entry}
+use Rattle.er_journal.specs.declared.entries.Stamp.{Stamp}
+use Rattle.er_journal.specs.declared.entries.What.TheVariants.{Access}
+use Rattle.er_journal.specs.Journals.{stamped, mark_of_what, note_of, notes_of}
 use Rattle.er_model.specs.Parts.{Noted, as_reading, FitsEnd, state_of_notes}
 use Rattle.er_model.specs.Table.{advanced, moved, reports}
 use Rattle.er_model.proofs.Parts.{legal-grow, state-noted}
@@ -37,6 +38,11 @@ pub access-fits : (journal : List Entry) (limit : ℕ) (words : Shadows) (stamp 
     → FitsEnd (notes_of journal) (mark_of_what (Access stamp)) reply
 access-fits journal limit words stamp reply was is =
     is ∙ ap (λ s. reply_if (reports s (advanced s stamp.thread stamp.kind (stamped stamp stamp.kind)))) (was.states stamp.word)
+
+-- an access is answered with a race, or quietly
+pub race_or_quiet : (reported : Bool) (reply : Reply) → reply ≡ reply_if reported → (reply ≡ Race) ⊎ (reply ≡ Quiet)
+race_or_quiet true reply is = inl is
+race_or_quiet false reply is = inr is
 
 -- where the words move as one more entry says, and its reply fits, they are the replay of the longer journal
 pub replay-grows : (journal now : List Entry) (limit : ℕ) (before after : Shadows) (entry : Entry) → IsReplayOf journal limit before

@@ -1,21 +1,21 @@
 //! A shard: its words, and the journal of which they are the replay.
 ghost use Rattle.std.specs.Prelude.{◌≡◌, ◌≤◌, ◌<◌, ◌⊎◌, ◌+◌, [], Bool, length, IsTrue, IfOk, IsErrOf, OnOk, OnErr, vec_capacity};
-ghost use Rattle.er_model.specs.Journals.{IsLegalJournal, journal_state, notes_of, mark_of_what};
+ghost use Rattle.er_journal.specs.Journals.{IsLegalJournal, journal_state, notes_of, mark_of_what};
 ghost use Rattle.er_model.specs.Parts.{FitsEnd};
 ghost use Rattle.er_shadow.specs.Replies.{reply_if};
 ghost use Rattle.er_shadow.specs.Shadows.{needs_set};
 ghost use Rattle.er_shard.specs.Journaled.{entry_of};
 
 use er_event::{NoRoom, PageRange, Reply, ThreadId, Word, WordState};
-use er_model::{BriefReply, Entry, Stamp, What};
+use er_journal::{BriefReply, Entry, Stamp, What};
 use er_shadow::ShadowMap;
 use er_table::LocksetTable;
 use std::alloc::{AllocError, Global};
 use std::marker::Model;
 use std::sync::Wait;
 
-/// Some of memory's words, and the journal of what was done to them (own). Contracts see the journal, with the shard's name, number
-/// and limit: the words' states are those that the journal gives.
+/// Some of memory's words, and the journal of what was done to them. Contracts see the journal, with the shard's name, number and
+/// limit: the words' states are those that the journal gives.
 #[derive(Drop)]
 pub struct Shard<'t> {
     words: ShadowMap<'t>,
@@ -38,8 +38,8 @@ impl<'t> Model for Shard<'t> {
 impl<'t> Shard<'t> {
     ghost use Rattle.er_shard.specs.Journaled.{AreStamped, with_entry};
 
-    /// A shard with an empty journal that takes `limit` entries (own). `name` is its detector's, and `number` its place there. The
-    /// sets of locks that its words need go into the table.
+    /// A shard with an empty journal that takes `limit` entries. `name` is its detector's, and `number` its place there. The sets of
+    /// locks that its words need go into the table. The only error is that there is no memory.
     pub fn new(
         alloc: Global,
         table: &'t LocksetTable,
@@ -82,16 +82,15 @@ impl<'t> Shard<'t> {
         self.journal.as_slice()
     }
 
-    /// What is known of a word (section 3 of the 1997 paper).
+    /// What is known of a word (section 3 of the 1997 paper). The only error is that there is no memory for its candidate set.
     pub fn state_of(&self, word: Word) -> Result<WordState, AllocError>
         ensures { IfOk result (λ state. state ≡ journal_state self.now.journal word) }
     {
         self.words.state_of(word)
     }
 
-    /// Takes a counted access, and says whether it is a race (section 2 of the 1997 paper; the journal is own). Refused where the
-    /// journal is full (`JournalFull`), where a set of locks finds no place in the table (`TableFull`), and where there is no
-    /// memory (`OutOfMemory`).
+    /// Takes a counted access, and returns `Race` if it is reported, else `Quiet` (section 2 of the 1997 paper). Refused if the journal
+    /// is full (`JournalFull`), if a set of locks finds no place in the table (`TableFull`), and if there is no memory (`OutOfMemory`).
     pub fn apply<R: Wait>(&mut self, rt: &R, ticket: u64, stamp: Stamp) -> Result<Reply, NoRoom>
         ensures entry { IfOk result (λ reply. self.new ≡ with_entry self.old (entry_of ticket stamp.thread (What.Access stamp) reply)) }
         ensures reply { IfOk result (λ reply. FitsEnd (notes_of self.old.journal) (mark_of_what (What.Access stamp)) reply) }
@@ -104,18 +103,19 @@ impl<'t> Shard<'t> {
         ensures table_full { IsErrOf result NoRoom.TableFull → IsTrue (needs_set (journal_state self.old.journal stamp.word) stamp.thread) }
     {
         reserve_entry(&mut self.journal, self.limit)?;
-        let reported = is_race(&self.words.apply(rt, &stamp)?);
+        let reply = self.words.apply(rt, &stamp)?;
+        let brief = in_brief(&reply);
         self.journal.push_reserved(Entry {
             ticket,
             thread: stamp.thread,
             what: What::Access(stamp),
-            reply: BriefReply::of_access(reported),
+            reply: brief,
         });
-        Ok(reply_to(reported))
+        Ok(reply)
     }
 
-    /// Makes the words of a range virgin (section 3.3 of the 1997 paper; the journal is own). Refused where the journal is full
-    /// (`JournalFull`), and where there is no memory (`OutOfMemory`).
+    /// Makes the words of a range virgin (section 3.3 of the 1997 paper). Refused if the journal is full (`JournalFull`), and if there
+    /// is no memory (`OutOfMemory`).
     pub fn reset(&mut self, ticket: u64, thread: ThreadId, range: PageRange) -> Result<(), NoRoom>
         ensures entry { OnOk result (self.new ≡ with_entry self.old (entry_of ticket thread (What.Reset range) Reply.Done)) }
         ensures err { OnErr result (self.new ≡ self.old) }
@@ -152,17 +152,9 @@ fn reserve_entry(journal: &mut Vec<Entry>, limit: u32) -> Result<(), NoRoom>
     Ok(())
 }
 
-// Whether an access was answered with a race.
-fn is_race(reply: &Reply) -> bool
-    ensures { (reported : Bool) → reply.now ≡ reply_if reported → result ≡ reported }
+/// The reply to a counted access, a race or quiet, in one byte.
+pub fn in_brief(reply: &Reply) -> BriefReply
+    ensures { (reported : Bool) → reply.now ≡ reply_if reported → result ≡ reply.now }
 {
-    matches!(reply, Reply::Race)
-}
-
-// What an access is answered.
-fn reply_to(reported: bool) -> Reply
-    ensures reply { result ≡ reply_if reported }
-    ensures race_or_quiet { (result ≡ Reply.Race) ⊎ (result ≡ Reply.Quiet) }
-{
-    if reported { Reply::Race } else { Reply::Quiet }
+    BriefReply::of_access(matches!(reply, Reply::Race))
 }

@@ -1,20 +1,16 @@
 -- What a demo comes to.
-use Rattle.std.specs.Prelude.{◌≡◌, ℕ, List, length, count_by, slice_get, Option, Some, Ok}
+use Rattle.std.specs.Prelude.{◌≡◌, ℕ, List, length, slice_get, Option, Some, Ok}
 use Rattle.std.specs.Io.KnownBytes.{Appends}
-use Rattle.er_detector.specs.Races.{answers_race}
 use Rattle.er_event.specs.declared.steps.Reply.{Reply}
 use Rattle.er_event.specs.declared.steps.Step.{Step}
 use Rattle.er_load.specs.Workloads.{name_of, workload_events}
 use Rattle.er_load.specs.declared.workloads.Workload.{Workload}
 use Rattle.er_model.specs.Answers.{answer}
 use Rattle.er_model.specs.Locality.{events_of}
-use Rattle.er_model.specs.Merges.{reply_at}
+use Rattle.er_journal.specs.Merges.{reply_at}
+use Rattle.er_settle.specs.Runs.{races_in}
 use Rattle.eraser.specs.Lines.{demo_line}
 use Rattle.eraser.specs.Statuses.{demo_status}
-
--- how many of the replies report a race
-abbrev pub races_in : List Reply → ℕ
-races_in replies = count_by answers_race replies
 
 -- the threads made a run of the workload, with the replies that the definitions give, and what was written is its line
 pub record IsDemo (workload : Workload) (old new : Option (List ℕ)) (exit : ℕ) : Type 0 where

@@ -4,7 +4,7 @@ ghost use Rattle.std.specs.Io.KnownBytes.{Keeps};
 ghost use Rattle.er_device.specs.Device.{inner_of, has_failed};
 ghost use Rattle.er_rules.specs.Rules.{targets_of};
 ghost use Rattle.er_run.specs.Replays.{IsReplayed};
-ghost use Rattle.eraser.specs.Demos.{IsDemo, races_in};
+ghost use Rattle.eraser.specs.Demos.{IsDemo};
 ghost use Rattle.eraser.specs.Statuses.{verdict_status};
 ghost use Rattle.eraser.specs.Writes.{LeavesOutput, ReplaysTo};
 
@@ -14,8 +14,6 @@ use crate::request::{Replay, Request, read_request};
 use clap::error::ErrorKind;
 use er_detector::OpenGate;
 use er_device::Device;
-use er_event::Reply;
-use er_gather::Run;
 use er_load::{Workload, run_workload};
 use er_rules::Suppressions;
 use er_run::{Options, Verdict, replay_text};
@@ -132,18 +130,9 @@ where
     ensures nothing { IfErr result (LeavesOutput (O.contents (inner_of output.old)) (O.contents (inner_of output.new))) }
 {
     let run = run_workload(rt, alloc, workload, &OpenGate)?;
-    let races = races_of(&run);
+    let races = run.races();
     tell_demo(alloc, workload.name(), run.steps.len(), races, output)?;
     Ok(u8::from(races > 0))
-}
-
-fn races_of(run: &Run) -> usize
-    ensures { result ≡ races_in run.now.replies.items }
-{
-    run.replies
-        .iter()
-        .filter(|reply| matches!(reply, Reply::Race))
-        .count()
 }
 
 fn suppressions_at<R>(rt: &R, path: Option<&str>, options: &Options) -> Result<Suppressions, Fault>

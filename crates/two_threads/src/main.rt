@@ -4,11 +4,10 @@
 ghost use Rattle.std.specs.Prelude.{◌≡◌, ℕ, slice_get, Some, Ok, IfOk};
 ghost use Rattle.er_event.specs.declared.steps.Step.{Step};
 ghost use Rattle.er_model.specs.Answers.{answer};
-ghost use Rattle.er_model.specs.Merges.{reply_at};
+ghost use Rattle.er_journal.specs.Merges.{reply_at};
 
-use er_detector::{Config, Detector};
-use er_event::{Kind, Refusal, Reply, Site, Word};
-use er_gather::{Run, Unsettled, settle};
+use er_detector::{Config, Detector, Run, Unsettled, settle};
+use er_event::{Kind, Refusal, Site, Word};
 use er_seat::Seat;
 use er_table::LocksetTable;
 use std::alloc::{AllocError, Global};
@@ -36,7 +35,7 @@ impl From<Refusal> for Fault {
     }
 }
 
-// What each thread does: a real program adds to its counter here, and tells the detector so.
+// What each thread does: a real program adds to its counter here, and reports it to the detector.
 fn add<R: Wait>(rt: &R, detector: &Detector, mut seat: Seat) -> Result<Seat, Refusal> {
     detector.access(rt, &mut seat, Word::new(0x400), Kind::Write, Site::MISSING)?;
     Ok(seat)
@@ -85,11 +84,6 @@ fn main(rt: HostRuntime) -> ExitCode {
         let _ = rt.eprintln("no run");
         return ExitCode::from(3);
     };
-    let races = run
-        .replies
-        .iter()
-        .filter(|reply| matches!(reply, Reply::Race))
-        .count();
-    let _ = println!(rt; "steps {}, races {races}", run.steps.len());
+    let _ = println!(rt; "steps {}, races {}", run.steps.len(), run.races());
     ExitCode::from(0)
 }

@@ -1,8 +1,8 @@
 use Rattle.std.proofs.Common.{◌≡◌, arith, length}
 use Rattle.er_load.specs.Workloads.{thread_count}
-use Rattle.er_load.specs.Parts.{done_after}
+use Rattle.er_load.specs.Inner.Progress.{done_after}
 use Rattle.er_load.specs.declared.workloads.Stage.TheVariants.{Second}
-use Rattle.er_load.proofs.RunLemmas.{run-events, run-count, seats-once, may-fail}
+use Rattle.er_load.proofs.RunLemmas.{run-events, run-count, seats-once, seats-named, may-fail}
 use Rattle.er_load.proofs.runs.run_workload.Goals as goal
 
 pub returns-in-Ok-clause-events : goal.returns-in-Ok-clause-events
@@ -17,4 +17,4 @@ returns-in-Ok-clause-count g c =
     omega (arith, steps)
 
 pub returns-clause-faults : goal.returns-clause-faults
-returns-clause-faults g c = may-fail _ _ _ c.in-Err.fault c.in-Err.ensures.first (seats-once (done_after c.args.workload Second) _ c.in_ok-seats.ensures.seats)
+returns-clause-faults g c = may-fail _ _ _ c.in-Err.fault c.in-Err.ensures.first (seats-named (done_after c.args.workload Second) _ _ c.in_ok-seats.ensures.seats (rw c.in_ok-detector.ensures c.config.ensures.name)) (seats-once (done_after c.args.workload Second) _ c.in_ok-seats.ensures.seats)

@@ -1,5 +1,5 @@
 use Rattle.std.proofs.Common.{◌≡◌, ◌++◌}
-use Rattle.er_load.specs.Scripts.{events_in_all}
+use Rattle.er_load.specs.Inner.Scripts.{events_in_all}
 use Rattle.er_load.specs.Workloads.{each_word}
 use Rattle.er_load.proofs.scripts.add_words.Given as goal
 

@@ -1,4 +1,4 @@
-use Rattle.er_load.specs.Scripts.{events_in_all}
+use Rattle.er_load.specs.Inner.Scripts.{events_in_all}
 use Rattle.er_load.proofs.ScriptLemmas.{between}
 use Rattle.er_load.proofs.scripts.ignored_counts.Goals as goal
 

@@ -2,7 +2,7 @@ use Rattle.std.proofs.Common.{◌*◌, ◌++◌, ap, ◌∙◌}
 use Rattle.er_event.specs.Span.{Span}
 use Rattle.er_event.specs.declared.steps.Kind.TheVariants as kind
 use Rattle.er_load.specs.declared.scripts.Action.TheVariants.{Reuse}
-use Rattle.er_load.specs.Scripts.{events_by}
+use Rattle.er_load.specs.Inner.Scripts.{events_by}
 use Rattle.er_load.specs.Workloads.{each_word}
 use Rattle.er_load.proofs.ScriptLemmas.{ended}
 use Rattle.er_load.proofs.scripts.page_use.Goals as goal

@@ -2,7 +2,7 @@
 use Rattle.std.proofs.Common.{◌≡◌, ◌<◌, ◌==◌, false, refl, ap, sym, subst, arith}
 use Rattle.er_event.specs.declared.addresses.PageRange.{PageRange}
 use Rattle.er_event.specs.Span.{page_count, part_of, parts_below}
-use Rattle.er_seat.specs.Seats.{Seated}
+use Rattle.er_settle.specs.Seats.{SeatList}
 use Rattle.er_detector.specs.Calls.{HasReused, IsReused}
 use Rattle.er_detector.proofs.Reusing.{reused-none, reused-more, reused-name}
 use Rattle.er_detector.proofs.detector.Detector.reuse.Goals as goal
@@ -19,7 +19,7 @@ returns-in-Err-clause-stopped g c =
         within,
         (
           ap (λ (part : PageRange). part.lo) c.part-part.ensures.value,
-          subst (λ (seat : Seated). HasReused c.args.seat.now seat (parts_below c.args.range.now c.loop-page.page)) (sym c.in-Err.ensures.err) c.loop-page.invariant.0,
+          subst (λ (seat : SeatList). HasReused c.args.seat.now seat (parts_below c.args.range.now c.loop-page.page)) (sym c.in-Err.ensures.err) c.loop-page.invariant.0,
         ),
       ),
     )

@@ -1,7 +1,0 @@
-use Rattle.std.proofs.Common.{take}
-use Rattle.er_load.specs.Parts.{HasMade}
-use Rattle.er_load.specs.Scripts.{events_in_all}
-use Rattle.er_load.proofs.plays.play.Given as goal
-
-abbrev pub invariant-loop-action : goal.invariant-loop-action
-invariant-loop-action g l = HasMade l.initial.seat l.seat (events_in_all (take l.action-index l.script))

@@ -1,0 +1,134 @@
+//! One thread's calls: its script, made at a detector.
+ghost use Rattle.std.specs.Prelude.{◌≡◌, ◌<◌, IsTrue, IfOk, IfErr, OnOk};
+ghost use Rattle.er_load.specs.Faults.{may_meet};
+ghost use Rattle.er_load.specs.Inner.Accepted.{accepts};
+ghost use Rattle.er_load.specs.Inner.Progress.{HasMade, IsSeatAt, done_before, done_after};
+ghost use Rattle.er_load.specs.Inner.Scripts.{events_by, events_in_all};
+ghost use Rattle.er_load.specs.Workloads.{thread_count};
+ghost use Rattle.er_seat.specs.Seats.{holdings_of};
+
+use crate::scripts::{Action, script_of};
+use crate::workloads::Task;
+use er_detector::{Detector, Gate};
+use er_event::{Kind, LockId, Refusal, Reply, Site, Word, WordRange};
+use er_seat::Seat;
+use std::alloc::Global;
+use std::sync::Wait;
+
+/// Runs a thread's task at a detector. It is a trait and not a closure, because the prover knows nothing of a closure whose captured
+/// value itself holds a borrow, as a `Detector` borrows its table.
+pub(crate) trait Runner: Sync {
+    /// The seat, once it has made the calls of the task.
+    fn run_task<R: Wait>(
+        &self,
+        rt: &R,
+        alloc: Global,
+        task: Task,
+        seat: Seat,
+    ) -> Result<Seat, Refusal>
+        requires number { task.thread < thread_count task.workload }
+        requires before { IsSeatAt task.thread (done_before task.workload task.stage task.thread) seat }
+        ensures seat { IfOk result (λ seat. IsSeatAt task.thread (done_after task.workload task.stage task.thread) seat) }
+        ensures refusals { IfErr result (λ why. IsTrue (may_meet why)) };
+}
+
+/// A detector, and the gate that each thread passes before its first call.
+#[derive(Clone, Copy)]
+pub(crate) struct DetectorRunner<'a, 't, G: Gate> {
+    pub(crate) detector: &'a Detector<'t>,
+    pub(crate) gate: &'a G,
+}
+
+impl<'a, 't, G: Gate> Runner for DetectorRunner<'a, 't, G> {
+    fn run_task<R: Wait>(
+        &self,
+        rt: &R,
+        alloc: Global,
+        task: Task,
+        mut seat: Seat,
+    ) -> Result<Seat, Refusal>
+        requires number { task.thread < thread_count task.workload }
+        requires before { IsSeatAt task.thread (done_before task.workload task.stage task.thread) seat }
+        ensures seat { IfOk result (λ seat. IsSeatAt task.thread (done_after task.workload task.stage task.thread) seat) }
+        ensures refusals { IfErr result (λ why. IsTrue (may_meet why)) }
+    {
+        let script = script_of(alloc, task)?;
+        if seat.calls().is_empty() {
+            self.gate.enter(seat.thread().number());
+        }
+        run_script(rt, self.detector, &mut seat, script.as_slice())?;
+        Ok(seat)
+    }
+}
+
+// Makes the calls of a script, in order.
+fn run_script<R: Wait>(
+    rt: &R,
+    detector: &Detector<'_>,
+    seat: &mut Seat,
+    script: &[Action],
+) -> Result<(), Refusal>
+    requires { IsTrue (accepts (holdings_of seat.old) (events_in_all script.now)) }
+    ensures made { OnOk result (HasMade seat.old seat.new (events_in_all script.now)) }
+    ensures refusals { IfErr result (λ why. IsTrue (may_meet why)) }
+{
+    for action in script {
+        make_calls(rt, detector, seat, *action)?;
+    }
+    Ok(())
+}
+
+// Makes the call of one action.
+fn make_calls<R: Wait>(
+    rt: &R,
+    detector: &Detector<'_>,
+    seat: &mut Seat,
+    action: Action,
+) -> Result<(), Refusal>
+    requires { IsTrue (accepts (holdings_of seat.old) (events_by action)) }
+    ensures made { OnOk result (HasMade seat.old seat.new (events_by action)) }
+    ensures refusals { IfErr result (λ why. IsTrue (may_meet why)) }
+{
+    let lock = LockId::new(1);
+    match action {
+        Action::Acquire(mode) => seat.acquire(lock, mode),
+        Action::Release(mode) => seat.release(lock, mode),
+        Action::Access(kind, word) => {
+            access(rt, detector, seat, kind, word)?;
+            Ok(())
+        }
+        Action::Reuse(range) => reuse(rt, detector, seat, range),
+        Action::IgnoreOn => seat.ignore_on(),
+        Action::IgnoreOff => seat.ignore_off(),
+    }
+}
+
+// Reads or writes a word.
+fn access<R: Wait>(
+    rt: &R,
+    detector: &Detector<'_>,
+    seat: &mut Seat,
+    kind: Kind,
+    word: Word,
+) -> Result<Reply, Refusal>
+    ensures made { OnOk result (HasMade seat.old seat.new (events_by (Action.Access kind word))) }
+    ensures refusals { IfErr result (λ why. IsTrue (may_meet why)) }
+{
+    detector.access(rt, seat, word, kind, Site::MISSING)
+}
+
+// Puts words to a new use.
+fn reuse<R: Wait>(
+    rt: &R,
+    detector: &Detector<'_>,
+    seat: &mut Seat,
+    range: WordRange,
+) -> Result<(), Refusal>
+    ensures made { OnOk result (HasMade seat.old seat.new (events_by (Action.Reuse range))) }
+    ensures refusals { IfErr result (λ why. IsTrue (may_meet why)) }
+{
+    match detector.reuse(rt, seat, &range) {
+        Ok(()) => Ok(()),
+        Err(stopped) => Err(stopped.cause),
+    }
+}

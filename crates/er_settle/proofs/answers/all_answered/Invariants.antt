@@ -1,9 +1,0 @@
-use Rattle.std.proofs.Common.{◌≡◌, ◌<◌, ℕ}
-use Rattle.std.specs.Prelude.{slice_get, Some}
-use Rattle.er_settle.specs.Seats.{SeatShown}
-use Rattle.er_settle.specs.Orders.{entries_by}
-use Rattle.er_settle.specs.Answers.{AreAlike}
-use Rattle.er_settle.proofs.answers.all_answered.Given as goal
-
-abbrev pub invariant-loop-at : goal.invariant-loop-at
-invariant-loop-at l = (k : ℕ) (s : SeatShown) → k < l.at → slice_get l.seats k ≡ Some s → AreAlike s (entries_by s.thread l.order)

@@ -1,6 +1,0 @@
-use Rattle.std.proofs.Common.{◌<◌, ℕ}
-use Rattle.er_settle.specs.Faults.{IsGiven}
-use Rattle.er_settle.proofs.names.are_all.Given as goal
-
-abbrev pub invariant-loop-number : goal.invariant-loop-number
-invariant-loop-number l = (k : ℕ) → k < l.number-counter → IsGiven l.seats k

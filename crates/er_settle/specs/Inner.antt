@@ -1,0 +1,5 @@
+pub mod SeatChecks
+pub mod JournalOrder
+pub mod EntryMatches
+pub mod ReplyMatches
+pub mod CallOrder
