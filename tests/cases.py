@@ -129,6 +129,74 @@ FAULTY = [
     faulty("level_in_text_one", text_of("t1 level 3"), 2, "bad verb"),
 ]
 
+# Lines of a trace that have one fault, or two of which the earlier kind is reported.
+LINE_FAULTS = [
+    (b"# \xff", "not ascii"),
+    (b"t1 reuse 4", "missing operand"),
+    (b"t1 ignore-on m", "extra operand"),
+    (b"t1 write 0 s s", "extra operand"),
+    (b"t1 lock m\r", "bad name"),
+    (b"t1 read 0 !", "bad name"),
+    (b"t1 read 0x", "bad number"),
+    (b"t1 read 0xg !", "bad number"),
+    (b"t1 reuse 18446744073709551615 x", "bad number"),
+    (b"t1 show 0x1000000000000", "address out of range"),
+    (b"t1 reuse 0x1000000000000 0", "address out of range"),
+]
+FAULTY += [faulty(f"line {line}", b"eraser trace 1\n" + line + b"\n", 2, kind) for line, kind in LINE_FAULTS]
+FAULTY += [
+    faulty("header_with_more", b"eraser trace 1 1\n", 1, "no header"),
+    faulty("nothing_but_comments", b"\n# c\n \t", 4, "no header"),
+]
+
+# Each beginning of a text of 31 bytes: its fault, or the lines that are left of it.
+SHORT = b"eraser trace 1\nt1 write 0x1000\n"
+
+
+def beginning(size):
+    text = SHORT[:size]
+    if size < 14:
+        return faulty(f"first {size} bytes", text, 1, "no header")
+    if 16 <= size <= 18 or size in (23, 24):
+        return faulty(f"first {size} bytes", text, 2, "missing operand")
+    if 19 <= size <= 22:
+        return faulty(f"first {size} bytes", text, 2, "bad verb")
+    if size == 26:
+        return faulty(f"first {size} bytes", text, 2, "bad number")
+    return Case(f"first {size} bytes", text, output_of(totals(int(size > 24), 0, 0, 0)))
+
+
+BEGINNINGS = [beginning(size) for size in range(len(SHORT) + 1)]
+
+EVERY_VERB = (
+    "a lock m; b rlock n; a write 7 s; a read 0x8 -; # a comment; a read 010; b runlock n; a unlock m; a ignore-on; a ignore-off; a show 0xFFC; "
+    "b level 3; c reuse 0x1000 0; a reuse 0xffc 0x1008; d read 0 t; a show 4; a show 8; a show 0; b write 4 u; a show 4"
+)
+REPLAYED += [
+    told("every_verb", EVERY_VERB,
+         "line 12: state 0x000000000ffc: virgin; line 17: state 0x000000000004: exclusive a; line 18: state 0x000000000008: exclusive a; "
+         "line 19: state 0x000000000000: exclusive d; line 21: state 0x000000000004: shared-modified, candidates !1 !2 !3",
+         (20, 0, 0, 0), header="eraser trace 2"),
+    told("words_of_the_header", "", "", (0, 0, 0, 0), header="eraser\ttrace  2"),
+    told("greatest_level", "t1 level 31", "", (1, 0, 0, 0), header="eraser trace 2"),
+    told("greatest_addresses", "t1 show 281474976710655; t1 reuse 0xffffffffffff 1; t1 reuse 0xffffffffffff 0; t1 reuse 0x1 4194304",
+         "line 2: state 0xfffffffffffc: virgin", (1027, 0, 0, 0)),
+    # A race has the locks that its thread holds then: those in either mode, and those of its level.
+    told("locks_at_each_race", "t2 write x; t2 write 0x1004; t3 lock c; t3 write x; t3 write 0x1004; t3 unlock c; t1 rlock a; t1 lock b; t1 write x; "
+         "t1 unlock b; t1 write 0x1004",
+         "line 10: race: t1 write x at -, holds a b; line 12: race: t1 write 0x000000001004 at -, holds a", (11, 2, 0, 0), 1),
+    told("level_locks_at_a_race", "t2 write x; t3 lock c; t3 write x; t3 unlock c; t1 level 2; t1 write x",
+         "line 7: race: t1 write x at -, holds !1 !2", (6, 1, 0, 0), 1, header="eraser trace 2"),
+    told("races_under_locks", "t1 write x; t1 write 0x1004; t2 rlock a; t2 level 2; t2 read x; t2 level 0; t1 write x; t2 rlock b; t2 write 0x1004",
+         "line 8: race: t1 write x at -, holds none; line 10: race: t2 write 0x000000001004 at -, holds a b", (9, 2, 0, 0), 1, header="eraser trace 2"),
+    told("each_refusal", "t1 rlock b; t1 lock b; t1 rlock b; t1 unlock b; t1 unlock m; t1 runlock m; t1 ignore-off",
+         "line 3: refused: t1 lock b: already held; line 4: refused: t1 rlock b: already held; line 5: refused: t1 unlock b: held in the other mode; "
+         "line 6: refused: t1 unlock m: not held; line 7: refused: t1 runlock m: not held; line 8: refused: t1 ignore-off: ignore not on", (7, 0, 0, 6)),
+    told("each_state", "t1 show x; t1 read x; t1 show x; t1 lock a; t2 lock a; t2 read x; t1 show x; t1 unlock a; t1 write x; t1 show x",
+         "line 2: state x: virgin; line 4: state x: exclusive t1; line 8: state x: shared, candidates a; line 10: race: t1 write x at -, holds none; "
+         "line 11: state x: shared-modified, candidates none", (10, 1, 0, 0), 1),
+]
+
 RULES = "site S; words x 4"
 SUPPRESSED = [
     told("suppressions", "t1 write x S; t2 write x S", "suppression 1: 1; suppression 2: 0", (2, 0, 1, 0), rules=RULES),
@@ -137,6 +205,12 @@ SUPPRESSED = [
          (2, 1, 0, 0), 1, rules="site S; words x 0"),
     told("suppression_of_the_missing_site", "t1 write x S; t2 write x", "suppression 1: 1", (2, 0, 1, 0), rules="site -"),
     told("no_suppressions", "t1 write x; t2 write x", f"line 3: {RACE}", (2, 1, 0, 0), 1, rules=""),
+    told("every_rule", "; ".join(f"t1 write {word}; t2 write {word}" for word in (
+        "0x2000 save.c:12", "0x2004", "x z", "0x1004 z", "0xffffffffffff z", "0x3000 z")),
+         "; ".join(f"suppression {rule + 1}: {count}" for rule, count in enumerate((1, 1, 0, 1, 1, 0, 1, 0, 1))), (12, 0, 6, 0),
+         rules="# rules; site save.c:12; site -;  site\tnone; words x 4; words 0x1003 2; words 4096 0; words 0xfffffffffffc 4; "
+         "words 0xffffffffffff 0; words 0 281474976710656"),
+    told("comments_are_no_rules", "t1 write x; t2 write x", f"line 3: {RACE}", (2, 1, 0, 0), 1, rules="# c; \t; #"),
     told("suppressions_of_all_words", "t1 write 0xffffffffffff; t2 write 0xffffffffffff", "suppression 1: 1", (2, 0, 1, 0), rules="words 0 281474976710656"),
 ]
 
@@ -202,6 +276,27 @@ FAULTY_RULES = [
     faulty_rules("rule_not_ascii", b"site a\nsite \x80\n", 2, "not ascii"),
     faulty_rules("rule_too_long", b"#" + b"a" * 1024 + b"\n", 1, "line too long"),
 ]
+
+RULE_FAULTS = [
+    (b"# \xff", "not ascii"),
+    (b"rule S \x80", "not ascii"),
+    (b"rule", "bad verb"),
+    (b"t! S T U", "bad verb"),
+    (b"Site S", "bad verb"),
+    (b"\t# c", "bad verb"),
+    (b"words", "missing operand"),
+    (b"words 0xg", "missing operand"),
+    (b"site ! T", "extra operand"),
+    (b"words 0xg 4 4", "extra operand"),
+    (b"site !", "bad name"),
+    (b"site S\r", "bad name"),
+    (b"words 0x1000000000000 4x", "bad number"),
+    (b"words 0 18446744073709551616", "bad number"),
+    (b"words 0xfffffffffffc 5", "address out of range"),
+    (b"words 1 281474976710656", "address out of range"),
+    (b"words 18446744073709551615 18446744073709551615", "address out of range"),
+]
+FAULTY_RULES += [faulty_rules(f"rule {rule}", b"# c\nsite S\n" + rule + b"\n", 3, kind) for rule, kind in RULE_FAULTS]
 
 # Lines with two faults, of which the earlier kind is told.
 FIRST_FAULTS = [
@@ -272,4 +367,4 @@ def many_pages():
 # Each has more of something than a limit that nobody asked for would let through.
 MANY = [many_locksets(), many_rules(), many_pages()]
 
-CASES = REPLAYED + FAULTY + FIRST_FAULTS + SUPPRESSED + FAULTY_RULES + MANY
+CASES = REPLAYED + BEGINNINGS + FAULTY + FIRST_FAULTS + SUPPRESSED + FAULTY_RULES + MANY

@@ -1,4 +1,5 @@
-//! Worked cases of devices, rules, texts read and reports written: nothing but tests.
+//! Readers and writers that fail in mid-stream, and rules that are equal: nothing but tests. Whole texts and reports are compared by
+//! `tests/run`.
 #![tactic(auto)]
 
 #[cfg(test)]
@@ -9,7 +10,5 @@ mod print;
 mod rule_text;
 #[cfg(test)]
 mod rules;
-#[cfg(test)]
-mod run;
 #[cfg(test)]
 mod text;

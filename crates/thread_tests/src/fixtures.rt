@@ -1,6 +1,5 @@
 //! What the cases share. A test ends where one of these cannot be had.
-use er_detector::{Config, Detector, Parts};
-use er_seat::Seat;
+use er_detector::{Config, Detector};
 use er_table::LocksetTable;
 use std::process::Abort;
 
@@ -12,14 +11,6 @@ pub(crate) fn table_of_four<R: Abort + AllocGlobal>(rt: &R) -> LocksetTable {
     }
 }
 
-/// Of two seats.
-pub(crate) fn config<R: Abort>(rt: &R, name: u64, shards: u32, journal_limit: u32) -> Config {
-    match Config::new(name, shards, journal_limit, 2) {
-        Some(config) => config,
-        None => rt.abort(),
-    }
-}
-
 pub(crate) fn detector<'t, R: Abort + AllocGlobal>(
     rt: &R,
     table: &'t LocksetTable,
@@ -27,20 +18,6 @@ pub(crate) fn detector<'t, R: Abort + AllocGlobal>(
 ) -> Detector<'t> {
     match Detector::new(rt.alloc(), table, config) {
         Ok(detector) => detector,
-        Err(_) => rt.abort(),
-    }
-}
-
-pub(crate) fn parts<'t, R: Abort>(rt: &R, detector: Detector<'t>) -> Parts<'t> {
-    match detector.into_parts() {
-        Ok(parts) => parts,
-        Err(_) => rt.abort(),
-    }
-}
-
-pub(crate) fn open<R: Abort>(rt: &R, detector: &Detector) -> Seat {
-    match detector.open_seat() {
-        Ok(seat) => seat,
         Err(_) => rt.abort(),
     }
 }

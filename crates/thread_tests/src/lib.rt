@@ -1,21 +1,12 @@
-//! Worked cases of shards, seats, detectors, settling, workloads and parallel replays: nothing but tests.
+//! What only threads can show, of gates, detectors, workloads and parallel replays: nothing but tests. All other cases of theirs are rows
+//! for the program `probe`.
 #![tactic(auto)]
 
 #[cfg(test)]
-mod detector;
-#[cfg(test)]
 mod fixtures;
 #[cfg(test)]
-mod gather;
-#[cfg(test)]
-mod load;
-#[cfg(test)]
-mod parallel;
-#[cfg(test)]
-mod seat;
-#[cfg(test)]
-mod settle;
-#[cfg(test)]
-mod shard;
+mod gates;
 #[cfg(test)]
 mod together;
+#[cfg(test)]
+mod workers;

@@ -1,9 +1,10 @@
-//! Two threads at one detector at once. They pass a gate first, so that mostly neither is done before the other begins; the answers
-//! are the same in whatever order they come.
+//! Two threads at one detector at once. They wait for each other first, so that mostly neither is done before the other begins; the
+//! answers are the same in whatever order they come.
 use crate::fixtures::{detector, table_of_four};
-use er_detector::{Config, Detector, Gate, PairGate};
-use er_event::{Refusal, WordRange};
-use er_gather::settle;
+use crate::gates::MeetingGate;
+use er_detector::{Config, Detector, settle};
+use er_event::{Kind, LockId, Mode, Refusal, Site, Word, WordRange};
+use er_gate::Gate;
 use er_seat::Seat;
 use std::alloc::Global;
 use std::process::Abort;
@@ -14,9 +15,9 @@ use std::thread::Threads;
 
 // These say nothing of what they return, so that a test's proof has little to carry.
 
-// A detector of one shard and so many seats.
-fn config<R: Abort>(rt: &R, seats: u32) -> Config {
-    match Config::new(7, 1, 100_000, seats) {
+// A detector of so many shards and seats.
+fn config_of<R: Abort>(rt: &R, shards: u32, seats: u32) -> Config {
+    match Config::new(7, shards, 100_000, seats) {
         Some(config) => config,
         None => rt.abort(),
     }
@@ -39,7 +40,7 @@ fn open_one(detector: &Detector, threads: &mut Vec<u32>) -> Option<Refusal> {
 }
 
 // The threads of seats that are opened one after the other, behind the gate.
-fn open_all(alloc: Global, detector: &Detector, gate: &PairGate, piece: u32) -> Vec<u32> {
+fn open_all(alloc: Global, detector: &Detector, gate: &MeetingGate, piece: u32) -> Vec<u32> {
     let mut threads = Vec::new(alloc);
     gate.enter(piece);
     for _ in 0..SEATS {
@@ -77,7 +78,7 @@ fn open_together<R: Threads + AllocGlobal + Sync>(
     rt: &R,
     detector: &Detector,
 ) -> (Vec<u32>, Vec<u32>) {
-    let gate = PairGate::new(0, 1);
+    let gate = MeetingGate::new();
     let alloc = rt.alloc();
     thread::join(
         rt,
@@ -89,7 +90,7 @@ fn open_together<R: Threads + AllocGlobal + Sync>(
 #[test]
 fn each_seat_has_a_thread_of_its_own(rt: HostRuntime) {
     let table = table_of_four(&rt);
-    let detector = detector(&rt, &table, config(&rt, 2 * SEATS));
+    let detector = detector(&rt, &table, config_of(&rt, 1, 2 * SEATS));
     let (first, second) = open_together(&rt, &detector);
     assert!(rt; is_each_once(rt.alloc(), [first.as_slice(), second.as_slice()], 100_000));
     let mut more = Vec::new(rt.alloc());
@@ -109,7 +110,7 @@ fn reuse_once<R: Wait>(rt: &R, detector: &Detector, seat: &mut Seat) -> bool {
     }
 }
 
-fn reuse_all<R: Wait>(rt: &R, detector: &Detector, gate: &PairGate, mut seat: Seat) -> Seat {
+fn reuse_all<R: Wait>(rt: &R, detector: &Detector, gate: &MeetingGate, mut seat: Seat) -> Seat {
     gate.enter(seat.thread().number());
     for _ in 0..REUSES {
         if !reuse_once(rt, detector, &mut seat) {
@@ -132,7 +133,7 @@ fn reuse_together<R: Threads + Wait + AllocGlobal + Sync>(
     rt: &R,
     detector: Detector,
 ) -> Option<usize> {
-    let gate = PairGate::new(0, 1);
+    let gate = MeetingGate::new();
     let seats = open_two(rt.alloc(), &detector)?;
     let played = thread::map_vec(rt, seats, &|seat| reuse_all(rt, &detector, &gate, seat)).ok()?;
     match settle(rt.alloc(), detector, played) {
@@ -145,6 +146,40 @@ fn reuse_together<R: Threads + Wait + AllocGlobal + Sync>(
 #[test]
 fn reuses_of_one_page_settle(rt: HostRuntime) {
     let table = table_of_four(&rt);
-    let detector = detector(&rt, &table, config(&rt, 2));
+    let detector = detector(&rt, &table, config_of(&rt, 1, 2));
     assert_eq!(rt; reuse_together(&rt, detector), Some(20_000));
+}
+
+fn writes<R: Wait>(rt: &R, detector: &Detector) -> bool {
+    match detector.open_seat() {
+        Ok(mut seat) => detector
+            .access(rt, &mut seat, Word::new(0x400), Kind::Write, Site::MISSING)
+            .is_ok(),
+        Err(_) => false,
+    }
+}
+
+fn acquires(detector: &Detector) -> bool {
+    match detector.open_seat() {
+        Ok(mut seat) => seat.acquire(LockId::new(5), Mode::Write).is_ok(),
+        Err(_) => false,
+    }
+}
+
+// Whether one thread writes in the second shard and another takes a lock, while this one has the first shard.
+fn goes_on_beside_a_guard<R: Threads + Wait + Sync>(rt: &R, detector: &Detector) -> bool {
+    if detector.config().shards == 0 {
+        return false;
+    }
+    let _kept = detector.shard(rt, 0);
+    let (written, acquired) = thread::join(rt, || writes(rt, detector), || acquires(detector));
+    written && acquired
+}
+
+// A shard that stopped another would stop this test for good.
+#[test]
+fn one_shard_does_not_stop_another(rt: HostRuntime) {
+    let table = table_of_four(&rt);
+    let detector = detector(&rt, &table, config_of(&rt, 2, 2));
+    assert!(rt; goes_on_beside_a_guard(&rt, &detector));
 }

@@ -1,19 +1,8 @@
-//! Worked cases of values, holdings, words, machines and explanations: nothing but tests.
+//! Worked cases of names, traces, texts and lists of answers: nothing but tests. Other values, and machines with their explanations, have
+//! rows for the program `probe`.
 #![tactic(auto)]
 
 #[cfg(test)]
-mod checking;
-#[cfg(test)]
 mod event;
 #[cfg(test)]
-mod explain;
-#[cfg(test)]
-mod held;
-#[cfg(test)]
 mod model;
-#[cfg(test)]
-mod owner;
-#[cfg(test)]
-mod replay;
-#[cfg(test)]
-mod shadow;

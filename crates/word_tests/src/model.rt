@@ -1,5 +1,5 @@
 use er_event::{LockId, Lockset, Refusal, Reply, ThreadId, WordState};
-use er_model::{Answer, Answers};
+use er_journal::{Answer, Answers};
 use std::process::Abort;
 
 // These say nothing of what they return, so that a test's proof has little to carry. A test ends where one of them cannot answer.

@@ -1,0 +1,318 @@
+//! Rows of two detectors over one table: `a`, which is named 7, and `b`.
+use crate::Fault;
+use crate::calls::{Call, Times, call_of, times_of};
+use crate::endings::{Ending, end, ending_of};
+use crate::questions::{ask, question_of};
+use crate::rows::{Row, count_of, number_of, place_of};
+use crate::seats::{call_by, open};
+use crate::shards::{Raw, put_entry, raw_of, swap_shards};
+use crate::shown::now_shown;
+use crate::told::{Tally, Told};
+use er_detector::{Config, Detector};
+use er_seat::Seat;
+use er_table::LocksetTable;
+use std::rt::Runtime;
+use std::sync::Wait;
+
+/// Both detectors, and their table.
+#[derive(Clone, Copy)]
+pub(crate) struct Scene<'s, 't> {
+    pub(crate) a: &'s Detector<'t>,
+    pub(crate) b: &'s Detector<'t>,
+    pub(crate) table: &'t LocksetTable,
+}
+
+/// Which of them.
+#[derive(Clone, Copy, PartialEq, Eq)]
+pub(crate) enum Side {
+    A,
+    B,
+}
+
+impl<'s, 't> Scene<'s, 't> {
+    pub(crate) fn at(self, side: Side) -> &'s Detector<'t> {
+        match side {
+            Side::A => self.a,
+            Side::B => self.b,
+        }
+    }
+}
+
+pub(crate) fn side_of(word: &str) -> Option<Side> {
+    match word {
+        "a" => Some(Side::A),
+        "b" => Some(Side::B),
+        _ => None,
+    }
+}
+
+/// A table that takes so many sets.
+pub(crate) fn table_of(rt: &impl AllocGlobal, sets: Option<u32>) -> Result<LocksetTable, Fault> {
+    match sets {
+        Some(sets) if sets >= 1 && sets <= 1_048_576 => Ok(LocksetTable::new(rt.alloc(), sets)?),
+        _ => Err(Fault::Row(1)),
+    }
+}
+
+// How both detectors are made: shards, journal limit, seats and the name of the second.
+fn configs_of(numbers: &[&str]) -> Option<(Config, Config)> {
+    let [shards, journal, seats, name] = numbers else {
+        return None;
+    };
+    let (shards, journal, seats) = (count_of(shards)?, count_of(journal)?, count_of(seats)?);
+    let first = Config::new(7, shards, journal, seats)?;
+    let second = Config::new(number_of(name)?, shards, journal, seats)?;
+    Some((first, second))
+}
+
+/// Plays all rows at two new detectors.
+pub(crate) fn detector_rows<R: Runtime + AllocGlobal + Wait>(
+    rt: &R,
+    numbers: &[&str],
+    rows: &[Row<'_>],
+) -> Result<(), Fault> {
+    let [sets, numbers @ ..] = numbers else {
+        return Err(Fault::Row(1));
+    };
+    let Some((first, second)) = configs_of(numbers) else {
+        return Err(Fault::Row(1));
+    };
+    let table = table_of(rt, count_of(sets))?;
+    play(rt, &table, first, second, rows)
+}
+
+fn play<R: Runtime + AllocGlobal + Wait>(
+    rt: &R,
+    table: &LocksetTable,
+    first: Config,
+    second: Config,
+    rows: &[Row<'_>],
+) -> Result<(), Fault> {
+    let a = Detector::new(rt.alloc(), table, first)?;
+    let b = Detector::new(rt.alloc(), table, second)?;
+    let mut seats = Vec::new(rt.alloc());
+    let scene = Scene {
+        a: &a,
+        b: &b,
+        table,
+    };
+    let ending = play_all(rt, scene, &mut seats, rows)?;
+    let line = last_line(rows);
+    match ending {
+        Ending::Open => Ok(()),
+        Ending::Settle(Side::A, places) => end(rt, a, seats, Some(places), line),
+        Ending::Settle(Side::B, places) => end(rt, b, seats, Some(places), line),
+        Ending::Parts(Side::A) => end(rt, a, seats, None, line),
+        Ending::Parts(Side::B) => end(rt, b, seats, None, line),
+    }
+}
+
+fn last_line(rows: &[Row<'_>]) -> usize {
+    match rows.last() {
+        Some(row) => row.line,
+        None => 1,
+    }
+}
+
+// Each row in turn. An ending is the last.
+fn play_all<R: Runtime + AllocGlobal + Wait>(
+    rt: &R,
+    scene: Scene<'_, '_>,
+    seats: &mut Vec<Option<Seat>>,
+    rows: &[Row<'_>],
+) -> Result<Ending, Fault> {
+    let mut ending = Ending::Open;
+    for row in rows {
+        let Ending::Open = ending else {
+            return Err(Fault::Row(row.line));
+        };
+        ending = play_row(rt, scene, seats, row)?;
+    }
+    Ok(ending)
+}
+
+fn play_row<R: Runtime + AllocGlobal + Wait>(
+    rt: &R,
+    scene: Scene<'_, '_>,
+    seats: &mut Vec<Option<Seat>>,
+    row: &Row<'_>,
+) -> Result<Ending, Fault> {
+    let words = row.words.as_slice();
+    if let Some(ending) = ending_of(words) {
+        return Ok(ending);
+    }
+    if let Some(question) = question_of(words) {
+        ask(rt, scene, seats.as_slice(), question, row.line)?;
+        return Ok(Ending::Open);
+    }
+    match times_of(words) {
+        Some((times, words)) => match act_of(words) {
+            Some(act) => make_times(rt, scene, seats, times, act, row.line)?,
+            None => return Err(Fault::Row(row.line)),
+        },
+        None => return Err(Fault::Row(row.line)),
+    }
+    Ok(Ending::Open)
+}
+
+// What changes a detector.
+#[derive(Clone, Copy)]
+enum Act {
+    Open(Side),
+    // The seat at this place calls a detector, or there a shard whose lock the row takes.
+    Call(usize, Side, Option<u32>, Call),
+    // An entry that no seat called for, in a shard.
+    Enter(Side, u32, Raw),
+    // Two shards change places.
+    Swap(Side, u32, Side, u32),
+}
+
+impl Act {
+    // The same for the nth time, raised by the row's step each time.
+    fn raised(self, nth: u32, step: u64) -> Option<Act> {
+        let by = step.checked_mul(u64::from(nth))?;
+        match self {
+            Act::Call(place, side, shard, call) => {
+                Some(Act::Call(place, side, shard, call.raised(by)?))
+            }
+            Act::Enter(side, shard, raw) => Some(Act::Enter(side, shard, raw.raised(nth, by)?)),
+            Act::Open(_) | Act::Swap(..) => Some(self),
+        }
+    }
+
+    // The seat that calls.
+    fn seat(&self) -> Option<usize> {
+        match self {
+            Act::Call(place, ..) => Some(*place),
+            _ => None,
+        }
+    }
+}
+
+fn act_of(words: &[&str]) -> Option<Act> {
+    match words {
+        ["open", side] => Some(Act::Open(side_of(side)?)),
+        ["seat", place, call @ .., "at", side] => {
+            Some(Act::Call(place_of(place)?, side_of(side)?, None, call_of(call)?))
+        }
+        ["seat", place, call @ .., "in", side, shard] => Some(Act::Call(
+            place_of(place)?,
+            side_of(side)?,
+            Some(count_of(shard)?),
+            call_of(call)?,
+        )),
+        ["seat", place, call @ ..] => {
+            Some(Act::Call(place_of(place)?, Side::A, None, call_of(call)?))
+        }
+        ["enter", side, shard, raw @ ..] => {
+            Some(Act::Enter(side_of(side)?, count_of(shard)?, raw_of(raw)?))
+        }
+        ["swap", side, shard, other, place] => Some(Act::Swap(
+            side_of(side)?,
+            count_of(shard)?,
+            side_of(other)?,
+            count_of(place)?,
+        )),
+        _ => None,
+    }
+}
+
+// Makes an act as often as the row says, and prints the answers on one line.
+fn make_times<R: Runtime + AllocGlobal + Wait>(
+    rt: &R,
+    scene: Scene<'_, '_>,
+    seats: &mut Vec<Option<Seat>>,
+    times: Times,
+    act: Act,
+    line: usize,
+) -> Result<(), Fault> {
+    let mut tally: Option<Tally> = None;
+    for nth in 0..times.count {
+        let Some(raised) = act.raised(nth, times.step) else {
+            return Err(Fault::Row(line));
+        };
+        let told = make_or_again(rt, scene, seats, &raised, line)?;
+        tally = match tally {
+            None => Some(Tally::of(told)),
+            Some(before) => Some(before.and(rt, told)?),
+        };
+    }
+    match tally {
+        Some(tally) => tally.print(rt)?,
+        None => return Err(Fault::Row(line)),
+    }
+    Ok(println!(rt; "")?)
+}
+
+// Makes an act, and once more if it was refused for want of memory.
+fn make_or_again<R: Runtime + AllocGlobal + Wait>(
+    rt: &R,
+    scene: Scene<'_, '_>,
+    seats: &mut Vec<Option<Seat>>,
+    act: &Act,
+    line: usize,
+) -> Result<Told, Fault> {
+    let place = act.seat();
+    let before = now_shown(rt, scene, seats.as_slice(), place);
+    let told = make(rt, scene, seats, *act);
+    if told == Told::Missing {
+        return Err(Fault::Row(line));
+    }
+    if !told.lacks_memory() {
+        return Ok(told);
+    }
+    let is_same = before == now_shown(rt, scene, seats.as_slice(), place);
+    tell_refused(rt, told, is_same, line)?;
+    Ok(make(rt, scene, seats, left_of(*act, told)))
+}
+
+/// Tells on standard error that a call was refused for want of memory.
+pub(crate) fn tell_refused<R: Runtime>(
+    rt: &R,
+    told: Told,
+    is_same: bool,
+    line: usize,
+) -> Result<(), Fault> {
+    let left = if is_same { "unchanged" } else { "changed" };
+    match told {
+        Told::Stopped(address, _) => {
+            eprintln!(rt; "line {line}: stopped at {address:#x} for want of memory, {left}")?
+        }
+        _ => eprintln!(rt; "line {line}: out of memory, {left}")?,
+    }
+    Ok(())
+}
+
+// What is left to be done of an act: a reuse goes on where it stopped.
+fn left_of(act: Act, told: Told) -> Act {
+    match (act, told) {
+        (Act::Call(place, side, shard, Call::Reuse(address, size)), Told::Stopped(stop, _)) => {
+            let done = stop.saturating_sub(address);
+            let left = Call::Reuse(address.max(stop), size.saturating_sub(done));
+            Act::Call(place, side, shard, left)
+        }
+        _ => act,
+    }
+}
+
+fn make<R: Wait + AllocGlobal>(
+    rt: &R,
+    scene: Scene<'_, '_>,
+    seats: &mut Vec<Option<Seat>>,
+    act: Act,
+) -> Told {
+    match act {
+        Act::Open(side) => open(scene.at(side), seats),
+        Act::Call(place, side, shard, call) => match seats.get_mut(place) {
+            Some(Some(seat)) => call_by(rt, scene.at(side), seat, shard, call),
+            _ => Told::Missing,
+        },
+        Act::Enter(side, shard, raw) => put_entry(rt, scene.at(side), shard, raw),
+        Act::Swap(side, shard, other, place) => {
+            if side == other && shard == place {
+                return Told::Missing;
+            }
+            swap_shards(rt, scene.at(side), shard, scene.at(other), place)
+        }
+    }
+}

@@ -1,0 +1,140 @@
+//! The last row of detectors: settling, or their shards out of their locks.
+use crate::Fault;
+use crate::answers::{put_event, put_reply};
+use crate::detectors::{Side, side_of};
+use crate::rows::{MOST_WORDS, place_of};
+use er_detector::{Detector, Parts, Run, settle};
+use er_event::{Reply, Step};
+use er_seat::Seat;
+use std::alloc::{AllocError, Global};
+use std::fmt::Write;
+use std::rt::Runtime;
+
+/// The places of seats.
+pub(crate) type Places = [Option<usize>; MOST_WORDS];
+
+/// What the last row asks for.
+#[derive(Clone, Copy)]
+pub(crate) enum Ending {
+    /// Nothing: more rows may follow.
+    Open,
+    /// A detector and the seats at these places are settled.
+    Settle(Side, Places),
+    /// A detector's shards are taken out of their locks.
+    Parts(Side),
+}
+
+pub(crate) fn ending_of(words: &[&str]) -> Option<Ending> {
+    match words {
+        ["settle", side, places @ ..] => Some(Ending::Settle(side_of(side)?, places_of(places)?)),
+        ["parts", side] => Some(Ending::Parts(side_of(side)?)),
+        _ => None,
+    }
+}
+
+fn places_of(words: &[&str]) -> Option<Places> {
+    let mut places = [None; MOST_WORDS];
+    if words.len() > MOST_WORDS {
+        return None;
+    }
+    for (place, word) in places.iter_mut().zip(words) {
+        *place = Some(place_of(word)?);
+    }
+    Some(places)
+}
+
+/// Settles a detector with the seats at these places, or shows its parts if there are no places. The row stands on this line.
+pub(crate) fn end<R: Runtime + AllocGlobal>(
+    rt: &R,
+    detector: Detector<'_>,
+    seats: Vec<Option<Seat>>,
+    places: Option<Places>,
+    line: usize,
+) -> Result<(), Fault> {
+    let text = match places {
+        Some(places) => {
+            let seats = chosen(rt.alloc(), seats, places, line)?;
+            settled(rt.alloc(), detector, seats)?
+        }
+        None => parted(rt.alloc(), detector)?,
+    };
+    Ok(rt.println(text.as_str())?)
+}
+
+// The seats at these places, in this order.
+fn chosen(
+    alloc: Global,
+    mut seats: Vec<Option<Seat>>,
+    places: Places,
+    line: usize,
+) -> Result<Vec<Seat>, Fault> {
+    let mut found = Vec::new(alloc);
+    for place in places.into_iter().flatten() {
+        choose(&mut seats, place, &mut found, line)?;
+    }
+    Ok(found)
+}
+
+fn choose(
+    seats: &mut Vec<Option<Seat>>,
+    place: usize,
+    found: &mut Vec<Seat>,
+    line: usize,
+) -> Result<(), Fault> {
+    found.reserve(1)?;
+    match seats.get_mut(place) {
+        Some(seat) => match seat.take() {
+            Some(seat) => {
+                found.push_reserved(seat);
+                Ok(())
+            }
+            None => Err(Fault::Row(line)),
+        },
+        None => Err(Fault::Row(line)),
+    }
+}
+
+// The run, or why there is none.
+fn settled(alloc: Global, detector: Detector<'_>, seats: Vec<Seat>) -> Result<String, AllocError> {
+    match settle(alloc, detector, seats) {
+        Ok(run) => run_text(alloc, &run),
+        Err(fault) => String::from_str(alloc, fault.text()),
+    }
+}
+
+fn run_text(alloc: Global, run: &Run) -> Result<String, AllocError> {
+    let mut out = String::new(alloc);
+    write!(out, "steps {}", run.steps.len())?;
+    for (step, reply) in run.steps.iter().zip(&run.replies) {
+        out.push_str("; ")?;
+        put_step(&mut out, *step, reply)?;
+    }
+    Ok(out)
+}
+
+fn put_step(out: &mut String, step: Step, reply: &Reply) -> Result<(), AllocError> {
+    write!(out, "{} ", step.thread.number())?;
+    put_event(out, step.event)?;
+    out.push_str(" ")?;
+    put_reply(out, reply)
+}
+
+fn parted(alloc: Global, detector: Detector<'_>) -> Result<String, AllocError> {
+    let parts = detector.into_parts()?;
+    parts_text(alloc, &parts)
+}
+
+fn parts_text(alloc: Global, parts: &Parts<'_>) -> Result<String, AllocError> {
+    let mut out = String::new(alloc);
+    write!(out, "name {}, opened {}", parts.name, parts.opened)?;
+    for shard in &parts.shards {
+        write!(
+            out,
+            "; shard {} of {}, entries {}",
+            shard.number(),
+            shard.name(),
+            shard.journal().len()
+        )?;
+    }
+    Ok(out)
+}

@@ -1,0 +1,96 @@
+//! Makes the calls that the rows of its standard input ask for, and prints what each is answered, a line for each row.
+//!
+//! The first row says what the others call: `detectors SETS SHARDS JOURNAL SEATS NAME`, `steps SETS` or `values` (tests/README.md has
+//! all rows). `#` starts a comment. A call that is refused for want of memory prints a line of its own, which says whether it left
+//! everything as it was, and is made once more. A row that asks for nothing is told with its line, and the status is 2.
+#![tactic(auto)]
+
+mod answers;
+mod calls;
+mod detectors;
+mod endings;
+mod explained;
+mod questions;
+mod rows;
+mod seats;
+mod shards;
+mod shown;
+mod steps;
+mod told;
+mod values;
+
+use detectors::detector_rows;
+use rows::{count_of, rows_of};
+use std::alloc::{AllocError, AllocFailed};
+use std::io;
+use std::io::ErrorKind;
+use std::process::ExitCode;
+use std::rt::Runtime;
+use std::sync::Wait;
+use std::thread::Threads;
+use steps::step_rows;
+use values::value_rows;
+
+/// Why there is nothing more to print.
+#[derive(Clone, Copy, PartialEq, Eq)]
+pub(crate) enum Fault {
+    Memory,
+    /// The row of this line asks for nothing.
+    Row(usize),
+    System,
+}
+
+impl From<AllocError> for Fault {
+    fn from(_refused: AllocError) -> Fault {
+        Fault::Memory
+    }
+}
+
+impl<T: Drop> From<AllocFailed<T>> for Fault {
+    fn from(_refused: AllocFailed<T>) -> Fault {
+        Fault::Memory
+    }
+}
+
+impl From<io::Error> for Fault {
+    fn from(error: io::Error) -> Fault {
+        if error.kind() == ErrorKind::OutOfMemory {
+            Fault::Memory
+        } else {
+            Fault::System
+        }
+    }
+}
+
+fn main(rt: HostRuntime) -> ExitCode {
+    match probe(&rt) {
+        Ok(()) => ExitCode::from(0),
+        Err(Fault::Row(line)) => {
+            let _ = eprintln!(rt; "line {line}: bad row");
+            ExitCode::from(2)
+        }
+        Err(Fault::Memory) => {
+            let _ = rt.eprintln("out of memory");
+            ExitCode::from(3)
+        }
+        Err(Fault::System) => {
+            let _ = rt.eprintln("standard input or output failed");
+            ExitCode::from(3)
+        }
+    }
+}
+
+// Goes over all rows, as the first of them says.
+fn probe<R: Runtime + AllocGlobal + Threads + Wait + Sync>(rt: &R) -> Result<(), Fault> {
+    let text = io::read_to_string(rt.alloc(), rt.reader())?;
+    let rows = rows_of(rt.alloc(), text.as_str())?;
+    let [head, rows @ ..] = rows.as_slice() else {
+        return Err(Fault::Row(1));
+    };
+    match head.words.as_slice() {
+        ["detectors", numbers @ ..] => detector_rows(rt, numbers, rows),
+        ["steps", sets] => step_rows(rt, count_of(sets), rows),
+        ["values"] => value_rows(rt, rows),
+        _ => Err(Fault::Row(head.line)),
+    }
+}

@@ -1,0 +1,182 @@
+//! Entries that no seat called for, and shards that change places.
+use crate::rows::{count_of, kind_of, number_of, thread_of};
+use crate::told::Told;
+use er_detector::Detector;
+use er_event::{Kind, LockId, Lockset, Refusal, Reply, Site, ThreadId, Word, WordRange};
+use er_journal::Stamp;
+use er_shard::Shard;
+use std::alloc::{AllocError, Global};
+use std::mem::swap;
+use std::sync::Wait;
+
+/// An access or a reset, by its ticket and its thread.
+#[derive(Clone, Copy)]
+pub(crate) struct Raw {
+    ticket: u64,
+    thread: ThreadId,
+    what: What,
+}
+
+#[derive(Clone, Copy)]
+enum What {
+    // An access of an address, with the locks that the thread holds.
+    Access(Kind, u64, Locks),
+    // Bytes from an address on, on one page.
+    Reset(u64, u64),
+}
+
+// The locks below 64 that a thread holds, a bit for each: in any mode, and in write mode.
+#[derive(Clone, Copy)]
+struct Locks {
+    held: u64,
+    write_held: u64,
+}
+
+fn locks_of(words: &[&str]) -> Option<Locks> {
+    let mut locks = Locks {
+        held: 0,
+        write_held: 0,
+    };
+    for word in words {
+        let (lock, is_written) = held_lock(word)?;
+        if lock >= 64 {
+            return None;
+        }
+        locks.held |= 1 << lock;
+        if is_written {
+            locks.write_held |= 1 << lock;
+        }
+    }
+    Some(locks)
+}
+
+// A lock, and whether it is held in write mode.
+fn held_lock(word: &str) -> Option<(u32, bool)> {
+    match word.strip_suffix("r") {
+        Some(lock) => Some((count_of(lock)?, false)),
+        None => Some((count_of(word)?, true)),
+    }
+}
+
+// The set of these locks.
+fn set_of(alloc: Global, bits: u64) -> Result<Lockset, AllocError> {
+    let mut set = Lockset::new(alloc);
+    for lock in 0..64u32 {
+        if bits >> lock & 1 == 1 {
+            set.insert(LockId::new(lock))?;
+        }
+    }
+    Ok(set)
+}
+
+/// `ticket T thread N KIND ADDRESS holding LOCK..`, in which `LOCKr` is held in read mode alone, or
+/// `ticket T thread N reset ADDRESS SIZE`.
+pub(crate) fn raw_of(words: &[&str]) -> Option<Raw> {
+    let ["ticket", ticket, "thread", thread, what @ ..] = words else {
+        return None;
+    };
+    let what = match what {
+        ["reset", address, size] => What::Reset(number_of(address)?, number_of(size)?),
+        [kind, address, "holding", locks @ ..] => {
+            What::Access(kind_of(kind)?, number_of(address)?, locks_of(locks)?)
+        }
+        _ => return None,
+    };
+    Some(Raw {
+        ticket: number_of(ticket)?,
+        thread: thread_of(thread)?,
+        what,
+    })
+}
+
+impl Raw {
+    /// The same with its ticket and its address raised.
+    pub(crate) fn raised(self, nth: u32, by: u64) -> Option<Raw> {
+        Some(Raw {
+            ticket: self.ticket.checked_add(u64::from(nth))?,
+            thread: self.thread,
+            what: self.what.raised(by)?,
+        })
+    }
+}
+
+impl What {
+    fn raised(self, by: u64) -> Option<What> {
+        match self {
+            What::Access(kind, address, locks) => {
+                Some(What::Access(kind, address.checked_add(by)?, locks))
+            }
+            What::Reset(address, size) => Some(What::Reset(address.checked_add(by)?, size)),
+        }
+    }
+}
+
+/// Puts it into a shard.
+pub(crate) fn put_entry<R: Wait + AllocGlobal>(
+    rt: &R,
+    detector: &Detector<'_>,
+    number: u32,
+    raw: Raw,
+) -> Told {
+    if number >= detector.config().shards {
+        return Told::Missing;
+    }
+    let mut shard = detector.shard(rt, number);
+    match raw.what {
+        What::Access(kind, address, locks) => {
+            match stamp_of(rt.alloc(), raw.thread, kind, address, locks) {
+                Ok(Some(stamp)) => Told::of_room(&shard.apply(rt, raw.ticket, stamp)),
+                Ok(None) => Told::Missing,
+                Err(AllocError) => Told::Refused(Refusal::OutOfMemory),
+            }
+        }
+        What::Reset(address, size) => reset(&mut shard, raw, address, size),
+    }
+}
+
+fn stamp_of(
+    alloc: Global,
+    thread: ThreadId,
+    kind: Kind,
+    address: u64,
+    locks: Locks,
+) -> Result<Option<Stamp>, AllocError> {
+    let Ok(word) = Word::of_address(address) else {
+        return Ok(None);
+    };
+    Ok(Some(Stamp {
+        thread,
+        word,
+        kind,
+        site: Site::MISSING,
+        held: set_of(alloc, locks.held)?,
+        write_held: set_of(alloc, locks.write_held)?,
+    }))
+}
+
+fn reset(shard: &mut Shard<'_>, raw: Raw, address: u64, size: u64) -> Told {
+    match WordRange::of_bytes(address, size) {
+        Ok(Some(range)) if range.parts() > 0 => {
+            let reset = shard.reset(raw.ticket, raw.thread, range.part(0));
+            Told::of_room(&reset.map(|_| Reply::Done))
+        }
+        _ => Told::Missing,
+    }
+}
+
+/// Two shards change places, each under its lock.
+pub(crate) fn swap_shards<'t, R: Wait>(
+    rt: &R,
+    here: &Detector<'t>,
+    number: u32,
+    there: &Detector<'t>,
+    place: u32,
+) -> Told {
+    if number >= here.config().shards || place >= there.config().shards {
+        return Told::Missing;
+    }
+    let mut mine = here.shard(rt, number);
+    let mut other = there.shard(rt, place);
+    swap::<Shard>(&mut *mine, &mut *other);
+    Told::Done
+}

@@ -1,0 +1,233 @@
+//! Rows of a machine, of the list of its steps, and of what the list explains.
+use crate::Fault;
+use crate::answers::{put_answer, put_answers, put_state};
+use crate::calls::{Call, call_of};
+use crate::detectors::{table_of, tell_refused};
+use crate::explained::{Question, put_explained, question_of};
+use crate::rows::{Row, count_of, number_of, thread_of};
+use crate::told::Told;
+use er_event::{Event, Level, Refusal, Reply, Step, ThreadId, Word, WordRange, WordState};
+use er_gate::OpenGate;
+use er_journal::Outcome;
+use er_parallel::{ReplayConfig, ReplayFault, replay_parallel};
+use er_replay::{Machine, run};
+use std::alloc::AllocError;
+use std::fmt::Write;
+use std::rt::Runtime;
+use std::sync::Wait;
+use std::thread::Threads;
+
+/// Plays all rows at one machine.
+pub(crate) fn step_rows<R: Runtime + AllocGlobal + Threads + Wait + Sync>(
+    rt: &R,
+    sets: Option<u32>,
+    rows: &[Row<'_>],
+) -> Result<(), Fault> {
+    let table = table_of(rt, sets)?;
+    let mut machine = Machine::new(rt.alloc(), &table)?;
+    let mut steps = Vec::new(rt.alloc());
+    for row in rows {
+        play_row(rt, &mut machine, &mut steps, row)?;
+    }
+    Ok(())
+}
+
+fn play_row<R: Runtime + AllocGlobal + Threads + Wait + Sync>(
+    rt: &R,
+    machine: &mut Machine<'_>,
+    steps: &mut Vec<Step>,
+    row: &Row<'_>,
+) -> Result<(), Fault> {
+    match row.words.as_slice() {
+        ["thread", thread, call @ ..] => match (thread_of(thread), call_of(call)) {
+            (Some(thread), Some(call)) => { take_call(rt, machine, steps, thread, call, row.line) }
+            _ => Err(Fault::Row(row.line)),
+        },
+        words => match asked_of(words) {
+            Some(asked) => answer(rt, machine, steps.as_slice(), asked, row.line),
+            None => Err(Fault::Row(row.line)),
+        },
+    }
+}
+
+// The step of a call. A reuse on more than one page is the step of its first page.
+fn event_of(call: Call) -> Result<Option<Event>, Refusal> {
+    Ok(Some(match call {
+        Call::Acquire(lock, mode) => Event::Acquire(lock, mode),
+        Call::Release(lock, mode) => Event::Release(lock, mode),
+        Call::IgnoreOn => Event::IgnoreOn,
+        Call::IgnoreOff => Event::IgnoreOff,
+        Call::Level(number) => Event::Level(Level::of_number(number)?),
+        Call::Access(kind, address, site) => Event::Access(kind, Word::of_address(address)?, site),
+        Call::Reuse(address, size) => match WordRange::of_bytes(address, size)? {
+            Some(range) if range.parts() > 0 => Event::Reuse(range.part(0)),
+            _ => return Ok(None),
+        },
+        Call::Show(address) => Event::Show(Word::of_address(address)?),
+    }))
+}
+
+// Makes a call's step and prints its answer. A step that was refused for want of memory is made once more.
+fn take_call<R: Runtime + AllocGlobal + Wait>(
+    rt: &R,
+    machine: &mut Machine<'_>,
+    steps: &mut Vec<Step>,
+    thread: ThreadId,
+    call: Call,
+    line: usize,
+) -> Result<(), Fault> {
+    let event = match event_of(call) {
+        Ok(Some(event)) => event,
+        Ok(None) => return Ok(rt.println("no step")?),
+        Err(why) => return Ok(rt.println(why.text())?),
+    };
+    steps.push(Step { thread, event })?;
+    let answer = step_or_again(rt, machine, &Step { thread, event }, line)?;
+    print_answer(rt, &answer)
+}
+
+// The answer's own text may want memory, for which it is asked twice.
+fn print_answer<R: Runtime + AllocGlobal>(
+    rt: &R,
+    answer: &Result<Reply, Refusal>,
+) -> Result<(), Fault> {
+    let mut out = String::new(rt.alloc());
+    if put_answer(&mut out, answer).is_err() {
+        out.clear();
+        put_answer(&mut out, answer)?;
+    }
+    Ok(rt.println(out.as_str())?)
+}
+
+fn step_or_again<R: Runtime + Wait>(
+    rt: &R,
+    machine: &mut Machine<'_>,
+    step: &Step,
+    line: usize,
+) -> Result<Result<Reply, Refusal>, Fault> {
+    let before = state_at(machine, step.event);
+    let answer = machine.step(rt, *step);
+    let told = Told::of_answer(&answer);
+    if !told.lacks_memory() {
+        return Ok(answer);
+    }
+    let is_same = before == state_at(machine, step.event);
+    tell_refused(rt, told, is_same, line)?;
+    Ok(machine.step(rt, *step))
+}
+
+// The state of the word that an access touches.
+fn state_at(machine: &Machine<'_>, event: Event) -> Option<WordState> {
+    match event {
+        Event::Access(_, word, _) => machine.state_of(word).ok(),
+        _ => None,
+    }
+}
+
+// What a row asks of the machine or of its steps.
+#[derive(Clone, Copy)]
+enum Asked {
+    State(u64),
+    // A run of the steps by a new machine, over a table of so many sets.
+    Run(Option<u32>),
+    // The same by workers: shards, sets and workers.
+    Parallel(Option<ReplayConfig>, u32),
+    Explained(Question),
+}
+
+fn asked_of(words: &[&str]) -> Option<Asked> {
+    match words {
+        ["state", address] => Some(Asked::State(number_of(address)?)),
+        ["run", sets] => Some(Asked::Run(Some(count_of(sets)?))),
+        ["parallel", shards, sets, workers] => Some(Asked::Parallel(
+            ReplayConfig::new(count_of(shards)?, count_of(sets)?),
+            count_of(workers)?,
+        )),
+        _ => Some(Asked::Explained(question_of(words)?)),
+    }
+}
+
+fn answer<R: Runtime + AllocGlobal + Threads + Wait + Sync>(
+    rt: &R,
+    machine: &Machine<'_>,
+    steps: &[Step],
+    asked: Asked,
+    line: usize,
+) -> Result<(), Fault> {
+    let mut out = String::new(rt.alloc());
+    let is_there = match asked {
+        Asked::State(address) => put_word(&mut out, machine, address)?,
+        Asked::Run(sets) => put_run(rt, &mut out, steps, sets)?,
+        Asked::Parallel(config, workers) => put_parallel(rt, &mut out, steps, config, workers)?,
+        Asked::Explained(question) => put_explained(rt, &mut out, steps, question)?,
+    };
+    if is_there {
+        Ok(rt.println(out.as_str())?)
+    } else {
+        Err(Fault::Row(line))
+    }
+}
+
+fn put_word(out: &mut String, machine: &Machine<'_>, address: u64) -> Result<bool, AllocError> {
+    let Ok(word) = Word::of_address(address) else {
+        return Ok(false);
+    };
+    put_state(out, &machine.state_of(word)?)?;
+    Ok(true)
+}
+
+fn put_run<R: AllocGlobal + Wait>(
+    rt: &R,
+    out: &mut String,
+    steps: &[Step],
+    sets: Option<u32>,
+) -> Result<bool, Fault> {
+    let table = table_of(rt, sets)?;
+    let mut machine = Machine::new(rt.alloc(), &table)?;
+    let outcome = run(rt, rt.alloc(), &mut machine, steps);
+    put_outcome(out, &outcome)?;
+    Ok(true)
+}
+
+fn put_outcome(out: &mut String, outcome: &Outcome) -> Result<(), AllocError> {
+    put_answers(out, &outcome.answers)?;
+    match outcome.stopped {
+        Some(stopped) => write!(
+            out,
+            "; stopped at {}: {}",
+            stopped.at,
+            stopped.cause.refusal().text()
+        ),
+        None => Ok(()),
+    }
+}
+
+fn put_parallel<R: AllocGlobal + Threads + Wait + Sync>(
+    rt: &R,
+    out: &mut String,
+    steps: &[Step],
+    config: Option<ReplayConfig>,
+    workers: u32,
+) -> Result<bool, AllocError> {
+    let Some(config) = config else {
+        out.push_str("no such configuration")?;
+        return Ok(true);
+    };
+    if workers < 1 || workers > 16 {
+        return Ok(false);
+    }
+    match replay_parallel(rt, rt.alloc(), config, steps, workers, &OpenGate) {
+        Ok(outcome) => put_outcome(out, &outcome)?,
+        Err(fault) => out.push_str(fault_text(fault))?,
+    }
+    Ok(true)
+}
+
+fn fault_text(fault: ReplayFault) -> &'static str {
+    match fault {
+        ReplayFault::Memory => "out of memory",
+        ReplayFault::TableFull => "table full",
+        ReplayFault::WorkerNotStarted => "worker not started",
+        ReplayFault::WorkerLost => "worker lost",
+    }
+}

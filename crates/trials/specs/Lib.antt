@@ -1,4 +1,0 @@
-pub mod Entered
-pub mod Grown
-pub mod Measures
-pub mod Refused

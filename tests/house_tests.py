@@ -1,0 +1,379 @@
+#!/usr/bin/env python3
+"""Compares the documents with the tree: promises with contracts, the map of crates with crates.txt, links with files.
+
+`tests/run` calls `tests`. By itself this file prints what is wrong, and ends with 1 if something is. With `--mend` it first follows what
+moved: a path in a table becomes that of the one file that now has the function or the word. Look at what it changed.
+
+- each row of docs/PROMISES.md names a call and clauses of the code file that it names, and definitions that this file imports
+- each crate is once, in the order of crates.txt, in the diagram and in the table of docs/ARCHITECTURE.md, under the same headings;
+  the table's sentence is that of crates.txt, and a crate comes after those that it uses
+- each walk of docs/ARCHITECTURE.md names a function of the file that it names, and docs/GLOSSARY.md a word of it
+- each name that docs/DEFINITIONS.md reads out is defined
+- each path of the repository that a document names in backquotes exists
+- what the README prints of an example is the example's report, and its code is that of crates/two_threads
+"""
+
+import functools
+import pathlib
+import re
+import sys
+
+TOP = pathlib.Path(__file__).resolve().parent.parent
+CRATES = TOP / "crates"
+DOCS = TOP / "docs"
+
+
+# ---- contracts
+
+HEAD = re.compile(r"^( *)(?:pub(?:\([a-z]+\))? )?(?:const )?(?:unsafe )?fn (\w+)")
+IMPL = re.compile(r"^ *(?:impl(?:<.*?>)? (?:[\w:<>', ]+? for )?&?(?:'\w+ )?(\w+)|(?:pub )?(?:struct|trait|enum) (\w+))\b.*\{$")
+CLAUSE = re.compile(r"^ *ensures(?: (\w+))? \{")
+FACT = re.compile(r"^ *(?:pub )?ghost (\w+)(?::| =) \{")
+
+
+@functools.lru_cache(maxsize=None)
+def contracts_in(path):
+    """The names of the clauses of each function of a file, by its name, with its type in front if it has one; `-` is a clause without a name.
+
+    A type has its ghost facts in the place of clauses.
+    """
+    found, owner = {}, None
+    lines = path.read_text().splitlines()
+    for place, line in enumerate(lines):
+        if line and not line[0].isspace():
+            match = IMPL.match(line)
+            owner = match and (match[1] or match[2])
+        fact = FACT.match(line)
+        if fact and owner:
+            found.setdefault(owner, set()).add(fact[1])
+            continue
+        head = HEAD.match(line)
+        if not head:
+            continue
+        clauses = set()
+        for below in lines[place:]:
+            clause = CLAUSE.match(below)
+            if clause:
+                clauses.add(clause[1] or "-")
+            elif below.startswith((f"{head[1]}{{", f"{head[1]}}}")) or below.endswith((" {", ";")):
+                break
+        found.setdefault(f"{owner}::{head[2]}" if owner and head[1] else head[2], set()).update(clauses)
+    return found
+
+
+def module_of(path):
+    """The module of a file of definitions, as an import names it."""
+    crate, _, *rest = pathlib.PurePosixPath(path).with_suffix("").parts
+    return ".".join(["Rattle", crate, "specs", *rest])
+
+
+# ---- tables
+
+def tables(text, head):
+    """The rows of each table with these headings, with their line numbers, as lists of cells."""
+    rows, inside = [], False
+    for number, line in enumerate(text.splitlines(), 1):
+        cells = [cell.strip() for cell in line.strip().strip("|").split(" | ")] if line.startswith("|") else None
+        if cells is None:
+            inside = False
+        elif cells == head:
+            inside = True
+        elif inside and not set(line) <= set("|- "):
+            rows.append((number, cells))
+    return rows
+
+
+def quoted(cell):
+    return re.findall(r"`([^`]+)`", cell)
+
+
+@functools.lru_cache(maxsize=None)
+def text_of(path):
+    return path.read_text()
+
+
+def files_with(call, clauses=()):
+    """The code files that have a call with these clauses."""
+    found = []
+    for path in sorted(CRATES.glob("*/src/**/*.rt")):
+        contracts = contracts_in(path)
+        if call in contracts and set(clauses) <= contracts[call]:
+            found.append(str(path.relative_to(CRATES)))
+    return found
+
+
+def elsewhere(call):
+    """Where else a call is, to say so."""
+    found = files_with(call)
+    return f" (it is in {', '.join(found)})" if found else ""
+
+
+PROMISE = ["Promise", "Call", "Clause", "Defined in", "Code"]
+
+
+def promise_faults():
+    rows = tables((DOCS / "PROMISES.md").read_text(), PROMISE)
+    if len(rows) < 50:
+        yield f"docs/PROMISES.md: only {len(rows)} rows of promises were found"
+    for number, cells in rows:
+        where = f"docs/PROMISES.md:{number}"
+        if len(cells) != len(PROMISE):
+            yield f"{where}: {len(cells)} cells and not {len(PROMISE)}"
+            continue
+        calls, clauses, definitions, files = (quoted(cell) for cell in cells[1:])
+        if not calls or not clauses or len(files) != 1:
+            yield f"{where}: a row names calls, clauses and one code file"
+            continue
+        code = CRATES / files[0]
+        if not code.is_file():
+            yield f"{where}: there is no crates/{files[0]}{elsewhere(calls[0])}"
+            continue
+        contracts = contracts_in(code)
+        for call in calls:
+            if call not in contracts:
+                yield f"{where}: {files[0]} has no {call}{elsewhere(call)}"
+                continue
+            for clause in clauses:
+                if clause not in contracts[call]:
+                    yield f"{where}: {call} of {files[0]} has no clause {clause}, but {', '.join(sorted(contracts[call])) or 'none'}"
+        text = code.read_text()
+        for path in definitions:
+            if not (CRATES / path).is_file():
+                yield f"{where}: there is no crates/{path}"
+            elif not re.search(re.escape(module_of(path)) + r"\.\{", text):
+                yield f"{where}: {files[0]} imports nothing of {path}"
+
+
+# ---- the map of crates
+
+def crates_in(text):
+    """The headings of crates.txt, and each crate in order with its heading, its sentence and the repository's crates that it uses."""
+    heading, sentence, found, lines = None, None, {}, text.splitlines()
+    for line in lines:
+        if line.startswith("## "):
+            heading = line[3:]
+        elif line.startswith("# "):
+            sentence = line[2:]
+        elif ":" in line:
+            head, _, uses = line.partition(":")
+            found[head.split()[0]] = (heading, sentence, uses.split())
+    return {crate: (heading, sentence, [use for use in uses if use in found]) for crate, (heading, sentence, uses) in found.items()}
+
+
+MAP = ["Crate", "What it is for", "Begin with", "What the crates above it use of it"]
+
+
+def map_faults():
+    crates = crates_in((TOP / "crates.txt").read_text())
+    text = (DOCS / "ARCHITECTURE.md").read_text()
+    headings = [heading for heading in dict.fromkeys(heading for heading, _, _ in crates.values()) if heading]
+    before = set()
+    for crate, (heading, sentence, uses) in crates.items():
+        for use in uses:
+            if use not in before:
+                yield f"crates.txt: {crate} uses {use}, which comes after it"
+        before.add(crate)
+        if heading is None or sentence is None:
+            yield f"crates.txt: {crate} has no heading or no sentence"
+        if not (CRATES / crate / "src").is_dir():
+            yield f"crates.txt: there is no crates/{crate}/src"
+    for folder in sorted(CRATES.iterdir()):
+        if (folder / "src").is_dir() and folder.name not in crates:
+            yield f"crates.txt: crates/{folder.name} isn't listed"
+
+    diagram = next((block for block in text.split("```") if block.startswith("text\n") and any(f"\n{heading}" in block for heading in headings)), "")
+    drawn, heading = [], None
+    for line in diagram.splitlines():
+        heading = next((h for h in headings if line.startswith(h)), heading)
+        drawn += [(word, heading) for word in re.findall(r"\w+", line) if word in crates or word.startswith("er_")]
+    yield from order_faults("the diagram", drawn, [(crate, heading) for crate, (heading, _, _) in crates.items()])
+
+    rows = tables(text, MAP)
+    listed = [(cells[0].strip("`"), cells[1]) for _, cells in rows]
+    yield from order_faults("the table", listed, [(crate, sentence) for crate, (_, sentence, _) in crates.items()])
+    for number, cells in rows:
+        if cells[-1] == "?":
+            yield f"docs/ARCHITECTURE.md:{number}: say what the crates above use of {cells[0]}"
+        if not (CRATES / cells[2].strip("`")).is_file():
+            yield f"docs/ARCHITECTURE.md:{number}: there is no crates/{cells[2].strip('`')}"
+
+
+def order_faults(name, found, wanted):
+    """What differs first of two lists of crates, each with its heading or sentence."""
+    names, wanted_names = [crate for crate, _ in found], [crate for crate, _ in wanted]
+    for crate in wanted_names:
+        if names.count(crate) != 1:
+            yield f"docs/ARCHITECTURE.md: {name} has {crate} {names.count(crate)} times"
+    for crate in names:
+        if crate not in wanted_names:
+            yield f"docs/ARCHITECTURE.md: {name} has {crate}, which crates.txt has not"
+    if sorted(names) == sorted(wanted_names):
+        for (crate, says), (other, wants) in zip(found, wanted):
+            if crate != other:
+                yield f"docs/ARCHITECTURE.md: {name} has {crate} where crates.txt has {other}"
+                return
+            if says != wants:
+                yield f"docs/ARCHITECTURE.md: {name} has {crate} with {says!r}, and crates.txt with {wants!r}"
+
+
+# ---- functions, words and files that documents name
+
+def walk_faults():
+    rows = tables((DOCS / "ARCHITECTURE.md").read_text(), ["It is", "Made by", "In"])
+    if len(rows) < 20:
+        yield f"docs/ARCHITECTURE.md: only {len(rows)} rows of walks were found"
+    for number, cells in rows:
+        where, call, path = f"docs/ARCHITECTURE.md:{number}", *(quoted(cells[1]) + quoted(cells[2]) + ["", ""])[:2]
+        if not (CRATES / path).is_file():
+            yield f"{where}: there is no crates/{path}{elsewhere(call)}"
+        elif call not in contracts_in(CRATES / path):
+            yield f"{where}: {path} has no {call}{elsewhere(call)}"
+
+
+def defining(word):
+    """The files that define a word: a definition, a type or a function."""
+    head = re.compile(rf"^ *(?:abbrev |unfoldable )?pub (?:data |record |struct |enum |trait |fn )?{re.escape(word)}\b", re.M)
+    return [str(path.relative_to(CRATES)) for path in sorted([*CRATES.glob("*/specs/**/*.antt"), *CRATES.glob("*/src/**/*.rt")]) if head.search(text_of(path))]
+
+
+def definition_faults():
+    text = (DOCS / "DEFINITIONS.md").read_text()
+    rows = [*tables(text, ["Name", "Reads"]), *tables(text, ["Law", "Says"])]
+    if len(rows) < 30:
+        yield f"docs/DEFINITIONS.md: only {len(rows)} names were found"
+    for number, cells in rows:
+        for name in quoted(cells[0]):
+            if "/" not in name and not defining(name.split()[0]):
+                yield f"docs/DEFINITIONS.md:{number}: nothing defines {name.split()[0]}"
+
+
+def glossary_faults():
+    rows = tables((DOCS / "GLOSSARY.md").read_text(), ["The field says", "We say", "It is", "Defined in"])
+    if len(rows) < 50:
+        yield f"docs/GLOSSARY.md: only {len(rows)} words were found"
+    for number, cells in rows:
+        where, *names = f"docs/GLOSSARY.md:{number}", *quoted(cells[-1])
+        paths = [name for name in names if "/" in name]
+        for path in paths:
+            found = [*CRATES.glob(path), *TOP.glob(path)]
+            if not found:
+                yield f"{where}: there is no crates/{path}"
+            for name in names:
+                if name != path and found[:1] and found[0].is_file() and not re.search(rf"\b{re.escape(name)}\b", found[0].read_text()):
+                    yield f"{where}: {path} has no {name}"
+        if not paths and "README" not in cells[-1]:
+            yield f"{where}: no file is named"
+
+
+PATH = re.compile(r"^(?:\./)?((?:bench|crates|docs|examples|record|tests|tools)/[\w./*+-]+)$")
+
+
+def path_faults():
+    for document in [*TOP.glob("*.md"), *DOCS.glob("*.md")]:
+        for number, line in enumerate(document.read_text().splitlines(), 1):
+            for name in quoted(line):
+                for word in name.split():
+                    path = PATH.match(word)
+                    if path and "NAME" not in word and "/out" not in word and not list(TOP.glob(path[1].rstrip("/"))):
+                        yield f"{document.relative_to(TOP)}:{number}: there is no {path[1]}"
+
+
+EXAMPLE = re.compile(r"```sh\n\./eraser replay (?:([^\n]+) )?examples/(\w+)\.trace\n```\n+```text\n(.*?)```", re.S)
+
+
+def example_faults():
+    """What the README prints of an example is its report, which `tests/run` compares with the program's, and its code is the example's."""
+    found = EXAMPLE.findall((TOP / "README.md").read_text())
+    if not found:
+        yield "README.md: no example was found"
+    for options, name, shown in found:
+        kept = TOP / f"examples/{name}.options"
+        if options != (kept.read_text().strip() if kept.exists() else ""):
+            yield f"README.md: examples/{name}.trace is replayed with other options"
+        if shown != (TOP / f"examples/{name}.report").read_text():
+            yield f"README.md: examples/{name}.report differs"
+    code = (CRATES / "two_threads/src/main.rt").read_text().splitlines()
+    lines = {line.strip() for line in code}
+    for block in re.findall(r"```rust\n(.*?)```", (TOP / "README.md").read_text(), re.S):
+        for line in block.splitlines():
+            if line.strip() not in lines and not line.startswith("// In "):
+                yield f"README.md: crates/two_threads has no line {line!r}"
+
+
+CHECKS = {
+    "promises": promise_faults,
+    "the map of crates": map_faults,
+    "walks": walk_faults,
+    "definitions": definition_faults,
+    "the glossary": glossary_faults,
+    "paths": path_faults,
+    "the README's examples": example_faults,
+}
+
+
+def tests(record):
+    """Records one result for each sort of comparison."""
+    for name, check in CHECKS.items():
+        faults = list(check())
+        record(f"documents: {name}", not faults, "\n  " + "\n  ".join(faults))
+
+
+# ---- mending
+
+def followed(path, found):
+    """The one of these files that a path should name: itself, the only one, or the only one of its crate or of its name."""
+    if path in found or not found:
+        return path
+    like = [other for other in found if other.split("/")[0] == path.split("/")[0]]
+    named = [other for other in found if other.split("/")[-1] == path.split("/")[-1]]
+    return next((some[0] for some in (found, named, like) if len(some) == 1), path)
+
+
+def mended(line):
+    """A line of a table with the paths of what moved."""
+    cells = [quoted(cell) for cell in line.strip().strip("|").split(" | ")]
+    if len(cells) == len(PROMISE) and cells[1] and cells[2] and cells[4]:
+        old = cells[4][0]
+        places = [files_with(call, cells[2]) for call in cells[1]]
+        new = followed(old, [path for path in places[0] if all(path in more for more in places)])
+        line = line.replace(f"`{old}`", f"`{new}`")
+        imports = re.findall(r"Rattle\.(\w+)\.specs\.([\w.]+)\.\{", (CRATES / new).read_text()) if (CRATES / new).is_file() else []
+        imported = sorted({f"{crate}/specs/{module.replace('.', '/')}.antt" for crate, module in imports if "declared" not in module})
+        for old in cells[3]:
+            line = line.replace(f"`{old}`", f"`{followed(old, [path for path in imported if path.split('/')[-1] == old.split('/')[-1]])}`")
+    elif len(cells) == 3 and len(cells[1]) == len(cells[2]) == 1:
+        line = line.replace(f"`{cells[2][0]}`", f"`{followed(cells[2][0], files_with(cells[1][0]))}`")
+    elif len(cells) == 4 and len(cells[3]) == 2:
+        line = line.replace(f"`{cells[3][1]}`", f"`{followed(cells[3][1], defining(cells[3][0]))}`")
+    return line
+
+
+def mended_map(text):
+    """The table of crates in the order of crates.txt and with its sentences. A new crate's last cell is left to be written."""
+    head = "| " + " | ".join(MAP) + " |\n|---|---|---|---|\n"
+    front, _, rest = text.partition(head)
+    rows = re.match(r"(?:\|.*\n)*", rest)[0]
+    old = {cells[0].strip("`"): cells for cells in (row.strip("| ").split(" | ") for row in rows.splitlines())}
+    new = []
+    for crate, (_, sentence, _) in crates_in((TOP / "crates.txt").read_text()).items():
+        root = next((f"`{crate}/src/{name}.rt`" for name in ("main", "lib") if (CRATES / crate / f"src/{name}.rt").exists()), "-")
+        _, _, begin, use = old.get(crate, [crate, "", root, "?"])
+        new.append(f"| `{crate}` | {sentence} | {begin if (CRATES / begin.strip('`')).is_file() else root} | {use} |\n")
+    return front + head + "".join(new) + rest[len(rows) :] if rest else text
+
+
+def mend():
+    architecture = DOCS / "ARCHITECTURE.md"
+    architecture.write_text(mended_map(architecture.read_text()))
+    for name in ("PROMISES", "ARCHITECTURE", "GLOSSARY"):
+        document = DOCS / f"{name}.md"
+        lines = document.read_text().splitlines(keepends=True)
+        document.write_text("".join(mended(line) if line.startswith("| ") else line for line in lines))
+
+
+if __name__ == "__main__":
+    if sys.argv[1:] == ["--mend"]:
+        mend()
+    wrong = [fault for check in CHECKS.values() for fault in check()]
+    print("\n".join(wrong) or "the documents fit the tree")
+    sys.exit(1 if wrong else 0)

@@ -1,0 +1,145 @@
+"""Plays the cases of tests/probe/*.txt with the program `probe`, and compares what it prints with the answers that stand beside the rows.
+
+A case whose rows have `~>` is also played once for each of its allocations, with that allocation refused (tests/refuse.c). Whatever was
+refused, the rows are answered as usual: a row that finds no memory says so on the errors, leaves everything as it was and is made once
+more. Which rows may find none, and that each of them does, stands in the case. A run of `probe` that finds no memory for itself ends with
+3, behind a beginning of what it prints.
+"""
+
+import os
+import pathlib
+import re
+import subprocess
+import tempfile
+
+import probe_cases
+
+TOP = pathlib.Path(__file__).resolve().parent.parent
+PROBE = TOP / "crates/probe/out/probe"
+TOLD = re.compile(r"line (\d+): (?:out of memory|stopped at (0x[0-9a-f]+) for want of memory), (unchanged|changed)\n")
+# Rows that ask for nothing, each behind the rows of its kind, and the line that is told.
+BAD_ROWS = [
+    ("", 1),
+    ("no-such\n", 1),
+    ("values 1\n", 1),
+    ("steps 0\n", 1),
+    ("steps 1048577\n", 1),
+    ("detectors 4 65 100 2 8\n", 1),
+    ("detectors 4 1 100 2\n", 1),
+    ("values\nhas 1\n\n# comment\nhas x\n", 5),
+    ("values\nshadow shared 1073741824\n", 2),
+    ("steps 4\nthread 1073741824 write 0\n", 2),
+    ("steps 4\nthread 1 write 0 1 2\n", 2),
+    ("steps 4\nparallel 1 1 17\n", 2),
+    ("detectors 4 2 100 2 8\nopen c\n", 2),
+    ("detectors 4 2 100 2 8\nseat 0 write 0\n", 2),
+    ("detectors 4 2 100 2 8\nopen a\nseat 0 write 0 in a 2\n", 3),
+    ("detectors 4 2 100 2 8\nentries a 2\n", 2),
+    ("detectors 4 2 100 2 8\nswap a 1 a 1\n", 2),
+    ("detectors 4 2 100 2 8\ntimes 0 0 open a\n", 2),
+    ("detectors 4 2 100 2 8\nsettle a\nopen a\n", 3),
+    ("detectors 4 2 100 2 8\nopen a\nsettle a 1\n", 3),
+    ("detectors 4 2 100 2 8\nopen a\nsettle a 0 0\n", 3),
+]
+
+
+def run(text, **more):
+    done = subprocess.run([str(PROBE)], input=text, capture_output=True, text=True, timeout=120, **more)
+    return done.stdout, done.stderr, done.returncode
+
+
+def differing(case, output):
+    """The first line that is not as it should be, beside its row."""
+    for row, wanted, found in zip(case.rows[len(case.rows) - len(case.answers) :], case.answers, output.splitlines()):
+        if wanted != found:
+            return f"{row}: {found}, and not {wanted}"
+    return f"{len(output.splitlines())} lines, and not {len(case.answers)}"
+
+
+def plays(record):
+    for case in probe_cases.CASES:
+        output, errors, status = run(case.text)
+        record(f"probe {case.name}", (output, errors, status) == (case.output, "", 0), f"{differing(case, output)} {errors} {status}"[:1000])
+
+
+def bad_rows(record):
+    for text, line in BAD_ROWS:
+        output, errors, status = run(text)
+        record(f"bad row {text!r}", (errors, status) == (f"line {line}: bad row\n", 2), f"{output} {errors} {status}")
+
+
+def lacking(case, found):
+    """The line of the row that found no memory, 0 where the program itself found none, and None where the run is not as it should be."""
+    output, errors, status = found
+    if status == 3:
+        return 0 if errors == "out of memory\n" and case.output.startswith(output) else None
+    if status != 0:
+        return None
+    told = TOLD.fullmatch(errors)
+    if told and output == case.output:
+        line, stop, left = int(told[1]), told[2], told[3]
+        words = case.rows[line - 1].split()
+        is_first = stop is None or "reuse" in words and int(stop, 0) == int(words[words.index("reuse") + 1], 0)
+        return line if (left == "unchanged") == is_first else None
+    # Settling and whole runs answer by themselves that they found none.
+    answers = output.splitlines()
+    if errors or len(answers) != len(case.answers):
+        return None
+    others = [at for at, answer in enumerate(answers) if answer != case.answers[at]]
+    if len(others) != 1:
+        return None
+    at = others[0]
+    line = at + 1 + len(case.rows) - len(case.answers)
+    return line if is_lacking(case.rows[line - 1].split()[0], case.answers[at], answers[at]) else None
+
+
+def is_lacking(verb, usual, answer):
+    if verb == "run":
+        done, _, stop = answer.rpartition("; stopped at ")
+        count = 0 if done == "no answers" else done.count(",") + 1
+        return stop == f"{count}: out of memory" and (count == 0 or usual.startswith(f"{done}, "))
+    return {"settle": "memory", "parallel": "out of memory"}.get(verb) == answer or (verb, answer) == ("parallel", "worker not started")
+
+
+def refusals(record, preloaded):
+    with tempfile.TemporaryDirectory() as folder:
+        library, noted = preloaded(folder, "refuse"), pathlib.Path(folder) / "noted"
+        for case in (case for case in probe_cases.CASES if case.lacking):
+            met = set()
+            for nth in range(1, 100000):
+                found = run(case.text, env={**os.environ, "LD_PRELOAD": str(library), "REFUSE": str(nth), "REFUSE_FOUND": str(noted)})
+                if not noted.exists():
+                    record(f"probe {case.name} with all {nth - 1} allocations", found == (case.output, "", 0), f"{found}")
+                    break
+                noted.unlink()
+                # A list that can't grow in place moves, and some memory the C library can do without.
+                line = lacking(case, found)
+                is_usual = found == (case.output, "", 0)
+                record(f"probe {case.name} without allocation {nth}", is_usual or line == 0 or line in case.lacking, f"{found}"[:1000])
+                met.add(line)
+            for line in case.lacking:
+                record(f"probe {case.name}: line {line} finds no memory", line in met)
+
+
+def tests(record, preloaded):
+    if not PROBE.exists():
+        subprocess.run(["rt", "run"], cwd=PROBE.parent.parent, input=b"values\n", stdout=subprocess.DEVNULL, check=True)
+    plays(record)
+    bad_rows(record)
+    refusals(record, preloaded)
+
+
+if __name__ == "__main__":
+    failed = []
+
+    def record(name, is_right, detail=""):
+        print("ok" if is_right else f"FAILED {detail}", name)
+        failed.extend([] if is_right else [name])
+
+    def preloaded(folder, name):
+        library = pathlib.Path(folder) / f"{name}.so"
+        subprocess.run(["cc", "-O1", "-shared", "-fPIC", "-o", str(library), str(TOP / f"tests/{name}.c"), "-ldl"], check=True)
+        return library
+
+    tests(record, preloaded)
+    print(f"{len(failed)} failed: {failed}")
