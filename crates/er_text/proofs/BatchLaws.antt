@@ -2,7 +2,7 @@
 use Rattle.std.proofs.Common.{◌≡◌, ℕ, ◌+◌, Bool, true, false, not, cond, List, [], ◌∷◌, ◌++◌, append_assoc, append-nil, length, nat_lt, Option, Some, None, Result, Ok, Err, refl, subst, sym, ap, ◌∙◌}
 use Rattle.std.specs.List.{list_all}
 use Rattle.er_trace.specs.Names.{NameTable}
-use Rattle.er_trace.specs.Trace.{Recording}
+use Rattle.er_trace.specs.Trace.{Recording, without_steps}
 use Rattle.er_event.specs.declared.steps.Step.{Step}
 use Rattle.er_text.specs.declared.faults.TextKind.{TextKind}
 use Rattle.er_text.specs.declared.faults.TextKind.TheVariants.{LineTooLong, TextTooLong, NotAscii}
@@ -13,14 +13,14 @@ use Rattle.er_text.specs.declared.reading.Batch.{Batch}
 use Rattle.er_text.specs.declared.reading.Batch.TheVariants.{More, End}
 use Rattle.er_text.specs.declared.verbs.Version.{Version}
 use Rattle.er_text.specs.Places.{Reached}
-use Rattle.er_text.specs.Batches.{joined, without_steps, HasRead, GivesBatch}
+use Rattle.er_text.specs.Batches.{joined, HasRead, GivesBatch}
 use Rattle.er_text.specs.Lines.{Placed, placed, has_content, words, width, is_ascii}
-use Rattle.er_text.specs.Events.{Saying, Deed, Acquires, Releases, Accesses, Reuses, IgnoresOn, IgnoresOff, Shows, Levels, tell_deed}
+use Rattle.er_text.specs.Events.{EventLine, Operation, Acquires, Releases, Accesses, Reuses, IgnoresOn, IgnoresOff, Shows, Levels, with_operation}
 use Rattle.er_text.specs.Trace.{version_in}
-use Rattle.er_text.specs.Inner.Saying.{said_of}
+use Rattle.er_text.specs.Inner.Parsing.{parsed_of}
 use Rattle.er_text.specs.Inner.Lending.{lines_left}
 use Rattle.er_text.specs.Inner.Reading.{read_line, go_on, read_lines, Continues}
-use Rattle.er_text.specs.Inner.Traces.{Progress, at_front, progress, skip, tell_said, open_with, read_words, read_content, finish_as, finish, Batches}
+use Rattle.er_text.specs.Inner.Traces.{Progress, at_front, progress, skip, add_parsed, open_with, read_words, read_content, finish_as, finish, Batches}
 use Rattle.er_text.proofs.TraceLaws.{trace_is, fault_is}
 
 abbrev recording : NameTable → List Step → List ℕ → Recording
@@ -34,16 +34,16 @@ behind : (steps more : List Step) (lines others : List ℕ) (r : Recording) (nam
     → recording names ((steps ++ r.steps) ++ more) ((lines ++ r.lines) ++ others) ≡ recording names (steps ++ (r.steps ++ more)) (lines ++ (r.lines ++ others))
 behind steps more lines others r names = both names _ _ _ _ (append_assoc steps r.steps more) (append_assoc lines r.lines others)
 
-deed_joined : (steps : List Step) (lines : List ℕ) (line thread : ℕ) (d : Deed) (r : Recording) → tell_deed line thread d (joined steps lines r) ≡ joined steps lines (tell_deed line thread d r)
-deed_joined steps lines line thread (Acquires lock m) r = behind steps _ lines _ r _
-deed_joined steps lines line thread (Releases lock m) r = behind steps _ lines _ r _
-deed_joined steps lines line thread (Accesses k w None) r = behind steps _ lines _ r _
-deed_joined steps lines line thread (Accesses k w (Some site)) r = behind steps _ lines _ r _
-deed_joined steps lines line thread (Reuses run) r = behind steps _ lines _ r _
-deed_joined steps lines line thread IgnoresOn r = behind steps _ lines _ r _
-deed_joined steps lines line thread IgnoresOff r = behind steps _ lines _ r _
-deed_joined steps lines line thread (Shows w) r = behind steps _ lines _ r _
-deed_joined steps lines line thread (Levels n) r = behind steps _ lines _ r _
+operation_joined : (steps : List Step) (lines : List ℕ) (line thread : ℕ) (d : Operation) (r : Recording) → with_operation line thread d (joined steps lines r) ≡ joined steps lines (with_operation line thread d r)
+operation_joined steps lines line thread (Acquires lock m) r = behind steps _ lines _ r _
+operation_joined steps lines line thread (Releases lock m) r = behind steps _ lines _ r _
+operation_joined steps lines line thread (Accesses k w None) r = behind steps _ lines _ r _
+operation_joined steps lines line thread (Accesses k w (Some site)) r = behind steps _ lines _ r _
+operation_joined steps lines line thread (Reuses run) r = behind steps _ lines _ r _
+operation_joined steps lines line thread IgnoresOn r = behind steps _ lines _ r _
+operation_joined steps lines line thread IgnoresOff r = behind steps _ lines _ r _
+operation_joined steps lines line thread (Shows w) r = behind steps _ lines _ r _
+operation_joined steps lines line thread (Levels n) r = behind steps _ lines _ r _
 
 -- behind the steps that were taken away
 abbrev after : List Step → List ℕ → Progress → Progress
@@ -53,11 +53,11 @@ abbrev mapped : {T U E : Type 0} → (T → U) → Result T E → Result U E
 mapped f (Ok t) = Ok (f t)
 mapped f (Err e) = Err e
 
-said_after : (steps : List Step) (lines : List ℕ) (line : ℕ) (p : Progress) (r : Result Saying TextKind)
-    → tell_said line (after steps lines p) r ≡ mapped (after steps lines) (tell_said line p r)
-said_after steps lines line p (Err k) = refl
-said_after steps lines line p (Ok s) =
-    let told = deed_joined steps lines line _ s.deed _ in
+parsed_after : (steps : List Step) (lines : List ℕ) (line : ℕ) (p : Progress) (r : Result EventLine TextKind)
+    → add_parsed line (after steps lines p) r ≡ mapped (after steps lines) (add_parsed line p r)
+parsed_after steps lines line p (Err k) = refl
+parsed_after steps lines line p (Ok s) =
+    let told = operation_joined steps lines line _ s.operation _ in
     ap (λ (t : Recording). Ok (record p { number = p.number + 1; told = t })) told
 
 opened_after : (steps : List Step) (lines : List ℕ) (p : Progress) (v : Option Version) → open_with (after steps lines p) v ≡ mapped (after steps lines) (open_with p v)
@@ -67,7 +67,7 @@ opened_after steps lines p (Some v) = refl
 words_after : (steps : List Step) (lines : List ℕ) (opened : Option Version) (line : ℕ) (p : Progress) (ws : List (List ℕ))
     → read_words opened line (after steps lines p) ws ≡ mapped (after steps lines) (read_words opened line p ws)
 words_after steps lines None line p ws = opened_after steps lines p (version_in ws)
-words_after steps lines (Some v) line p ws = said_after steps lines line p (said_of v ws)
+words_after steps lines (Some v) line p ws = parsed_after steps lines line p (parsed_of v ws)
 
 chosen : {T : Type 0} (f : T → T) (b : Bool) (r s : Result T TextKind) (t : T) → s ≡ mapped f r → cond b s (Ok (f t)) ≡ mapped f (cond b r (Ok t))
 chosen f true r s t e = e

@@ -16,8 +16,8 @@ use Rattle.er_text.specs.Lines.{has_bytes, word_at}
 use Rattle.er_text.specs.Number.{number_of}
 use Rattle.er_text.specs.Naming.{is_name, is_lock_name}
 use Rattle.er_text.specs.Verbs.{verb_of, least_of, most_of}
-use Rattle.er_text.specs.Events.{Deed, Acquires, Releases, Accesses, Reuses, Shows, Levels, Saying, run_of}
-use Rattle.er_text.specs.Inner.Saying.{and_then, map_ok, or_fault, number_in, lock_in, site_in, word_in, level_in, is_outside, run_in, access_in, reuse_in, operands_in, count_of, deed_in, said_of}
+use Rattle.er_text.specs.Events.{Operation, Acquires, Releases, Accesses, Reuses, Shows, Levels, EventLine, run_of}
+use Rattle.er_text.specs.Inner.Parsing.{and_then, map_ok, or_fault, number_in, lock_in, site_in, word_in, level_in, is_outside, run_in, access_in, reuse_in, operands_in, count_of, operation_in, parsed_of}
 use Rattle.er_text.specs.FirstFault.{first_kind}
 use Rattle.er_text.specs.Trace.{operand_kinds, verb_kinds, event_kinds}
 use Rattle.er_text.proofs.SpellingLaws.{equal, AreWhole}
@@ -34,7 +34,7 @@ named : (b : Bool) (w : List ℕ) → cond (not b) (Some BadName) None ≡ fault
 named true w = refl
 named false w = refl
 
-lock_faults : (f : List ℕ → Deed) (w : List ℕ) → first_kind ((not (is_lock_name w), BadName) ∷ []) ≡ fault_of (map_ok f (lock_in w))
+lock_faults : (f : List ℕ → Operation) (w : List ℕ) → first_kind ((not (is_lock_name w), BadName) ∷ []) ≡ fault_of (map_ok f (lock_in w))
 lock_faults f w = named (is_lock_name w) w ∙ sym (fault_of-map f (lock_in w))
 
 -- what follows a number
@@ -168,20 +168,20 @@ count_chain true many rows r e = refl
 count_chain false true rows r e = refl
 count_chain false false rows r e = e
 
-verb_faults : (v : Option Verb) (ops : List (List ℕ)) → AreWhole ops → first_kind (verb_kinds v ops) ≡ fault_of (deed_in v (word_at 0 ops) (word_at 1 ops) (word_at 2 ops))
+verb_faults : (v : Option Verb) (ops : List (List ℕ)) → AreWhole ops → first_kind (verb_kinds v ops) ≡ fault_of (operation_in v (word_at 0 ops) (word_at 1 ops) (word_at 2 ops))
 verb_faults None ops whole = refl
 verb_faults (Some v) ops whole =
     let same = agree (length ops) (count ops) (least_of v) (most_of v) (least_small v) (most_small v) (count_is ops whole) in
     rw (same.0, same.1)
     (count_chain (nat_lt (count ops) (least_of v)) (nat_lt (most_of v) (count ops)) (operand_kinds v ops) (operands_in v (word_at 0 ops) (word_at 1 ops)) (operand_faults v ops))
 
-thread_chain : (b : Bool) (thread : List ℕ) (rows : List (Bool × TextKind)) (f : List ℕ → Result Saying TextKind) → first_kind rows ≡ fault_of (f thread)
+thread_chain : (b : Bool) (thread : List ℕ) (rows : List (Bool × TextKind)) (f : List ℕ → Result EventLine TextKind) → first_kind rows ≡ fault_of (f thread)
     → first_kind ((not b, BadName) ∷ rows) ≡ fault_of (and_then (or_fault BadName (cond b (Some thread) None)) f)
 thread_chain true thread rows f more = more
 thread_chain false thread rows f more = refl
 
 -- the first fault of the table is the one that is told, and none is told where no row applies
-pub event_faults : (version : Version) (ws : List (List ℕ)) → AreWhole ws → first_kind (event_kinds version ws) ≡ fault_of (said_of version ws)
+pub event_faults : (version : Version) (ws : List (List ℕ)) → AreWhole ws → first_kind (event_kinds version ws) ≡ fault_of (parsed_of version ws)
 event_faults version [] whole = refl
 event_faults version (t ∷ []) whole = thread_chain (is_name t) t ((true, MissingOperand) ∷ verb_kinds (verb_of version []) []) (λ w. Err MissingOperand) refl
 event_faults version ([] ∷ v ∷ ops) whole = absurd (cc)
@@ -190,8 +190,8 @@ event_faults version ((x ∷ xs) ∷ (y ∷ ys) ∷ ops) whole =
     let t = x ∷ xs in
     let v = y ∷ ys in
     let some : nat_lt (suc (suc (length ops))) 2 ≡ false = grind (arith, nat_tests) in
-    let deed = deed_in (verb_of version v) (word_at 0 ops) (word_at 1 ops) (word_at 2 ops) in
+    let operation = operation_in (verb_of version v) (word_at 0 ops) (word_at 1 ops) (word_at 2 ops) in
     let inner : first_kind ((nat_lt (suc (suc (length ops))) 2, MissingOperand) ∷ verb_kinds (verb_of version v) ops)
-    ≡ fault_of (map_ok (λ d. record { thread = t; deed = d }) deed) =
-    rw some (verb_faults (verb_of version v) ops whole ∙ sym (fault_of-map (λ d. record { thread = t; deed = d }) deed)) in
-    thread_chain (is_name t) t ((nat_lt (suc (suc (length ops))) 2, MissingOperand) ∷ verb_kinds (verb_of version v) ops) (λ w. map_ok (λ d. record { thread = w; deed = d }) deed) inner
+    ≡ fault_of (map_ok (λ d. record { thread = t; operation = d }) operation) =
+    rw some (verb_faults (verb_of version v) ops whole ∙ sym (fault_of-map (λ d. record { thread = t; operation = d }) operation)) in
+    thread_chain (is_name t) t ((nat_lt (suc (suc (length ops))) 2, MissingOperand) ∷ verb_kinds (verb_of version v) ops) (λ w. map_ok (λ d. record { thread = w; operation = d }) operation) inner

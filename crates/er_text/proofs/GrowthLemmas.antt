@@ -8,11 +8,11 @@ use Rattle.er_text.specs.declared.faults.TextKind.{TextKind}
 use Rattle.er_text.specs.declared.faults.TextKind.TheVariants.{NotAscii}
 use Rattle.er_text.specs.declared.verbs.Version.{Version}
 use Rattle.er_text.specs.Lines.{says_something, words, is_ascii}
-use Rattle.er_text.specs.Events.{Saying, Deed, Acquires, Releases, Accesses, Reuses, IgnoresOn, IgnoresOff, Shows, Levels, tell_deed, tell}
+use Rattle.er_text.specs.Events.{EventLine, Operation, Acquires, Releases, Accesses, Reuses, IgnoresOn, IgnoresOff, Shows, Levels, with_operation, with_line}
 use Rattle.er_text.specs.Named.{KeepsNames, Grows}
 use Rattle.er_text.specs.Trace.{version_in}
-use Rattle.er_text.specs.Inner.Saying.{said_of}
-use Rattle.er_text.specs.Inner.Traces.{Progress, skip, tell_said, open_with, read_words, plain_at}
+use Rattle.er_text.specs.Inner.Parsing.{parsed_of}
+use Rattle.er_text.specs.Inner.Traces.{Progress, skip, add_parsed, open_with, read_words, plain_at}
 use Rattle.er_text.proofs.NamedLaws.{name_goes_on, thread_on}
 
 pub grows_not : (r : Recording) → Grows r r
@@ -40,28 +40,28 @@ grows_on r s t first second = record {
 grows_by : (r : Recording) (names : NameTable) (more : List Step) (others : List ℕ) → KeepsNames r.names names → Grows r (record { steps = r.steps ++ more; lines = r.lines ++ others; names = names })
 grows_by r names more others keeps = record { names = keeps; more = more; others = others; steps = refl; lines = refl }
 
-deed_grows : (line n : ℕ) (thread : List ℕ) (d : Deed) (r : Recording) → Grows r (tell_deed line n d (with_thread_name r thread))
-deed_grows line n thread (Acquires lock m) r =
+operation_grows : (line n : ℕ) (thread : List ℕ) (d : Operation) (r : Recording) → Grows r (with_operation line n d (with_thread_name r thread))
+operation_grows line n thread (Acquires lock m) r =
     grows_by r _ _ _ (record { threads = name_goes_on r.names.threads thread; locks = name_goes_on r.names.locks lock; sites = λ k x e. e })
-deed_grows line n thread (Releases lock m) r =
+operation_grows line n thread (Releases lock m) r =
     grows_by r _ _ _ (record { threads = name_goes_on r.names.threads thread; locks = name_goes_on r.names.locks lock; sites = λ k x e. e })
-deed_grows line n thread (Accesses k w None) r = grows_by r _ _ _ (thread_on r thread)
-deed_grows line n thread (Accesses k w (Some site)) r =
+operation_grows line n thread (Accesses k w None) r = grows_by r _ _ _ (thread_on r thread)
+operation_grows line n thread (Accesses k w (Some site)) r =
     grows_by r _ _ _ (record { threads = name_goes_on r.names.threads thread; locks = λ j x e. e; sites = name_goes_on r.names.sites site })
-deed_grows line n thread (Reuses run) r = grows_by r _ _ _ (thread_on r thread)
-deed_grows line n thread IgnoresOn r = grows_by r _ _ _ (thread_on r thread)
-deed_grows line n thread IgnoresOff r = grows_by r _ _ _ (thread_on r thread)
-deed_grows line n thread (Shows w) r = grows_by r _ _ _ (thread_on r thread)
-deed_grows line n thread (Levels l) r = grows_by r _ _ _ (thread_on r thread)
+operation_grows line n thread (Reuses run) r = grows_by r _ _ _ (thread_on r thread)
+operation_grows line n thread IgnoresOn r = grows_by r _ _ _ (thread_on r thread)
+operation_grows line n thread IgnoresOff r = grows_by r _ _ _ (thread_on r thread)
+operation_grows line n thread (Shows w) r = grows_by r _ _ _ (thread_on r thread)
+operation_grows line n thread (Levels l) r = grows_by r _ _ _ (thread_on r thread)
 
 abbrev Adds : Recording → Progress → Type 0
 Adds r q = Grows r q.told
 
-said_grows : (line : ℕ) (p q : Progress) (r : Result Saying TextKind) → tell_said line p r ≡ Ok q → Grows p.told q.told
-said_grows line p q (Err k) e = absurd (cc)
-said_grows line p q (Ok s) e =
-    let same : record p { number = p.number + 1; told = tell line s p.told } ≡ q = cc in
-    subst (Adds p.told) same (deed_grows line (number_of p.told.names.threads s.thread) s.thread s.deed p.told)
+parsed_grows : (line : ℕ) (p q : Progress) (r : Result EventLine TextKind) → add_parsed line p r ≡ Ok q → Grows p.told q.told
+parsed_grows line p q (Err k) e = absurd (cc)
+parsed_grows line p q (Ok s) e =
+    let same : record p { number = p.number + 1; told = with_line line s p.told } ≡ q = cc in
+    subst (Adds p.told) same (operation_grows line (number_of p.told.names.threads s.thread) s.thread s.operation p.told)
 
 opened_grows : (p q : Progress) (v : Option Version) → open_with p v ≡ Ok q → Grows p.told q.told
 opened_grows p q None e = absurd (cc)
@@ -71,7 +71,7 @@ opened_grows p q (Some v) e =
 
 words_grow : (opened : Option Version) (line : ℕ) (p q : Progress) (ws : List (List ℕ)) → read_words opened line p ws ≡ Ok q → Grows p.told q.told
 words_grow None line p q ws e = opened_grows p q (version_in ws) e
-words_grow (Some v) line p q ws e = said_grows line p q (said_of v ws) e
+words_grow (Some v) line p q ws e = parsed_grows line p q (parsed_of v ws) e
 
 chosen_grows : (ascii some : Bool) (p q : Progress) (r : Result Progress TextKind) → (r ≡ Ok q → Grows p.told q.told)
     → cond (not ascii) (Err NotAscii) (cond some r (Ok (skip p))) ≡ Ok q → Grows p.told q.told

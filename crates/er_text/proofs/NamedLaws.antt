@@ -11,8 +11,8 @@ use Rattle.er_event.specs.declared.steps.Event.TheVariants as event
 use Rattle.er_event.specs.declared.steps.Step.{Step}
 use Rattle.er_text.specs.declared.verbs.Version.{Version}
 use Rattle.er_text.specs.Lines.{Placed, words}
-use Rattle.er_text.specs.Events.{Saying, Deed, Acquires, Releases, Accesses, Reuses, IgnoresOn, IgnoresOff, Shows, Levels, run_parts, tell_deed, tell}
-use Rattle.er_text.specs.Trace.{Says, AllSay, tell_all, IsTrace}
+use Rattle.er_text.specs.Events.{EventLine, Operation, Acquires, Releases, Accesses, Reuses, IgnoresOn, IgnoresOff, Shows, Levels, run_parts, with_operation, with_line}
+use Rattle.er_text.specs.Trace.{Says, AllSay, with_lines, IsTrace}
 use Rattle.er_text.specs.Named.{KeepsNumbers, KeepsNames, IsSiteNumber, Does, AreNamed}
 use Rattle.er_text.proofs.SpellingLaws.{equal}
 
@@ -64,7 +64,7 @@ site_kept : (old new : List (List ℕ)) (n : ℕ) (site : Option (List ℕ)) →
 site_kept old new n None on is = is
 site_kept old new n (Some site) on is = (is.0, on (n - 1) site is.1)
 
-does_kept : (old new : NameTable) (d : Deed) (e : Event) → KeepsNames old new → Does old d e → Does new d e
+does_kept : (old new : NameTable) (d : Operation) (e : Event) → KeepsNames old new → Does old d e → Does new d e
 does_kept old new (Acquires lock m) e on is = (is.0, is.1, on.locks is.0 lock is.2)
 does_kept old new (Releases lock m) e on is = (is.0, is.1, on.locks is.0 lock is.2)
 does_kept old new (Accesses k w site) e on is = (is.0, is.1, site_kept old.sites new.sites is.0 site on.sites is.2)
@@ -85,7 +85,7 @@ named_kept v events old new (step ∷ steps) (line ∷ lines) on are =
         are.0.0,
         are.0.1,
         are.0.2,
-        record { saying = told.saying; says = told.says; thread = on.threads step.thread told.saying.thread told.thread; does = does_kept old new told.saying.deed step.event on told.does },
+        record { event_line = told.event_line; says = told.says; thread = on.threads step.thread told.event_line.thread told.thread; does = does_kept old new told.event_line.operation step.event on told.does },
       ),
       named_kept v events old new steps lines on are.1,
     )
@@ -104,24 +104,24 @@ later_there : {X : Type 0} (x y : X) (xs : List X) → Contains xs y → Contain
 later_there x y xs is = (suc is.0, (let within = is.1 in omega (arith, within)), is.2)
 
 -- the steps of the pages of a run
-parts_named : (v : Version) (events : List Placed) (names : NameTable) (p : Placed) (s : Saying) (run : Option Span) (thread : ℕ) (parts : List PageRange)
-    → Contains events p → Says v (words p.line.bytes) s → s.deed ≡ Reuses run → slice_get names.threads thread ≡ Some s.thread
+parts_named : (v : Version) (events : List Placed) (names : NameTable) (p : Placed) (s : EventLine) (run : Option Span) (thread : ℕ) (parts : List PageRange)
+    → Contains events p → Says v (words p.line.bytes) s → s.operation ≡ Reuses run → slice_get names.threads thread ≡ Some s.thread
     → ((part : PageRange) → Contains parts part → Contains (run_parts run) part)
     → AreNamed v events names (map (λ part. record { thread = thread; event = event.Reuse part }) parts) (map (λ part. p.number) parts)
-parts_named v events names p s run thread [] there says deed named among = tt
-parts_named v events names p s run thread (part ∷ parts) there says deed named among =
-    let does : Does names s.deed (event.Reuse part) = rw deed (part, refl, among part (first_there part parts)) in (
-      (p, there, refl, record { saying = s; says = says; thread = named; does = does }),
-      parts_named v events names p s run thread parts there says deed named (λ q is. among q (later_there part q parts is)),
+parts_named v events names p s run thread [] there says operation named among = tt
+parts_named v events names p s run thread (part ∷ parts) there says operation named among =
+    let does : Does names s.operation (event.Reuse part) = rw operation (part, refl, among part (first_there part parts)) in (
+      (p, there, refl, record { event_line = s; says = says; thread = named; does = does }),
+      parts_named v events names p s run thread parts there says operation named (λ q is. among q (later_there part q parts is)),
     )
 
 -- one step more
-step_named : (v : Version) (events : List Placed) (r : Recording) (names : NameTable) (p : Placed) (s : Saying) (step : Step) → Contains events p → Says v (words p.line.bytes) s
-    → KeepsNames r.names names → slice_get names.threads step.thread ≡ Some s.thread → Does names s.deed step.event → AreNamed v events r.names r.steps r.lines
+step_named : (v : Version) (events : List Placed) (r : Recording) (names : NameTable) (p : Placed) (s : EventLine) (step : Step) → Contains events p → Says v (words p.line.bytes) s
+    → KeepsNames r.names names → slice_get names.threads step.thread ≡ Some s.thread → Does names s.operation step.event → AreNamed v events r.names r.steps r.lines
     → AreNamed v events names (r.steps ++ step ∷ []) (r.lines ++ p.number ∷ [])
 step_named v events r names p s step there says on thread does are =
     both_named v events names r.steps (step ∷ []) r.lines (p.number ∷ []) (named_kept v events r.names names r.steps r.lines on are)
-    ((p, there, refl, record { saying = s; says = says; thread = thread; does = does }), tt)
+    ((p, there, refl, record { event_line = s; says = says; thread = thread; does = does }), tt)
 
 pub thread_on : (r : Recording) (name : List ℕ) → KeepsNames r.names (with_thread_name r name).names
 thread_on r name = record { threads = name_goes_on r.names.threads name; locks = λ n x e. e; sites = λ n x e. e }
@@ -132,60 +132,60 @@ site_does sites site =
     (omega arith, rw back (name_there sites site))
 
 -- what one event line tells
-deed_named : (v : Version) (events : List Placed) (r : Recording) (p : Placed) (s : Saying) (d : Deed) → Contains events p → Says v (words p.line.bytes) s → s.deed ≡ d
+operation_named : (v : Version) (events : List Placed) (r : Recording) (p : Placed) (s : EventLine) (d : Operation) → Contains events p → Says v (words p.line.bytes) s → s.operation ≡ d
     → AreNamed v events r.names r.steps r.lines
-    → let t = tell_deed p.number (number_of r.names.threads s.thread) d (with_thread_name r s.thread) in AreNamed v events t.names t.steps t.lines
-deed_named v events r p s (Acquires lock m) there says deed are =
+    → let t = with_operation p.number (number_of r.names.threads s.thread) d (with_thread_name r s.thread) in AreNamed v events t.names t.steps t.lines
+operation_named v events r p s (Acquires lock m) there says operation are =
     let names : NameTable = record { threads = with_name r.names.threads s.thread; locks = with_name r.names.locks lock; sites = r.names.sites } in
     step_named v events r names p s (record { thread = number_of r.names.threads s.thread; event = event.Acquire (number_of r.names.locks lock) m }) there says
     (record { threads = name_goes_on r.names.threads s.thread; locks = name_goes_on r.names.locks lock; sites = λ n x e. e })
-    (name_there r.names.threads s.thread) (rw deed (number_of r.names.locks lock, refl, name_there r.names.locks lock)) are
-deed_named v events r p s (Releases lock m) there says deed are =
+    (name_there r.names.threads s.thread) (rw operation (number_of r.names.locks lock, refl, name_there r.names.locks lock)) are
+operation_named v events r p s (Releases lock m) there says operation are =
     let names : NameTable = record { threads = with_name r.names.threads s.thread; locks = with_name r.names.locks lock; sites = r.names.sites } in
     step_named v events r names p s (record { thread = number_of r.names.threads s.thread; event = event.Release (number_of r.names.locks lock) m }) there says
     (record { threads = name_goes_on r.names.threads s.thread; locks = name_goes_on r.names.locks lock; sites = λ n x e. e })
-    (name_there r.names.threads s.thread) (rw deed (number_of r.names.locks lock, refl, name_there r.names.locks lock)) are
-deed_named v events r p s (Accesses k w None) there says deed are =
+    (name_there r.names.threads s.thread) (rw operation (number_of r.names.locks lock, refl, name_there r.names.locks lock)) are
+operation_named v events r p s (Accesses k w None) there says operation are =
     step_named v events r (with_thread_name r s.thread).names p s (record { thread = number_of r.names.threads s.thread; event = event.Access k w 0 }) there says
-    (thread_on r s.thread) (name_there r.names.threads s.thread) (rw deed (0, refl, refl)) are
-deed_named v events r p s (Accesses k w (Some site)) there says deed are =
+    (thread_on r s.thread) (name_there r.names.threads s.thread) (rw operation (0, refl, refl)) are
+operation_named v events r p s (Accesses k w (Some site)) there says operation are =
     let names : NameTable = record { threads = with_name r.names.threads s.thread; locks = r.names.locks; sites = with_name r.names.sites site } in
     step_named v events r names p s (record { thread = number_of r.names.threads s.thread; event = event.Access k w (number_of r.names.sites site + 1) }) there says
     (record { threads = name_goes_on r.names.threads s.thread; locks = λ n x e. e; sites = name_goes_on r.names.sites site })
-    (name_there r.names.threads s.thread) (rw deed (number_of r.names.sites site + 1, refl, site_does r.names.sites site)) are
-deed_named v events r p s (Reuses run) there says deed are =
+    (name_there r.names.threads s.thread) (rw operation (number_of r.names.sites site + 1, refl, site_does r.names.sites site)) are
+operation_named v events r p s (Reuses run) there says operation are =
     let names = (with_thread_name r s.thread).names in
     let thread = number_of r.names.threads s.thread in
     let parts = run_parts run in
     both_named v events names r.steps (map (λ part. record { thread = thread; event = event.Reuse part }) parts) r.lines (map (λ part. p.number) parts)
     (named_kept v events r.names names r.steps r.lines (thread_on r s.thread) are)
-    (parts_named v events names p s run thread parts there says deed (name_there r.names.threads s.thread) (λ part is. is))
-deed_named v events r p s IgnoresOn there says deed are =
+    (parts_named v events names p s run thread parts there says operation (name_there r.names.threads s.thread) (λ part is. is))
+operation_named v events r p s IgnoresOn there says operation are =
     step_named v events r (with_thread_name r s.thread).names p s (record { thread = number_of r.names.threads s.thread; event = event.IgnoreOn }) there says
-    (thread_on r s.thread) (name_there r.names.threads s.thread) (rw deed refl) are
-deed_named v events r p s IgnoresOff there says deed are =
+    (thread_on r s.thread) (name_there r.names.threads s.thread) (rw operation refl) are
+operation_named v events r p s IgnoresOff there says operation are =
     step_named v events r (with_thread_name r s.thread).names p s (record { thread = number_of r.names.threads s.thread; event = event.IgnoreOff }) there says
-    (thread_on r s.thread) (name_there r.names.threads s.thread) (rw deed refl) are
-deed_named v events r p s (Shows w) there says deed are =
+    (thread_on r s.thread) (name_there r.names.threads s.thread) (rw operation refl) are
+operation_named v events r p s (Shows w) there says operation are =
     step_named v events r (with_thread_name r s.thread).names p s (record { thread = number_of r.names.threads s.thread; event = event.Show w }) there says
-    (thread_on r s.thread) (name_there r.names.threads s.thread) (rw deed refl) are
-deed_named v events r p s (Levels n) there says deed are =
+    (thread_on r s.thread) (name_there r.names.threads s.thread) (rw operation refl) are
+operation_named v events r p s (Levels n) there says operation are =
     step_named v events r (with_thread_name r s.thread).names p s (record { thread = number_of r.names.threads s.thread; event = event.Level n }) there says
-    (thread_on r s.thread) (name_there r.names.threads s.thread) (rw deed refl) are
+    (thread_on r s.thread) (name_there r.names.threads s.thread) (rw operation refl) are
 
-all_named : (v : Version) (events lines : List Placed) (sayings : List Saying) (r : Recording) → AllSay v lines sayings → ((p : Placed) → Contains lines p → Contains events p)
+all_named : (v : Version) (events lines : List Placed) (event_lines : List EventLine) (r : Recording) → AllSay v lines event_lines → ((p : Placed) → Contains lines p → Contains events p)
     → AreNamed v events r.names r.steps r.lines
-    → let t = tell_all lines sayings r in AreNamed v events t.names t.steps t.lines
+    → let t = with_lines lines event_lines r in AreNamed v events t.names t.steps t.lines
 all_named v events [] [] r says among are = are
 all_named v events [] (s ∷ ss) r says among are = absurd says
 all_named v events (p ∷ ps) [] r says among are = absurd says
 all_named v events (p ∷ ps) (s ∷ ss) r says among are =
-    all_named v events ps ss (tell p.number s r) says.1 (λ q is. among q (later_there p q ps is))
-    (deed_named v events r p s s.deed (among p (first_there p ps)) says.0 refl are)
+    all_named v events ps ss (with_line p.number s r) says.1 (λ q is. among q (later_there p q ps is))
+    (operation_named v events r p s s.operation (among p (first_there p ps)) says.0 refl are)
 
 -- the steps of a trace are what its event lines say, under its names
 pub trace_named : (text : List ℕ) (limit : ℕ) (t : Recording) (is : IsTrace text limit t) → AreNamed is.version is.events t.names t.steps t.lines
 trace_named text limit t is =
-    let told = all_named is.version is.events is.events is.sayings no_steps is.says (λ p there. there) tt in
+    let told = all_named is.version is.events is.events is.event_lines no_steps is.says (λ p there. there) tt in
     let P : Recording → Type 0 = λ r. AreNamed is.version is.events r.names r.steps r.lines in
     subst P (sym is.told) told

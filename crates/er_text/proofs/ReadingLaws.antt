@@ -7,7 +7,7 @@ use Rattle.er_text.specs.declared.faults.TextKind.TheVariants.{LineTooLong, Text
 use Rattle.er_text.specs.declared.faults.TextFault.{TextFault}
 use Rattle.er_text.specs.Lines.{Line, Placed, placed_from, has_bytes, words, width, is_gap, is_end, is_ascii, lines_of, onto_line}
 use Rattle.er_text.specs.FirstFault.{IsPlain, first_kind, line_kinds, known_after, HasNone, IsFirstFaulty}
-use Rattle.er_text.specs.Inner.Saying.{and_then}
+use Rattle.er_text.specs.Inner.Parsing.{and_then}
 use Rattle.er_text.specs.Inner.Reading.{read_line, go_on, read_lines, read_contents}
 use Rattle.er_text.proofs.SpellingLaws.{AreWhole}
 use Rattle.er_text.proofs.FaultTables.{fault_of}

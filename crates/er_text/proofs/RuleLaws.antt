@@ -11,15 +11,15 @@ use Rattle.er_text.specs.Lines.{word_at}
 use Rattle.er_text.specs.Number.{number_of}
 use Rattle.er_text.specs.Naming.{is_name}
 use Rattle.er_text.specs.Events.{run_of}
-use Rattle.er_text.specs.Inner.Saying.{and_then, map_ok, or_fault, number_in, site_in, is_outside}
+use Rattle.er_text.specs.Inner.Parsing.{and_then, map_ok, or_fault, number_in, site_in, is_outside}
 use Rattle.er_text.specs.FirstFault.{first_kind}
 use Rattle.er_text.specs.Trace.{IsSite}
 use Rattle.er_text.specs.Rules.{IsRule, site_kinds, run_kinds, rule_kinds}
 use Rattle.er_text.specs.Inner.RuleLines.{site_rule_in, long_run_in, run_rule_in, rule_of}
 use Rattle.er_text.proofs.SpellingLaws.{equal, AreWhole}
 use Rattle.er_text.proofs.FaultTables.{fault_of, number_faults, dash_named}
-use Rattle.er_text.proofs.SayingLaws.{mapped, bound, number_found, site_found}
-use Rattle.er_text.proofs.SayingAgain.{some_name, some_number, site_again}
+use Rattle.er_text.proofs.ParsingLaws.{mapped, bound, number_found, site_found}
+use Rattle.er_text.proofs.ParsingAgain.{some_name, some_number, site_again}
 
 site_named : (b dash : Bool) (w : List ℕ) → (dash ≡ true → b ≡ true)
     → cond (not b) (Some BadName) None ≡ fault_of (map_ok AtSite (cond dash (Ok None) (map_ok Some (or_fault BadName (cond b (Some w) None)))))
@@ -141,8 +141,8 @@ long_run_again a n low within =
 
 site_rule_again : (w : List ℕ) (site : Option (List ℕ)) → IsSite (w ∷ []) site → rule_of (codes "site" ∷ w ∷ []) ≡ Ok (AtSite site)
 site_rule_again w site is =
-    let said : site_in w ≡ Ok site = site_again (bytes_eq w (codes "-")) w refl is.0 ∙ ap Ok (sym is.1) in
-    rw (said, some_name w is.0) refl
+    let parsed_line : site_in w ≡ Ok site = site_again (bytes_eq w (codes "-")) w refl is.0 ∙ ap Ok (sym is.1) in
+    rw (parsed_line, some_name w is.0) refl
 
 run_rule_again : (a b : List ℕ) (m n : ℕ) → number_of a ≡ Some m → number_of b ≡ Some n → m < 2 ^ 48 → m + n ≤ 2 ^ 48
     → rule_of (codes "words" ∷ a ∷ b ∷ []) ≡ Ok (AtWords (run_of m n))

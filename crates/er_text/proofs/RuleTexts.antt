@@ -10,7 +10,7 @@ use Rattle.er_text.specs.declared.faults.ReadFault.TheVariants as fault
 use Rattle.er_text.specs.Lines.{Placed, placed, has_content, words, lines_of}
 use Rattle.er_text.specs.FirstFault.{first_kind}
 use Rattle.er_text.specs.Rules.{AllRule, rule_kinds, rule_content_kinds, still_nothing, IsRulesFault, IsRules, TellsRules}
-use Rattle.er_text.specs.Inner.Saying.{and_then, map_ok}
+use Rattle.er_text.specs.Inner.Parsing.{and_then, map_ok}
 use Rattle.er_text.specs.Inner.Reading.{read_contents}
 use Rattle.er_text.specs.Inner.RuleLines.{rule_of, with_rule, add_line, rules_in, IsRulesOutcome}
 use Rattle.er_text.proofs.FaultTables.{fault_of, fault_of-map}

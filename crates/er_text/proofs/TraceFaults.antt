@@ -6,15 +6,15 @@ use Rattle.er_text.specs.declared.faults.TextKind.TheVariants.{NoHeader}
 use Rattle.er_text.specs.declared.verbs.Version.{Version}
 use Rattle.er_text.specs.Lines.{Placed, has_content, words}
 use Rattle.er_text.specs.FirstFault.{first_kind}
-use Rattle.er_text.specs.Events.{Saying, tell}
+use Rattle.er_text.specs.Events.{EventLine, with_line}
 use Rattle.er_text.specs.Trace.{version_in, word_kinds, content_kinds, opened_by}
-use Rattle.er_text.specs.Inner.Saying.{said_of}
-use Rattle.er_text.specs.Inner.Traces.{Progress, skip, tell_said, open_with, read_words, read_content}
+use Rattle.er_text.specs.Inner.Parsing.{parsed_of}
+use Rattle.er_text.specs.Inner.Traces.{Progress, skip, add_parsed, open_with, read_words, read_content}
 use Rattle.er_text.proofs.SpellingLaws.{AreWhole}
 use Rattle.er_text.proofs.FaultTables.{fault_of, event_faults}
 use Rattle.er_text.proofs.ReadingLaws.{whole_words, Agrees}
 
-told_faults : (line : ℕ) (p : Progress) (kinds : List (Bool × TextKind)) (r : Result Saying TextKind) → first_kind kinds ≡ fault_of r → first_kind kinds ≡ fault_of (tell_said line p r)
+told_faults : (line : ℕ) (p : Progress) (kinds : List (Bool × TextKind)) (r : Result EventLine TextKind) → first_kind kinds ≡ fault_of r → first_kind kinds ≡ fault_of (add_parsed line p r)
 told_faults line p kinds (Ok s) e = e
 told_faults line p kinds (Err k) e = e
 
@@ -24,16 +24,16 @@ header_faults p (Some v) = refl
 
 word_faults : (opened : Option Version) (line : ℕ) (p : Progress) (ws : List (List ℕ)) → AreWhole ws → first_kind (word_kinds opened ws) ≡ fault_of (read_words opened line p ws)
 word_faults None line p ws whole = header_faults p (version_in ws)
-word_faults (Some v) line p ws whole = told_faults line p (word_kinds (Some v) ws) (said_of v ws) (event_faults v ws whole)
+word_faults (Some v) line p ws whole = told_faults line p (word_kinds (Some v) ws) (parsed_of v ws) (event_faults v ws whole)
 
 content_faults : (some : Bool) (kinds : List (Bool × TextKind)) (p : Progress) (r : Result Progress TextKind) → first_kind kinds ≡ fault_of r
     → first_kind (cond some kinds []) ≡ fault_of {X = Progress} (cond some r (Ok p))
 content_faults true kinds p r e = e
 content_faults false kinds p r e = refl
 
-told_moves : (line : ℕ) (p q : Progress) (r : Result Saying TextKind) → tell_said line p r ≡ Ok q → (q.version ≡ p.version) × (q.number ≡ p.number + 1)
+told_moves : (line : ℕ) (p q : Progress) (r : Result EventLine TextKind) → add_parsed line p r ≡ Ok q → (q.version ≡ p.version) × (q.number ≡ p.number + 1)
 told_moves line p q (Ok s) e =
-    let same : record p { number = p.number + 1; told = tell line s p.told } ≡ q = cc in
+    let same : record p { number = p.number + 1; told = with_line line s p.told } ≡ q = cc in
     (sym (ap (λ (x : Progress). x.version) same), sym (ap (λ (x : Progress). x.number) same))
 told_moves line p q (Err k) e = absurd (cc)
 
@@ -51,7 +51,7 @@ words_move None p q line is some e =
     let version : q.version ≡ opened_by None line = rw some moved.0 in
     (version, moved.1)
 words_move (Some v) p q line is some e =
-    let moved = told_moves line.number p q (said_of v (words line.line.bytes)) e in
+    let moved = told_moves line.number p q (parsed_of v (words line.line.bytes)) e in
     (moved.0 ∙ is, moved.1)
 
 skips : (opened : Option Version) (line : Placed) → has_content line ≡ false → opened_by opened line ≡ opened

@@ -8,23 +8,23 @@ use Rattle.er_text.specs.declared.faults.ReadFault.{ReadFault}
 use Rattle.er_text.specs.declared.faults.ReadFault.TheVariants as fault
 use Rattle.er_text.specs.declared.verbs.Version.{Version}
 use Rattle.er_text.specs.Lines.{Placed, placed, has_content, words, lines_of}
-use Rattle.er_text.specs.Events.{Saying, tell}
-use Rattle.er_text.specs.Trace.{header_words, version_in, content_kinds, opened_by, AllSay, tell_all, IsTrace, IsFault, Tells}
-use Rattle.er_text.specs.Inner.Saying.{and_then, said_of}
+use Rattle.er_text.specs.Events.{EventLine, with_line}
+use Rattle.er_text.specs.Trace.{header_words, version_in, content_kinds, opened_by, AllSay, with_lines, IsTrace, IsFault, Tells}
+use Rattle.er_text.specs.Inner.Parsing.{and_then, parsed_of}
 use Rattle.er_text.specs.Inner.Reading.{read_lines, read_contents}
-use Rattle.er_text.specs.Inner.Traces.{Progress, at_front, skip, tell_said, open_with, read_words, read_content, finish_as, finish, read_text, IsOutcome}
+use Rattle.er_text.specs.Inner.Traces.{Progress, at_front, skip, add_parsed, open_with, read_words, read_content, finish_as, finish, read_text, IsOutcome}
 use Rattle.er_text.proofs.SpellingLaws.{header_is, header_again}
-use Rattle.er_text.proofs.SayingLaws.{said_says}
-use Rattle.er_text.proofs.SayingAgain.{says_said}
+use Rattle.er_text.proofs.ParsingLaws.{parsed_says}
+use Rattle.er_text.proofs.ParsingAgain.{says_parsed}
 use Rattle.er_text.proofs.ReadingLaws.{whole_words, size_of, all_passed, all_again, none_met, free_read, first_found, first_stops}
 use Rattle.er_text.proofs.TraceFaults.{line_moves, trace_agrees, version_of_progress}
 
 -- what the lines that are left tell, behind the header or before it
 abbrev pub TellsRest : Option Version → List Placed → Recording → Recording → Type 0
-TellsRest (Some v) lines t end = (sayings : List Saying) × AllSay v (filter has_content lines) sayings × (end ≡ tell_all (filter has_content lines) sayings t)
+TellsRest (Some v) lines t end = (event_lines : List EventLine) × AllSay v (filter has_content lines) event_lines × (end ≡ with_lines (filter has_content lines) event_lines t)
 TellsRest None lines t end =
-    (header : Placed) × (events : List Placed) × (v : Version) × (sayings : List Saying) × (filter has_content lines ≡ header ∷ events)
-    × (words header.line.bytes ≡ header_words v) × AllSay v events sayings × (end ≡ tell_all events sayings t)
+    (header : Placed) × (events : List Placed) × (v : Version) × (event_lines : List EventLine) × (filter has_content lines ≡ header ∷ events)
+    × (words header.line.bytes ≡ header_words v) × AllSay v events event_lines × (end ≡ with_lines events event_lines t)
 
 abbrev Goes : List Placed → Recording → Progress → Type 0
 Goes lines end p = TellsRest p.version lines p.told end
@@ -45,19 +45,19 @@ header_step line lines p q end (Some v) some is e rest =
     rw some (line, filter has_content lines, v, after.0, refl, header_is (words line.line.bytes) v (whole_words line.line.bytes) is, after.1, after.2)
 
 -- an event line tells what it says
-said_step : (v : Version) (line : Placed) (lines : List Placed) (p q : Progress) (end : Recording) (r : Result Saying TextKind) → p.version ≡ Some v → has_content line ≡ true
-    → said_of v (words line.line.bytes) ≡ r → tell_said line.number p r ≡ Ok q → Goes lines end q → TellsRest (Some v) (line ∷ lines) p.told end
-said_step v line lines p q end (Err k) opened some is e rest = absurd (cc)
-said_step v line lines p q end (Ok s) opened some is e rest =
-    let same : record p { number = p.number + 1; told = tell line.number s p.told } ≡ q = cc in
-    let next : TellsRest p.version lines (tell line.number s p.told) end = subst (Goes lines end) (sym same) rest in
-    let after : TellsRest (Some v) lines (tell line.number s p.told) end = subst (λ (o : Option Version). TellsRest o lines (tell line.number s p.told) end) opened next in
-    rw some (s ∷ after.0, (said_says v (words line.line.bytes) s (whole_words line.line.bytes) is, after.1), after.2)
+parsed_step : (v : Version) (line : Placed) (lines : List Placed) (p q : Progress) (end : Recording) (r : Result EventLine TextKind) → p.version ≡ Some v → has_content line ≡ true
+    → parsed_of v (words line.line.bytes) ≡ r → add_parsed line.number p r ≡ Ok q → Goes lines end q → TellsRest (Some v) (line ∷ lines) p.told end
+parsed_step v line lines p q end (Err k) opened some is e rest = absurd (cc)
+parsed_step v line lines p q end (Ok s) opened some is e rest =
+    let same : record p { number = p.number + 1; told = with_line line.number s p.told } ≡ q = cc in
+    let next : TellsRest p.version lines (with_line line.number s p.told) end = subst (Goes lines end) (sym same) rest in
+    let after : TellsRest (Some v) lines (with_line line.number s p.told) end = subst (λ (o : Option Version). TellsRest o lines (with_line line.number s p.told) end) opened next in
+    rw some (s ∷ after.0, (parsed_says v (words line.line.bytes) s (whole_words line.line.bytes) is, after.1), after.2)
 
 words_step : (opened : Option Version) (line : Placed) (lines : List Placed) (p q : Progress) (end : Recording) → p.version ≡ opened → has_content line ≡ true
     → read_words opened line.number p (words line.line.bytes) ≡ Ok q → Goes lines end q → TellsRest opened (line ∷ lines) p.told end
 words_step None line lines p q end opened some e rest = header_step line lines p q end (version_in (words line.line.bytes)) some refl e rest
-words_step (Some v) line lines p q end opened some e rest = said_step v line lines p q end (said_of v (words line.line.bytes)) opened some refl e rest
+words_step (Some v) line lines p q end opened some e rest = parsed_step v line lines p q end (parsed_of v (words line.line.bytes)) opened some refl e rest
 
 content_step : (some : Bool) (line : Placed) (lines : List Placed) (p q : Progress) (end : Recording) → has_content line ≡ some
     → cond some (read_words p.version line.number p (words line.line.bytes)) (Ok (skip p)) ≡ Ok q → Goes lines end q → Goes (line ∷ lines) end p
@@ -108,16 +108,16 @@ reads_header line lines p end is some rest =
     let read : read_words p.version line.number p (words line.line.bytes) ≡ Ok q =
     ap (λ (o : Option Version). read_words o line.number p (words line.line.bytes)) is ∙ ap (open_with p) (ap version_in ws ∙ header_again found.2) in
     let P : List Placed → Type 0 = λ es. AllSay found.2 es found.3 in
-    let Q : List Placed → Type 0 = λ es. end ≡ tell_all es found.3 p.told in
+    let Q : List Placed → Type 0 = λ es. end ≡ with_lines es found.3 p.told in
     (q, rw some read, (found.3, subst P (sym events) found.6, subst Q (sym events) found.7))
 
-reads_event : (v : Version) (line : Placed) (lines : List Placed) (p : Progress) (end : Recording) (sayings : List Saying) → p.version ≡ Some v → has_content line ≡ true
-    → AllSay v (line ∷ filter has_content lines) sayings → end ≡ tell_all (line ∷ filter has_content lines) sayings p.told → ReadsLine line lines p end
+reads_event : (v : Version) (line : Placed) (lines : List Placed) (p : Progress) (end : Recording) (event_lines : List EventLine) → p.version ≡ Some v → has_content line ≡ true
+    → AllSay v (line ∷ filter has_content lines) event_lines → end ≡ with_lines (line ∷ filter has_content lines) event_lines p.told → ReadsLine line lines p end
 reads_event v line lines p end [] is some says told = absurd says
 reads_event v line lines p end (s ∷ ss) is some says told =
-    let q : Progress = record p { number = p.number + 1; told = tell line.number s p.told } in
+    let q : Progress = record p { number = p.number + 1; told = with_line line.number s p.told } in
     let read : read_words p.version line.number p (words line.line.bytes) ≡ Ok q =
-    ap (λ (o : Option Version). read_words o line.number p (words line.line.bytes)) is ∙ ap (tell_said line.number p) (says_said v (words line.line.bytes) s says.0) in
+    ap (λ (o : Option Version). read_words o line.number p (words line.line.bytes)) is ∙ ap (add_parsed line.number p) (says_parsed v (words line.line.bytes) s says.0) in
     let rest : TellsRest (Some v) lines q.told end = (ss, says.1, told) in
     (q, rw some read, subst (λ (o : Option Version). TellsRest o lines q.told end) (sym is) rest)
 
@@ -170,7 +170,7 @@ told_trace limit text t (Ok q) is e =
       content = rest.4;
       version = rest.2;
       opens = rest.5;
-      sayings = rest.3;
+      event_lines = rest.3;
       says = rest.6;
       told = rest.7;
     }
@@ -182,7 +182,7 @@ trace_is limit text t e = told_trace limit text t (read_lines limit read_content
 pub trace_read : (limit : ℕ) (text : List ℕ) (t : Recording) → IsTrace text limit t → read_text limit text ≡ Ok t
 trace_read limit text t is =
     let short = is.short in
-    let rest : TellsRest None (placed text) no_steps t = (is.header, is.events, is.version, is.sayings, is.content, is.opens, is.says, is.told) in
+    let rest : TellsRest None (placed text) no_steps t = (is.header, is.events, is.version, is.event_lines, is.content, is.opens, is.says, is.told) in
     let h = reads_rest (placed text) at_front t rest in
     ap finish (all_again limit read_content 1 0 (lines_of text) at_front h.0 (record { size = omega (arith, short, size_of text); plain = is.plain; read = h.1 })) ∙ h.2
 

@@ -1,5 +1,5 @@
 -- What a reader of batches has read of a text.
-use Rattle.std.specs.Prelude.{ℕ, ◌++◌, List, [], Option, Some, Result, Ok, Err}
+use Rattle.std.specs.Prelude.{ℕ, ◌++◌, List, Option, Some, Result, Ok, Err}
 use Rattle.er_trace.specs.Trace.{Recording}
 use Rattle.er_event.specs.declared.steps.Step.{Step}
 use Rattle.er_text.specs.declared.faults.ReadFault.{ReadFault}
@@ -16,10 +16,6 @@ use Rattle.er_text.specs.Inner.Traces.{progress, at_front, read_content}
 -- steps and their lines that the caller has taken away, and then those that the trace has, under its names
 abbrev pub joined : List Step → List ℕ → Recording → Recording
 joined steps lines trace = record { steps = steps ++ trace.steps; lines = lines ++ trace.lines; names = trace.names }
-
--- the trace without its steps, under the same names
-abbrev pub without_steps : Recording → Recording
-without_steps trace = record trace { steps = []; lines = [] }
 
 -- the reader has read some lines of this text. What they say is the steps taken away and then the trace: to read the lines that are
 -- left behind it comes to what a reading of the whole text comes to

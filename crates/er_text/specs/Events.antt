@@ -9,20 +9,20 @@ use Rattle.er_event.specs.declared.steps.Kind.{Kind}
 use Rattle.er_event.specs.declared.steps.Mode.{Mode}
 
 -- what a thread does: the lock and its mode, the word and its site if there is one, the words put to a new use, the level
-pub data Deed : Type 0 where
-  Acquires : List ℕ → Mode → Deed
-  Releases : List ℕ → Mode → Deed
-  Accesses : Kind → ℕ → Option (List ℕ) → Deed
-  Reuses : Option Span → Deed
-  IgnoresOn : Deed
-  IgnoresOff : Deed
-  Shows : ℕ → Deed
-  Levels : ℕ → Deed
+pub data Operation : Type 0 where
+  Acquires : List ℕ → Mode → Operation
+  Releases : List ℕ → Mode → Operation
+  Accesses : Kind → ℕ → Option (List ℕ) → Operation
+  Reuses : Option Span → Operation
+  IgnoresOn : Operation
+  IgnoresOff : Operation
+  Shows : ℕ → Operation
+  Levels : ℕ → Operation
 
 -- which thread does what
-pub record Saying : Type 0 where
+pub record EventLine : Type 0 where
   pub thread : List ℕ
-  pub deed : Deed
+  pub operation : Operation
 
 -- the words that some bytes touch, if there is a byte
 abbrev pub run_of : ℕ → ℕ → Option Span
@@ -48,16 +48,16 @@ with_site_of r None = r
 with_site_of r (Some site) = with_site_name r site
 
 -- what the thread of this number does, on a line of that number
-abbrev pub tell_deed : ℕ → ℕ → Deed → Recording → Recording
-tell_deed line thread (Acquires lock m) r = with_step (with_lock_name r lock) (record { thread = thread; event = event.Acquire (number_of r.names.locks lock) m }) line
-tell_deed line thread (Releases lock m) r = with_step (with_lock_name r lock) (record { thread = thread; event = event.Release (number_of r.names.locks lock) m }) line
-tell_deed line thread (Accesses k w site) r = with_step (with_site_of r site) (record { thread = thread; event = event.Access k w (site_number r site) }) line
-tell_deed line thread (Reuses run) r = with_reuses r line thread (run_parts run)
-tell_deed line thread IgnoresOn r = with_step r (record { thread = thread; event = event.IgnoreOn }) line
-tell_deed line thread IgnoresOff r = with_step r (record { thread = thread; event = event.IgnoreOff }) line
-tell_deed line thread (Shows w) r = with_step r (record { thread = thread; event = event.Show w }) line
-tell_deed line thread (Levels n) r = with_step r (record { thread = thread; event = event.Level n }) line
+abbrev pub with_operation : ℕ → ℕ → Operation → Recording → Recording
+with_operation line thread (Acquires lock m) r = with_step (with_lock_name r lock) (record { thread = thread; event = event.Acquire (number_of r.names.locks lock) m }) line
+with_operation line thread (Releases lock m) r = with_step (with_lock_name r lock) (record { thread = thread; event = event.Release (number_of r.names.locks lock) m }) line
+with_operation line thread (Accesses k w site) r = with_step (with_site_of r site) (record { thread = thread; event = event.Access k w (site_number r site) }) line
+with_operation line thread (Reuses run) r = with_reuses r line thread (run_parts run)
+with_operation line thread IgnoresOn r = with_step r (record { thread = thread; event = event.IgnoreOn }) line
+with_operation line thread IgnoresOff r = with_step r (record { thread = thread; event = event.IgnoreOff }) line
+with_operation line thread (Shows w) r = with_step r (record { thread = thread; event = event.Show w }) line
+with_operation line thread (Levels n) r = with_step r (record { thread = thread; event = event.Level n }) line
 
 -- the recording after one more event line; its thread is numbered first
-abbrev pub tell : ℕ → Saying → Recording → Recording
-tell line s r = tell_deed line (number_of r.names.threads s.thread) s.deed (with_thread_name r s.thread)
+abbrev pub with_line : ℕ → EventLine → Recording → Recording
+with_line line s r = with_operation line (number_of r.names.threads s.thread) s.operation (with_thread_name r s.thread)

@@ -4,11 +4,11 @@ use Rattle.std.specs.List.{list_all}
 use Rattle.er_text.specs.declared.faults.TextKind.{TextKind}
 use Rattle.er_text.specs.declared.faults.TextKind.TheVariants.{LineTooLong, TextTooLong, NotAscii}
 use Rattle.er_text.specs.declared.faults.TextFault.{TextFault}
-use Rattle.er_text.specs.Lines.{Placed, width, is_ascii}
+use Rattle.er_text.specs.Lines.{Placed, width, is_ascii, most_line_bytes}
 
 -- a line of at most 1,024 bytes, of ASCII
 abbrev pub IsPlain : Placed → Type 0
-IsPlain p = (length p.line.bytes ≤ 1024) × (list_all is_ascii p.line.bytes ≡ true)
+IsPlain p = (length p.line.bytes ≤ most_line_bytes) × (list_all is_ascii p.line.bytes ≡ true)
 
 -- the first fault of a table, and none where no row applies
 abbrev pub first_kind : List (Bool × TextKind) → Option TextKind
@@ -18,7 +18,7 @@ first_kind (row ∷ rows) = if row.0 then Some row.1 else first_kind rows
 -- the faults of a line, in their order: those of any line, and then those of what it says
 abbrev pub line_kinds : ℕ → List (Bool × TextKind) → Placed → List (Bool × TextKind)
 line_kinds limit content p =
-    (nat_lt 1024 (length p.line.bytes), LineTooLong)
+    (nat_lt most_line_bytes (length p.line.bytes), LineTooLong)
     ∷ (nat_le p.start limit && nat_lt limit (p.start + width p.line), TextTooLong)
     ∷ (not (list_all is_ascii p.line.bytes), NotAscii)
     ∷ content

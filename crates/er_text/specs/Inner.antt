@@ -1,8 +1,8 @@
 -- What the code's parts keep true of one another. Of public clauses those of a reader of batches alone cite it.
-pub mod Saying
+pub mod Parsing
 pub mod Reading
 pub mod Lending
 pub mod Traces
 pub mod RuleLines
 pub mod Windows
-pub mod Usual
+pub mod FastPath

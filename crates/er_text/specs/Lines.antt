@@ -2,6 +2,14 @@
 use Rattle.std.specs.Prelude.{ℕ, ◌+◌, ◌==◌, ◌||◌, ◌&&◌, not, Bool, true, false, List, [], ◌∷◌, length, drop, filter, nat_lt, if◌then◌else◌}
 use Rattle.std.specs.List.{slice_split}
 
+-- the most bytes of a line
+abbrev pub most_line_bytes : ℕ
+most_line_bytes = 1024
+
+-- the most bytes that are taken past the limit of a text: those of a line that is too long
+abbrev pub bytes_past_limit : ℕ
+bytes_past_limit = 1025
+
 -- a line, and whether an LF follows it
 pub record Line : Type 0 where
   pub bytes : List ℕ

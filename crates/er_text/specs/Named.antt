@@ -9,7 +9,7 @@ use Rattle.er_event.specs.declared.steps.Event.TheVariants as event
 use Rattle.er_event.specs.declared.steps.Step.{Step}
 use Rattle.er_text.specs.declared.verbs.Version.{Version}
 use Rattle.er_text.specs.Lines.{Placed, words}
-use Rattle.er_text.specs.Events.{Saying, Deed, Acquires, Releases, Accesses, Reuses, IgnoresOn, IgnoresOff, Shows, Levels, run_parts}
+use Rattle.er_text.specs.Events.{EventLine, Operation, Acquires, Releases, Accesses, Reuses, IgnoresOn, IgnoresOff, Shows, Levels, run_parts}
 use Rattle.er_text.specs.Trace.{Says}
 
 -- sites are numbered from 1, and the missing site is 0
@@ -18,7 +18,7 @@ IsSiteNumber sites n None = n ≡ 0
 IsSiteNumber sites n (Some site) = (0 < n) × (slice_get sites (n - 1) ≡ Some site)
 
 -- the event does this, under these names; a reuse is the event of one page
-abbrev pub Does : NameTable → Deed → Event → Type 0
+abbrev pub Does : NameTable → Operation → Event → Type 0
 Does names (Acquires lock m) e = (n : ℕ) × (e ≡ event.Acquire n m) × (slice_get names.locks n ≡ Some lock)
 Does names (Releases lock m) e = (n : ℕ) × (e ≡ event.Release n m) × (slice_get names.locks n ≡ Some lock)
 Does names (Accesses k w site) e = (n : ℕ) × (e ≡ event.Access k w n) × IsSiteNumber names.sites n site
@@ -30,10 +30,10 @@ Does names (Levels n) e = e ≡ event.Level n
 
 -- the step is one of what the line says
 pub record IsToldBy (v : Version) (names : NameTable) (step : Step) (p : Placed) : Type 0 where
-  pub saying : Saying
-  pub says : Says v (words p.line.bytes) saying
-  pub thread : slice_get names.threads step.thread ≡ Some saying.thread
-  pub does : Does names saying.deed step.event
+  pub event_line : EventLine
+  pub says : Says v (words p.line.bytes) event_line
+  pub thread : slice_get names.threads step.thread ≡ Some event_line.thread
+  pub does : Does names event_line.operation step.event
 
 -- each step is told by one of these event lines, whose number stands beside it
 abbrev pub AreNamed : Version → List Placed → NameTable → List Step → List ℕ → Type 0

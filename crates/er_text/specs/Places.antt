@@ -1,6 +1,5 @@
 -- How far a reader has come in a text.
-use Rattle.std.specs.Prelude.{ℕ, ◌<◌, List, Option, length}
-use Rattle.er_trace.specs.Names.{NameTable}
+use Rattle.std.specs.Prelude.{ℕ, List, Option}
 use Rattle.er_text.specs.declared.verbs.Version.{Version}
 
 -- a place in a text: the most bytes of the text, the number of the next line, the bytes before that line, and those that were read ahead
@@ -14,9 +13,3 @@ pub record Place : Type 0 where
 pub record Reached : Type 0 where
   pub place : Place
   pub version : Option Version
-
--- each line names at most one thread, one lock and one site, so there are fewer names than lines
-pub record HasFewerNames (names : NameTable) (next : ℕ) : Type 0 where
-  pub threads : length names.threads < next
-  pub locks : length names.locks < next
-  pub sites : length names.sites < next

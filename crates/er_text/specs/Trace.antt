@@ -4,6 +4,7 @@ use Rattle.std.specs.List.{AllByRecursion}
 use Rattle.std.specs.Option.{is_some}
 use Rattle.std.specs.Str.{bytes_eq}
 use Rattle.er_trace.specs.Trace.{Recording, no_steps}
+use Rattle.er_event.specs.Span.{most_bytes}
 use Rattle.er_event.specs.declared.steps.Kind.{Kind}
 use Rattle.er_event.specs.declared.steps.Kind.TheVariants as kind
 use Rattle.er_event.specs.declared.steps.Mode.{Mode}
@@ -22,7 +23,7 @@ use Rattle.er_text.specs.FirstFault.{IsPlain, known_after, HasNone, IsFirstFault
 use Rattle.er_text.specs.Number.{number_of}
 use Rattle.er_text.specs.Naming.{is_name, is_lock_name}
 use Rattle.er_text.specs.Verbs.{version_word, verb_of, version_of, least_of, most_of}
-use Rattle.er_text.specs.Events.{Saying, Deed, Acquires, Releases, Accesses, Reuses, IgnoresOn, IgnoresOff, Shows, Levels, run_of, tell}
+use Rattle.er_text.specs.Events.{EventLine, Operation, Acquires, Releases, Accesses, Reuses, IgnoresOn, IgnoresOff, Shows, Levels, run_of, with_line}
 
 abbrev pub acquire_word : Mode → List ℕ
 acquire_word mode.Write = codes "lock"
@@ -43,38 +44,38 @@ IsSite (word ∷ []) site = (is_name word ≡ true) × (site ≡ (if bytes_eq wo
 IsSite (word ∷ more ∷ words) site = ⊥
 
 -- the words with which a thread does this, in a text of this version
-abbrev pub IsDeed : Version → List (List ℕ) → List ℕ → Deed → Type 0
-IsDeed v words thread (Acquires lock m) = (words ≡ thread ∷ acquire_word m ∷ lock ∷ []) × (is_lock_name lock ≡ true)
-IsDeed v words thread (Releases lock m) = (words ≡ thread ∷ release_word m ∷ lock ∷ []) × (is_lock_name lock ≡ true)
-IsDeed v words thread (Accesses k w site) =
+abbrev pub IsOperation : Version → List (List ℕ) → List ℕ → Operation → Type 0
+IsOperation v words thread (Acquires lock m) = (words ≡ thread ∷ acquire_word m ∷ lock ∷ []) × (is_lock_name lock ≡ true)
+IsOperation v words thread (Releases lock m) = (words ≡ thread ∷ release_word m ∷ lock ∷ []) × (is_lock_name lock ≡ true)
+IsOperation v words thread (Accesses k w site) =
     (address : List ℕ) × (n : ℕ) × (behind : List (List ℕ)) × (words ≡ thread ∷ kind_word k ∷ address ∷ behind)
     × (number_of address ≡ Some n) × (n < 2 ^ 48) × (w ≡ n / 4) × IsSite behind site
-IsDeed v words thread (Reuses run) =
+IsOperation v words thread (Reuses run) =
     (address size : List ℕ) × (a n : ℕ) × (words ≡ thread ∷ codes "reuse" ∷ address ∷ size ∷ [])
-    × (number_of address ≡ Some a) × (number_of size ≡ Some n) × (n ≤ 4194304) × (a < 2 ^ 48) × (a + n ≤ 2 ^ 48) × (run ≡ run_of a n)
-IsDeed v words thread IgnoresOn = words ≡ thread ∷ codes "ignore-on" ∷ []
-IsDeed v words thread IgnoresOff = words ≡ thread ∷ codes "ignore-off" ∷ []
-IsDeed v words thread (Shows w) =
+    × (number_of address ≡ Some a) × (number_of size ≡ Some n) × (n ≤ most_bytes) × (a < 2 ^ 48) × (a + n ≤ 2 ^ 48) × (run ≡ run_of a n)
+IsOperation v words thread IgnoresOn = words ≡ thread ∷ codes "ignore-on" ∷ []
+IsOperation v words thread IgnoresOff = words ≡ thread ∷ codes "ignore-off" ∷ []
+IsOperation v words thread (Shows w) =
     (address : List ℕ) × (n : ℕ) × (words ≡ thread ∷ codes "show" ∷ address ∷ []) × (number_of address ≡ Some n) × (n < 2 ^ 48) × (w ≡ n / 4)
-IsDeed v words thread (Levels n) =
+IsOperation v words thread (Levels n) =
     (level : List ℕ) × (words ≡ thread ∷ codes "level" ∷ level ∷ []) × (number_of level ≡ Some n) × (n ≤ 31) × (v ≡ version.Two)
 
 -- what an event line says
-abbrev pub Says : Version → List (List ℕ) → Saying → Type 0
-Says v words s = (is_name s.thread ≡ true) × IsDeed v words s.thread s.deed
+abbrev pub Says : Version → List (List ℕ) → EventLine → Type 0
+Says v words s = (is_name s.thread ≡ true) × IsOperation v words s.thread s.operation
 
 -- event lines and what they say, one for one
-abbrev pub AllSay : Version → List Placed → List Saying → Type 0
+abbrev pub AllSay : Version → List Placed → List EventLine → Type 0
 AllSay v [] [] = Unit {0}
 AllSay v (p ∷ ps) (s ∷ ss) = Says v (words p.line.bytes) s × AllSay v ps ss
 AllSay v [] (s ∷ ss) = ⊥
 AllSay v (p ∷ ps) [] = ⊥
 
 -- the steps of event lines in order, with names numbered by first appearance
-abbrev pub tell_all : List Placed → List Saying → Recording → Recording
-tell_all (p ∷ ps) (s ∷ ss) r = tell_all ps ss (tell p.number s r)
-tell_all (p ∷ ps) [] r = r
-tell_all [] ss r = r
+abbrev pub with_lines : List Placed → List EventLine → Recording → Recording
+with_lines (p ∷ ps) (s ∷ ss) r = with_lines ps ss (with_line p.number s r)
+with_lines (p ∷ ps) [] r = r
+with_lines [] ss r = r
 
 abbrev pub header_words : Version → List (List ℕ)
 header_words v = codes "eraser" ∷ codes "trace" ∷ version_word v ∷ []
@@ -98,7 +99,7 @@ access_kinds operands =
 abbrev pub reuse_kinds : List (List ℕ) → List (Bool × TextKind)
 reuse_kinds operands =
     (not (is_number_at 0 operands), BadNumber) ∷ (not (is_number_at 1 operands), BadNumber)
-    ∷ (nat_lt 4194304 (number_at 1 operands), SizeTooLarge)
+    ∷ (nat_lt most_bytes (number_at 1 operands), SizeTooLarge)
     ∷ (nat_le (2 ^ 48) (number_at 0 operands) || nat_lt (2 ^ 48) (number_at 0 operands + number_at 1 operands), AddressOutOfRange) ∷ []
 
 abbrev pub show_kinds : List (List ℕ) → List (Bool × TextKind)
@@ -167,9 +168,9 @@ pub record IsTrace (text : List ℕ) (limit : ℕ) (t : Recording) : Type 0 wher
   pub content : filter has_content (placed text) ≡ header ∷ events
   pub version : Version
   pub opens : words header.line.bytes ≡ header_words version
-  pub sayings : List Saying
-  pub says : AllSay version events sayings
-  pub told : t ≡ tell_all events sayings no_steps
+  pub event_lines : List EventLine
+  pub says : AllSay version events event_lines
+  pub told : t ≡ with_lines events event_lines no_steps
 
 -- what is told of a text: its trace, or its fault, unless memory or the reader failed
 abbrev pub Tells : List ℕ → ℕ → Result Recording ReadFault → Type 0

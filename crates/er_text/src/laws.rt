@@ -2,8 +2,8 @@
 ghost use Rattle.std.specs.Prelude.{◌≡◌, ◌⊎◌, ◌++◌, ℕ, List, Option};
 ghost use Rattle.er_event.specs.declared.steps.Step.{Step};
 ghost use Rattle.er_text.specs.Places.{Reached};
-ghost use Rattle.er_text.specs.Batches.{HasRead, without_steps};
-ghost use Rattle.er_trace.specs.Trace.{Recording};
+ghost use Rattle.er_text.specs.Batches.{HasRead};
+ghost use Rattle.er_trace.specs.Trace.{Recording, without_steps};
 ghost use Rattle.er_text.specs.declared.faults.TextFault.{TextFault};
 ghost use Rattle.er_text.specs.Named.{AreNamed};
 ghost use Rattle.er_text.specs.Trace.{IsTrace, IsFault};

@@ -5,11 +5,11 @@
 //! [`read_suppressions`] reads the rules that keep races out of a report, and gives them as
 //! [`Suppressions`](er_rules::Suppressions). All three go over the same reader of lines (`lines`).
 //!
-//! What they promise, by the names of clauses: what is told of a text is its trace, or its rules, or its fault by the grammar
-//! (`told`), and every text has exactly one of these (`trace_or_fault`, `rules_or_fault`); batches, one behind the other, are the
-//! trace of the whole text, also if the caller takes their steps away (`told` of `next_batch`, `a_batch_may_be_forgotten`); a fault
-//! of the reader is reported if and only if the reader failed (`failed`); no reading takes more than `byte_limit` and 1,025 bytes
-//! (`taken`).
+//! What they promise, by the names of clauses: the answer for a text is its trace, or its rules, or its fault by the grammar
+//! (`told`), and every text has exactly one of these (`trace_or_fault`, `rules_or_fault`); batches, one after another, are the
+//! trace of the whole text, also if the caller clears the trace between them (`told` of `next_batch`, `a_batch_may_be_forgotten`);
+//! a fault of the reader is reported if and only if the reader failed (`failed`); no reading takes more than `byte_limit` and 1,025
+//! bytes (`taken`).
 //!
 //! ```
 //! let mut reader = Device::new(b"eraser trace 1\nt1 lock m\nt1 write 0x1000 save.c:12\n".as_slice());
@@ -27,18 +27,18 @@ pub use laws::{a_batch_may_be_forgotten, rules_or_fault, steps_are_named, trace_
 pub use reading::{Batch, TraceReader, read_trace};
 pub use suppressions::read_suppressions;
 
+mod adding;
 mod bytes;
 mod classes;
+mod fast_path;
 mod faults;
 mod laws;
 mod lines;
 mod naming;
 mod numbers;
+mod parsing;
 mod reading;
 mod rules;
-mod saying;
 mod suppressions;
-mod telling;
-mod usual;
 mod verbs;
 mod windows;

@@ -1,11 +1,12 @@
 //! The lines of a text, one after another, in whatever pieces a reader gives its bytes.
 ghost use Rattle.std.specs.Prelude.{◌≡◌, ◌+◌, ◌<◌, ◌≤◌, ◌^◌, length, take, OnOk, IfOk, IfSome, IsErrOf, if◌then◌else◌, ℕ, List, Option, false};
 ghost use Rattle.er_device.specs.Device.{inner_of, has_failed, taken_of};
+ghost use Rattle.er_text.specs.Lines.{bytes_past_limit};
 ghost use Rattle.er_text.specs.Trace.{HasFailedBy};
 ghost use Rattle.er_text.specs.Inner.Lending.{taken_by, lines_left, front_width, past, IsInFront, IsWithin, Finds};
 
 use crate::faults::{ReadFault, TextKind, fault_at};
-use crate::windows::{Front, Window};
+use crate::windows::{LineEnd, Window};
 use er_device::Device;
 use std::alloc::{AllocError, Global};
 use std::io::Read;
@@ -62,7 +63,7 @@ impl LineReader {
         ensures value { result ≡ self.now.number }
         ensures bound { result ≤ self.now.limit + 1 }
         ensures within { self.now.start ≤ self.now.limit }
-        ensures most { taken_by self.now ≤ self.now.limit + 1025 }
+        ensures most { taken_by self.now ≤ self.now.limit + bytes_past_limit }
     {
         self.number
     }
@@ -99,14 +100,14 @@ impl LineReader {
         ensures within { self.new.start ≤ self.new.limit }
         ensures failed { HasFailedBy (has_failed reader.new) result }
         ensures taken { taken_of reader.new + taken_by self.old ≤ taken_of reader.old + taken_by self.new }
-        ensures most { taken_by self.new ≤ self.new.limit + 1025 }
+        ensures most { taken_by self.new ≤ self.new.limit + bytes_past_limit }
     {
         let most = (self.limit + 1025 - self.start) as usize;
         match self.window.find(reader, most)? {
-            Front::Long => Err(fault_at(self.number, TextKind::LineTooLong)),
-            Front::Whole(len) => self.within(FrontLine { len, ended: true }),
-            Front::Last(0) => Ok(None),
-            Front::Last(len) => self.within(FrontLine { len, ended: false }),
+            LineEnd::Long => Err(fault_at(self.number, TextKind::LineTooLong)),
+            LineEnd::Whole(len) => self.within(FrontLine { len, ended: true }),
+            LineEnd::Last(0) => Ok(None),
+            LineEnd::Last(len) => self.within(FrontLine { len, ended: false }),
         }
     }
 

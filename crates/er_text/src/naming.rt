@@ -2,7 +2,7 @@
 ghost use Rattle.std.specs.Prelude.{◌≡◌, IsTrue};
 ghost use Rattle.std.specs.List.{list_all};
 ghost use Rattle.er_text.specs.Naming.{is_name, is_name_byte, name_of, lock_name_of};
-ghost use Rattle.er_text.specs.Inner.Saying.{seen_name};
+ghost use Rattle.er_text.specs.Inner.Parsing.{seen_name};
 
 use crate::classes::is_name_byte;
 

@@ -1,22 +1,22 @@
 //! Traces, line by line, and batch by batch.
 ghost use Rattle.std.specs.Prelude.{◌≡◌, ◌+◌, ◌<◌, ◌≤◌, ◌^◌, length, OnOk, IfOk, IfSome, IfErr, IsErrOf, IsSome, true, false, Option, ℕ, List, [], Some};
 ghost use Rattle.er_device.specs.Device.{inner_of, has_failed, taken_of};
+ghost use Rattle.er_text.specs.Lines.{bytes_past_limit};
 ghost use Rattle.er_text.specs.Trace.{Tells, HasFailedBy};
-ghost use Rattle.er_text.specs.Places.{HasFewerNames};
 ghost use Rattle.er_trace.specs.Trace.{no_steps};
 ghost use Rattle.er_event.specs.declared.steps.Step.{Step};
 ghost use Rattle.er_text.specs.Named.{Grows};
 ghost use Rattle.er_text.specs.Batches.{HasRead, GivesBatch};
 ghost use Rattle.er_text.specs.Inner.Lending.{taken_by, lines_left};
 ghost use Rattle.er_text.specs.Inner.Reading.{Reads, Turns};
-ghost use Rattle.er_text.specs.Inner.Traces.{progress, at_line, read_at, plain_at, read_content, read_text, IsOutcome, Batches, HasNumbers, AddsNames};
+ghost use Rattle.er_text.specs.Inner.Traces.{progress, at_line, read_at, plain_at, read_content, read_text, IsOutcome, Batches};
 
+use crate::adding::add_steps;
 use crate::bytes::{is_ascii, says_something};
+use crate::fast_path::parse_usual;
 use crate::faults::{ReadFault, TextKind, fault_at};
 use crate::lines::LineReader;
-use crate::saying::split_words;
-use crate::telling::tell;
-use crate::usual::usual_said;
+use crate::parsing::split_words;
 use crate::verbs::Version;
 use er_device::Device;
 use er_trace::Trace;
@@ -33,9 +33,7 @@ struct Header {
 impl Header {
     /// Reads a line of ASCII.
     fn read(&mut self, trace: &mut Trace, line: u64, bytes: &[u8]) -> Result<(), ReadFault>
-        requires { HasNumbers trace.old }
         ensures read { Reads line (at_line (line + 1) self.new.version trace.new) result (read_at (at_line line self.old.version trace.old) line bytes.now) }
-        ensures names { OnOk result (AddsNames trace.old trace.new) }
         ensures failed { IsErrOf result ReadFault.Read → ⊥ }
     {
         let words = split_words(bytes);
@@ -49,10 +47,10 @@ impl Header {
                 None => Err(fault_at(line, TextKind::NoHeader)),
             };
         };
-        match words.said(version) {
+        match words.parse(version) {
             Err(kind) => Err(fault_at(line, kind)),
-            Ok(said) => {
-                tell(trace, line, &said)?;
+            Ok(parsed) => {
+                add_steps(trace, line, &parsed)?;
                 Ok(())
             }
         }
@@ -60,15 +58,13 @@ impl Header {
 
     /// Reads a line in the limits. A line in its usual form is ASCII, and so the test is for the others alone.
     fn read_plain(&mut self, trace: &mut Trace, line: u64, bytes: &[u8]) -> Result<(), ReadFault>
-        requires { HasNumbers trace.old }
         ensures read { Reads line (at_line (line + 1) self.new.version trace.new) result (plain_at (at_line line self.old.version trace.old) line bytes.now) }
-        ensures names { OnOk result (AddsNames trace.old trace.new) }
         ensures failed { IsErrOf result ReadFault.Read → ⊥ }
     {
         if let Some(_) = self.version
-            && let Some(said) = usual_said(bytes)
+            && let Some(parsed) = parse_usual(bytes)
         {
-            tell(trace, line, &said)?;
+            add_steps(trace, line, &parsed)?;
             return Ok(());
         }
         if !is_ascii(bytes) {
@@ -90,7 +86,7 @@ pub enum Batch {
 /// A reader of a trace text that gives its steps batch by batch, so that nobody has to keep all of them.
 ///
 /// Each call of [`next_batch`](TraceReader::next_batch) takes the same device and the same trace. Between two calls the caller may
-/// take the steps of the trace away. It keeps the names, whose numbers later steps use.
+/// [`clear`](Trace::clear) the trace, which keeps the names, whose numbers later steps use.
 #[derive(Drop)]
 pub struct TraceReader {
     lines: LineReader,
@@ -98,20 +94,17 @@ pub struct TraceReader {
 }
 
 impl Model for TraceReader {
-    ghost use Rattle.std.specs.Prelude.{◌≤◌};
     ghost use Rattle.er_text.specs.Places.{Reached};
 
     ghost Value = { Reached };
 
     ghost view = { λ r. record { place = r.lines; version = r.header.version } };
-
-    ghost invariant = { λ r. r.lines.limit ≤ 268435456 };
 }
 
 impl TraceReader {
     /// A reader in front of a text of at most `limit` bytes.
     pub fn new(alloc: Global, limit: u64) -> Result<TraceReader, AllocError>
-        requires { limit ≤ 268435456 }
+        requires { limit ≤ 2 ^ 62 }
         ensures limit { IfOk result (λ r. r.place.limit ≡ limit) }
         ensures number { IfOk result (λ r. r.place.number ≡ 1) }
         ensures start { IfOk result (λ r. r.place.start ≡ 0) }
@@ -132,18 +125,16 @@ impl TraceReader {
         reader: &mut Device<R>,
         trace: &mut Trace,
     ) -> Result<bool, ReadFault>
-        requires open { has_failed reader.old ≡ false }
-        requires names { HasFewerNames trace.old.names self.old.place.number }
+        requires { has_failed reader.old ≡ false }
         ensures turn { Turns self.old.place.limit read_content (lines_left self.old.place (R.remaining (inner_of reader.old)))
             (lines_left self.new.place (R.remaining (inner_of reader.new))) (progress self.old trace.old) (progress self.new trace.new) result }
-        ensures names { OnOk result (HasFewerNames trace.new.names self.new.place.number) }
         ensures grows { OnOk result (Grows trace.old trace.new) }
         ensures limit { self.new.place.limit ≡ self.old.place.limit }
         ensures more { IfOk result (λ more. more ≡ true → self.old.place.start < self.new.place.start) }
         ensures within { self.new.place.start ≤ self.new.place.limit }
         ensures failed { HasFailedBy (has_failed reader.new) result }
         ensures taken { taken_of reader.new + taken_by self.old.place ≤ taken_of reader.old + taken_by self.new.place }
-        ensures most { taken_by self.new.place ≤ self.new.place.limit + 1025 }
+        ensures most { taken_by self.new.place ≤ self.new.place.limit + bytes_past_limit }
     {
         let Some(front) = self.lines.find(reader)? else {
             return Ok(false);
@@ -173,18 +164,16 @@ impl TraceReader {
         trace: &mut Trace,
         most_lines: u32,
     ) -> Result<Batch, ReadFault>
-        requires open { has_failed reader.old ≡ false }
-        requires names { HasFewerNames trace.old.names self.old.place.number }
+        requires { has_failed reader.old ≡ false }
         ensures batch { Batches self.old.place.limit (lines_left self.old.place (R.remaining (inner_of reader.old)))
             (lines_left self.new.place (R.remaining (inner_of reader.new))) (progress self.old trace.old) (progress self.new trace.new) result }
-        ensures names { OnOk result (HasFewerNames trace.new.names self.new.place.number) }
         ensures grows { OnOk result (Grows trace.old trace.new) }
         ensures limit { self.new.place.limit ≡ self.old.place.limit }
         ensures more { IfOk result (λ batch. batch ≡ Batch.More → self.old.place.start + most_lines ≤ self.new.place.start) }
         ensures within { self.new.place.start ≤ self.new.place.limit }
         ensures failed { HasFailedBy (has_failed reader.new) result }
         ensures taken { taken_of reader.new + taken_by self.old.place ≤ taken_of reader.old + taken_by self.new.place }
-        ensures most { taken_by self.new.place ≤ self.new.place.limit + 1025 }
+        ensures most { taken_by self.new.place ≤ self.new.place.limit + bytes_past_limit }
     {
         // What is known of the place, also if no line is asked for.
         let _line = self.lines.number();
@@ -207,8 +196,7 @@ impl TraceReader {
         trace: &mut Trace,
         most_lines: u32,
     ) -> Result<Batch, ReadFault>
-        requires open { has_failed reader.old ≡ false }
-        requires names { HasFewerNames trace.old.names self.old.place.number }
+        requires { has_failed reader.old ≡ false }
 
         // Of a text that was read so far it gives more steps, or the whole trace at the end, or the first fault of the text.
         ensures told { (text : List ℕ) (steps : List Step) (lines : List ℕ)
@@ -218,8 +206,6 @@ impl TraceReader {
         // The steps that the trace had stay in front, and names keep their numbers.
         ensures grows { OnOk result (Grows trace.old trace.new) }
 
-        // The next call may be made.
-        ensures names { OnOk result (HasFewerNames trace.new.names self.new.place.number) }
         ensures limit { self.new.place.limit ≡ self.old.place.limit }
 
         // A batch that isn't the last has passed over a byte for each line, within the limit.
@@ -228,7 +214,7 @@ impl TraceReader {
 
         ensures failed { HasFailedBy (has_failed reader.new) result }
         ensures taken { taken_of reader.new + taken_by self.old.place ≤ taken_of reader.old + taken_by self.new.place }
-        ensures most { taken_by self.new.place ≤ self.new.place.limit + 1025 }
+        ensures most { taken_by self.new.place ≤ self.new.place.limit + bytes_past_limit }
     {
         self.read_batch(reader, trace, most_lines)
     }
@@ -241,10 +227,10 @@ fn read_all<R: Read>(
     byte_limit: u64,
 ) -> Result<Trace, ReadFault>
     requires open { has_failed reader.old ≡ false }
-    requires limit { byte_limit ≤ 268435456 }
+    requires limit { byte_limit ≤ 2 ^ 62 }
     ensures outcome { IfSome (R.remaining (inner_of reader.old)) (λ text. IsOutcome (read_text byte_limit text) result) }
     ensures failed { HasFailedBy (has_failed reader.new) result }
-    ensures taken { taken_of reader.new ≤ taken_of reader.old + byte_limit + 1025 }
+    ensures taken { taken_of reader.new ≤ taken_of reader.old + byte_limit + bytes_past_limit }
 {
     let mut lines = TraceReader::new(alloc, byte_limit)?;
     let mut trace = Trace::new(alloc);
@@ -255,21 +241,21 @@ fn read_all<R: Read>(
 
 /// Reads a trace text to its end, or to its first faulty line, in whatever pieces it comes.
 ///
-/// The text has at most `byte_limit` bytes, and the limit is at most 268,435,456 (256 MiB). What follows a faulty line may or may
-/// not have been taken from the reader. No memory is kept but that of the trace and a window of 65,536 bytes.
+/// The text has at most `byte_limit` bytes, and the limit is at most 2^62. What follows a faulty line may or may not have been taken
+/// from the reader. No memory is kept but that of the trace and a window of 65,536 bytes.
 pub fn read_trace<R: Read>(
     alloc: Global,
     reader: &mut Device<R>,
     byte_limit: u64,
 ) -> Result<Trace, ReadFault>
     requires open { has_failed reader.old ≡ false }
-    requires limit { byte_limit ≤ 268435456 }
+    requires limit { byte_limit ≤ 2 ^ 62 }
 
     // If the reader's bytes are known, the answer is their trace, or their fault.
     ensures told { IfSome (R.remaining (inner_of reader.old)) (λ text. Tells text byte_limit result) }
 
     ensures failed { HasFailedBy (has_failed reader.new) result }
-    ensures taken { taken_of reader.new ≤ taken_of reader.old + byte_limit + 1025 }
+    ensures taken { taken_of reader.new ≤ taken_of reader.old + byte_limit + bytes_past_limit }
 {
     read_all(alloc, reader, byte_limit)
 }

@@ -3,7 +3,7 @@ ghost use Rattle.std.specs.Prelude.{◌≡◌};
 ghost use Rattle.er_text.specs.Inner.RuleLines.{GivesRun, GivesRule, site_rule_in, long_run_in, run_rule_in, rule_in};
 
 use crate::faults::TextKind;
-use crate::saying::{Words, number, site_of};
+use crate::parsing::{Words, number, site_of};
 use er_event::Word;
 use er_rules::WordSpan;
 

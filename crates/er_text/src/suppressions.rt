@@ -1,10 +1,11 @@
 //! Suppressions, line by line.
-ghost use Rattle.std.specs.Prelude.{◌≡◌, ◌+◌, ◌<◌, ◌≤◌, length, OnOk, IfOk, IfSome, IsErrOf, true, false, option_map, string_bytes};
+ghost use Rattle.std.specs.Prelude.{◌≡◌, ◌+◌, ◌^◌, ◌<◌, ◌≤◌, length, OnOk, IfOk, IfSome, IsErrOf, true, false, option_map, string_bytes};
 ghost use Rattle.er_device.specs.Device.{inner_of, has_failed, taken_of};
 ghost use Rattle.er_rules.specs.Rules.{target_of, targets_of};
+ghost use Rattle.er_text.specs.Lines.{bytes_past_limit};
 ghost use Rattle.er_text.specs.Trace.{HasFailedBy};
 ghost use Rattle.er_text.specs.Rules.{TellsRules};
-ghost use Rattle.er_text.specs.Inner.Saying.{seen_name};
+ghost use Rattle.er_text.specs.Inner.Parsing.{seen_name};
 ghost use Rattle.er_text.specs.Inner.Lending.{taken_by, lines_left};
 ghost use Rattle.er_text.specs.Inner.Reading.{Reads, Turns};
 ghost use Rattle.er_text.specs.Inner.RuleLines.{add_line, plain_rule_at, rules_in, rule_view, IsRulesOutcome};
@@ -12,8 +13,8 @@ ghost use Rattle.er_text.specs.Inner.RuleLines.{add_line, plain_rule_at, rules_i
 use crate::bytes::{is_ascii, says_something};
 use crate::faults::{ReadFault, TextKind, fault_at};
 use crate::lines::LineReader;
+use crate::parsing::split_words;
 use crate::rules::{LineRule, rule_of};
-use crate::saying::split_words;
 use er_device::Device;
 use er_rules::{Rule, Suppressions};
 use std::alloc::{AllocError, Global};
@@ -79,7 +80,7 @@ fn next_rule<R: Read>(
     ensures within { lines.new.start ≤ lines.new.limit }
     ensures failed { HasFailedBy (has_failed reader.new) result }
     ensures taken { taken_of reader.new + taken_by lines.old ≤ taken_of reader.old + taken_by lines.new }
-    ensures most { taken_by lines.new ≤ lines.new.limit + 1025 }
+    ensures most { taken_by lines.new ≤ lines.new.limit + bytes_past_limit }
 {
     let Some(front) = lines.find(reader)? else {
         return Ok(false);
@@ -98,10 +99,10 @@ fn read_rules<R: Read>(
     byte_limit: u64,
 ) -> Result<Suppressions, ReadFault>
     requires open { has_failed reader.old ≡ false }
-    requires limit { byte_limit ≤ 268435456 }
+    requires limit { byte_limit ≤ 2 ^ 62 }
     ensures outcome { IfSome (R.remaining (inner_of reader.old)) (λ text. IsRulesOutcome (rules_in byte_limit text) result) }
     ensures failed { HasFailedBy (has_failed reader.new) result }
-    ensures taken { taken_of reader.new ≤ taken_of reader.old + byte_limit + 1025 }
+    ensures taken { taken_of reader.new ≤ taken_of reader.old + byte_limit + bytes_past_limit }
 {
     let mut lines = LineReader::new(alloc, byte_limit)?;
     let mut rules = Suppressions::new(alloc);
@@ -114,21 +115,21 @@ fn read_rules<R: Read>(
 /// Each line that isn't blank or a comment is a rule: `site NAME`, of which `-` is the missing site, or `words ADDRESS SIZE`, the
 /// size in bytes. A line of a race in the report names its site and its address as they are written here.
 ///
-/// The text has at most `byte_limit` bytes, and the limit is at most 268,435,456 (256 MiB). What follows a faulty line may or may
-/// not have been taken from the reader. No memory is kept but that of the rules and a window of 65,536 bytes.
+/// The text has at most `byte_limit` bytes, and the limit is at most 2^62. What follows a faulty line may or may not have been taken
+/// from the reader. No memory is kept but that of the rules and a window of 65,536 bytes.
 pub fn read_suppressions<R: Read>(
     alloc: Global,
     reader: &mut Device<R>,
     byte_limit: u64,
 ) -> Result<Suppressions, ReadFault>
     requires open { has_failed reader.old ≡ false }
-    requires limit { byte_limit ≤ 268435456 }
+    requires limit { byte_limit ≤ 2 ^ 62 }
 
     // If the reader's bytes are known, the answer is their rules, or their fault.
     ensures told { IfSome (R.remaining (inner_of reader.old)) (λ text. TellsRules text byte_limit result) }
 
     ensures failed { HasFailedBy (has_failed reader.new) result }
-    ensures taken { taken_of reader.new ≤ taken_of reader.old + byte_limit + 1025 }
+    ensures taken { taken_of reader.new ≤ taken_of reader.old + byte_limit + bytes_past_limit }
 {
     read_rules(alloc, reader, byte_limit)
 }

@@ -14,14 +14,14 @@ const SIZE: usize = 65536;
 /// The most bytes that a line has, without its LF.
 const LINE: usize = 1024;
 
-/// What stands in front of a window.
+/// Where the line in front of a window ends.
 #[derive(Clone, Copy, Debug, PartialEq, Eq)]
-pub(crate) enum Front {
-    /// A line of so many bytes, and its LF.
+pub(crate) enum LineEnd {
+    /// After this many bytes, with an LF.
     Whole(usize),
-    /// The last bytes of the text, which no LF follows.
+    /// After this many bytes, with the text.
     Last(usize),
-    /// A line of more than 1,024 bytes.
+    /// After more than 1,024 bytes.
     Long,
 }
 
@@ -104,7 +104,7 @@ impl Window {
         &mut self,
         reader: &mut Device<R>,
         most: usize,
-    ) -> Result<Front, Failed>
+    ) -> Result<LineEnd, Failed>
         requires most { 1024 < most }
         requires held { length (items self.old) ≤ most }
         ensures front { IfOk result (λ front. Shows front (items self.new) (R.remaining (inner_of reader.new))) }
@@ -118,13 +118,13 @@ impl Window {
             let bytes = self.as_slice();
             let len = line_len(bytes);
             if len > LINE {
-                return Ok(Front::Long);
+                return Ok(LineEnd::Long);
             }
             if len < bytes.len() {
-                return Ok(Front::Whole(len));
+                return Ok(LineEnd::Whole(len));
             }
             if self.fill(reader, most)? == 0 {
-                return Ok(Front::Last(len));
+                return Ok(LineEnd::Last(len));
             }
         }
     }

@@ -1,2 +1,4 @@
 pub mod NamesLemmas
 pub mod NumberLemmas
+pub mod PackedLemmas
+pub mod RecentLemmas

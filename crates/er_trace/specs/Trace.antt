@@ -34,6 +34,10 @@ pub record IsNamed (names : NameTable) (step : Step) : Type 0 where
 abbrev pub with_step : Recording → Step → ℕ → Recording
 with_step r step line = record r { steps = r.steps ++ step ∷ []; lines = r.lines ++ line ∷ [] }
 
+-- the recording without its steps, under the same names
+abbrev pub without_steps : Recording → Recording
+without_steps r = record r { steps = []; lines = [] }
+
 -- the recording once a name of each sort has appeared
 abbrev pub with_thread_name : Recording → List ℕ → Recording
 with_thread_name r name = record r { names = record r.names { threads = with_name r.names.threads name } }

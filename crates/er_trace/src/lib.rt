@@ -12,4 +12,5 @@ pub use names::{Names, equal_names_alone_share_a_number};
 pub use trace::Trace;
 
 mod names;
+mod recent;
 mod trace;

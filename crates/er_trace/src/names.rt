@@ -1,7 +1,9 @@
 //! Numbers for the names of threads, locks and sites.
-ghost use Rattle.std.specs.Prelude.{◌≡◌, ◌+◌, ◌-◌, ◌^◌, ◌<◌, ◌≤◌, ℕ, List, [], length, Some, slice_get, IsTrue, IsOk, IfOk, OnOk, OnErr};
-ghost use Rattle.er_trace.specs.Names.{is_known, number_of, with_name, no_names};
+ghost use Rattle.std.specs.Prelude.{◌≡◌, ◌+◌, ◌-◌, ◌<◌, ◌≤◌, ℕ, List, [], length, Some, slice_get, IsTrue, IsOk, IsErr, IfOk, OnOk, OnErr, false};
+ghost use Rattle.er_trace.specs.Inner.Recent.{bytes_of};
+ghost use Rattle.er_trace.specs.Names.{is_known, number_of, with_name, no_names, most_names};
 
+use crate::recent::{RecentNames, ShortName};
 use er_event::{LockId, Site, ThreadId};
 use indexmap::IndexSet;
 use std::alloc::{AllocError, Global};
@@ -14,15 +16,21 @@ struct NameList {
 }
 
 impl Model for NameList {
-    ghost use Rattle.std.specs.Prelude.{ℕ, List, map};
+    ghost use Rattle.std.specs.Prelude.{ℕ, ◌≤◌, List, length, map};
     ghost use Rattle.std.specs.String.{string_bytes};
+    ghost use Rattle.er_trace.specs.Names.{most_names};
 
     ghost Value = { List (List ℕ) };
 
     ghost view = { λ n. map string_bytes n.names.keys };
+
+    ghost invariant = { λ n. length (map string_bytes n.names.keys) ≤ most_names };
 }
 
 impl NameList {
+    /// How many names can have numbers.
+    const MOST: usize = 1 << 30;
+
     fn new(alloc: Global) -> Self
         ensures { result ≡ [] }
     {
@@ -37,10 +45,14 @@ impl NameList {
         ensures ok { OnOk result (self.new ≡ with_name self.old name.now) }
         ensures err { OnErr result (self.new ≡ self.old) }
         ensures known { IsTrue (is_known self.old name.now) → IsOk result }
-        ensures within { IfOk result (λ n. n ≤ length self.old) }
+        ensures within { IfOk result (λ n. n < most_names) }
+        ensures full { most_names ≤ length self.old → is_known self.old name.now ≡ false → IsErr result }
     {
         if let Some(number) = self.names.get_index_of(name) {
             return Ok(number);
+        }
+        if self.names.len() >= NameList::MOST {
+            return Err(AllocError);
         }
         let name = String::from_str(*self.names.allocator(), name)?;
         let (number, _) = self.names.insert_full(name)?;
@@ -55,12 +67,94 @@ impl NameList {
     }
 }
 
+/// Names of one sort, of which a short one that appeared lately is found without a hash.
+#[derive(Drop)]
+struct CachedNames {
+    list: NameList,
+    recent: RecentNames,
+}
+
+impl Model for CachedNames {
+    ghost use Rattle.std.specs.Prelude.{ℕ, List};
+    ghost use Rattle.er_trace.specs.Inner.Recent.{AreRight};
+
+    ghost Value = { List (List ℕ) };
+
+    ghost view = { λ n. n.list };
+
+    ghost invariant = { λ n. AreRight n.list n.recent };
+}
+
+impl CachedNames {
+    fn new(alloc: Global) -> Self
+        ensures { result ≡ [] }
+    {
+        CachedNames {
+            list: NameList::new(alloc),
+            recent: RecentNames::new(alloc),
+        }
+    }
+
+    /// The place of a name, which is a new one if the name is new.
+    #[inline(always)]
+    fn number(&mut self, name: &str) -> Result<usize, AllocError>
+        ensures number { IfOk result (λ n. n ≡ number_of self.old name.now) }
+        ensures ok { OnOk result (self.new ≡ with_name self.old name.now) }
+        ensures err { OnErr result (self.new ≡ self.old) }
+        ensures known { IsTrue (is_known self.old name.now) → IsOk result }
+        ensures within { IfOk result (λ n. n < most_names) }
+        ensures full { most_names ≤ length self.old → is_known self.old name.now ≡ false → IsErr result }
+    {
+        let Some(short) = ShortName::of(name) else {
+            return self.number_in_list(name);
+        };
+        match self.recent.find(short) {
+            Some(number) => Ok(number as usize),
+            None => self.number_and_remember(name, short),
+        }
+    }
+
+    /// The same, by a look into the whole list.
+    fn number_in_list(&mut self, name: &str) -> Result<usize, AllocError>
+        ensures number { IfOk result (λ n. n ≡ number_of self.old name.now) }
+        ensures ok { OnOk result (self.new ≡ with_name self.old name.now) }
+        ensures err { OnErr result (self.new ≡ self.old) }
+        ensures known { IsTrue (is_known self.old name.now) → IsOk result }
+        ensures within { IfOk result (λ n. n < most_names) }
+        ensures full { most_names ≤ length self.old → is_known self.old name.now ≡ false → IsErr result }
+    {
+        self.list.number(name)
+    }
+
+    /// The same, after which the name is among the recent ones.
+    fn number_and_remember(&mut self, name: &str, short: ShortName) -> Result<usize, AllocError>
+        requires { bytes_of short ≡ name.now }
+        ensures number { IfOk result (λ n. n ≡ number_of self.old name.now) }
+        ensures ok { OnOk result (self.new ≡ with_name self.old name.now) }
+        ensures err { OnErr result (self.new ≡ self.old) }
+        ensures known { IsTrue (is_known self.old name.now) → IsOk result }
+        ensures within { IfOk result (λ n. n < most_names) }
+        ensures full { most_names ≤ length self.old → is_known self.old name.now ≡ false → IsErr result }
+    {
+        let number = self.list.number(name)?;
+        self.recent.remember(short, number as u32);
+        Ok(number)
+    }
+
+    fn name(&self, number: usize) -> &str
+        requires { number < length self.now }
+        ensures { slice_get self.now number ≡ Some result.now }
+    {
+        self.list.name(number)
+    }
+}
+
 /// The names of threads, locks and sites, each sort numbered by first appearance. Threads and locks count from 0, sites from 1.
 #[derive(Drop)]
 pub struct Names {
-    threads: NameList,
-    locks: NameList,
-    sites: NameList,
+    threads: CachedNames,
+    locks: CachedNames,
+    sites: CachedNames,
 }
 
 impl Model for Names {
@@ -77,43 +171,46 @@ impl Names {
         ensures { result ≡ no_names }
     {
         Names {
-            threads: NameList::new(alloc),
-            locks: NameList::new(alloc),
-            sites: NameList::new(alloc),
+            threads: CachedNames::new(alloc),
+            locks: CachedNames::new(alloc),
+            sites: CachedNames::new(alloc),
         }
     }
 
-    /// The thread of this name, which is a new one if the name is new. `AllocError`: memory was refused, and the names are as they were.
+    /// The thread of this name, which is a new one if the name is new. `AllocError`: memory was refused, or the name is new and there are
+    /// 2^30 others. The names are then as they were.
     pub fn thread(&mut self, name: &str) -> Result<ThreadId, AllocError>
-        requires { length self.old.threads < 2 ^ 30 }
         ensures number { IfOk result (λ thread. thread ≡ number_of self.old.threads name.now) }
         ensures ok { OnOk result (self.new ≡ record self.old { threads = with_name self.old.threads name.now }) }
         ensures err { OnErr result (self.new ≡ self.old) }
         ensures known { IsTrue (is_known self.old.threads name.now) → IsOk result }
+        ensures full { most_names ≤ length self.old.threads → is_known self.old.threads name.now ≡ false → IsErr result }
     {
         let number = self.threads.number(name)?;
         Ok(ThreadId::new(number as u32))
     }
 
-    /// The lock of this name, which is a new one if the name is new. `AllocError`: memory was refused, and the names are as they were.
+    /// The lock of this name, which is a new one if the name is new. `AllocError`: memory was refused, or the name is new and there are
+    /// 2^30 others. The names are then as they were.
     pub fn lock(&mut self, name: &str) -> Result<LockId, AllocError>
-        requires { length self.old.locks < 2 ^ 30 }
         ensures number { IfOk result (λ lock. lock ≡ number_of self.old.locks name.now) }
         ensures ok { OnOk result (self.new ≡ record self.old { locks = with_name self.old.locks name.now }) }
         ensures err { OnErr result (self.new ≡ self.old) }
         ensures known { IsTrue (is_known self.old.locks name.now) → IsOk result }
+        ensures full { most_names ≤ length self.old.locks → is_known self.old.locks name.now ≡ false → IsErr result }
     {
         let number = self.locks.number(name)?;
         Ok(LockId::new(number as u32))
     }
 
-    /// The site of this name, which is a new one if the name is new. `AllocError`: memory was refused, and the names are as they were.
+    /// The site of this name, which is a new one if the name is new. `AllocError`: memory was refused, or the name is new and there are
+    /// 2^30 others. The names are then as they were.
     pub fn site(&mut self, name: &str) -> Result<Site, AllocError>
-        requires { length self.old.sites < 2 ^ 30 }
         ensures number { IfOk result (λ site. site ≡ number_of self.old.sites name.now + 1) }
         ensures ok { OnOk result (self.new ≡ record self.old { sites = with_name self.old.sites name.now }) }
         ensures err { OnErr result (self.new ≡ self.old) }
         ensures known { IsTrue (is_known self.old.sites name.now) → IsOk result }
+        ensures full { most_names ≤ length self.old.sites → is_known self.old.sites name.now ≡ false → IsErr result }
     {
         let number = self.sites.number(name)?;
         Ok(Site::new(number as u32 + 1))

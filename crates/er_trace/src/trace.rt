@@ -1,7 +1,7 @@
 //! `Trace`, steps with their lines and names.
-ghost use Rattle.std.specs.Prelude.{◌≡◌, ◌+◌, ◌^◌, ◌<◌, All, length, IsTrue, IsOk, IfOk, OnOk, OnErr};
-ghost use Rattle.er_trace.specs.Names.{number_of};
-ghost use Rattle.er_trace.specs.Trace.{IsNamed, no_steps, with_step, with_thread_name, with_lock_name, with_site_name};
+ghost use Rattle.std.specs.Prelude.{◌≡◌, ◌+◌, ◌≤◌, All, length, IsTrue, IsOk, IsErr, IfOk, OnOk, OnErr, false};
+ghost use Rattle.er_trace.specs.Names.{is_known, number_of, most_names};
+ghost use Rattle.er_trace.specs.Trace.{IsNamed, no_steps, with_step, without_steps, with_thread_name, with_lock_name, with_site_name};
 
 use crate::Names;
 use er_event::{LockId, Site, Step, ThreadId};
@@ -75,32 +75,46 @@ impl Trace {
         Ok(())
     }
 
-    /// The thread of this name, which is a new one if the name is new. `AllocError`: memory was refused, and the trace is as it was.
+    /// Forgets the steps and their lines. It keeps the names, and the room for as many steps.
+    pub fn clear(&mut self)
+        ensures { self.new ≡ without_steps self.old }
+    {
+        self.steps.clear();
+        self.lines.clear();
+    }
+
+    /// The thread of this name, which is a new one if the name is new. `AllocError`: memory was refused, or the name is new and there are
+    /// 2^30 others. The trace is then as it was.
     pub fn thread(&mut self, name: &str) -> Result<ThreadId, AllocError>
-        requires { length self.old.names.threads < 2 ^ 30 }
         ensures number { IfOk result (λ thread. thread ≡ number_of self.old.names.threads name.now) }
         ensures ok { OnOk result (self.new ≡ with_thread_name self.old name.now) }
         ensures err { OnErr result (self.new ≡ self.old) }
+        ensures known { IsTrue (is_known self.old.names.threads name.now) → IsOk result }
+        ensures full { most_names ≤ length self.old.names.threads → is_known self.old.names.threads name.now ≡ false → IsErr result }
     {
         self.names.thread(name)
     }
 
-    /// The lock of this name, which is a new one if the name is new. `AllocError`: memory was refused, and the trace is as it was.
+    /// The lock of this name, which is a new one if the name is new. `AllocError`: memory was refused, or the name is new and there are
+    /// 2^30 others. The trace is then as it was.
     pub fn lock(&mut self, name: &str) -> Result<LockId, AllocError>
-        requires { length self.old.names.locks < 2 ^ 30 }
         ensures number { IfOk result (λ lock. lock ≡ number_of self.old.names.locks name.now) }
         ensures ok { OnOk result (self.new ≡ with_lock_name self.old name.now) }
         ensures err { OnErr result (self.new ≡ self.old) }
+        ensures known { IsTrue (is_known self.old.names.locks name.now) → IsOk result }
+        ensures full { most_names ≤ length self.old.names.locks → is_known self.old.names.locks name.now ≡ false → IsErr result }
     {
         self.names.lock(name)
     }
 
-    /// The site of this name, which is a new one if the name is new. `AllocError`: memory was refused, and the trace is as it was.
+    /// The site of this name, which is a new one if the name is new. `AllocError`: memory was refused, or the name is new and there are
+    /// 2^30 others. The trace is then as it was.
     pub fn site(&mut self, name: &str) -> Result<Site, AllocError>
-        requires { length self.old.names.sites < 2 ^ 30 }
         ensures number { IfOk result (λ site. site ≡ number_of self.old.names.sites name.now + 1) }
         ensures ok { OnOk result (self.new ≡ with_site_name self.old name.now) }
         ensures err { OnErr result (self.new ≡ self.old) }
+        ensures known { IsTrue (is_known self.old.names.sites name.now) → IsOk result }
+        ensures full { most_names ≤ length self.old.names.sites → is_known self.old.names.sites name.now ≡ false → IsErr result }
     {
         self.names.site(name)
     }

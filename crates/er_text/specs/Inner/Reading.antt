@@ -7,7 +7,7 @@ use Rattle.er_text.specs.declared.faults.TextFault.{TextFault}
 use Rattle.er_text.specs.declared.faults.ReadFault.{ReadFault}
 use Rattle.er_text.specs.declared.faults.ReadFault.TheVariants as fault
 use Rattle.er_text.specs.Lines.{Placed, width, is_ascii}
-use Rattle.er_text.specs.Inner.Saying.{and_then}
+use Rattle.er_text.specs.Inner.Parsing.{and_then}
 
 -- a line in the limits
 abbrev pub read_plain : {T : Type 0} → (T → Placed → Result T TextKind) → T → Placed → Result T TextKind

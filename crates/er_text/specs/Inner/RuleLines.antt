@@ -15,7 +15,7 @@ use Rattle.er_text.specs.declared.rules.LineRule.{LineRule}
 use Rattle.er_text.specs.declared.rules.LineRule.TheVariants.{Site, Words}
 use Rattle.er_text.specs.Lines.{Placed, placed, says_something, has_bytes, words, word_at, is_ascii}
 use Rattle.er_text.specs.Events.{run_of}
-use Rattle.er_text.specs.Inner.Saying.{and_then, map_ok, number_in, site_in, is_outside, seen_name, GivesBy}
+use Rattle.er_text.specs.Inner.Parsing.{and_then, map_ok, number_in, site_in, is_outside, seen_name, GivesBy}
 use Rattle.er_text.specs.Inner.Reading.{read_lines}
 
 abbrev pub site_rule_in : List ℕ → List ℕ → Result Target TextKind

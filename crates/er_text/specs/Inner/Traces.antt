@@ -1,5 +1,5 @@
 -- What the lines of a trace add to what was read of it.
-use Rattle.std.specs.Prelude.{◌≡◌, ℕ, ◌+◌, ◌<◌, ◌≤◌, ◌^◌, not, length, List, Option, Some, None, Result, Ok, Err, if◌then◌else◌}
+use Rattle.std.specs.Prelude.{◌≡◌, ℕ, ◌+◌, not, List, Option, Some, None, Result, Ok, Err, if◌then◌else◌}
 use Rattle.std.specs.List.{list_all}
 use Rattle.er_trace.specs.Trace.{Recording, no_steps}
 use Rattle.er_text.specs.declared.faults.TextKind.{TextKind}
@@ -13,8 +13,8 @@ use Rattle.er_text.specs.declared.verbs.Version.{Version}
 use Rattle.er_text.specs.Places.{Reached}
 use Rattle.er_text.specs.Lines.{Placed, placed, says_something, words, is_ascii}
 use Rattle.er_text.specs.Trace.{version_in}
-use Rattle.er_text.specs.Events.{Saying, tell}
-use Rattle.er_text.specs.Inner.Saying.{said_of}
+use Rattle.er_text.specs.Events.{EventLine, with_line}
+use Rattle.er_text.specs.Inner.Parsing.{parsed_of}
 use Rattle.er_text.specs.Inner.Reading.{read_lines}
 
 -- how far a reading has come: the number of the next line, the version that a header gave, and the steps so far
@@ -35,9 +35,9 @@ progress reader trace = at_line reader.place.number reader.version trace
 abbrev pub skip : Progress → Progress
 skip p = record p { number = p.number + 1 }
 
-abbrev pub tell_said : ℕ → Progress → Result Saying TextKind → Result Progress TextKind
-tell_said line p (Ok said) = Ok (record p { number = p.number + 1; told = tell line said p.told })
-tell_said line p (Err kind) = Err kind
+abbrev pub add_parsed : ℕ → Progress → Result EventLine TextKind → Result Progress TextKind
+add_parsed line p (Ok parsed_line) = Ok (record p { number = p.number + 1; told = with_line line parsed_line p.told })
+add_parsed line p (Err kind) = Err kind
 
 abbrev pub open_with : Progress → Option Version → Result Progress TextKind
 open_with p None = Err NoHeader
@@ -46,7 +46,7 @@ open_with p (Some version) = Ok (record p { number = p.number + 1; version = Som
 -- the words of a line with content, behind a header of this version or before one
 abbrev pub read_words : Option Version → ℕ → Progress → List (List ℕ) → Result Progress TextKind
 read_words None line p words = open_with p (version_in words)
-read_words (Some version) line p words = tell_said line p (said_of version words)
+read_words (Some version) line p words = add_parsed line p (parsed_of version words)
 
 abbrev pub read_at : Progress → ℕ → List ℕ → Result Progress TextKind
 read_at p line bytes = if says_something bytes then read_words p.version line p (words bytes) else Ok (skip p)
@@ -77,18 +77,6 @@ IsOutcome outcome (Ok trace) = outcome ≡ Ok trace
 IsOutcome outcome (Err (fault.Text f)) = outcome ≡ Err f
 IsOutcome outcome (Err fault.Memory) = Unit {0}
 IsOutcome outcome (Err fault.Read) = Unit {0}
-
--- there is a number for one more name of each sort
-pub record HasNumbers (r : Recording) : Type 0 where
-  pub threads : length r.names.threads < 2 ^ 30
-  pub locks : length r.names.locks < 2 ^ 30
-  pub sites : length r.names.sites < 2 ^ 30
-
--- one name more of each sort, at most
-pub record AddsNames (old new : Recording) : Type 0 where
-  pub threads : length new.names.threads ≤ length old.names.threads + 1
-  pub locks : length new.names.locks ≤ length old.names.locks + 1
-  pub sites : length new.names.sites ≤ length old.names.sites + 1
 
 -- some lines were read and there may be more, or the text has ended, or the first fault was found
 abbrev pub Batches : ℕ → Option (List Placed) → Option (List Placed) → Progress → Progress → Result Batch ReadFault → Type 0

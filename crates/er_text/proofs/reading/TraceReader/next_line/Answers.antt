@@ -1,5 +1,5 @@
 -- A line that was read is the next of what is left.
-use Rattle.std.proofs.Common.{◌≡◌, ◌+◌, ap, subst, arith}
+use Rattle.std.proofs.Common.{◌+◌, subst}
 use Rattle.std.proofs.lemmas.Result.{err_from_is_err_and}
 use Rattle.er_device.specs.Device.{inner_of}
 use Rattle.er_text.specs.Places.{Reached}
@@ -9,20 +9,6 @@ use Rattle.er_text.specs.Inner.Traces.{at_line, progress, read_content}
 use Rattle.er_text.proofs.GrowthLemmas.{grows_not, line_grows}
 use Rattle.er_text.proofs.PlaceLemmas.{trace_fails}
 use Rattle.er_text.proofs.reading.TraceReader.next_line.Goals as goal
-
-pub read_plain-requires : goal.read_plain-requires
-read_plain-requires g c =
-    let at : c.self.inside.lines.number ≡ c.args.self.now.place.number = ap (λ (r : Reached). r.place.number) c.self.view_is in
-    let names = c.requires.names in
-    let most = c.self.invariant in
-    let number = c.in_ok-front.ensures.number in
-    let limit = c.in_ok-front.ensures.limit in
-    let line = c.number-line.ensures in
-    record {
-      threads = omega (arith, at, names.threads, most, number, limit, line.value, line.bound);
-      locks = omega (arith, at, names.locks, most, number, limit, line.value, line.bound);
-      sites = omega (arith, at, names.sites, most, number, limit, line.value, line.bound);
-    }
 
 pub returns-in_err-read_plain-clause-turn : goal.returns-in_err-read_plain-clause-turn
 returns-in_err-read_plain-clause-turn g c =

@@ -19,8 +19,7 @@ loop-init g c =
       limit = refl;
       within = subst P c.self.view_is c.number-line.ensures.within;
       most = subst Q c.self.view_is c.number-line.ensures.most;
-      names = c.requires.names;
-      working = c.requires.open;
+      working = c.requires;
       taken = omega arith;
       passed = omega arith;
     }
@@ -46,7 +45,6 @@ loop-preserved g c =
       limit = step.limit ∙ old.limit;
       within = step.within;
       most = step.most;
-      names = step.names;
       working = step.failed;
       taken = omega (arith, old.taken, step.taken);
       passed = omega (arith, old.passed, passed);

@@ -1,7 +1,6 @@
 -- The lines so far were read, one behind the other.
 use Rattle.std.proofs.Common.{◌≡◌, ◌+◌, ◌≤◌, false}
 use Rattle.er_device.specs.Device.{inner_of, has_failed, taken_of}
-use Rattle.er_text.specs.Places.{HasFewerNames}
 use Rattle.er_text.specs.Named.{Grows}
 use Rattle.er_text.specs.Inner.Lending.{taken_by, lines_left}
 use Rattle.er_text.specs.Inner.Reading.{Continues}
@@ -16,7 +15,6 @@ invariant-loop g l = record {
   limit : l.self.place.limit ≡ l.fn.self.place.limit;
   within : l.self.place.start ≤ l.self.place.limit;
   most : taken_by l.self.place ≤ l.self.place.limit + 1025;
-  names : HasFewerNames l.trace.names l.self.place.number;
   working : has_failed l.reader ≡ false;
   taken : taken_of l.reader + taken_by l.fn.self.place ≤ taken_of l.fn.reader + taken_by l.self.place;
   passed : l.fn.self.place.start + l.counter ≤ l.self.place.start;

@@ -18,6 +18,12 @@ returns-in-Some-clause-ok c =
     ∙ sym (known_at c.args.name.now c.self.inside.names.keys) ∙ sym c.in-Some.ensures.found in
     sym (with_known c.args.self.now c.args.name.now known)
 
+pub returns-in-Some-clause-full : goal.returns-in-Some-clause-full
+returns-in-Some-clause-full c = λ full new.
+    let known = ap (λ names. is_known names c.args.name.now) (sym c.self.view_is)
+    ∙ sym (known_at c.args.name.now c.self.inside.names.keys) ∙ sym c.in-Some.ensures.found in
+    absurd (true≢false (sym known ∙ new))
+
 -- the look-up found no such name
 missing : (c : In_default) → list_any (λ k. bytes_eq c.args.name.now (string_bytes k)) c.self.inside.names.keys ≡ false
 missing c = sym c.in_default.ensures.found
@@ -26,6 +32,10 @@ new : (c : In_default) → is_known c.args.self.now c.args.name.now ≡ false
 new c =
     ap (λ names. is_known names c.args.name.now) (sym c.self.view_is)
     ∙ sym (known_at c.args.name.now c.self.inside.names.keys) ∙ missing c
+
+pub returns-then-len-ge-MOST-clause-known : goal.returns-then-len-ge-MOST-clause-known
+returns-then-len-ge-MOST-clause-known c known =
+    absurd (true≢false (sym known ∙ new (goal.at.returns-then-len-ge-MOST-clause-known c).In_default))
 
 pub returns-in_err-name-clause-known : goal.returns-in_err-name-clause-known
 returns-in_err-name-clause-known c known =

@@ -1,0 +1,220 @@
+-- Lines in their usual form say what the grammar says of their words.
+use Rattle.std.proofs.Common.{◌≡◌, ◌+◌, ◌==◌, ℕ, zero, suc, append-nil, ◌/◌, ◌^◌, ◌≤◌, Bool, true, false, not, ◌&&◌, cond, List, [], ◌∷◌, ◌++◌, length, take, drop, get_or, filter, Option, Some, None, Ok, nat_lt, nat_le, codes, refl, sym, ap, ◌∙◌, arith}
+use Rattle.std.specs.List.{list_all, slice_split, All}
+use Rattle.std.specs.Char.{is_digit}
+use Rattle.std.specs.Str.{bytes_eq}
+use Rattle.std.specs.Str.Parse.{digits_value}
+use Rattle.std.proofs.lemmas.Bool.{and_parts}
+use Rattle.std.proofs.lemmas.Bool.Decides.{nat_tests}
+use Rattle.std.proofs.lemmas.List.{take-append-drop, length-take}
+use Rattle.std.proofs.lemmas.List.Elements.{All-cons}
+use Rattle.std.proofs.lemmas.List.Folds.{list_all-append}
+use Rattle.std.proofs.lemmas.List.Splits.{slice_split_at, slice_split_none}
+use Rattle.std.proofs.lemmas.List.Sums.{AllPass-from_list_all, list_all-from_AllPass}
+use Rattle.er_event.specs.declared.steps.Kind.{Kind}
+use Rattle.er_event.specs.declared.steps.Mode.TheVariants as mode
+use Rattle.er_text.specs.declared.verbs.Version.{Version}
+use Rattle.er_text.specs.Lines.{is_gap, is_ascii, is_comment, has_bytes, words, word_at}
+use Rattle.er_text.specs.Number.{number_of}
+use Rattle.er_text.specs.Naming.{is_name_byte, is_name, is_lock_name, name_of, lock_name_of}
+use Rattle.er_text.specs.Events.{Operation, Acquires, Releases, Accesses, EventLine, with_line}
+use Rattle.er_text.specs.Inner.Traces.{Progress, add_parsed, read_words, plain_at}
+use Rattle.er_text.specs.Inner.FastPath.{IsLeadingName, AreLeadingDigits, IsFastAccess, IsFastOperation, IsFastLine}
+use Rattle.er_text.proofs.ByteLemmas.{name_ascii}
+use Rattle.er_text.proofs.ParsingAgain.{says_parsed}
+
+-- no byte of it is a gap
+abbrev IsGapless : List ℕ → Type 0
+IsGapless w = All (λ x. is_gap x ≡ false) w
+
+whole_first : (w : List ℕ) (parts : List (List ℕ)) → has_bytes w ≡ true → filter has_bytes (w ∷ parts) ≡ w ∷ filter has_bytes parts
+whole_first w parts some = rw some refl
+
+-- a word, a space, and the rest
+word_then : (w rest : List ℕ) → IsGapless w → has_bytes w ≡ true → words (w ++ 32 ∷ rest) ≡ w ∷ words rest
+word_then w rest gapless some = ap (filter has_bytes) (slice_split_at is_gap w 32 rest gapless refl) ∙ whole_first w (slice_split is_gap rest) some
+
+word_alone : (w : List ℕ) → IsGapless w → has_bytes w ≡ true → words w ≡ w ∷ []
+word_alone w gapless some = ap (filter has_bytes) (slice_split_none is_gap w gapless) ∙ whole_first w [] some
+
+ascii_then : (w rest : List ℕ) → list_all is_ascii w ≡ true → list_all is_ascii rest ≡ true → list_all is_ascii (w ++ 32 ∷ rest) ≡ true
+ascii_then w rest front back = list_all-append is_ascii w (32 ∷ rest) ∙ (rw (front, back) refl)
+
+name_gap : (b : ℕ) → is_name_byte b ≡ true → is_gap b ≡ false
+name_gap b e = grind (arith, nat_tests, e)
+
+record NameParts (w : List ℕ) : Type 0 where
+  some : has_bytes w ≡ true
+  named : list_all is_name_byte w ≡ true
+  gapless : IsGapless w
+
+name_parts : (w : List ℕ) → is_name w ≡ true → NameParts w
+name_parts w name =
+    let p = and_parts (has_bytes w && nat_le (length w) 128) (list_all is_name_byte w) name in
+    let q = and_parts (has_bytes w) (nat_le (length w) 128) p.0 in
+    record { some = q.0; named = p.1; gapless = λ i d h. name_gap (get_or w i d) (AllPass-from_list_all is_name_byte w p.1 i d h) }
+
+hex_ascii : (b : ℕ) → is_digit b 16 ≡ true → is_ascii b ≡ true
+hex_ascii b e = grind (arith, nat_tests, e)
+
+hex_gap : (b : ℕ) → is_digit b 16 ≡ true → is_gap b ≡ false
+hex_gap b e = grind (arith, nat_tests, e)
+
+some_taken : (len : ℕ) (xs : List ℕ) → (len ≡ 0 → ⊥) → len ≤ length xs → has_bytes (take len xs) ≡ true
+some_taken len [] some within = absurd (some (omega arith))
+some_taken zero (x ∷ xs) some within = absurd (some refl)
+some_taken (suc len) (x ∷ xs) some within = refl
+
+record HexWord (hex : List ℕ) (value : ℕ) : Type 0 where
+  some : has_bytes hex ≡ true
+  ascii : list_all is_ascii (48 ∷ 120 ∷ hex) ≡ true
+  gapless : IsGapless (48 ∷ 120 ∷ hex)
+  number : number_of (48 ∷ 120 ∷ hex) ≡ Some value
+
+hex_word : (digits : List ℕ) (value len : ℕ) → AreLeadingDigits digits value len → (len ≡ 0 → ⊥) → HexWord (take len digits) value
+hex_word digits value len front some =
+    let hex = take len digits in
+    let whole = some_taken len digits some front.within in
+    let all = AllPass-from_list_all (λ d. is_digit d 16) hex front.digits in
+    let is_small = front.small in
+    let value_is = front.value_is in
+    let test : nat_lt (digits_value 16 hex) (2 ^ 64) ≡ true = rw value_is (grind (arith, nat_tests, is_small)) in
+    record {
+      some = whole;
+      ascii = list_all-from_AllPass is_ascii hex (λ i d h. hex_ascii (get_or hex i d) (all i d h));
+      gapless = All-cons (λ x. is_gap x ≡ false) 48 (120 ∷ hex) refl (All-cons (λ x. is_gap x ≡ false) 120 hex refl (λ i d h. hex_gap (get_or hex i d) (all i d h)));
+      number = rw (whole, front.digits, test, value_is) refl;
+    }
+
+addressed : (bytes digits tail : List ℕ) (len : ℕ) → bytes ≡ codes "0x" ++ digits → drop len digits ≡ tail → bytes ≡ (48 ∷ 120 ∷ take len digits) ++ tail
+addressed bytes digits tail len is rest =
+    is ∙ ap (λ (d : List ℕ). 48 ∷ 120 ∷ d) (sym (take-append-drop len digits) ∙ ap (λ (d : List ℕ). take len digits ++ d) rest)
+
+-- an address and no site
+pub access_alone : (k : Kind) (bytes digits : List ℕ) (value len : ℕ) (operation : Operation) → bytes ≡ codes "0x" ++ digits → AreLeadingDigits digits value len → (len ≡ 0 → ⊥)
+    → drop len digits ≡ [] → operation ≡ Accesses k (value / 4) None → IsFastAccess k bytes operation
+access_alone k bytes digits value len operation is front some rest told =
+    let hex = hex_word digits value len front some in
+    let address = 48 ∷ 120 ∷ take len digits in
+    let whole = addressed bytes digits [] len is rest ∙ append-nil address in
+    record {
+      ascii = ap (list_all is_ascii) whole ∙ hex.ascii;
+      address = address;
+      n = value;
+      behind = [];
+      site = None;
+      words_are = ap words whole ∙ word_alone address hex.gapless refl;
+      number = hex.number;
+      small = front.small;
+      names = refl;
+      is = told;
+    }
+
+-- an address and the name of a site
+pub access_site : (k : Kind) (bytes digits site : List ℕ) (value len : ℕ) (s : Option (List ℕ)) (operation : Operation) → bytes ≡ codes "0x" ++ digits → AreLeadingDigits digits value len → (len ≡ 0 → ⊥)
+    → drop len digits ≡ 32 ∷ site → is_name site ≡ true → s ≡ cond (bytes_eq site (codes "-")) None (Some site) → operation ≡ Accesses k (value / 4) s → IsFastAccess k bytes operation
+access_site k bytes digits site value len s operation is front some rest name named told =
+    let hex = hex_word digits value len front some in
+    let address = 48 ∷ 120 ∷ take len digits in
+    let whole = addressed bytes digits (32 ∷ site) len is rest in
+    let parts = name_parts site name in
+    record {
+      ascii = ap (list_all is_ascii) whole ∙ ascii_then address site hex.ascii (name_ascii site parts.named);
+      address = address;
+      n = value;
+      behind = site ∷ [];
+      site = s;
+      words_are = ap words whole ∙ word_then address site hex.gapless refl ∙ ap (λ (ws : List (List ℕ)). address ∷ ws) (word_alone site parts.gapless parts.some);
+      number = hex.number;
+      small = front.small;
+      names = (name, named);
+      is = told;
+    }
+
+lock_named : (b : Bool) (w name : List ℕ) → Some name ≡ cond b (Some w) None → (b ≡ true) × (w ≡ name)
+lock_named true w name e = (refl, cc)
+lock_named false w name e = absurd (cc)
+
+lock_is_name : (w : List ℕ) → is_lock_name w ≡ true → is_name w ≡ true
+lock_is_name w e = (and_parts (is_name w) (not (bytes_eq w (codes "none"))) e).0
+
+pub lock_tells : (bytes rest name : List ℕ) → bytes ≡ codes "lock " ++ rest → Some name ≡ lock_name_of rest → IsFastOperation bytes (Acquires name mode.Write)
+lock_tells bytes rest name is named =
+    let h = lock_named (is_lock_name rest) rest name named in
+    let parts = name_parts rest (lock_is_name rest h.0) in
+    record {
+      ascii = ap (list_all is_ascii) is ∙ name_ascii rest parts.named;
+      says = λ v thread. (
+        ap (λ (w : List (List ℕ)). thread ∷ w) (ap words is ∙ ap (λ (w : List (List ℕ)). codes "lock" ∷ w) (word_alone rest parts.gapless parts.some ∙ ap (λ (w : List ℕ). w ∷ []) h.1)),
+        ap is_lock_name (sym h.1) ∙ h.0,
+      );
+    }
+
+pub unlock_tells : (bytes rest name : List ℕ) → bytes ≡ codes "unlock " ++ rest → Some name ≡ lock_name_of rest → IsFastOperation bytes (Releases name mode.Write)
+unlock_tells bytes rest name is named =
+    let h = lock_named (is_lock_name rest) rest name named in
+    let parts = name_parts rest (lock_is_name rest h.0) in
+    record {
+      ascii = ap (list_all is_ascii) is ∙ name_ascii rest parts.named;
+      says = λ v thread. (
+        ap (λ (w : List (List ℕ)). thread ∷ w) (ap words is ∙ ap (λ (w : List (List ℕ)). codes "unlock" ∷ w) (word_alone rest parts.gapless parts.some ∙ ap (λ (w : List ℕ). w ∷ []) h.1)),
+        ap is_lock_name (sym h.1) ∙ h.0,
+      );
+    }
+
+-- a word that is read as a name
+name_known : (b : Bool) (w name : List ℕ) → Some name ≡ cond b (Some w) None → (b ≡ true) × (w ≡ name)
+name_known true w name e = (refl, cc)
+name_known false w name e = absurd (cc)
+
+abbrev IsSiteWord : List ℕ → Option (List ℕ) → Type 0
+IsSiteWord site s = (is_name site ≡ true) × (s ≡ cond (bytes_eq site (codes "-")) None (Some site))
+
+pub missing_site : (site dash name : List ℕ) → Some name ≡ name_of site → true ≡ bytes_eq site dash → dash ≡ codes "-" → IsSiteWord site None
+missing_site site dash name named same is =
+    let test : bytes_eq site (codes "-") ≡ true = ap (λ (w : List ℕ). bytes_eq site w) (sym is) ∙ sym same in
+    ((name_known (is_name site) site name named).0, rw test refl)
+
+pub named_site : (site dash name : List ℕ) → Some name ≡ name_of site → false ≡ bytes_eq site dash → dash ≡ codes "-" → IsSiteWord site (Some name)
+named_site site dash name named other is =
+    let test : bytes_eq site (codes "-") ≡ false = ap (λ (w : List ℕ). bytes_eq site w) (sym is) ∙ sym other in
+    let known = name_known (is_name site) site name named in
+    (known.0, rw test (ap Some (sym known.1)))
+
+most_name : (len : ℕ) (bytes : List ℕ) → len ≤ 128 → nat_le (length (take len bytes)) 128 ≡ true
+most_name len bytes few = let size = length-take len bytes in grind (arith, nat_tests, size, few)
+
+-- the name bytes in front, and one space behind them
+pub front_found : (bytes name back rest told : List ℕ) (len : ℕ) → list_all is_name_byte (take len bytes) ≡ true → (len ≡ 0 → ⊥) → len ≤ 128 → len ≤ length bytes
+    → name ≡ take len bytes → back ≡ drop len bytes → back ≡ 32 ∷ rest → told ≡ name → IsLeadingName bytes told rest
+front_found bytes name back rest told len all some few within front behind space same = (
+  sym (take-append-drop len bytes) ∙ ap (λ (b : List ℕ). take len bytes ++ b) (sym behind ∙ space) ∙ ap (λ (n : List ℕ). n ++ 32 ∷ rest) (sym (same ∙ front)),
+  ap is_name (same ∙ front) ∙ (rw (some_taken len bytes some within, most_name len bytes few, all) refl),
+)
+
+no_mark : (b : ℕ) → is_name_byte b ≡ true → (b == 35) ≡ false
+no_mark b e = grind (arith, nat_tests, e)
+
+no_comment : (name rest : List ℕ) → has_bytes name ≡ true → list_all is_name_byte name ≡ true → is_comment (name ++ 32 ∷ rest) ≡ false
+no_comment [] rest some all = absurd (cc)
+no_comment (x ∷ xs) rest some all = no_mark x (and_parts (is_name_byte x) (list_all is_name_byte xs) all).0
+
+-- a thread, a space, and what it does
+pub line_says : (line name rest : List ℕ) (operation : Operation) → IsLeadingName line name rest → IsFastOperation rest operation → IsFastLine line (record { thread = name; operation = operation })
+line_says line name rest operation front tells =
+    let parts = name_parts name front.1 in
+    let ws : words line ≡ name ∷ words rest = ap words front.0 ∙ word_then name rest parts.gapless parts.some in
+    record {
+      ascii = ap (list_all is_ascii) front.0 ∙ ascii_then name rest (name_ascii name parts.named) tells.ascii;
+      some = ap (λ (w : List (List ℕ)). has_bytes (word_at 0 w)) ws ∙ parts.some;
+      no_comment = ap is_comment front.0 ∙ no_comment name rest parts.some parts.named;
+      says = λ v. (front.1, rw ws (tells.says v name));
+    }
+
+-- a line in its usual form, behind the header, is read as what it says
+pub usual_reads : (p : Progress) (line : ℕ) (bytes : List ℕ) (s : EventLine) (v : Version) → p.version ≡ Some v → IsFastLine bytes s
+    → plain_at p line bytes ≡ Ok (record p { number = p.number + 1; told = with_line line s p.told })
+usual_reads p line bytes s v is says =
+    let words_read : read_words p.version line p (words bytes) ≡ Ok (record p { number = p.number + 1; told = with_line line s p.told }) =
+    ap (λ (o : Option Version). read_words o line p (words bytes)) is ∙ ap (add_parsed line p) (says_parsed v (words bytes) s (says.says v)) in
+    rw (says.ascii, says.some, says.no_comment) words_read

@@ -1,0 +1,57 @@
+-- Lines in their usual form: the words of what is put together with single spaces.
+use Rattle.std.proofs.Common.{◌≡◌, ℕ, suc, ◌+◌, ◌*◌, ◌^◌, ◌<◌, ◌≤◌, Bool, true, false, not, cond, List, [], ◌∷◌, length, take, get_or, refl, ◌∙◌, arith}
+use Rattle.std.specs.List.{list_all, position_or_len}
+use Rattle.std.specs.Char.{digit_value, is_digit}
+use Rattle.std.specs.Str.Parse.{digits_value}
+use Rattle.std.proofs.lemmas.Bool.Decides.{nat_tests}
+use Rattle.std.proofs.lemmas.Int.Digits.{digits_value_more}
+use Rattle.std.proofs.lemmas.List.Folds.{list_all_more}
+use Rattle.std.proofs.lemmas.Nat.{pow-add}
+use Rattle.std.proofs.Math.Pow.{pow_mono}
+use Rattle.er_text.specs.Inner.FastPath.{AreLeadingDigits}
+
+-- the elements in front of the first that fails all pass
+front_step : (p : ℕ → Bool) (x : ℕ) (xs : List ℕ) (b : Bool) → p x ≡ b → list_all p (take (position_or_len (λ y. not (p y)) xs) xs) ≡ true
+    → list_all p (take (cond (not (not b)) (1 + position_or_len (λ y. not (p y)) xs) 0) (x ∷ xs)) ≡ true
+front_step p x xs true e more =
+    let one : 1 + position_or_len (λ y. not (p y)) xs ≡ suc (position_or_len (λ y. not (p y)) xs) = omega arith in
+    rw (one, e) more
+front_step p x xs false e more = refl
+
+pub front_passes : (p : ℕ → Bool) (xs : List ℕ) → list_all p (take (position_or_len (λ y. not (p y)) xs) xs) ≡ true
+front_passes p [] = refl
+front_passes p (x ∷ xs) = front_step p x xs (p x) refl (front_passes p xs)
+
+-- so many hexadecimal digits, as far as they were read
+pub record HexSoFar (bytes : List ℕ) (value i : ℕ) : Type 0 where
+  pub digits : list_all (λ digit. is_digit digit 16) (take i bytes) ≡ true
+  pub value_is : digits_value 16 (take i bytes) ≡ value
+  pub small : value < 2 ^ (4 * i)
+
+pub no_digit : (bytes : List ℕ) → HexSoFar bytes 0 0
+no_digit bytes = record { digits = refl; value_is = refl; small = omega arith }
+
+bound_more : (value digit i : ℕ) → value < 2 ^ (4 * i) → digit < 16 → value * 16 + digit < 2 ^ (4 * (i + 1))
+bound_more value digit i small low =
+    let shape : 4 * (i + 1) ≡ 4 * i + 4 = omega arith in
+    let whole : 2 ^ (4 * i + 4) ≡ 2 ^ (4 * i) * 16 = pow-add 2 (4 * i) 4 in
+    rw shape (rw whole (omega (arith, small, low)))
+
+pub digit_more : (bytes : List ℕ) (value digit i : ℕ) → HexSoFar bytes value i → i < length bytes → digit ≡ digit_value (get_or bytes i 0) → digit < 16
+    → HexSoFar bytes (value * 16 + digit) (i + 1)
+digit_more bytes value digit i so within is low =
+    let test : is_digit (get_or bytes i 0) 16 ≡ true = let same : digit_value (get_or bytes i 0) < 16 = omega (arith, is, low) in grind (arith, nat_tests, same) in
+    record {
+      digits = list_all_more (λ d. is_digit d 16) bytes i 0 within ∙ (rw (so.digits, test) refl);
+      value_is = digits_value_more 16 bytes i within ∙ (rw (so.value_is, ← is) refl);
+      small = bound_more value digit i so.small low;
+    }
+
+-- at most 12 digits write a number below 2 ^ 48
+pub few_small : (value i : ℕ) → value < 2 ^ (4 * i) → i ≤ 12 → value < 2 ^ 48
+few_small value i small few =
+    let most : 2 ^ (4 * i) ≤ 2 ^ 48 = pow_mono {i = 4 * i} {j = 48} (omega arith) in
+    omega (arith, small, most)
+
+pub hex_found : (bytes : List ℕ) (value i : ℕ) → HexSoFar bytes value i → i ≤ 12 → i ≤ length bytes → AreLeadingDigits bytes value i
+hex_found bytes value i so few within = record { most = few; within = within; digits = so.digits; value_is = so.value_is; small = few_small value i so.small few }

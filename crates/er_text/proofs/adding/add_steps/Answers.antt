@@ -1,0 +1,27 @@
+-- Each number of the step has a name by then.
+use Rattle.er_text.specs.Inner.Parsing.{seen_name}
+use Rattle.er_text.proofs.AddingLemmas.{thread_named, lock_named, site_named}
+use Rattle.er_text.proofs.adding.add_steps.Goals.{in-Acquire+in_ok-lock-in-Acquire, in-Release+in_ok-lock-in-Release, in-Access+in_ok-site_number-in-Access, in-IgnoreOn, in-IgnoreOff, in-Show, in-Level}
+use Rattle.er_text.proofs.adding.add_steps.Goals as goal
+
+pub add_reuse-requires : goal.add_reuse-requires
+add_reuse-requires c = thread_named c.args.trace.now c.thread.new.self c.args.parsed.now.thread.now c.in_ok-thread.thread c.in_ok-thread.ensures.number c.in_ok-thread.ensures.ok
+
+pub push-requires : goal.push-requires
+push-requires c =
+    let named = thread_named c.args.trace.now c.thread.new.self c.args.parsed.now.thread.now c.in_ok-thread.thread c.in_ok-thread.ensures.number c.in_ok-thread.ensures.ok in
+    elim c.match-parsed.branch [
+      | in-Acquire+in_ok-lock-in-Acquire w ↦
+          let n = lock_named c.thread.new.self w.lock.new.self w.in-Acquire.lock.now w.in_ok-lock-in-Acquire.field-0 c.in_ok-thread.thread named w.in_ok-lock-in-Acquire.ensures.number w.in_ok-lock-in-Acquire.ensures.ok in
+          rw (w.trace-is, w.event-is) (record { thread = n.0; event = n.1 })
+      | in-Release+in_ok-lock-in-Release w ↦
+          let n = lock_named c.thread.new.self w.lock-in-Release.new.self w.in-Release.lock.now w.in_ok-lock-in-Release.field-0 c.in_ok-thread.thread named w.in_ok-lock-in-Release.ensures.number w.in_ok-lock-in-Release.ensures.ok in
+          rw (w.trace-is, w.event-is) (record { thread = n.0; event = n.1 })
+      | in-Access+in_ok-site_number-in-Access w ↦
+          let n = site_named c.thread.new.self w.site_number.new.trace (seen_name w.in-Access.site) w.in_ok-site_number-in-Access.field-0 c.in_ok-thread.thread named w.in_ok-site_number-in-Access.ensures.number w.in_ok-site_number-in-Access.ensures.trace in
+          rw (w.trace-is, w.event-is) (record { thread = n.0; event = n.1 })
+      | in-IgnoreOn w ↦ rw (w.trace-is, w.event-is) (record { thread = named; event = tt })
+      | in-IgnoreOff w ↦ rw (w.trace-is, w.event-is) (record { thread = named; event = tt })
+      | in-Show w ↦ rw (w.trace-is, w.event-is) (record { thread = named; event = tt })
+      | in-Level w ↦ rw (w.trace-is, w.event-is) (record { thread = named; event = tt })
+    ]

@@ -1,0 +1,147 @@
+-- What the words of a line say, as the code finds it out. The grammar stands apart from it, in `Trace`.
+use Rattle.std.specs.Prelude.{◌≡◌, ℕ, ◌+◌, ◌/◌, ◌^◌, ◌||◌, Bool, not, List, Option, Some, None, Result, Ok, Err, nat_lt, nat_le, codes, if◌then◌else◌}
+use Rattle.std.specs.Str.{bytes_eq}
+use denote.Ref.{Bor}
+use Rattle.er_event.specs.Span.{Span}
+use Rattle.er_event.specs.declared.steps.Kind.{Kind}
+use Rattle.er_event.specs.declared.steps.Kind.TheVariants as kind
+use Rattle.er_event.specs.declared.steps.Mode.TheVariants as mode
+use Rattle.er_text.specs.declared.faults.TextKind.{TextKind}
+use Rattle.er_text.specs.declared.faults.TextKind.TheVariants.{BadName, MissingOperand, BadVerb, ExtraOperand, BadNumber, SizeTooLarge, AddressOutOfRange, LevelTooHigh}
+use Rattle.er_text.specs.declared.verbs.Verb.{Verb}
+use Rattle.er_text.specs.declared.verbs.Verb.TheVariants as verb
+use Rattle.er_text.specs.declared.verbs.Version.{Version}
+use Rattle.er_text.specs.declared.parsing.Action.{Action}
+use Rattle.er_text.specs.declared.parsing.Action.TheVariants as action
+use Rattle.er_text.specs.declared.parsing.ParsedLine.{ParsedLine}
+use Rattle.er_text.specs.declared.parsing.Words.{Words}
+use Rattle.er_text.specs.Lines.{has_bytes, word_at}
+use Rattle.er_text.specs.Number.{number_of}
+use Rattle.er_text.specs.Naming.{name_of, lock_name_of}
+use Rattle.er_text.specs.Verbs.{verb_of, least_of, most_of}
+use Rattle.er_text.specs.Events.{Operation, Acquires, Releases, Accesses, Reuses, IgnoresOn, IgnoresOff, Shows, Levels, EventLine, run_of}
+
+abbrev pub and_then : {A B : Type 0} → Result A TextKind → (A → Result B TextKind) → Result B TextKind
+and_then (Ok x) f = f x
+and_then (Err k) f = Err k
+
+abbrev pub map_ok : {A B : Type 0} → (A → B) → Result A TextKind → Result B TextKind
+map_ok f (Ok x) = Ok (f x)
+map_ok f (Err k) = Err k
+
+abbrev pub or_fault : {A : Type 0} → TextKind → Option A → Result A TextKind
+or_fault k None = Err k
+or_fault k (Some x) = Ok x
+
+abbrev pub number_in : List ℕ → Result ℕ TextKind
+number_in word = or_fault BadNumber (number_of word)
+
+abbrev pub name_in : List ℕ → Result (List ℕ) TextKind
+name_in word = or_fault BadName (name_of word)
+
+abbrev pub lock_in : List ℕ → Result (List ℕ) TextKind
+lock_in word = or_fault BadName (lock_name_of word)
+
+-- a missing word and `-` name no site
+abbrev pub site_in : List ℕ → Result (Option (List ℕ)) TextKind
+site_in word = if not (has_bytes word) || bytes_eq word (codes "-") then Ok None else map_ok Some (name_in word)
+
+abbrev pub word_in : ℕ → Result ℕ TextKind
+word_in address = if nat_le (2 ^ 48) address then Err AddressOutOfRange else Ok (address / 4)
+
+abbrev pub level_in : ℕ → Result ℕ TextKind
+level_in n = if nat_lt 31 n then Err LevelTooHigh else Ok n
+
+abbrev pub is_outside : ℕ → ℕ → Bool
+is_outside address size = nat_le (2 ^ 48) address || nat_lt (2 ^ 48) (address + size)
+
+abbrev pub run_in : ℕ → ℕ → Result (Option Span) TextKind
+run_in address size =
+    if nat_lt 4194304 size then Err SizeTooLarge else if is_outside address size then Err AddressOutOfRange else Ok (run_of address size)
+
+abbrev pub access_in : Kind → List ℕ → List ℕ → Result Operation TextKind
+access_in k address site = and_then (number_in address) (λ n. and_then (site_in site) (λ s. map_ok (λ w. Accesses k w s) (word_in n)))
+
+abbrev pub reuse_in : List ℕ → List ℕ → Result Operation TextKind
+reuse_in address size = and_then (number_in address) (λ a. and_then (number_in size) (λ n. map_ok Reuses (run_in a n)))
+
+abbrev pub operands_in : Verb → List ℕ → List ℕ → Result Operation TextKind
+operands_in verb.Lock first second = map_ok (λ l. Acquires l mode.Write) (lock_in first)
+operands_in verb.Unlock first second = map_ok (λ l. Releases l mode.Write) (lock_in first)
+operands_in verb.ReadLock first second = map_ok (λ l. Acquires l mode.Read) (lock_in first)
+operands_in verb.ReadUnlock first second = map_ok (λ l. Releases l mode.Read) (lock_in first)
+operands_in verb.Read first second = access_in kind.Read first second
+operands_in verb.Write first second = access_in kind.Write first second
+operands_in verb.Reuse first second = reuse_in first second
+operands_in verb.IgnoreOn first second = Ok IgnoresOn
+operands_in verb.IgnoreOff first second = Ok IgnoresOff
+operands_in verb.Show first second = and_then (number_in first) (λ n. map_ok Shows (word_in n))
+operands_in verb.Level first second = and_then (number_in first) (λ n. map_ok Levels (level_in n))
+
+-- how many of three operands there are, of which those that are missing are empty
+abbrev pub count_of : List ℕ → List ℕ → List ℕ → ℕ
+count_of first second third = if not (has_bytes first) then 0 else if not (has_bytes second) then 1 else if not (has_bytes third) then 2 else 3
+
+abbrev pub counted_in : Verb → ℕ → List ℕ → List ℕ → Result Operation TextKind
+counted_in v count first second =
+    if nat_lt count (least_of v) then Err MissingOperand else if nat_lt (most_of v) count then Err ExtraOperand else operands_in v first second
+
+abbrev pub operation_in : Option Verb → List ℕ → List ℕ → List ℕ → Result Operation TextKind
+operation_in None first second third = Err BadVerb
+operation_in (Some v) first second third = counted_in v (count_of first second third) first second
+
+-- what five words say, of which those that are missing are empty
+abbrev pub parsed_in : Version → List ℕ → List ℕ → List ℕ → List ℕ → List ℕ → Result EventLine TextKind
+parsed_in version thread verb first second third =
+    and_then (name_in thread) (λ t. if not (has_bytes verb) then Err MissingOperand
+    else map_ok (λ operation. record { thread = t; operation = operation }) (operation_in (verb_of version verb) first second third))
+
+-- what the words of a line say, or the first fault among them
+abbrev pub parsed_of : Version → List (List ℕ) → Result EventLine TextKind
+parsed_of version words = parsed_in version (word_at 0 words) (word_at 1 words) (word_at 2 words) (word_at 3 words) (word_at 4 words)
+
+abbrev pub parsed_by : Version → Words → Result EventLine TextKind
+parsed_by version w = parsed_in version w.first.now w.second.now w.third.now w.fourth.now w.fifth.now
+
+-- the code's values, without where they lie in memory
+abbrev pub seen_name : Option (Bor (List ℕ)) → Option (List ℕ)
+seen_name None = None
+seen_name (Some name) = Some name.now
+
+abbrev pub action_view : Action → Operation
+action_view (action.Acquire lock m) = Acquires lock.now m
+action_view (action.Release lock m) = Releases lock.now m
+action_view (action.Access k w site) = Accesses k w (seen_name site)
+action_view (action.Reuse run) = Reuses run
+action_view action.IgnoreOn = IgnoresOn
+action_view action.IgnoreOff = IgnoresOff
+action_view (action.Show w) = Shows w
+action_view (action.Level n) = Levels n
+
+abbrev pub event_line : ParsedLine → EventLine
+event_line parsed_line = record { thread = parsed_line.thread.now; operation = action_view parsed_line.action }
+
+-- what a call returned, seen by view, is what the definition gives
+abbrev pub GivesBy : {X Y E : Type 0} → (X → Y) → Result X E → Result Y E → Type 0
+GivesBy view (Ok x) gives = gives ≡ Ok (view x)
+GivesBy view (Err e) gives = gives ≡ Err e
+
+abbrev pub GivesName : Result (Bor (List ℕ)) TextKind → Result (List ℕ) TextKind → Type 0
+GivesName = GivesBy (λ name. name.now)
+
+abbrev pub GivesSite : Result (Option (Bor (List ℕ))) TextKind → Result (Option (List ℕ)) TextKind → Type 0
+GivesSite = GivesBy seen_name
+
+abbrev pub GivesOperation : Result Action TextKind → Result Operation TextKind → Type 0
+GivesOperation = GivesBy action_view
+
+abbrev pub GivesEventLine : Result ParsedLine TextKind → Result EventLine TextKind → Type 0
+GivesEventLine = GivesBy event_line
+
+-- the first five words
+pub record AreWords (words : List (List ℕ)) (w : Words) : Type 0 where
+  pub first : w.first.now ≡ word_at 0 words
+  pub second : w.second.now ≡ word_at 1 words
+  pub third : w.third.now ≡ word_at 2 words
+  pub fourth : w.fourth.now ≡ word_at 3 words
+  pub fifth : w.fifth.now ≡ word_at 4 words

@@ -1,0 +1,61 @@
+//! The steps that a line adds to a trace.
+ghost use Rattle.std.specs.Prelude.{◌≡◌, ◌<◌, ℕ, length, IfOk, OnOk};
+ghost use Rattle.er_text.specs.Inner.Parsing.{event_line, seen_name};
+ghost use Rattle.er_text.specs.Events.{with_line, site_number, with_site_of, with_reuses, run_parts};
+
+use crate::parsing::{Action, ParsedLine};
+use er_event::{Event, Site, Step, ThreadId, WordRange};
+use er_trace::Trace;
+use std::alloc::AllocError;
+
+fn site_number(trace: &mut Trace, site: Option<&str>) -> Result<Site, AllocError>
+    ensures number { IfOk result (λ number. number ≡ site_number trace.old (seen_name site.entry)) }
+    ensures trace { OnOk result (trace.new ≡ with_site_of trace.old (seen_name site.entry)) }
+{
+    match site {
+        Some(name) => trace.site(name),
+        None => Ok(Site::MISSING),
+    }
+}
+
+/// Adds a step for each page of a range.
+fn add_reuse(
+    trace: &mut Trace,
+    line: u64,
+    thread: ThreadId,
+    range: Option<WordRange>,
+) -> Result<(), AllocError>
+    requires { thread < length trace.old.names.threads }
+    ensures { OnOk result (trace.new ≡ with_reuses trace.old line thread (run_parts range)) }
+{
+    let Some(range) = range else {
+        return Ok(());
+    };
+    for i in 0..range.parts() {
+        let event = Event::Reuse(range.part(i));
+        trace.push(Step { thread, event }, line)?;
+    }
+    Ok(())
+}
+
+/// Adds the steps of a line to a trace. The thread is numbered first.
+pub(crate) fn add_steps(
+    trace: &mut Trace,
+    line: u64,
+    parsed: &ParsedLine<'_>,
+) -> Result<(), AllocError>
+    ensures { OnOk result (trace.new ≡ with_line line (event_line parsed.now) trace.old) }
+{
+    let thread = trace.thread(parsed.thread)?;
+    let event = match parsed.action {
+        Action::Acquire(lock, mode) => Event::Acquire(trace.lock(lock)?, mode),
+        Action::Release(lock, mode) => Event::Release(trace.lock(lock)?, mode),
+        Action::Access(kind, word, site) => Event::Access(kind, word, site_number(trace, site)?),
+        Action::Reuse(range) => return add_reuse(trace, line, thread, range),
+        Action::IgnoreOn => Event::IgnoreOn,
+        Action::IgnoreOff => Event::IgnoreOff,
+        Action::Show(word) => Event::Show(word),
+        Action::Level(level) => Event::Level(level),
+    };
+    trace.push(Step { thread, event }, line)
+}

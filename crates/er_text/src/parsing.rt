@@ -1,0 +1,209 @@
+//! What the words of a line say.
+ghost use Rattle.std.specs.Prelude.{◌≡◌};
+ghost use Rattle.er_text.specs.Lines.{words};
+ghost use Rattle.er_text.specs.Verbs.{verb_of, version_of};
+ghost use Rattle.er_text.specs.Inner.Parsing.{AreWords, GivesName, GivesSite, GivesOperation, GivesEventLine, count_of, number_in, lock_in, site_in, word_in, level_in, run_in, access_in, reuse_in, operands_in, operation_in, parsed_by};
+
+use crate::bytes::next_word;
+use crate::faults::TextKind;
+use crate::naming::{lock_name_of, name_of};
+use crate::numbers::number_of;
+use crate::verbs::{Verb, Version, header_version, verb_of};
+use er_event::{Kind, Level, Mode, Refusal, Word, WordRange};
+
+/// What a thread does, by names.
+#[derive(Clone, Copy)]
+pub(crate) enum Action<'a> {
+    Acquire(&'a str, Mode),
+    Release(&'a str, Mode),
+    Access(Kind, Word, Option<&'a str>),
+    Reuse(Option<WordRange>),
+    IgnoreOn,
+    IgnoreOff,
+    Show(Word),
+    Level(Level),
+}
+
+/// What a line says.
+#[derive(Clone, Copy)]
+pub(crate) struct ParsedLine<'a> {
+    pub(crate) thread: &'a str,
+    pub(crate) action: Action<'a>,
+}
+
+/// The first words of a line. One that is missing is empty.
+#[derive(Clone, Copy)]
+pub(crate) struct Words<'a> {
+    pub(crate) first: &'a [u8],
+    pub(crate) second: &'a [u8],
+    pub(crate) third: &'a [u8],
+    pub(crate) fourth: &'a [u8],
+    pub(crate) fifth: &'a [u8],
+}
+
+pub(crate) fn split_words(line: &[u8]) -> Words<'_>
+    ensures { AreWords (words line.now) result }
+{
+    let (first, rest) = next_word(line);
+    let (second, rest) = next_word(rest);
+    let (third, rest) = next_word(rest);
+    let (fourth, rest) = next_word(rest);
+    let (fifth, _) = next_word(rest);
+    Words {
+        first,
+        second,
+        third,
+        fourth,
+        fifth,
+    }
+}
+
+impl<'a> Words<'a> {
+    /// The version, where these are the words of a header.
+    pub(crate) fn version(&self) -> Option<Version>
+        ensures { result ≡ version_of self.now.first.now self.now.second.now self.now.third.now self.now.fourth.now }
+    {
+        if self.first == b"eraser".as_slice()
+            && self.second == b"trace".as_slice()
+            && self.fourth.is_empty()
+        {
+            header_version(self.third)
+        } else {
+            None
+        }
+    }
+
+    /// How many operands there are, up to 3.
+    fn operand_count(&self) -> u32
+        ensures { result ≡ count_of self.now.third.now self.now.fourth.now self.now.fifth.now }
+    {
+        if self.third.is_empty() {
+            0
+        } else if self.fourth.is_empty() {
+            1
+        } else if self.fifth.is_empty() {
+            2
+        } else {
+            3
+        }
+    }
+
+    /// What they say, or the first fault among them.
+    pub(crate) fn parse(&self, version: Version) -> Result<ParsedLine<'a>, TextKind>
+        ensures { GivesEventLine result (parsed_by version self.now) }
+    {
+        let Some(thread) = name_of(self.first) else {
+            return Err(TextKind::BadName);
+        };
+        if self.second.is_empty() {
+            return Err(TextKind::MissingOperand);
+        }
+        match self.action(version) {
+            Ok(action) => Ok(ParsedLine { thread, action }),
+            Err(kind) => Err(kind),
+        }
+    }
+
+    fn action(&self, version: Version) -> Result<Action<'a>, TextKind>
+        ensures { GivesOperation result (operation_in (verb_of version self.now.second.now) self.now.third.now self.now.fourth.now self.now.fifth.now) }
+    {
+        let Some(verb) = verb_of(version, self.second) else {
+            return Err(TextKind::BadVerb);
+        };
+        let count = self.operand_count();
+        if count < verb.least() {
+            return Err(TextKind::MissingOperand);
+        }
+        if count > verb.most() {
+            return Err(TextKind::ExtraOperand);
+        }
+        operands(verb, self.third, self.fourth)
+    }
+}
+
+fn operands<'a>(verb: Verb, first: &'a [u8], second: &'a [u8]) -> Result<Action<'a>, TextKind>
+    ensures { GivesOperation result (operands_in verb first.now second.now) }
+{
+    match verb {
+        Verb::Lock => Ok(Action::Acquire(lock(first)?, Mode::Write)),
+        Verb::Unlock => Ok(Action::Release(lock(first)?, Mode::Write)),
+        Verb::ReadLock => Ok(Action::Acquire(lock(first)?, Mode::Read)),
+        Verb::ReadUnlock => Ok(Action::Release(lock(first)?, Mode::Read)),
+        Verb::Read => access(Kind::Read, first, second),
+        Verb::Write => access(Kind::Write, first, second),
+        Verb::Reuse => reuse(first, second),
+        Verb::IgnoreOn => Ok(Action::IgnoreOn),
+        Verb::IgnoreOff => Ok(Action::IgnoreOff),
+        Verb::Show => Ok(Action::Show(word_at(number(first)?)?)),
+        Verb::Level => Ok(Action::Level(level_of(number(first)?)?)),
+    }
+}
+
+fn access<'a>(kind: Kind, address: &'a [u8], site: &'a [u8]) -> Result<Action<'a>, TextKind>
+    ensures { GivesOperation result (access_in kind address.now site.now) }
+{
+    let address = number(address)?;
+    let site = site_of(site)?;
+    Ok(Action::Access(kind, word_at(address)?, site))
+}
+
+fn reuse<'a>(address: &'a [u8], size: &'a [u8]) -> Result<Action<'a>, TextKind>
+    ensures { GivesOperation result (reuse_in address.now size.now) }
+{
+    let address = number(address)?;
+    let size = number(size)?;
+    Ok(Action::Reuse(range_of(address, size)?))
+}
+
+pub(crate) fn number(word: &[u8]) -> Result<u64, TextKind>
+    ensures { result ≡ number_in word.now }
+{
+    number_of(word).ok_or(TextKind::BadNumber)
+}
+
+fn lock(word: &[u8]) -> Result<&str, TextKind>
+    ensures { GivesName result (lock_in word.now) }
+{
+    lock_name_of(word).ok_or(TextKind::BadName)
+}
+
+/// The site that a word names. A missing word and `-` name none.
+pub(crate) fn site_of(word: &[u8]) -> Result<Option<&str>, TextKind>
+    ensures { GivesSite result (site_in word.now) }
+{
+    if word.is_empty() || word == b"-".as_slice() {
+        return Ok(None);
+    }
+    match name_of(word) {
+        Some(name) => Ok(Some(name)),
+        None => Err(TextKind::BadName),
+    }
+}
+
+fn word_at(address: u64) -> Result<Word, TextKind>
+    ensures { result ≡ word_in address }
+{
+    match Word::of_address(address) {
+        Ok(word) => Ok(word),
+        Err(_) => Err(TextKind::AddressOutOfRange),
+    }
+}
+
+fn level_of(number: u64) -> Result<Level, TextKind>
+    ensures { result ≡ level_in number }
+{
+    match Level::of_number(number) {
+        Ok(level) => Ok(level),
+        Err(_) => Err(TextKind::LevelTooHigh),
+    }
+}
+
+fn range_of(address: u64, size: u64) -> Result<Option<WordRange>, TextKind>
+    ensures { result ≡ run_in address size }
+{
+    match WordRange::of_bytes(address, size) {
+        Ok(range) => Ok(range),
+        Err(Refusal::SizeTooLarge) => Err(TextKind::SizeTooLarge),
+        Err(_) => Err(TextKind::AddressOutOfRange),
+    }
+}

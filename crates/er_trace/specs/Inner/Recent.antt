@@ -1,0 +1,25 @@
+-- Names that are kept as numbers, beside the names that have numbers.
+use Rattle.std.specs.Prelude.{◌≡◌, ℕ, zero, suc, ◌<◌, ◌-◌, ◌/◌, ◌%◌, ◌++◌, true, List, [], ◌∷◌, min}
+use Rattle.std.specs.List.{All}
+use Rattle.er_trace.specs.declared.recent.ShortName.{ShortName}
+use Rattle.er_trace.specs.declared.recent.Slot.{Slot}
+use Rattle.er_trace.specs.declared.recent.RecentNames.{RecentNames}
+use Rattle.er_trace.specs.Names.{is_known, number_of, most_names}
+
+-- so many digits of a number to the base 256, the lowest first
+abbrev pub unpacked : ℕ → ℕ → List ℕ
+unpacked zero value = []
+unpacked (suc n) value = (value % 256) ∷ unpacked n (value / 256)
+
+abbrev pub bytes_of : ShortName → List ℕ
+bytes_of name = unpacked (min name.len 8) name.first ++ unpacked (name.len - 8) name.rest
+
+-- the name has this number
+pub record Knows (names : List (List ℕ)) (name : List ℕ) (number : ℕ) : Type 0 where
+  pub known : is_known names name ≡ true
+  pub is : number_of names name ≡ number
+  pub small : number < most_names
+
+-- each name in a slot has the number that stands beside it
+abbrev pub AreRight : List (List ℕ) → RecentNames → Type 0
+AreRight names recent = All (λ (slot : Slot). 0 < slot.name.len → Knows names (bytes_of slot.name) slot.number) recent.slots.items

@@ -1,0 +1,133 @@
+//! Short names that appeared lately: they are compared as numbers, and found without a hash.
+ghost use Rattle.std.specs.Prelude.{◌≡◌, ◌<◌, ◌≤◌, ℕ, List, length, IfSome};
+ghost use Rattle.er_trace.specs.Names.{number_of};
+ghost use Rattle.er_trace.specs.Inner.Recent.{unpacked, bytes_of, Knows, AreRight};
+
+use std::alloc::Global;
+
+/// The number with these bytes as its digits, the first of them the lowest.
+#[inline(always)]
+fn packed(bytes: &[u8]) -> u64
+    requires { length bytes.now ≤ 8 }
+    ensures { unpacked (length bytes.now) result ≡ bytes.now }
+{
+    let mut value = 0;
+    let mut at = bytes.len();
+    while at > 0 {
+        at -= 1;
+        value = value * 256 + u64::from(bytes[at]);
+    }
+    value
+}
+
+/// A name of 1 to 16 bytes: how many there are, the first eight as a number, and the others.
+#[derive(Clone, Copy)]
+pub(crate) struct ShortName {
+    len: usize,
+    first: u64,
+    rest: u64,
+}
+
+impl ShortName {
+    /// The name, if it is short.
+    #[inline(always)]
+    pub(crate) fn of(name: &str) -> Option<ShortName>
+        ensures bytes { IfSome result (λ short. bytes_of short ≡ name.now) }
+        ensures some { IfSome result (λ short. 0 < short.len) }
+    {
+        let bytes = name.as_bytes();
+        let len = bytes.len();
+        if len == 0 || len > 16 {
+            return None;
+        }
+        let (first, rest) = bytes.split_at(len.min(8));
+        Some(ShortName {
+            len,
+            first: packed(first),
+            rest: packed(rest),
+        })
+    }
+
+    /// The only slot that it can be in.
+    #[inline(always)]
+    fn slot(self) -> usize {
+        let spread = self.first.wrapping_mul(0x9e37_79b9_7f4a_7c15)
+            ^ self.rest.wrapping_mul(0xc2b2_ae3d_27d4_eb4f);
+        (spread >> 52) as usize
+    }
+}
+
+/// A name and its number. A name of no bytes stands for none.
+#[derive(Clone, Copy)]
+struct Slot {
+    name: ShortName,
+    number: u32,
+}
+
+/// Names with their numbers, each in a slot of its own. A name takes the slot of another.
+#[derive(Drop)]
+pub(crate) struct RecentNames {
+    slots: Vec<Slot>,
+}
+
+impl RecentNames {
+    /// How many slots there are once there is a name.
+    const SLOTS: usize = 4096;
+
+    /// No names.
+    pub(crate) fn new(alloc: Global) -> RecentNames
+        ensures { (names : List (List ℕ)) → AreRight names result }
+    {
+        RecentNames {
+            slots: Vec::new(alloc),
+        }
+    }
+
+    /// The number of a name, if it has a slot.
+    #[inline(always)]
+    pub(crate) fn find(&self, name: ShortName) -> Option<u32>
+        requires { 0 < name.len }
+        ensures { (names : List (List ℕ)) → AreRight names self.now → IfSome result (λ number. Knows names (bytes_of name) number) }
+    {
+        let slot = self.slots.get(name.slot())?;
+        if slot.name.len == name.len
+            && slot.name.first == name.first
+            && slot.name.rest == name.rest
+        {
+            Some(slot.number)
+        } else {
+            None
+        }
+    }
+
+    /// Puts a name into its slot. Without memory for slots it does nothing.
+    pub(crate) fn remember(&mut self, name: ShortName, number: u32)
+        ensures { (names : List (List ℕ)) → AreRight names self.old → Knows names (bytes_of name) number → AreRight names self.new }
+    {
+        if self.slots.is_empty() {
+            self.make_slots();
+        }
+        let place = name.slot();
+        if place < self.slots.len() {
+            self.slots[place] = Slot { name, number };
+        }
+    }
+
+    /// Makes slots for names, if there is memory.
+    fn make_slots(&mut self)
+        ensures { (names : List (List ℕ)) → AreRight names self.old → AreRight names self.new }
+    {
+        let none = ShortName {
+            len: 0,
+            first: 0,
+            rest: 0,
+        };
+        let slot = Slot {
+            name: none,
+            number: 0,
+        };
+        if let Ok(slots) = vec![in *self.slots.allocator(); slot; RecentNames::SLOTS] {
+            self.slots = slots;
+        }
+    }
+}
