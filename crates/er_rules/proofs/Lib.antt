@@ -1,1 +1,3 @@
-pub mod TakerLemmas
+pub mod IndexLemmas
+pub mod PieceLemmas
+pub mod MatchLemmas

@@ -1,1 +1,3 @@
+pub mod Inner
 pub mod Rules
+pub mod Targets

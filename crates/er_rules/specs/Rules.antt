@@ -1,44 +1,8 @@
--- What rules say, and the races that they take.
-use Rattle.std.specs.Prelude.{ℕ, nat_le, Bool, true, false, ◌&&◌, List, map, position, Option, Some, None, option_map, bytes_eq, string_bytes}
-use Rattle.er_event.specs.Span.{Span}
-use Rattle.er_rules.specs.declared.rules.Rule.{Rule}
-use Rattle.er_rules.specs.declared.rules.Rule.TheVariants.{Site, Words}
+-- The rules of a list of suppressions.
+use Rattle.std.specs.Prelude.{List, map}
 use Rattle.er_rules.specs.declared.rules.Suppressions.{Suppressions}
-use Rattle.er_rules.specs.declared.rules.WordSpan.{WordSpan}
-
--- what a rule aims at: the site of this name or the missing site, or the words of a run or none
-pub data Target : Type 0 where
-  AtSite : (name : Option (List ℕ)) → Target
-  AtWords : (words : Option Span) → Target
-
-abbrev pub span_of : WordSpan → Span
-span_of words = record { first = words.first; last = words.last }
-
-abbrev pub target_of : Rule → Target
-target_of (Site name) = AtSite (option_map string_bytes name)
-target_of (Words words) = AtWords (option_map span_of words)
+pub use Rattle.er_rules.specs.Targets.{Target, AtSite, AtWords, span_of, target_of, same_site, is_among, takes, matching_rule}
 
 -- the targets of the rules, in their order
 abbrev pub targets_of : Suppressions → List Target
 targets_of s = map target_of s.rules.items
-
--- the names of two sites are equal, or both are the missing site
-abbrev pub same_site : Option (List ℕ) → Option (List ℕ) → Bool
-same_site None None = true
-same_site None (Some other) = false
-same_site (Some name) None = false
-same_site (Some name) (Some other) = bytes_eq name other
-
--- the word is one of the run
-abbrev pub is_among : Option Span → ℕ → Bool
-is_among None word = false
-is_among (Some s) word = nat_le s.first word && nat_le word s.last
-
--- whether a rule takes a race of an access at the site to the word
-abbrev pub takes : Target → Option (List ℕ) → ℕ → Bool
-takes (AtSite name) site word = same_site name site
-takes (AtWords words) site word = is_among words word
-
--- the place of the first rule that does
-abbrev pub taker : List Target → Option (List ℕ) → ℕ → Option ℕ
-taker targets site word = position (λ target. takes target site word) targets

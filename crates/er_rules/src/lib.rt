@@ -4,19 +4,22 @@
 //! first rule that takes a race is the one that counts it. Sites go by their names, since rules are written in another text than
 //! the trace is.
 //!
-//! What it promises, by the names of clauses: a rule takes what the definitions say (`takes`), the rule that is told is the first
-//! that does (`taker`), and a push that found no memory changed nothing (`err`).
+//! What it promises, by the names of clauses: a rule takes what the definitions say (`takes`), the rule that is found is the first
+//! that does (`matching_rule`), and a push that found no memory changed nothing (`err`). Sites are looked up in a map, and words in pieces
+//! of the line of words that each have their first rule, so that many rules cost little more than a few.
 //!
 //! ```
 //! let mut suppressions = Suppressions::new(alloc);
 //! suppressions.push(Rule::Site(None))?;
 //! suppressions.push(Rule::Words(Some(WordSpan { first: word, last: word })))?;
 //! // An access of that word at no site is for the first rule, and one at a site for the second.
-//! assert_eq!(suppressions.taker(None, word), Some(0));
-//! assert_eq!(suppressions.taker(Some("main.c:7"), word), Some(1));
+//! assert_eq!(suppressions.matching_rule(None, word), Some(0));
+//! assert_eq!(suppressions.matching_rule(Some("main.c:7"), word), Some(1));
 //! ```
 #![tactic(auto)]
 
 pub use rules::{Rule, Suppressions, WordSpan};
 
+mod index;
+mod pieces;
 mod rules;

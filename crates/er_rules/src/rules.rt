@@ -1,7 +1,10 @@
 //! Rules, and which of them takes a race.
-ghost use Rattle.std.specs.Prelude.{◌≡◌, ◌<◌, ◌++◌, ◌↔◌, IsTrue, ◌∷◌, [], option_copied, option_map, position, length, string_bytes, IfSome, OnOk, OnErr};
-ghost use Rattle.er_rules.specs.Rules.{takes, taker, target_of, targets_of, same_site};
+ghost use Rattle.std.specs.Prelude.{◌≡◌, ◌<◌, ◌++◌, ◌↔◌, ℕ, List, Option, map, IsTrue, ◌∷◌, [], option_copied, option_map, length, string_bytes, IfSome, OnOk, OnErr};
+ghost use Rattle.std.proofs.Props.{props};
+ghost use Rattle.er_rules.specs.Targets.{takes, matching_rule, target_of, same_site};
+ghost use Rattle.er_rules.specs.Inner.Rules.{rule_in};
 
+use crate::index::RuleIndex;
 use er_event::Word;
 use std::alloc::{AllocError, Global};
 
@@ -45,19 +48,26 @@ fn is_at(name: &Option<String>, site: Option<&str>) -> bool
     }
 }
 
-/// Rules in order. The first that takes a race takes it alone.
-#[derive(Debug, PartialEq, Eq, Drop)]
+/// Rules in order. The first that takes a race takes it alone. They are indexed as they come in, so that a look-up compares few of them.
+#[derive(Drop)]
+#[derive_where(Debug, PartialEq, Eq;)]
 pub struct Suppressions {
     pub rules: Vec<Rule>,
+    #[derive_where(skip)]
+    index: RuleIndex,
+    ghost indexed: { (site : Option (List ℕ)) (word : ℕ) → rule_in index site word ≡ matching_rule (map target_of rules.items) site word } by { Prim.hlevel props },
 }
 
 impl Suppressions {
+    ghost use Rattle.er_rules.specs.Rules.{targets_of};
+
     /// No rules.
     pub fn new(alloc: Global) -> Self
         ensures { targets_of result ≡ [] }
     {
         Suppressions {
             rules: Vec::new(alloc),
+            index: RuleIndex::new(alloc),
         }
     }
 
@@ -80,23 +90,19 @@ impl Suppressions {
         ensures ok { OnOk result (targets_of self.new ≡ targets_of self.old ++ target_of rule ∷ []) }
         ensures err { OnErr result (targets_of self.new ≡ targets_of self.old) }
     {
-        self.rules.push(rule)?;
+        self.rules.reserve(1)?;
+        self.index.push(&rule, self.rules.len())?;
+        let pushed: Result<_, _> = self.rules.push(rule);
+        pushed.unwrap();
         Ok(())
     }
 
     /// The place of the first rule, from 0, that takes a race of an access to the word, at the site of this name or at the missing
     /// one.
-    pub fn taker(&self, site: Option<&str>, word: Word) -> Option<usize>
-        ensures taker { result ≡ taker (targets_of self.now) (option_copied site.entry) word }
+    pub fn matching_rule(&self, site: Option<&str>, word: Word) -> Option<usize>
+        ensures matching_rule { result ≡ matching_rule (targets_of self.now) (option_copied site.entry) word }
         ensures within { IfSome result (λ rule. rule < length (targets_of self.now)) }
     {
-        first_taker(self.rules.as_slice(), site, word)
+        self.index.rule_of(site, word)
     }
-}
-
-fn first_taker(rules: &[Rule], site: Option<&str>, word: Word) -> Option<usize>
-    ensures first { result ≡ position (λ rule. takes (target_of rule) (option_copied site.entry) word) rules.now }
-    ensures within { IfSome result (λ rule. rule < length rules.now) }
-{
-    rules.iter().position(|rule| rule.takes(site, word))
 }

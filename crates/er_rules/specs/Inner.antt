@@ -1,0 +1,4 @@
+pub mod Index
+pub mod Pieces
+pub mod Rules
+pub mod Sites
