@@ -7,8 +7,8 @@ use crate::NumberedState;
 use er_event::ThreadId;
 use std::marker::Model;
 
-/// A shadowed word's state in 32 bits: the two highest tell the state, and the others hold the thread or the set's number (section
-/// 3.1 of the 1997 paper; the order of the bits is own). Contracts see the state.
+/// A shadowed word's state in 32 bits: the two highest are the state, and the others hold the thread or the set's number. Contracts see
+/// the state.
 #[derive(Clone, Copy, Debug)]
 pub struct Shadow {
     bits: u32,
@@ -77,7 +77,7 @@ impl Shadow {
         }
     }
 
-    /// The 32 bits (own): 0 for virgin, else the state, 1 to 3, above thirty bits of the thread or the set.
+    /// The 32 bits: 0 for virgin, else the state, 1 to 3, above thirty bits of the thread or the set.
     #[inline]
     pub fn bits(self) -> u32
         ensures { result ≡ bits_of self }

@@ -1,7 +1,7 @@
 //! A word's states, and what an access in them needs.
 use er_event::ThreadId;
 
-/// What is known of a word (section 2.2 of the 1997 paper), with a number in place of the set of locks.
+/// What is known of a word, with a number in place of the set of locks.
 #[derive(Clone, Copy, Debug, PartialEq, Eq)]
 pub enum NumberedState {
     /// No access counts yet.

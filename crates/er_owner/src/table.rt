@@ -9,8 +9,7 @@ ghost use Rattle.er_owner.specs.Numbering.{state_in, IsNumbered, IsRefined};
 use crate::{Need, NumberedState, Shadow};
 use er_event::{Kind, ThreadId};
 
-/// Which set an access of a word by a thread needs. Candidates are refined from the second thread's first access on (section 2.2 of
-/// the 1997 paper; that this access counts is own).
+/// Which set an access of a word by a thread needs. Candidates are refined from the second thread's first access on, and with it.
 #[inline]
 pub fn need(shadow: Shadow, thread: ThreadId, _kind: Kind) -> Need
     ensures { result ≡ need_of shadow thread }
@@ -28,8 +27,8 @@ pub fn need(shadow: Shadow, thread: ThreadId, _kind: Kind) -> Need
     }
 }
 
-/// The word after an access, and whether the access is reported as a race (section 2.2 of the 1997 paper; that a word is reported
-/// once is own). `set` is the number of the set that it needs, and isn't looked at where it needs none.
+/// The word after an access, and whether the access is reported as a race: a word is reported once. `set` is the number of the set
+/// that the access needs. It has no effect if the access needs none.
 #[inline]
 pub fn advance(shadow: Shadow, thread: ThreadId, kind: Kind, set: u32) -> (Shadow, bool)
     requires { set < 2 ^ 30 }
@@ -63,7 +62,7 @@ fn shared_by(kind: Kind, set: u32) -> (Shadow, bool)
     }
 }
 
-/// With the set for each number, words go from state to state by the table of states, and are reported where it reports (own).
+/// With the set for each number, words go from state to state by the table of states, and are reported if it reports them.
 #[tactic(auto, using(crate::proofs::Following::state_follows, crate::proofs::Following::race_follows, crate::proofs::Following::numbered_follows))]
 pub fn a_numbered_state_follows_the_table()
     ensures state { (sets : List (List ℕ)) (s : NumberedState) (t : ℕ) (kind : Kind) (locks : List ℕ) (m : ℕ) → IsRefined sets (need_of s t) locks m

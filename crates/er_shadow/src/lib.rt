@@ -1,10 +1,10 @@
 //! The state of every word of memory, kept in pages that are made when they are first accessed.
 //!
-//! Begin with [`ShadowMap`]: `access` takes one counted access of one word and says whether it is a race, `reset` makes words virgin
-//! again, and `state_of` tells what is known of a word.
+//! Begin with [`ShadowMap`]: `access` takes one counted access of one word and returns whether it is a race, `reset` makes words virgin
+//! again, and `state_of` returns what is known of a word.
 //!
 //! What it promises, by the names of clauses: the words' `states` move as the table of states says, one word at an access and a
-//! range at a reset (`ok`), a race is told where the table tells one (`reply`), and a refused access changed no word (`err`).
+//! range at a reset (`ok`), an access is a race exactly if the table reports one (`reply`), and a refused access changed no word (`err`).
 //!
 //! ```text
 //! let table = LocksetTable::new(alloc, 1_048_576)?;

@@ -1,5 +1,6 @@
 //! Every word's state.
-ghost use Rattle.std.specs.Prelude.{◌≡◌, ◌%◌, ℕ, IsTrue, IsOk, IfOk, OnOk, OnErr, IsErrOf};
+ghost use Rattle.std.specs.Prelude.{◌≡◌, ◌<◌, ◌%◌, ℕ, nat_eq, slice_get, Some, None, IsTrue, IsOk, IfOk, IfSome, IfNone, OnOk, OnErr, IsErrOf};
+ghost use Rattle.indexmap.specs.IndexMap.{get, keys, index_map_len, IsUnique};
 ghost use Rattle.er_event.specs.declared.steps.WordState.TheVariants.{Virgin, Exclusive};
 ghost use Rattle.er_journal.specs.Journals.{stamped};
 ghost use Rattle.er_model.specs.Table.{advanced, moved, reports};
@@ -12,16 +13,17 @@ use er_event::{Kind, Lockset, NoRoom, PageRange, Reply, ThreadId, Word, WordStat
 use er_journal::Stamp;
 use er_owner::Shadow;
 use er_table::{Known, LocksetTable};
+use indexmap::IndexMap;
 use std::alloc::{AllocError, Global};
-use std::collections::HashMap;
 use std::marker::Model;
 use std::sync::Wait;
 
-/// The state of every word, by pages of 1,024 words that are made at their first access (section 3.1 of the 1997 paper has a shadow
-/// word for each word; the pages are own). Contracts see the `states` of its words.
+/// The state of every word, by pages of 1,024 words that are made at their first access. Contracts see the `states` of its words.
 #[derive(Drop)]
 pub struct ShadowMap<'t> {
-    pages: HashMap<u64, Page>,
+    pages: IndexMap<u64, Page>,
+    // Where the page stands that was accessed last.
+    last: usize,
     known: Known<'t>,
     alloc: Global,
 }
@@ -40,20 +42,21 @@ impl<'t> ShadowMap<'t> {
     ghost use Rattle.er_owner.specs.Numbering.{IsNumbered};
     ghost use Rattle.er_shadow.specs.Shadows.{numbered_state, states, needs_set};
 
-    /// A map whose words are all virgin (own). Its sets of locks go into the table.
+    /// A map whose words are all virgin. Its sets of locks go into the table.
     pub fn new(alloc: Global, table: &'t LocksetTable) -> Result<ShadowMap<'t>, AllocError>
         ensures { IfOk result (λ map. (w : ℕ) → states map w ≡ Virgin) }
     {
         Ok(ShadowMap {
-            pages: HashMap::new(alloc),
+            pages: IndexMap::new(alloc),
+            last: 0,
             known: Known::new(alloc, table)?,
             alloc,
         })
     }
 
     /// One counted access of a word, with the locks that cover it: those that the thread holds in any mode for a read, and those
-    /// that it holds in write mode for a write (section 2 of the 1997 paper). Says whether it is reported as a race. Where it needs
-    /// a set, the thread's locks go into the table first, and then what they have in common with the candidates.
+    /// that it holds in write mode for a write. Returns whether it is reported as a race. If it needs a set, the thread's locks go
+    /// into the table first, and then what they have in common with the candidates.
     pub fn access<R: Wait>(
         &mut self,
         rt: &R,
@@ -73,8 +76,10 @@ impl<'t> ShadowMap<'t> {
     {
         let number = word.page();
         let place = place_of(word);
-        match self.pages.get_mut(&number) {
-            Some(page) => {
+        match index_of_page(&self.pages, self.last, number) {
+            Some(index) => {
+                self.last = index;
+                let page = &mut self.pages[index];
                 let (shadow, race) = step(
                     rt,
                     &mut self.known,
@@ -89,13 +94,14 @@ impl<'t> ShadowMap<'t> {
             None => {
                 let mut page = Page::new(self.alloc)?;
                 page.set(place, Shadow::exclusive(thread));
+                self.last = self.pages.len();
                 self.pages.insert(number, page)?;
                 Ok(Reply::Quiet)
             }
         }
     }
 
-    /// The access of a stamp, as `access` takes it (own).
+    /// The access of a stamp, as `access` takes it.
     pub fn apply<R: Wait>(&mut self, rt: &R, stamp: &Stamp) -> Result<Reply, NoRoom>
         ensures ok { OnOk result ((w : ℕ) → states self.new w ≡ moved (states self.old w) w (Counted stamp.now.thread stamp.now.kind stamp.now.word (stamped stamp.now stamp.now.kind))) }
         ensures reply { IfOk result (λ reply. reply ≡ reply_if (reports (states self.old stamp.now.word) (advanced (states self.old stamp.now.word) stamp.now.thread stamp.now.kind (stamped stamp.now stamp.now.kind)))) }
@@ -111,7 +117,7 @@ impl<'t> ShadowMap<'t> {
         self.access(rt, stamp.thread, stamp.word, stamp.kind, locks)
     }
 
-    /// Makes the words of a range virgin (section 3.3 of the 1997 paper). It takes no memory.
+    /// Makes the words of a range virgin. It takes no memory.
     pub fn reset(&mut self, range: PageRange)
         ensures { (w : ℕ) → states self.new w ≡ moved (states self.old w) w (Reused range) }
     {
@@ -123,7 +129,7 @@ impl<'t> ShadowMap<'t> {
         }
     }
 
-    /// What is known of a word (own).
+    /// What is known of a word.
     pub fn state_of(&self, word: Word) -> Result<WordState, AllocError>
         ensures { IfOk result (λ state. state ≡ states self.now word) }
     {
@@ -141,6 +147,21 @@ impl<'t> ShadowMap<'t> {
             Some(page) => page.get(place_of(word)),
             None => Shadow::virgin(),
         }
+    }
+}
+
+// Where the page of this number stands. It looks at the page at `last` first: most accesses are to the page of the access before, and
+// need no hash then.
+#[inline]
+fn index_of_page(pages: &IndexMap<u64, Page>, last: usize, number: u64) -> Option<usize>
+    ensures key { IfSome result (λ index. slice_get (keys pages.now) index ≡ Some number) }
+    ensures within { IfSome result (λ index. index < index_map_len pages.now) }
+    ensures none { IfNone result (get nat_eq pages.now number ≡ None) }
+    ensures unique { IsUnique nat_eq pages.now }
+{
+    match pages.as_slice().get_index(last) {
+        Some((key, _)) if *key == number => Some(last),
+        _ => pages.get_index_of(&number),
     }
 }
 

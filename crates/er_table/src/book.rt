@@ -95,6 +95,3 @@ impl Book {
         Ok(pushed)
     }
 }
-
-#[cfg(test)]
-mod tests;

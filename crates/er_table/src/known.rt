@@ -3,10 +3,12 @@
 //! `intersect` gives what numbering the common locks of the two sets gives (`ok`, `names`). That two equal numbers and number 0 need
 //! no search, and that a pair is looked up before its locks are compared, saves the comparison and the search for the set:
 //! a remembered pair takes about 12 ns.
-ghost use Rattle.std.specs.Prelude.{◌≡◌, ◌≢◌, ◌<◌, ◌≤◌, [], ◌∷◌, length, IsOk, IfOk, IfSome, OnOk, OnErr, IsErrOf, Contains};
+ghost use Rattle.std.specs.Prelude.{◌≡◌, ◌≢◌, ◌+◌, ◌<◌, ◌≤◌, [], ◌∷◌, length, IsOk, IfOk, IfSome, OnOk, OnErr, IsErrOf, Contains, Some};
 ghost use Rattle.er_event.specs.Lockset.{meet};
-ghost use Rattle.er_table.specs.Known.{IsMeet};
-ghost use Rattle.er_table.specs.Sets.{with_set, set_at, AreDistinct, KeepsNumbers};
+ghost use Rattle.std.specs.HashMap.{get, hash_map_len};
+ghost use Rattle.er_table.specs.Known.{IsMeet, RemembersMeets, same_pair, meet_of};
+ghost use Rattle.er_table.specs.declared.known.TheConstants.{MOST_REMEMBERED};
+ghost use Rattle.er_table.specs.Sets.{with_set, set_at, AreDistinct, most_sets, KeepsNumbers};
 
 use crate::LocksetTable;
 use crate::numbers::Numbers;
@@ -61,7 +63,7 @@ impl<'t> Known<'t> {
     pub fn count(&self) -> u32
         ensures count { result ≡ length self.now }
         ensures some { 0 < result }
-        ensures small { result ≤ 1048577 }
+        ensures small { result ≤ most_sets + 1 }
         ensures distinct { AreDistinct self.now }
         ensures empty { set_at self.now 0 ≡ [] }
     {
@@ -78,7 +80,7 @@ impl<'t> Known<'t> {
         self.numbers.set(number)
     }
 
-    /// The number of a set, which is the next one if it had none. Refused (`TableFull`) where it had none, and either this owner
+    /// The number of a set, which is the next one if it had none. Refused (`TableFull`) if it had none, and either this owner
     /// has numbered all the sets that the table takes or the table is full of others.
     pub fn number_of<R: Wait>(&mut self, rt: &R, set: &Lockset) -> Result<u32, NoRoom>
         ensures ok { OnOk result (self.new ≡ with_set self.old set.now) }
@@ -117,17 +119,10 @@ impl<'t> Known<'t> {
         if let Some(number) = self.remembered(pair) {
             return Ok(number);
         }
-        if self.meets.len() >= MOST_REMEMBERED {
-            return self.numbers.number_of_meet(rt, first, second);
-        }
-        self.meets.reserve(1)?;
-        let number = self.numbers.number_of_meet(rt, first, second)?;
-        let inserted: Result<_, _> = self.meets.insert(pair, number);
-        inserted.unwrap();
-        Ok(number)
+        number_anew(&mut self.numbers, &mut self.meets, rt, pair)
     }
 
-    // The number that `intersect` gives, where it is plain or was found before.
+    // The number that `intersect` gives, if it is plain or was found before.
     fn remembered(&self, pair: Pair) -> Option<u32>
         requires first { pair.first < length self.now }
         requires second { pair.second < length self.now }
@@ -140,5 +135,38 @@ impl<'t> Known<'t> {
     }
 }
 
-#[cfg(test)]
-mod tests;
+// The number of what the sets of a pair have in common, found anew. It is remembered unless as many as may be are.
+fn number_anew<R: Wait>(
+    numbers: &mut Numbers<'_>,
+    meets: &mut HashMap<Pair, u32>,
+    rt: &R,
+    pair: Pair,
+) -> Result<u32, NoRoom>
+    requires first { pair.first < length numbers.old }
+    requires second { pair.second < length numbers.old }
+    requires right { RemembersMeets numbers.old (get same_pair meets.old) }
+    requires few { hash_map_len meets.old ≤ MOST_REMEMBERED }
+    ensures ok { OnOk result (numbers.new ≡ with_set numbers.old (meet_of numbers.old pair)) }
+    ensures number { IfOk result (λ n. n < length numbers.new) }
+    ensures names { IfOk result (λ n. set_at numbers.new n ≡ meet_of numbers.old pair) }
+    ensures empty { IfOk result (λ n. meet_of numbers.old pair ≡ [] → n ≡ 0) }
+    ensures only_empty { IfOk result (λ n. n ≡ 0 → meet_of numbers.old pair ≡ []) }
+    ensures next { IfOk result (λ n. ¬ Contains numbers.old (meet_of numbers.old pair) → n ≡ length numbers.old) }
+    ensures kept { KeepsNumbers numbers.old numbers.new }
+    ensures err { OnErr result (numbers.new ≡ numbers.old) }
+    ensures full_only_if_new { IsErrOf result NoRoom.TableFull → ¬ Contains numbers.old (meet_of numbers.old pair) }
+    ensures full_only_if_some { IsErrOf result NoRoom.TableFull → meet_of numbers.old pair ≢ [] }
+    ensures refusals { ¬ IsErrOf result NoRoom.JournalFull }
+    ensures right { RemembersMeets numbers.new (get same_pair meets.new) }
+    ensures few { hash_map_len meets.new ≤ MOST_REMEMBERED }
+    ensures remembered { hash_map_len meets.old < MOST_REMEMBERED → IfOk result (λ n. get same_pair meets.new pair ≡ Some n) }
+{
+    if meets.len() >= MOST_REMEMBERED {
+        return numbers.number_of_meet(rt, pair.first, pair.second);
+    }
+    meets.reserve(1)?;
+    let number = numbers.number_of_meet(rt, pair.first, pair.second)?;
+    let inserted: Result<_, _> = meets.insert(pair, number);
+    inserted.unwrap();
+    Ok(number)
+}

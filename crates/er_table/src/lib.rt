@@ -26,8 +26,6 @@ pub use set_ref::SetRef;
 pub use table::LocksetTable;
 
 mod book;
-#[cfg(test)]
-mod fixtures;
 mod known;
 mod numbers;
 mod set_ref;

@@ -1,7 +1,7 @@
 //! Numbers for the sets of a table, as one owner gives them.
 ghost use Rattle.std.specs.Prelude.{◌≡◌, ◌≢◌, ◌+◌, ◌<◌, ◌≤◌, [], ◌∷◌, ◌++◌, length, IsTrue, IsFalse, IsOk, IfOk, IfSome, OnOk, OnErr, IsErrOf, Contains};
 ghost use Rattle.er_event.specs.Lockset.{meet};
-ghost use Rattle.er_table.specs.Sets.{with_set, set_at, AreDistinct};
+ghost use Rattle.er_table.specs.Sets.{with_set, set_at, AreDistinct, most_sets};
 
 use crate::LocksetTable;
 use er_event::{Lockset, NoRoom};
@@ -46,7 +46,7 @@ impl<'t> Numbers<'t> {
     pub(crate) fn count(&self) -> u32
         ensures count { result ≡ length self.now }
         ensures some { 0 < result }
-        ensures small { result ≤ 1048577 }
+        ensures small { result ≤ most_sets + 1 }
         ensures distinct { AreDistinct self.now }
         ensures empty { set_at self.now 0 ≡ [] }
     {
@@ -66,7 +66,7 @@ impl<'t> Numbers<'t> {
         }
     }
 
-    /// The number of the locks that two sets have in common, where one of the two has that number.
+    /// The number of the locks that two sets have in common, if one of the two has that number.
     pub(crate) fn plain_meet(&self, first: u32, second: u32) -> Option<u32>
         requires first { first < length self.now }
         requires second { second < length self.now }

@@ -1,6 +1,7 @@
 //! The sets that several owners share.
 ghost use Rattle.std.specs.Prelude.{◌≡◌, ◌≤◌, IfOk, IsErrOf};
 ghost use Rattle.er_table.specs.SetRef.{IsOf, set_of};
+ghost use Rattle.er_table.specs.Sets.{most_sets};
 
 use crate::{Book, SetRef, Sets};
 use boxcar::Vec;
@@ -9,8 +10,8 @@ use std::alloc::{AllocError, Global};
 use std::marker::Model;
 use std::sync::{Mutex, Wait};
 
-/// Sets of locks, each stored once, which threads share (own: the paper keeps its sets in a table of one thread). Contracts see
-/// where its sets stand, which no call through a `&` changes, and how many it may have.
+/// Sets of locks, each stored once, which threads share. Contracts see where its sets stand, which no call through a `&` changes, and
+/// how many it may have.
 #[derive(Drop)]
 pub struct LocksetTable {
     sets: Sets,
@@ -21,6 +22,7 @@ pub struct LocksetTable {
 impl Model for LocksetTable {
     ghost use Rattle.std.specs.Prelude.{◌≤◌};
     ghost use Rattle.er_table.specs.LocksetTable.{Stored, stored_coded};
+    ghost use Rattle.er_table.specs.Sets.{most_sets};
 
     ghost Value = { Stored };
 
@@ -28,14 +30,14 @@ impl Model for LocksetTable {
 
     ghost view = { λ t. record { shelves = t.sets; limit = t.max_sets } };
 
-    ghost invariant = { λ t. (1 ≤ t.max_sets) × (t.max_sets ≤ 1048576) };
+    ghost invariant = { λ t. (1 ≤ t.max_sets) × (t.max_sets ≤ most_sets) };
 }
 
 impl LocksetTable {
-    /// A table with no sets, which takes so many.
+    /// A table with no sets, which takes `max_sets` of them.
     pub fn new(alloc: Global, max_sets: u32) -> Result<LocksetTable, AllocError>
         requires some { 1 ≤ max_sets }
-        requires few { max_sets ≤ 1048576 }
+        requires few { max_sets ≤ most_sets }
         ensures { IfOk result (λ table. table.limit ≡ max_sets) }
     {
         Ok(LocksetTable {
@@ -45,8 +47,8 @@ impl LocksetTable {
         })
     }
 
-    /// What names the set, which is stored if no thread stored it before. Refused (`TableFull`) where it isn't stored and the
-    /// table has all the sets that it takes.
+    /// What names the set, which is stored if no thread stored it before. Refused (`TableFull`) exactly if it isn't stored, there is
+    /// memory, and the table has all the sets that it takes (`full` and `full_only_at_limit` of `Book::intern`, which is called here).
     pub fn intern<R: Wait>(&self, rt: &R, set: &Lockset) -> Result<SetRef, NoRoom>
         ensures named { IfOk result (λ r. IsOf self.now.shelves r × (set_of r ≡ set.now)) }
         ensures refusals { ¬ IsErrOf result NoRoom.JournalFull }
@@ -71,11 +73,8 @@ impl LocksetTable {
     pub fn max_sets(&self) -> u32
         ensures limit { result ≡ self.now.limit }
         ensures some { 1 ≤ result }
-        ensures few { result ≤ 1048576 }
+        ensures few { result ≤ most_sets }
     {
         self.max_sets
     }
 }
-
-#[cfg(test)]
-mod tests;

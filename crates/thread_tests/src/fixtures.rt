@@ -1,5 +1,6 @@
 //! What the cases share. A test ends where one of these cannot be had.
 use er_detector::{Config, Detector};
+use er_seat::Seat;
 use er_table::LocksetTable;
 use std::process::Abort;
 
@@ -18,6 +19,13 @@ pub(crate) fn detector<'t, R: Abort + AllocGlobal>(
 ) -> Detector<'t> {
     match Detector::new(rt.alloc(), table, config) {
         Ok(detector) => detector,
+        Err(_) => rt.abort(),
+    }
+}
+
+pub(crate) fn open_seat<R: Abort>(rt: &R, detector: &Detector) -> Seat {
+    match detector.open_seat() {
+        Ok(seat) => seat,
         Err(_) => rt.abort(),
     }
 }

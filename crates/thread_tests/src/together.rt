@@ -1,6 +1,6 @@
-//! Two threads at one detector at once. They wait for each other first, so that mostly neither is done before the other begins; the
-//! answers are the same in whatever order they come.
-use crate::fixtures::{detector, table_of_four};
+//! Calls at one detector, by two threads at once or beside a shard whose lock is held. Two threads wait for each other first, so that mostly
+//! neither is done before the other begins; the answers are the same in whatever order they come.
+use crate::fixtures::{detector, open_seat, table_of_four};
 use crate::gates::MeetingGate;
 use er_detector::{Config, Detector, settle};
 use er_event::{Kind, LockId, Mode, Refusal, Site, Word, WordRange};
@@ -13,7 +13,8 @@ use std::test::*;
 use std::thread;
 use std::thread::Threads;
 
-// These say nothing of what they return, so that a test's proof has little to carry.
+// These say nothing of what they return, so that a test's proof has little to carry. A way out that drops a detector or a seat is long to
+// prove, so one function owns the detector, and no other returns early with one.
 
 // A detector of so many shards and seats.
 fn config_of<R: Abort>(rt: &R, shards: u32, seats: u32) -> Config {
@@ -26,16 +27,11 @@ fn config_of<R: Abort>(rt: &R, shards: u32, seats: u32) -> Config {
 // How many seats each of two threads opens: as long as it takes for both to be at work at once, also on a busy machine.
 const SEATS: u32 = 50_000;
 
-// Adds the thread of a new seat.
-fn open_one(detector: &Detector, threads: &mut Vec<u32>) -> Option<Refusal> {
+// The thread of a new seat.
+fn next_thread(detector: &Detector) -> Result<u32, Refusal> {
     match detector.open_seat() {
-        Ok(seat) => {
-            if threads.push(seat.thread().number()).is_err() {
-                return Some(Refusal::OutOfMemory);
-            }
-            None
-        }
-        Err(why) => Some(why),
+        Ok(seat) => Ok(seat.thread().number()),
+        Err(why) => Err(why),
     }
 }
 
@@ -44,60 +40,91 @@ fn open_all(alloc: Global, detector: &Detector, gate: &MeetingGate, piece: u32) 
     let mut threads = Vec::new(alloc);
     gate.enter(piece);
     for _ in 0..SEATS {
-        if open_one(detector, &mut threads).is_some() {
+        let Ok(number) = next_thread(detector) else {
+            return threads;
+        };
+        if threads.push(number).is_err() {
             return threads;
         }
     }
     threads
 }
 
-// Whether the two lists have each number below the sum of their lengths, which is this.
-fn is_each_once(alloc: Global, lists: [&[u32]; 2], count: usize) -> bool {
-    let mut all = Vec::new(alloc);
-    for list in lists {
-        for number in list {
-            if all.push(*number).is_err() {
-                return false;
-            }
-        }
-    }
-    if all.sort().is_err() || all.len() != count {
-        return false;
-    }
-    let mut next = 0u32;
-    for number in &all {
-        if *number != next {
+// Whether the two lists have each number below the sum of their lengths, which is this. Each list rises.
+fn is_each_once(first: &[u32], second: &[u32], count: u32) -> bool {
+    let (mut from_first, mut from_second) = (0usize, 0usize);
+    for number in 0..count {
+        if first.get(from_first) == Some(&number) {
+            from_first = from_first.saturating_add(1);
+        } else if second.get(from_second) == Some(&number) {
+            from_second = from_second.saturating_add(1);
+        } else {
             return false;
         }
-        next = next.saturating_add(1);
     }
-    true
+    from_first == first.len() && from_second == second.len()
 }
 
-fn open_together<R: Threads + AllocGlobal + Sync>(
-    rt: &R,
-    detector: &Detector,
-) -> (Vec<u32>, Vec<u32>) {
+// Whether two threads at once get each seat once, and then no one gets one more.
+fn opens_each_seat_once<R: Threads + AllocGlobal + Sync>(rt: &R, detector: &Detector) -> bool {
     let gate = MeetingGate::new();
     let alloc = rt.alloc();
-    thread::join(
+    let (first, second) = thread::join(
         rt,
         || open_all(alloc, detector, &gate, 0),
         || open_all(alloc, detector, &gate, 1),
-    )
+    );
+    is_each_once(&first, &second, 100_000)
+        && matches!(next_thread(detector), Err(Refusal::TooManyThreads))
+}
+
+fn writes<R: Wait>(rt: &R, detector: &Detector, seat: &mut Seat) -> bool {
+    detector
+        .access(rt, seat, Word::new(0x400), Kind::Write, Site::MISSING)
+        .is_ok()
+}
+
+// Whether a seat takes a lock and writes in the second shard, while the lock of the first shard is held.
+fn goes_on_beside_a_guard<R: Wait + Abort>(rt: &R, detector: &Detector) -> bool {
+    if detector.config().shards == 0 {
+        return false;
+    }
+    let mut seat = open_seat(rt, detector);
+    let _kept = detector.shard(rt, 0);
+    seat.acquire(LockId::new(5), Mode::Write).is_ok() && writes(rt, detector, &mut seat)
+}
+
+// What is tried at a detector.
+#[derive(Clone, Copy)]
+enum Trial {
+    OpensEachSeatOnce,
+    GoesOnBesideAGuard,
+}
+
+// Whether the trial ends well, at a detector of so many shards and seats.
+fn ends_well<R: Threads + Wait + Abort + AllocGlobal + Sync>(
+    rt: &R,
+    shards: u32,
+    seats: u32,
+    trial: Trial,
+) -> bool {
+    let table = table_of_four(rt);
+    let detector = detector(rt, &table, config_of(rt, shards, seats));
+    match trial {
+        Trial::OpensEachSeatOnce => opens_each_seat_once(rt, &detector),
+        Trial::GoesOnBesideAGuard => goes_on_beside_a_guard(rt, &detector),
+    }
 }
 
 #[test]
 fn each_seat_has_a_thread_of_its_own(rt: HostRuntime) {
-    let table = table_of_four(&rt);
-    let detector = detector(&rt, &table, config_of(&rt, 1, 2 * SEATS));
-    let (first, second) = open_together(&rt, &detector);
-    assert!(rt; is_each_once(rt.alloc(), [first.as_slice(), second.as_slice()], 100_000));
-    let mut more = Vec::new(rt.alloc());
-    assert_eq!(rt;
-        open_one(&detector, &mut more),
-        Some(Refusal::TooManyThreads)
-    );
+    assert!(rt; ends_well(&rt, 1, 2 * SEATS, Trial::OpensEachSeatOnce));
+}
+
+// A shard that stopped another would stop this test for good.
+#[test]
+fn one_shard_does_not_stop_another(rt: HostRuntime) {
+    assert!(rt; ends_well(&rt, 2, 1, Trial::GoesOnBesideAGuard));
 }
 
 // How often each of two threads reuses one page.
@@ -120,25 +147,34 @@ fn reuse_all<R: Wait>(rt: &R, detector: &Detector, gate: &MeetingGate, mut seat:
     seat
 }
 
-fn open_two(alloc: Global, detector: &Detector) -> Option<Vec<Seat>> {
-    let mut seats = Vec::new(alloc);
+fn open_two<R: Abort + AllocGlobal>(rt: &R, detector: &Detector) -> Vec<Seat> {
+    let mut seats = Vec::new(rt.alloc());
     for _ in 0..2u32 {
-        seats.push(detector.open_seat().ok()?).ok()?;
+        if seats.push(open_seat(rt, detector)).is_err() {
+            rt.abort();
+        }
     }
-    Some(seats)
+    seats
 }
 
-// How many steps the run has, if it settles.
-fn reuse_together<R: Threads + Wait + AllocGlobal + Sync>(
+// The seats of two threads that reused the page at once.
+fn reuse_together<R: Threads + Wait + Abort + AllocGlobal + Sync>(
     rt: &R,
-    detector: Detector,
-) -> Option<usize> {
+    detector: &Detector,
+) -> Vec<Seat> {
     let gate = MeetingGate::new();
-    let seats = open_two(rt.alloc(), &detector)?;
-    let played = thread::map_vec(rt, seats, &|seat| reuse_all(rt, &detector, &gate, seat)).ok()?;
-    match settle(rt.alloc(), detector, played) {
-        Ok(run) => Some(run.steps.len()),
-        Err(_) => None,
+    let seats = open_two(rt, detector);
+    match thread::map_vec(rt, seats, &|seat| reuse_all(rt, detector, &gate, seat)) {
+        Ok(played) => played,
+        Err(_) => rt.abort(),
+    }
+}
+
+// How many steps the run has, or none if it doesn't settle.
+fn settled_steps(alloc: Global, detector: Detector, seats: Vec<Seat>) -> usize {
+    match settle(alloc, detector, seats) {
+        Ok(run) => run.steps.len(),
+        Err(_) => 0,
     }
 }
 
@@ -147,39 +183,6 @@ fn reuse_together<R: Threads + Wait + AllocGlobal + Sync>(
 fn reuses_of_one_page_settle(rt: HostRuntime) {
     let table = table_of_four(&rt);
     let detector = detector(&rt, &table, config_of(&rt, 1, 2));
-    assert_eq!(rt; reuse_together(&rt, detector), Some(20_000));
-}
-
-fn writes<R: Wait>(rt: &R, detector: &Detector) -> bool {
-    match detector.open_seat() {
-        Ok(mut seat) => detector
-            .access(rt, &mut seat, Word::new(0x400), Kind::Write, Site::MISSING)
-            .is_ok(),
-        Err(_) => false,
-    }
-}
-
-fn acquires(detector: &Detector) -> bool {
-    match detector.open_seat() {
-        Ok(mut seat) => seat.acquire(LockId::new(5), Mode::Write).is_ok(),
-        Err(_) => false,
-    }
-}
-
-// Whether one thread writes in the second shard and another takes a lock, while this one has the first shard.
-fn goes_on_beside_a_guard<R: Threads + Wait + Sync>(rt: &R, detector: &Detector) -> bool {
-    if detector.config().shards == 0 {
-        return false;
-    }
-    let _kept = detector.shard(rt, 0);
-    let (written, acquired) = thread::join(rt, || writes(rt, detector), || acquires(detector));
-    written && acquired
-}
-
-// A shard that stopped another would stop this test for good.
-#[test]
-fn one_shard_does_not_stop_another(rt: HostRuntime) {
-    let table = table_of_four(&rt);
-    let detector = detector(&rt, &table, config_of(&rt, 2, 2));
-    assert!(rt; goes_on_beside_a_guard(&rt, &detector));
+    let seats = reuse_together(&rt, &detector);
+    assert_eq!(rt; settled_steps(rt.alloc(), detector, seats), 20_000);
 }

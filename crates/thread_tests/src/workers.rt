@@ -1,14 +1,14 @@
 //! Workers that are at work at once, of workloads and of parallel replays.
 use crate::gates::MeetingGate;
-use er_event::{Event, Kind, Reply, Site, Step, ThreadId, Word};
+use er_event::{Event, Kind, Site, Step, ThreadId, Word};
 use er_gate::Gate;
 use er_journal::{Answer, Outcome};
 use er_load::{Workload, run_workload};
 use er_parallel::{ReplayConfig, replay_parallel};
 use std::alloc::Global;
+use std::process::Abort;
 use std::sync::Wait;
 use std::sync::atomic::{AtomicU32, Ordering};
-use std::test::Fail;
 use std::thread::Threads;
 
 // These say nothing of what they return, so that a test's proof has little to carry.
@@ -20,23 +20,19 @@ fn counted<G: Gate, R: Threads + Wait + Sync>(
     workload: Workload,
     gate: &G,
 ) -> Option<(usize, usize)> {
-    let run = run_workload(rt, alloc, workload, gate).ok()?;
-    let races = run
-        .replies
-        .iter()
-        .filter(|reply| matches!(reply, Reply::Race))
-        .count();
-    Some((run.steps.len(), races))
+    match run_workload(rt, alloc, workload, gate) {
+        Ok(run) => Some((run.steps.len(), run.races())),
+        Err(_) => None,
+    }
 }
 
 // Both threads are at work at once, and there is one race all the same.
 #[test]
-fn workers_run_side_by_side(rt: HostRuntime) -> Result<(), Fail> {
+fn workers_run_side_by_side(rt: HostRuntime) {
     let gate = MeetingGate::new();
     let found = counted(&rt, rt.alloc(), Workload::RacyCounter, &gate);
     assert_eq!(rt; found, Some((4, 1)));
     assert!(rt; gate.met());
-    Ok(())
 }
 
 // A step of two threads that write to eight pages in turn: the first thread's writes are the first eight.
@@ -49,13 +45,15 @@ fn eight_pages_step(place: u32) -> Step {
     }
 }
 
-fn steps_of(alloc: Global, count: u32) -> Option<Vec<Step>> {
-    let mut steps = Vec::new(alloc);
+fn steps_of<R: Abort + AllocGlobal>(rt: &R, count: u32) -> Vec<Step> {
+    let mut steps = Vec::new(rt.alloc());
     for place in 0..count {
         let Step { thread, event } = eight_pages_step(place);
-        steps.push(Step { thread, event }).ok()?;
+        if steps.push(Step { thread, event }).is_err() {
+            rt.abort();
+        }
     }
-    Some(steps)
+    steps
 }
 
 // How many of the answers are races, and how many answers there are.
@@ -69,29 +67,29 @@ fn count_races(outcome: &Outcome) -> (usize, usize) {
     (races, outcome.answers.len())
 }
 
-// So many of the steps replayed by workers, in so many shards.
-fn replayed<G: Gate, R: Threads + Wait + Sync>(
+// The steps replayed by workers, in so many shards.
+fn replayed<G: Gate, R: Threads + Wait + Abort + AllocGlobal + Sync>(
     rt: &R,
-    alloc: Global,
     (shards, workers): (u32, u32),
-    count: u32,
+    steps: &[Step],
     gate: &G,
-) -> Option<(usize, usize)> {
-    let config = ReplayConfig::new(shards, 16)?;
-    let steps = steps_of(alloc, count)?;
-    let workers = workers.clamp(1, 16);
-    let outcome = replay_parallel(rt, alloc, config, steps.as_slice(), workers, gate).ok()?;
-    Some(count_races(&outcome))
+) -> (usize, usize) {
+    let Some(config) = ReplayConfig::new(shards, 16) else {
+        rt.abort()
+    };
+    match replay_parallel(rt, rt.alloc(), config, steps, workers.clamp(1, 16), gate) {
+        Ok(outcome) => count_races(&outcome),
+        Err(_) => rt.abort(),
+    }
 }
 
 // Two workers pass the gates of their first shards at once.
 #[test]
-fn replays_run_side_by_side(rt: HostRuntime) -> Result<(), Fail> {
+fn replays_run_side_by_side(rt: HostRuntime) {
     let gate = MeetingGate::new();
-    let found = replayed(&rt, rt.alloc(), (8, 2), 16, &gate);
-    assert_eq!(rt; found, Some((8, 16)));
+    let steps = steps_of(&rt, 16);
+    assert_eq!(rt; replayed(&rt, (8, 2), &steps, &gate), (8, 16));
     assert!(rt; gate.met());
-    Ok(())
 }
 
 // Counts the pieces, and adds up their numbers.
@@ -110,14 +108,12 @@ impl Gate for CountingGate {
 
 // Each shard has its gate, also where it has no step.
 #[test]
-fn each_shard_passes_the_gate_once(rt: HostRuntime) -> Result<(), Fail> {
+fn each_shard_passes_the_gate_once(rt: HostRuntime) {
     let gate = CountingGate {
         pieces: AtomicU32::new(0),
         sum: AtomicU32::new(0),
     };
-    let found = replayed(&rt, rt.alloc(), (64, 3), 0, &gate);
-    assert_eq!(rt; found, Some((0, 0)));
+    assert_eq!(rt; replayed(&rt, (64, 3), &[], &gate), (0, 0));
     assert_eq!(rt; gate.pieces.load(Ordering::SeqCst), 64);
     assert_eq!(rt; gate.sum.load(Ordering::SeqCst), 2016);
-    Ok(())
 }

@@ -13,6 +13,8 @@ use Rattle.er_shadow.specs.Shadows.{Shadows, numbered_state, states, needs_set}
 use Rattle.er_shadow.specs.declared.map.ShadowMap.TheInside.{Inside}
 use Rattle.er_shadow.proofs.Moves.{found_word, state_found, state_absent, unwritten_page, written_page, made_page, all_numbered, all_kept, states_kept, states_put, needs_from_need, own_needs_nothing}
 use Rattle.er_event.proofs.Results.{on_err_of}
+use Rattle.er_shadow.proofs.PageLemmas.{page_found, page_put}
+use Rattle.indexmap.specs.IndexMap.{with_value_at}
 use Rattle.er_shadow.proofs.map.ShadowMap.access.Goals as goal
 
 -- what contracts see of the fields
@@ -24,82 +26,72 @@ keeps_all sets = record { longer = omega arith; kept = λ n within. refl }
 
 pub step-requires : goal.step-requires
 step-requires g c =
-    let found = found_word c.self.inside.pages.entries c.args.word c.page-number.result c.place_of-place.result _ c.get.result c.page-number.ensures c.place_of-place.ensures c.in-Some.ensures.value c.get.ensures in
+    let found = found_word c.self.inside.pages.entries c.args.word c.page-number.result c.place_of-place.result _ c.get.result c.page-number.ensures c.place_of-place.ensures (page_found c.self.inside.pages c.in-Some.index c.page-number.result c.index_mut-page.result.now c.in-Some.ensures.unique c.in-Some.ensures.key c.index_mut-page.ensures.value) c.get.ensures in
     subst (λ s. IsNumbered c.self.inside.known s) (sym found) (c.self.invariant c.args.word)
 
 pub invariant_of-self : goal.invariant_of-self
 invariant_of-self g c =
-    let some = subst IsSome c.in-Some.ensures.value refl in
-    let same = unwritten_page c.self.inside.pages.entries (c.get_mut.follows.lender c.in-Some.page.now).entries c.page-number.result c.in-Some.page.now c.in-Some.ensures.value ((c.get_mut.follows.holds c.in-Some.page.now).3 some).0 in
-    all_kept (seen c.self.inside) (record { pages = (c.get_mut.follows.lender c.in-Some.page.now).entries; sets = c.step.new.known }) c.step.ensures.kept c.self.invariant same
+    let same = unwritten_page c.self.inside.pages.entries (with_value_at c.self.inside.pages c.in-Some.index c.index_mut-page.result.now).entries c.page-number.result c.index_mut-page.result.now (page_found c.self.inside.pages c.in-Some.index c.page-number.result c.index_mut-page.result.now c.in-Some.ensures.unique c.in-Some.ensures.key c.index_mut-page.ensures.value) (page_put c.self.inside.pages c.in-Some.index c.page-number.result c.index_mut-page.result.now c.in-Some.ensures.unique c.in-Some.ensures.key c.index_mut-page.ensures.value c.index_mut-page.result.now) in
+    all_kept (seen c.self.inside) (record { pages = (with_value_at c.self.inside.pages c.in-Some.index c.index_mut-page.result.now).entries; sets = c.step.new.known }) c.step.ensures.kept c.self.invariant same
 
 pub returns-in_err-shadow-in-Some-clause-err : goal.returns-in_err-shadow-in-Some-clause-err
 returns-in_err-shadow-in-Some-clause-err g c =
-    let some = subst IsSome c.in-Some.ensures.value refl in
-    let same = unwritten_page c.self.inside.pages.entries (c.get_mut.follows.lender c.in-Some.page.now).entries c.page-number.result c.in-Some.page.now c.in-Some.ensures.value ((c.get_mut.follows.holds c.in-Some.page.now).3 some).0 in
-    let after : Shadows = record { pages = (c.get_mut.follows.lender c.in-Some.page.now).entries; sets = c.step.new.known } in
+    let same = unwritten_page c.self.inside.pages.entries (with_value_at c.self.inside.pages c.in-Some.index c.index_mut-page.result.now).entries c.page-number.result c.index_mut-page.result.now (page_found c.self.inside.pages c.in-Some.index c.page-number.result c.index_mut-page.result.now c.in-Some.ensures.unique c.in-Some.ensures.key c.index_mut-page.ensures.value) (page_put c.self.inside.pages c.in-Some.index c.page-number.result c.index_mut-page.result.now c.in-Some.ensures.unique c.in-Some.ensures.key c.index_mut-page.ensures.value c.index_mut-page.result.now) in
+    let after : Shadows = record { pages = (with_value_at c.self.inside.pages c.in-Some.index c.index_mut-page.result.now).entries; sets = c.step.new.known } in
     let kept = states_kept (seen c.self.inside) after c.step.ensures.kept c.self.invariant same in
     on_err_of c.from_residual.result _ (subst (λ before. (w : ℕ) → states after w ≡ states before w) c.self.view_is kept)
 
 pub returns-in_err-shadow-in-Some-clause-full : goal.returns-in_err-shadow-in-Some-clause-full
 returns-in_err-shadow-in-Some-clause-full g c = λ full.
-    let found = found_word c.self.inside.pages.entries c.args.word c.page-number.result c.place_of-place.result _ c.get.result c.page-number.ensures c.place_of-place.ensures c.in-Some.ensures.value c.get.ensures in
+    let found = found_word c.self.inside.pages.entries c.args.word c.page-number.result c.place_of-place.result _ c.get.result c.page-number.ensures c.place_of-place.ensures (page_found c.self.inside.pages c.in-Some.index c.page-number.result c.index_mut-page.result.now c.in-Some.ensures.unique c.in-Some.ensures.key c.index_mut-page.ensures.value) c.get.ensures in
     let needs = needs_from_need c.self.inside.known c.get.result c.args.thread (λ nothing. true≢false (sym (c.in_err-shadow-in-Some.ensures.free nothing))) in
     subst (λ before. IsTrue (needs_set (states before c.args.word) c.args.thread)) c.self.view_is
     (subst (λ state. IsTrue (needs_set state c.args.thread)) (state_found (seen c.self.inside) c.args.word c.get.result found) needs)
 
 pub invariant_of-self-in-Some : goal.invariant_of-self-in-Some
 invariant_of-self-in-Some g c =
-    let some = subst IsSome c.in-Some.ensures.value refl in
-    let written = written_page c.self.inside.pages.entries (c.get_mut.follows.lender c.set.new.self).entries c.args.word c.page-number.result c.place_of-place.result c.in-Some.page.now c.set.new.self c.in_ok-shadow-in-Some.shadow
-    c.page-number.ensures c.place_of-place.ensures c.in-Some.ensures.value ((c.get_mut.follows.holds c.set.new.self).3 some).0 c.set.ensures in
-    all_numbered (seen c.self.inside) (record { pages = (c.get_mut.follows.lender c.set.new.self).entries; sets = c.step.new.known }) _ c.in_ok-shadow-in-Some.shadow c.step.ensures.kept c.self.invariant c.in_ok-shadow-in-Some.ensures.numbered written
+    let written = written_page c.self.inside.pages.entries (with_value_at c.self.inside.pages c.in-Some.index c.set.new.self).entries c.args.word c.page-number.result c.place_of-place.result c.index_mut-page.result.now c.set.new.self c.in_ok-shadow-in-Some.shadow
+    c.page-number.ensures c.place_of-place.ensures (page_found c.self.inside.pages c.in-Some.index c.page-number.result c.index_mut-page.result.now c.in-Some.ensures.unique c.in-Some.ensures.key c.index_mut-page.ensures.value) (page_put c.self.inside.pages c.in-Some.index c.page-number.result c.index_mut-page.result.now c.in-Some.ensures.unique c.in-Some.ensures.key c.index_mut-page.ensures.value c.set.new.self) c.set.ensures in
+    all_numbered (seen c.self.inside) (record { pages = (with_value_at c.self.inside.pages c.in-Some.index c.set.new.self).entries; sets = c.step.new.known }) _ c.in_ok-shadow-in-Some.shadow c.step.ensures.kept c.self.invariant c.in_ok-shadow-in-Some.ensures.numbered written
 
 pub returns-in_ok-shadow-in-Some-clause-ok : goal.returns-in_ok-shadow-in-Some-clause-ok
 returns-in_ok-shadow-in-Some-clause-ok g c =
-    let some = subst IsSome c.in-Some.ensures.value refl in
-    let found = found_word c.self.inside.pages.entries c.args.word c.page-number.result c.place_of-place.result _ c.get.result c.page-number.ensures c.place_of-place.ensures c.in-Some.ensures.value c.get.ensures in
-    let written = written_page c.self.inside.pages.entries (c.get_mut.follows.lender c.set.new.self).entries c.args.word c.page-number.result c.place_of-place.result c.in-Some.page.now c.set.new.self c.in_ok-shadow-in-Some.shadow
-    c.page-number.ensures c.place_of-place.ensures c.in-Some.ensures.value ((c.get_mut.follows.holds c.set.new.self).3 some).0 c.set.ensures in
-    let after : Shadows = record { pages = (c.get_mut.follows.lender c.set.new.self).entries; sets = c.step.new.known } in
+    let found = found_word c.self.inside.pages.entries c.args.word c.page-number.result c.place_of-place.result _ c.get.result c.page-number.ensures c.place_of-place.ensures (page_found c.self.inside.pages c.in-Some.index c.page-number.result c.index_mut-page.result.now c.in-Some.ensures.unique c.in-Some.ensures.key c.index_mut-page.ensures.value) c.get.ensures in
+    let written = written_page c.self.inside.pages.entries (with_value_at c.self.inside.pages c.in-Some.index c.set.new.self).entries c.args.word c.page-number.result c.place_of-place.result c.index_mut-page.result.now c.set.new.self c.in_ok-shadow-in-Some.shadow
+    c.page-number.ensures c.place_of-place.ensures (page_found c.self.inside.pages c.in-Some.index c.page-number.result c.index_mut-page.result.now c.in-Some.ensures.unique c.in-Some.ensures.key c.index_mut-page.ensures.value) (page_put c.self.inside.pages c.in-Some.index c.page-number.result c.index_mut-page.result.now c.in-Some.ensures.unique c.in-Some.ensures.key c.index_mut-page.ensures.value c.set.new.self) c.set.ensures in
+    let after : Shadows = record { pages = (with_value_at c.self.inside.pages c.in-Some.index c.set.new.self).entries; sets = c.step.new.known } in
     let advances = subst (λ before. state_in c.step.new.known c.in_ok-shadow-in-Some.shadow ≡ advanced before c.args.thread c.args.kind c.args.locks.now) (state_found (seen c.self.inside) c.args.word c.get.result found) c.in_ok-shadow-in-Some.ensures.state in
     subst (λ before. (w : ℕ) → states after w ≡ moved (states before w) w (Counted c.args.thread c.args.kind c.args.word c.args.locks.now)) c.self.view_is
     (states_put (seen c.self.inside) after c.args.word c.in_ok-shadow-in-Some.shadow c.step.ensures.kept c.self.invariant written c.args.thread c.args.kind c.args.locks.now advances)
 
 pub returns-in_ok-shadow-in-Some-clause-reply : goal.returns-in_ok-shadow-in-Some-clause-reply
 returns-in_ok-shadow-in-Some-clause-reply g c =
-    let found = found_word c.self.inside.pages.entries c.args.word c.page-number.result c.place_of-place.result _ c.get.result c.page-number.ensures c.place_of-place.ensures c.in-Some.ensures.value c.get.ensures in
+    let found = found_word c.self.inside.pages.entries c.args.word c.page-number.result c.place_of-place.result _ c.get.result c.page-number.ensures c.place_of-place.ensures (page_found c.self.inside.pages c.in-Some.index c.page-number.result c.index_mut-page.result.now c.in-Some.ensures.unique c.in-Some.ensures.key c.index_mut-page.ensures.value) c.get.ensures in
     let told = subst (λ before. c.in_ok-shadow-in-Some.race ≡ reports before (advanced before c.args.thread c.args.kind c.args.locks.now)) (state_found (seen c.self.inside) c.args.word c.get.result found) c.in_ok-shadow-in-Some.ensures.race in
     c.reply_to.ensures ∙ ap reply_if (subst (λ before. c.in_ok-shadow-in-Some.race ≡ reports (states before c.args.word) (advanced (states before c.args.word) c.args.thread c.args.kind c.args.locks.now)) c.self.view_is told)
 
 pub invariant_of-self-in-None : goal.invariant_of-self-in-None
 invariant_of-self-in-None g c =
-    let before = c.get_mut.follows.lender-at-none in
-    let same = c.get_mut.follows.holds-at-none in
-    let absent = ap (λ m. lookup (nat_eq c.page-number.result) m.entries) same ∙ sym c.in-None.ensures.value in
-    let written = made_page before.entries c.insert.new.self.entries c.args.word c.page-number.result c.place_of-place.result c.in_ok-page-in-None.page c.set-in-None.new.self c.exclusive.result
-    c.page-number.ensures c.place_of-place.ensures absent c.in_ok-insert-in-None.ensures.updates.0 c.in_ok-page-in-None.ensures c.set-in-None.ensures in
+    let written = made_page c.self.inside.pages.entries c.insert.new.self.entries c.args.word c.page-number.result c.place_of-place.result c.in_ok-page-in-None.page c.set-in-None.new.self c.exclusive.result
+    c.page-number.ensures c.place_of-place.ensures c.in-None.ensures.none c.in_ok-insert-in-None.ensures.updates.0 c.in_ok-page-in-None.ensures c.set-in-None.ensures in
     let is = subst (λ s. IsNumbered c.self.inside.known s) (sym c.exclusive.ensures) tt in
     all_numbered (seen c.self.inside) (record { pages = c.insert.new.self.entries; sets = c.self.inside.known }) _ c.exclusive.result (keeps_all c.self.inside.known) c.self.invariant is
-    (λ w. written w ∙ ap (λ m. cond (c.args.word == w) c.exclusive.result (numbered_state m.entries w)) same)
+    written
 
 pub returns-in_ok-insert-in-None-clause-ok : goal.returns-in_ok-insert-in-None-clause-ok
 returns-in_ok-insert-in-None-clause-ok g c =
-    let before = c.get_mut.follows.lender-at-none in
-    let same = c.get_mut.follows.holds-at-none in
-    let absent = ap (λ m. lookup (nat_eq c.page-number.result) m.entries) same ∙ sym c.in-None.ensures.value in
-    let written = made_page before.entries c.insert.new.self.entries c.args.word c.page-number.result c.place_of-place.result c.in_ok-page-in-None.page c.set-in-None.new.self c.exclusive.result
-    c.page-number.ensures c.place_of-place.ensures absent c.in_ok-insert-in-None.ensures.updates.0 c.in_ok-page-in-None.ensures c.set-in-None.ensures in
+    let written = made_page c.self.inside.pages.entries c.insert.new.self.entries c.args.word c.page-number.result c.place_of-place.result c.in_ok-page-in-None.page c.set-in-None.new.self c.exclusive.result
+    c.page-number.ensures c.place_of-place.ensures c.in-None.ensures.none c.in_ok-insert-in-None.ensures.updates.0 c.in_ok-page-in-None.ensures c.set-in-None.ensures in
     let after : Shadows = record { pages = c.insert.new.self.entries; sets = c.self.inside.known } in
-    let virgin = state_absent (seen c.self.inside) c.args.word c.page-number.result c.page-number.ensures (sym c.in-None.ensures.value) in
+    let virgin = state_absent (seen c.self.inside) c.args.word c.page-number.result c.page-number.ensures c.in-None.ensures.none in
     let advances = ap (state_in c.self.inside.known) c.exclusive.ensures ∙ ap (λ s. advanced s c.args.thread c.args.kind c.args.locks.now) (sym virgin) in
     subst (λ v. (w : ℕ) → states after w ≡ moved (states v w) w (Counted c.args.thread c.args.kind c.args.word c.args.locks.now)) c.self.view_is
     (states_put (seen c.self.inside) after c.args.word c.exclusive.result (keeps_all c.self.inside.known) c.self.invariant
-    (λ w. written w ∙ ap (λ m. cond (c.args.word == w) c.exclusive.result (numbered_state m.entries w)) same) c.args.thread c.args.kind c.args.locks.now advances)
+    written c.args.thread c.args.kind c.args.locks.now advances)
 
 pub returns-in_ok-insert-in-None-clause-reply : goal.returns-in_ok-insert-in-None-clause-reply
 returns-in_ok-insert-in-None-clause-reply g c =
-    let virgin = state_absent (seen c.self.inside) c.args.word c.page-number.result c.page-number.ensures (sym c.in-None.ensures.value) in
+    let virgin = state_absent (seen c.self.inside) c.args.word c.page-number.result c.page-number.ensures c.in-None.ensures.none in
     subst (λ v. Quiet ≡ reply_if (reports (states v c.args.word) (advanced (states v c.args.word) c.args.thread c.args.kind c.args.locks.now))) c.self.view_is
     (ap (λ s. reply_if (reports s (advanced s c.args.thread c.args.kind c.args.locks.now))) (sym virgin))
 
@@ -108,16 +100,16 @@ virgin_is_not_owned s t virgin own = cc
 
 pub returns-in_err-shadow-in-Some-clause-own : goal.returns-in_err-shadow-in-Some-clause-own
 returns-in_err-shadow-in-Some-clause-own g c = λ own.
-    let found = found_word c.self.inside.pages.entries c.args.word c.page-number.result c.place_of-place.result _ c.get.result c.page-number.ensures c.place_of-place.ensures c.in-Some.ensures.value c.get.ensures in
+    let found = found_word c.self.inside.pages.entries c.args.word c.page-number.result c.place_of-place.result _ c.get.result c.page-number.ensures c.place_of-place.ensures (page_found c.self.inside.pages c.in-Some.index c.page-number.result c.index_mut-page.result.now c.in-Some.ensures.unique c.in-Some.ensures.key c.index_mut-page.ensures.value) c.get.ensures in
     let before = state_found (seen c.self.inside) c.args.word c.get.result found ∙ (ap (λ (v : Shadows). states v c.args.word) c.self.view_is ∙ own) in
     absurd (true≢false (sym (c.in_err-shadow-in-Some.ensures.free (own_needs_nothing c.self.inside.known c.get.result c.args.thread before))))
 
 pub returns-in_err-page-in-None-clause-own : goal.returns-in_err-page-in-None-clause-own
 returns-in_err-page-in-None-clause-own g c = λ own.
-    let virgin = state_absent (seen c.self.inside) c.args.word c.page-number.result c.page-number.ensures (sym c.in-None.ensures.value) in
+    let virgin = state_absent (seen c.self.inside) c.args.word c.page-number.result c.page-number.ensures c.in-None.ensures.none in
     absurd (virgin_is_not_owned _ c.args.thread virgin (ap (λ (v : Shadows). states v c.args.word) c.self.view_is ∙ own))
 
 pub returns-in_err-insert-in-None-clause-own : goal.returns-in_err-insert-in-None-clause-own
 returns-in_err-insert-in-None-clause-own g c = λ own.
-    let virgin = state_absent (seen c.self.inside) c.args.word c.page-number.result c.page-number.ensures (sym c.in-None.ensures.value) in
+    let virgin = state_absent (seen c.self.inside) c.args.word c.page-number.result c.page-number.ensures c.in-None.ensures.none in
     absurd (virgin_is_not_owned _ c.args.thread virgin (ap (λ (v : Shadows). states v c.args.word) c.self.view_is ∙ own))
