@@ -3,13 +3,13 @@ ghost use Rattle.std.specs.Prelude.{◌≢◌};
 
 use std::sync::atomic::{AtomicBool, Ordering};
 
-/// Passed by a worker before each piece of its work (own), as tests do that want two workers at work at once.
+/// Passed by a worker before each piece of its work. Tests use it to see that two workers are at work at once.
 pub trait Gate: Sync {
     /// Called once before the piece.
     fn enter(&self, piece: u32);
 }
 
-/// Lets every piece pass at once (own).
+/// Lets every piece pass at once.
 #[derive(Drop)]
 pub struct OpenGate;
 
@@ -20,7 +20,7 @@ impl Gate for OpenGate {
 // How often a piece looks for the other at a gate of `PairGate::new`.
 const LOOKS: u32 = 100_000_000;
 
-/// At each of two pieces, shows that it is there and looks for the other a bounded number of times (own). Other pieces pass at once.
+/// At each of two pieces, shows that it is there and looks for the other a bounded number of times. Other pieces pass at once.
 #[derive(Drop)]
 pub struct PairGate {
     first: Side,

@@ -1,5 +1,5 @@
 -- A worker that has gone one step further.
-use Rattle.std.proofs.Common.{◌≡◌, ℕ, suc, add-one, ◌+◌, ◌%◌, ◌<◌, ◌==◌, nat_lt, Bool, true, false, cond, List, [], ◌∷◌, ◌++◌, length, slice_get, Some, Result, refl, ap, sym, ◌∙◌, arith, ⊎_elim, ◌⊎◌, inl, inr}
+use Rattle.std.proofs.Common.{◌≡◌, ℕ, suc, add-one, ◌+◌, ◌%◌, ◌<◌, ◌==◌, nat_lt, Bool, true, false, IsFalse, cond, List, [], ◌∷◌, ◌++◌, length, slice_get, Some, Result, refl, ap, sym, ◌∙◌, arith, ⊎_elim, ◌⊎◌, inl, inr}
 use Rattle.std.proofs.lemmas.Bool.{eqb-true}
 use Rattle.er_event.specs.declared.refusals.Refusal.{Refusal}
 use Rattle.er_event.specs.declared.steps.Event.{Event}
@@ -11,9 +11,8 @@ use Rattle.er_event.specs.declared.steps.Reply.TheVariants.{State}
 use Rattle.er_event.specs.declared.steps.Step.{Step}
 use Rattle.er_event.specs.declared.steps.WordState.{WordState}
 use Rattle.er_event.specs.declared.steps.WordState.TheVariants.{Virgin}
-use Rattle.er_held.specs.Held.{nothing_held}
 use Rattle.er_model.specs.Answers.{reading_of, state_at, answer, answer_unless}
-use Rattle.er_model.specs.Following.{answered, marked, replied, state_after, locks_for}
+use Rattle.er_model.specs.Following.{answered, marked, replied, state_after, locks_for, StandsFor}
 use Rattle.er_model.specs.Holdings.{Holdings, holdings_at, holdings_end, after_step, refused_by}
 use Rattle.er_model.specs.Locality.{touches}
 use Rattle.er_journal.specs.Merges.{shard_of}
@@ -23,14 +22,16 @@ use Rattle.er_model.specs.Words.{Counted, Reused, Nothing, reuses, counts, is_wi
 use Rattle.er_model.proofs.AnswersLemmas.{answer-step, state-step}
 use Rattle.er_journal.proofs.Merges.{touch_shard}
 use Rattle.er_model.proofs.Parts.{in_range}
-use Rattle.er_model.proofs.Prefixes.{holdings-empty, state-start}
+use Rattle.er_model.proofs.Prefixes.{state-start}
 use Rattle.er_model.proofs.Search.{below_or_at}
 use Rattle.er_model.proofs.Threads.{holdings-step}
-use Rattle.er_parallel.specs.Faults.{asks_by, AsksForSet}
+use Rattle.er_parallel.specs.Faults.{AsksForSet}
 use Rattle.er_parallel.specs.Found.{Found, IsFoundBelow, usual}
 use Rattle.er_parallel.specs.Inner.Following.{AreFollowed}
 use Rattle.er_event.proofs.Lists.{get_front, get_last, length_push}
 use Rattle.er_parallel.specs.Tasks.{worker_for}
+use Rattle.er_replay.specs.Standing.{found_no_room}
+use Rattle.er_replay.specs.Wants.{asks_by}
 
 start : (steps : List Step) (t : ℕ) → holdings_end [] t ≡ holdings_at steps t 0
 unfolding accepted
@@ -39,17 +40,28 @@ start steps t = refl
 nothing_there : (places : List ℕ) (j k : ℕ) → places ≡ [] → slice_get places j ≡ Some k → ⊥
 nothing_there places j k none is = absurd (let within = in_range places j k is in omega (arith, ap length none))
 
-pub followed-none : (found : Found) (holding : ℕ → Holdings) (states : ℕ → WordState) → ((t : ℕ) → holding t ≡ nothing_held) → ((w : ℕ) → states w ≡ Virgin) →
-    found.places ≡ [] → found.answers ≡ [] → AreFollowed 0 found holding states
-followed-none found holding states nobody virgin none empty = record {
-  held = λ t. nobody t ∙ (sym (holdings-empty t) ∙ start found.steps t);
-  words = λ w mine. virgin w ∙ sym (state-start (reading_of found.steps) w);
+pub followed-none : (found : Found) (holding : ℕ → Holdings) (states : ℕ → WordState) → StandsFor holding states [] → found.places ≡ [] → found.answers ≡ [] →
+    AreFollowed 0 found holding states
+followed-none found holding states stands none empty = record {
+  held = λ t. stands.0 t ∙ start found.steps t;
+  words = λ w mine. stands.1 w ∙ (state-start (reading_of []) w ∙ sym (state-start (reading_of found.steps) w));
   right = record {
     sizes = ap length none ∙ sym (ap length empty);
     right = λ j k is. absurd (nothing_there found.places j k none is);
     whole = λ k step below is mine. absurd (omega arith);
   };
 }
+
+-- a usual answer is no lack of room
+pub usual-found : (e : Event) (a : Result Reply Refusal) → a ≡ usual e → IsFalse (found_no_room a)
+usual-found (Access kind w site) a is = rw is refl
+usual-found (Acquire l m) a is = rw is refl
+usual-found (Release l m) a is = rw is refl
+usual-found (Reuse range) a is = rw is refl
+usual-found IgnoreOn a is = rw is refl
+usual-found IgnoreOff a is = rw is refl
+usual-found (Show w) a is = rw is refl
+usual-found (Level n) a is = rw is refl
 
 -- a step on words of other shards leaves a word as it was
 module _ (shards workers worker w t : ℕ) (h : Holdings) (before : WordState) (mine : shard_of shards w % workers ≡ worker) where

@@ -1,6 +1,5 @@
 pub mod AnswerLemmas
 pub mod FollowingLemmas
-pub mod HoldersLemmas
 pub mod PuttingLemmas
 pub mod ReplayLemmas
 pub mod WorkLemmas

@@ -1,27 +1,13 @@
 -- Why a replay has no answers, and when it may find the table of sets full.
-use Rattle.std.specs.Prelude.{◌≡◌, ℕ, IsTrue, nat_lt, Bool, false, not, ◌&&◌, List, slice_get, Some}
+use Rattle.std.specs.Prelude.{◌≡◌, ℕ, IsTrue, List, slice_get, Some}
 use Rattle.er_event.specs.declared.refusals.NoRoom.{NoRoom}
 use Rattle.er_event.specs.declared.refusals.NoRoom.TheVariants as room
-use Rattle.er_event.specs.declared.steps.Event.{Event}
-use Rattle.er_event.specs.declared.steps.Event.TheVariants.{Acquire, Release, Access, Reuse, IgnoreOn, IgnoreOff, Show, Level}
 use Rattle.er_event.specs.declared.steps.Step.{Step}
-use Rattle.er_event.specs.declared.steps.WordState.{WordState}
 use Rattle.er_model.specs.Answers.{state_at}
-use Rattle.er_model.specs.Holdings.{Holdings, holdings_at}
+use Rattle.er_model.specs.Holdings.{holdings_at}
 use Rattle.er_parallel.specs.declared.faults.ReplayFault.{ReplayFault}
 use Rattle.er_parallel.specs.declared.faults.ReplayFault.TheVariants as fault
-use Rattle.er_shadow.specs.Shadows.{needs_set}
-
--- the event asks the table for a set: an access that counts, of a word whose state needs one
-abbrev pub asks_by : Holdings → (ℕ → WordState) → ℕ → Event → Bool
-asks_by h states t (Access kind w site) = not (nat_lt 0 h.depth) && needs_set (states w) t
-asks_by h states t (Acquire l m) = false
-asks_by h states t (Release l m) = false
-asks_by h states t (Reuse range) = false
-asks_by h states t IgnoreOn = false
-asks_by h states t IgnoreOff = false
-asks_by h states t (Show w) = false
-asks_by h states t (Level n) = false
+use Rattle.er_replay.specs.Wants.{asks_by}
 
 -- the step at some position of the list asks the table for a set
 pub record AsksForSet (steps : List Step) : Type 0 where

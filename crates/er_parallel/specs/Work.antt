@@ -1,9 +1,11 @@
 -- What workers did.
-use Rattle.std.specs.Prelude.{◌≡◌, ℕ, List, length, map, slice_get, Some, Result, Ok, Err}
+use Rattle.std.specs.Prelude.{◌≡◌, ◌⊎◌, ◌<◌, ◌≤◌, ℕ, List, length, map, slice_get, Option, Some, IfSome, Result, Ok, Err}
 use Rattle.er_event.specs.declared.refusals.NoRoom.TheVariants.{TableFull}
 use Rattle.er_event.specs.declared.steps.Step.{Step}
-use Rattle.er_parallel.specs.Faults.{AsksForSet}
+use Rattle.er_parallel.specs.Faults.{AsksForSet, fault_of}
 use Rattle.er_parallel.specs.Found.{Found, IsFound}
+use Rattle.er_parallel.specs.declared.faults.ReplayFault.{ReplayFault}
+use Rattle.er_parallel.specs.declared.faults.ReplayFault.TheVariants.{Memory}
 use Rattle.er_parallel.specs.declared.task.Task.{Task}
 use Rattle.er_parallel.specs.declared.worked.WorkFault.{WorkFault}
 
@@ -23,6 +25,7 @@ IsWork task found = HasWorked task.steps.now task.shards task.worker task.worker
 abbrev pub MayBeFull : List Step → WorkFault → Type 0
 MayBeFull steps fault = fault.cause ≡ TableFull → AsksForSet steps
 
+-- a task's worker finds the table full only if a step of the task's list asks it for a set
 abbrev pub IsFault : Task → WorkFault → Type 0
 IsFault task fault = MayBeFull task.steps.now fault
 
@@ -35,6 +38,28 @@ pub record AllWorked (steps : List Step) (shards workers : ℕ) (all : List Foun
 abbrev pub AreOks : List (Result Found WorkFault) → List Found → Type 0
 AreOks results all = results ≡ map Ok all
 
--- one of the results is this fault
-abbrev pub IsFaultAmong : List (Result Found WorkFault) → WorkFault → Type 0
-IsFaultAmong results fault = (i : ℕ) × (slice_get results i ≡ Some (Err fault))
+-- the fault of the lesser shard, or the other fault if both have the same shard
+abbrev pub IsLesser : Option WorkFault → WorkFault → WorkFault → Type 0
+IsLesser known other given = ((given ≡ other) × IfSome known (λ k. other.shard ≤ k.shard)) ⊎ ((known ≡ Some given) × (given.shard < other.shard))
+
+-- the fault is one of the results, and of the faults among the first n none has a lesser shard, and none after it has the same shard
+pub record IsLeastBelow (n : ℕ) (results : List (Result Found WorkFault)) (fault : WorkFault) : Type 0 where
+  pub at : ℕ
+  pub there : slice_get results at ≡ Some (Err fault)
+  pub least : (i : ℕ) (other : WorkFault) → i < n → slice_get results i ≡ Some (Err other) → (fault.shard < other.shard) ⊎ ((fault.shard ≡ other.shard) × (i ≤ at))
+
+-- of the faults among the results it is the one of the least shard, and of the latest worker with this shard
+abbrev pub IsLeastFault : List (Result Found WorkFault) → WorkFault → Type 0
+IsLeastFault results fault = IsLeastBelow (length results) results fault
+
+-- none of the first n results is a fault
+abbrev pub NoneFailsBelow : ℕ → List (Result Found WorkFault) → Type 0
+NoneFailsBelow n results = (i : ℕ) (fault : WorkFault) → i < n → slice_get results i ≡ Some (Err fault) → ⊥
+
+-- no result is a fault
+abbrev pub NoneFails : List (Result Found WorkFault) → Type 0
+NoneFails results = NoneFailsBelow (length results) results
+
+-- the fault of the least shard that has one, or a want of memory if no worker has a fault
+abbrev pub IsFaultOf : List (Result Found WorkFault) → ReplayFault → Type 0
+IsFaultOf results given = ((fault : WorkFault) × (IsLeastFault results fault × (given ≡ fault_of fault.cause))) ⊎ (NoneFails results × (given ≡ Memory))

@@ -2,7 +2,7 @@
 ghost use Rattle.std.specs.Prelude.{◌≡◌, IsSome, IfSome};
 ghost use Rattle.er_parallel.specs.Limits.{IsShardCount, IsSetCount};
 
-/// How a parallel replay is made (own). The numbers are in their limits.
+/// How a parallel replay is made. The numbers are in their limits.
 #[derive(Clone, Copy, Debug, PartialEq, Eq)]
 pub struct ReplayConfig {
     /// In how many shards the words are, 1 to 64.

@@ -2,7 +2,7 @@
 use er_event::NoRoom;
 use std::alloc::AllocError;
 
-/// Why a parallel replay has no answers (own).
+/// Why a parallel replay has no answers.
 #[derive(Clone, Copy, Debug, PartialEq, Eq)]
 pub enum ReplayFault {
     /// There was no memory.

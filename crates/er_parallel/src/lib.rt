@@ -2,7 +2,9 @@
 //!
 //! Begin with [`replay_parallel`], which answers a list of steps with as many workers as are asked for. A [`ReplayConfig`] says in how
 //! many shards the words are and how many sets of locks the table takes. A [`ReplayFault`] says why there are no answers. Each worker
-//! passes a [`Gate`] before each shard, by which tests see that workers are at work at once.
+//! enters a [`Gate`] for each of its shards before its first step. Tests use it to see that workers are at work at once.
+//!
+//! A worker has a machine of its own, which answers the steps of the worker's shards and passes all others.
 //!
 //! What it promises, by the names of clauses: where there is an outcome nothing stopped (`stopped`), and the answers are those that the
 //! definitions give to the list, whatever the numbers of workers and shards (`answers`). The fault that the table is full comes only
@@ -21,9 +23,7 @@ pub use replay::replay_parallel;
 
 mod config;
 mod faults;
-mod following;
 mod gathering;
-mod holders;
 mod replay;
 mod task;
 mod worked;

@@ -14,14 +14,19 @@ use std::alloc::Global;
 use std::sync::Wait;
 use std::thread::Threads;
 
-/// Answers a list of steps, by so many workers (own). The words are in shards by their pages, and worker `w` answers the steps of the
-/// shards whose number is `w` modulo the number of workers, on words of its own. Every worker goes over the whole list, since it needs
-/// the locks of every thread. It passes the gate under each of its shards' numbers, by rising number, before the shard's first step,
-/// also if the shard has no step.
+/// Answers a list of steps by this number of workers, 1 to 16. The words are in shards by their pages, and worker `w` answers the
+/// steps of the shards whose number is `w` modulo the number of workers, on words of its own. A worker first enters the gate under the
+/// number of each of its shards, by rising number, also if no step is in the shard. Then it goes once over the whole list, since it
+/// needs the locks of every thread.
 ///
-/// If a worker can't be started the fault is `WorkerNotStarted`. Otherwise each worker stops at the first of its steps that finds no
-/// room, and the fault is that of the least shard that has one, `TableFull` or `Memory`. `Memory` also comes if the answers find none.
-/// `TableFull` comes only if some step needs a set of locks, so never for a list on which each word has one thread.
+/// If a worker can't be started the fault is `WorkerNotStarted`. Otherwise each worker stops at the first step, in the order of the
+/// list, that finds no room: one that it answers, or one whose locks, bracket or level it follows. The fault is then that of the least
+/// shard whose step found none, `TableFull` or `Memory`. `Memory` also comes if the list of answers finds none. `TableFull` comes only
+/// if some step needs a set of locks, so never for a list on which each word has one thread.
+///
+/// The clauses below don't say which worker's fault it is, since a caller never sees the workers' results. In `workers.rt` the clause
+/// `fault` of `all_or_fault`, which has the results as its argument, says that it is the fault of the least shard. If there is no
+/// memory for the list of results, the workers are joined one by one, and each time the fault of the lesser shard is kept (`lesser`).
 pub fn replay_parallel<G: Gate, R: Threads + Wait + Sync>(
     rt: &R,
     alloc: Global,

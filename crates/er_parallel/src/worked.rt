@@ -3,17 +3,16 @@ ghost use Rattle.std.specs.Prelude.{◌≡◌, ◌+◌, length, slice_get, IsTru
 ghost use Rattle.er_journal.specs.AnswerList.{shown};
 ghost use Rattle.er_parallel.specs.Faults.{AsksForSet};
 ghost use Rattle.er_parallel.specs.Found.{usual};
-ghost use Rattle.er_held.specs.ThreadLocks.{holding_among};
 ghost use Rattle.er_parallel.specs.Inner.Following.{AreFollowed, found_by};
 ghost use Rattle.er_parallel.specs.Putting.{ArePut};
 ghost use Rattle.er_parallel.specs.Tasks.{IsTask};
 ghost use Rattle.er_parallel.specs.Work.{IsWork, IsFault};
-ghost use Rattle.er_shadow.specs.Shadows.{states};
+ghost use Rattle.er_replay.specs.Standing.{holding, states};
 
-use crate::following::Follower;
 use crate::task::{Task, shard_for, worker_for};
 use er_event::{Event, NoRoom, Refusal, Reply, Step};
 use er_journal::{Answer, Answers};
+use er_replay::{Machine, no_room};
 use er_table::LocksetTable;
 use std::alloc::{AllocError, Global};
 use std::marker::Model;
@@ -51,24 +50,27 @@ fn go_on<R: Wait>(
     task: Task<'_>,
     at: usize,
     step: &Step,
-    follower: &mut Follower<'_>,
+    machine: &mut Machine<'_>,
     places: &mut Vec<usize>,
     answers: &mut Answers,
 ) -> Result<(), NoRoom>
     requires task { IsTask task }
     requires there { slice_get task.steps.now at ≡ Some step.now }
-    requires far { AreFollowed at (found_by task places.old.items answers.old) (holding_among follower.old.holders) (states follower.old.words) }
-    ensures far { OnOk result (AreFollowed (at + 1) (found_by task.entry places.new.items answers.new) (holding_among follower.new.holders) (states follower.new.words)) }
+    requires far { AreFollowed at (found_by task places.old.items answers.old) (holding machine.old) (states machine.old) }
+    ensures far { OnOk result (AreFollowed (at + 1) (found_by task.entry places.new.items answers.new) (holding machine.new) (states machine.new)) }
     ensures full { IsErrOf result NoRoom.TableFull → AsksForSet task.entry.steps.now }
 {
     let Step { event, .. } = *step;
     if worker_for(task.shards, task.workers, event) != task.worker {
-        follower.pass(*step)?;
+        machine.pass(*step)?;
         return Ok(());
     }
-    let answer = follower.take(rt, *step)?;
+    let answer = machine.step(rt, *step);
     if is_usual(step, &answer) {
         return Ok(());
+    }
+    if let Some(cause) = no_room(&answer) {
+        return Err(cause);
     }
     places.push(at)?;
     answers.push(answer)?;
@@ -104,7 +106,7 @@ impl<'s> Worked<'s> {
         requires { IsTask task }
         ensures { MatchResult result (λ worked. IsWork task.entry worked) (λ fault. IsFault task.entry fault) }
     {
-        let Ok(mut follower) = Follower::new(alloc, table) else {
+        let Ok(mut machine) = Machine::new(alloc, table) else {
             return Err(WorkFault {
                 shard: task.worker,
                 cause: NoRoom::OutOfMemory,
@@ -114,15 +116,7 @@ impl<'s> Worked<'s> {
         let mut places = Vec::new(alloc);
         let mut answers = Answers::new(alloc);
         for (at, step) in steps.iter().enumerate() {
-            if let Err(cause) = go_on(
-                rt,
-                task,
-                at,
-                step,
-                &mut follower,
-                &mut places,
-                &mut answers,
-            ) {
+            if let Err(cause) = go_on(rt, task, at, step, &mut machine, &mut places, &mut answers) {
                 let Step { event, .. } = *step;
                 let shard = shard_for(task.shards, event);
                 return Err(WorkFault { shard, cause });

@@ -1,11 +1,10 @@
 //! Workers, each of which answers the steps of its shards.
-ghost use Rattle.std.specs.Prelude.{◌≡◌, ◌⊎◌, ◌<◌, ◌≤◌, ℕ, List, length, get_or, IfOk, IfSome, IfErr, MatchResult, Some};
+ghost use Rattle.std.specs.Prelude.{◌≡◌, ◌<◌, ◌≤◌, ℕ, List, length, get_or, IfOk, IfSome, IfErr, MatchResult, MatchOption, Ok, Some};
 ghost use Rattle.er_event.specs.declared.steps.Step.{Step as Steps};
 ghost use Rattle.er_parallel.specs.Faults.{MayFail};
 ghost use Rattle.er_parallel.specs.Putting.{usual_answers};
 ghost use Rattle.er_parallel.specs.Tasks.{IsTask};
-ghost use Rattle.er_parallel.specs.declared.worked.WorkFault.{WorkFault as Faults};
-ghost use Rattle.er_parallel.specs.Work.{HasWorked, IsWork, IsFault, MayBeFull, AllWorked, AreOks, IsFaultAmong};
+ghost use Rattle.er_parallel.specs.Work.{HasWorked, IsWork, IsFault, MayBeFull, AllWorked, AreOks, IsFaultOf, IsLeastFault, IsLesser, NoneFails};
 
 use crate::gathering::usual_answers;
 use crate::task::Task;
@@ -15,7 +14,7 @@ use er_event::Step;
 use er_gate::Gate;
 use er_journal::Answers;
 use er_table::LocksetTable;
-use std::alloc::Global;
+use std::alloc::{AllocError, Global};
 use std::sync::Wait;
 use std::thread;
 use std::thread::{Promise, PromisedHandle, Threads};
@@ -107,16 +106,13 @@ pub(crate) fn work_all<'s, R: Threads + Wait + Sync, G: Gate>(
                 Ok(results) => results,
                 Err(refused) => return Err(fault_of(rt, refused.value)),
             };
-            match (all_or_fault(alloc, results), usual) {
-                (Ok(all), Ok(usual)) => Ok((usual, all)),
-                (Err(fault), _) => Err(fault),
-                (Ok(_), Err(_)) => Err(ReplayFault::Memory),
-            }
+            all_or_fault(alloc, results, usual)
         },
     )
 }
 
-// Joins workers for whose results there is no room, and says why there are none.
+// Joins workers for whose results there is no room, and gives the fault of the least shard that has one. Each result is gone when the
+// next is there, so the clause can't name them all: `lesser` says which of two faults stays.
 fn fault_of<'s, R: Threads>(
     rt: &R,
     handles: Vec<PromisedHandle<Result<Worked<'s>, WorkFault>, Task<'s>>>,
@@ -135,17 +131,20 @@ fn fault_of<'s, R: Threads>(
     }
 }
 
-// The results of all workers, or the fault of the least shard that has one.
+// The usual answers and the results of all workers, or the fault of the least shard that has one.
 fn all_or_fault<'s>(
     alloc: Global,
     results: Vec<Result<Worked<'s>, WorkFault>>,
-) -> Result<Vec<Worked<'s>>, ReplayFault>
-    ensures ok { IfOk result (λ all. AreOks results.entry.items all.items) }
-    ensures fault { (steps : List Steps) → ((fault : Faults) → IsFaultAmong results.entry.items fault → MayBeFull steps fault) → IfErr result (λ fault. MayFail steps fault) }
+    usual: Result<Answers, AllocError>,
+) -> Result<(Answers, Vec<Worked<'s>>), ReplayFault>
+    ensures usual { IfOk result (λ r. usual ≡ Ok r.0) }
+    ensures ok { IfOk result (λ r. AreOks results.entry.items r.1.items) }
+    ensures fault { IfErr result (λ given. IsFaultOf results.entry.items given) }
 {
     if let Some(fault) = least_fault(results.as_slice()) {
         return Err(ReplayFault::from(fault.cause));
     }
+    let usual = usual?;
     let mut all = Vec::new(alloc);
     for result in results {
         match result {
@@ -157,12 +156,12 @@ fn all_or_fault<'s>(
             Err(fault) => return Err(ReplayFault::from(fault.cause)),
         }
     }
-    Ok(all)
+    Ok((usual, all))
 }
 
-// The fault of the least shard that has one.
+// The fault of the least shard that has one. Of two faults of one shard it is the later worker's.
 fn least_fault(results: &[Result<Worked<'_>, WorkFault>]) -> Option<WorkFault>
-    ensures { IfSome result (λ fault. IsFaultAmong results.now fault) }
+    ensures { MatchOption result (NoneFails results.now) (λ fault. IsLeastFault results.now fault) }
 {
     let mut least = None;
     for result in results {
@@ -173,9 +172,9 @@ fn least_fault(results: &[Result<Worked<'_>, WorkFault>]) -> Option<WorkFault>
     least
 }
 
-// The fault of the lesser shard.
+// The fault of the lesser shard, and of two faults of one shard the other.
 fn lesser(known: Option<WorkFault>, other: WorkFault) -> WorkFault
-    ensures { (result ≡ other) ⊎ (known ≡ Some result) }
+    ensures { IsLesser known other result }
 {
     match known {
         Some(known) if known.shard < other.shard => known,

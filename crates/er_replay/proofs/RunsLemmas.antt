@@ -1,5 +1,5 @@
 -- A run answers one step more.
-use Rattle.std.proofs.Common.{◌≡◌, ℕ, ◌<◌, ◌+◌, Bool, true, false, List, [], ◌∷◌, ◌++◌, length, take, set, Result, Ok, Err, IsTrue, IsFalse, IsOk, OnErr, Some, get_or, slice_get, refl, ap, sym, ◌∙◌, append_assoc, append-nil}
+use Rattle.std.proofs.Common.{◌≡◌, ℕ, ◌<◌, ◌+◌, Bool, true, false, List, [], ◌∷◌, ◌++◌, length, take, set, Result, Err, IsTrue, IsFalse, IsOk, Some, get_or, slice_get, refl, ap, sym, ◌∙◌, append_assoc, append-nil}
 use Rattle.std.proofs.lemmas.List.{take_more, take_more_set}
 use Rattle.std.proofs.lemmas.Option.{slice_get_read}
 use Rattle.er_event.specs.Refusal.{refusal_of}

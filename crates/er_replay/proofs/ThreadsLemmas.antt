@@ -1,9 +1,5 @@
 -- One thread's holdings among all, as the map of threads is read and written.
-use Rattle.std.proofs.Common.{◌≡◌, ℕ, [], Bool, true, false, cond, List, Option, Some, None, unwrap_or, Result, Ok, Err, OnOk, OnErr, IfErr, IsErrAnd, refl, ap, ◌∙◌, eqb}
-use Rattle.std.specs.Map.{lookup}
-use Rattle.er_held.specs.Held.{nothing_held}
-use Rattle.er_model.specs.Holdings.{Holdings}
-use Rattle.er_held.specs.ThreadLocks.{holding_among}
+use Rattle.std.proofs.Common.{◌≡◌, Result, Ok, Err, IfErr, IsErrAnd, ap}
 
 -- an error that a `?` hands on
 pub err_from : {T E : Type 0} (r : Result T E) (G P : E → Type 0) → IsErrAnd r G → ((e : E) → G e → P e) → IfErr r P

@@ -1,5 +1,5 @@
 -- Where a run stops, and why it may.
-use Rattle.std.specs.Prelude.{◌≡◌, ◌⊎◌, ◌++◌, IsTrue, List, Option, Some, None, IsSomeAnd, IsOk, slice_get, take}
+use Rattle.std.specs.Prelude.{◌≡◌, ◌⊎◌, ◌++◌, IsTrue, List, IsSomeAnd, IsOk, slice_get, take}
 use Rattle.er_event.specs.Refusal.{refusal_of}
 use Rattle.er_event.specs.declared.refusals.NoRoom.{NoRoom}
 use Rattle.er_event.specs.declared.refusals.NoRoom.TheVariants.{OutOfMemory}
@@ -8,11 +8,6 @@ use Rattle.er_journal.specs.declared.answers.Stopped.{Stopped}
 use Rattle.er_model.specs.Answers.{answer_next, state_end}
 use Rattle.er_model.specs.Holdings.{holdings_end}
 use Rattle.er_replay.specs.Wants.{may_want}
-
--- the steps that were taken before the stop, or all of them
-abbrev pub taken : Option Stopped → List Step → List Step
-taken None steps = steps
-taken (Some stopped) steps = take stopped.at steps
 
 -- a step after this list, which the definitions don't refuse, may want what had no room
 abbrev pub MayLack : List Step → Step → NoRoom → Type 0

@@ -9,11 +9,6 @@ use Rattle.er_event.specs.declared.steps.WordState.TheVariants.{Virgin, Exclusiv
 use Rattle.er_model.specs.Holdings.{Holdings}
 use Rattle.er_shadow.specs.Shadows.{needs_set}
 
--- the event asks for a word's state
-abbrev pub is_show : Event → Bool
-is_show (Show w) = true
-is_show _ = false
-
 -- the event reads or writes a word
 abbrev pub is_access : Event → Bool
 is_access (Access kind w site) = true

@@ -10,6 +10,10 @@
 //! run's answers are those of the list up to its stop (`answers`), which the definitions don't refuse (`cause`). A caller that takes the
 //! steps one by one finds a want of room by [`no_room`], and what a thread holds by [`Machine::held`].
 //!
+//! A worker whose machine keeps only some of the words calls [`Machine::pass`] at a step on any other word: `pass` follows the holdings
+//! and leaves the words. Such a machine may stand for no list. So `step` also says what it answers and changes by the machine's own
+//! holdings and states (`answered`, `holdings`, `states`).
+//!
 //! ```text
 //! let table = LocksetTable::new(alloc, 1_048_576)?;
 //! let mut machine = Machine::new(alloc, &table)?;

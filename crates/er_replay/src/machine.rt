@@ -1,12 +1,14 @@
 //! The machine: every thread's holdings and every word's state.
-ghost use Rattle.std.specs.Prelude.{◌≡◌, ◌<◌, ◌++◌, ◌∷◌, [], ℕ, List, IsTrue, IsFalse, IsOk, IfOk, IfErr, IsErrOf, OnOk, OnErr, Err, None, Some};
+ghost use Rattle.std.specs.Prelude.{◌≡◌, ◌<◌, ◌++◌, ◌∷◌, [], ◌&&◌, ℕ, List, IsTrue, IsFalse, IsOk, IsErr, IfOk, IfErr, IsErrOf, OnOk, OnErr, Err, None, Some};
 ghost use Rattle.er_event.specs.declared.steps.Step.{Step as Steps};
+ghost use Rattle.er_held.specs.ThreadLocks.{changes_holdings};
 ghost use Rattle.er_model.specs.Answers.{answer_next, state_end};
 ghost use Rattle.er_model.specs.Following.{answered, marked, replied, state_after};
 ghost use Rattle.er_model.specs.Holdings.{refused_by, after_step, holdings_end};
 ghost use Rattle.er_model.specs.Table.{moved};
 ghost use Rattle.er_journal.specs.AnswerList.{is_state};
-ghost use Rattle.er_replay.specs.Wants.{is_show, is_access, asks_by, may_want};
+ghost use Rattle.er_model.specs.Events.{is_show};
+ghost use Rattle.er_replay.specs.Wants.{is_access, asks_by, may_want, wants_memory};
 
 use crate::threads::Threads;
 use er_event::{Event, Kind, Refusal, Reply, Step, ThreadId, Word, WordState};
@@ -46,6 +48,8 @@ impl<'t> Machine<'t> {
     }
 
     /// Takes one step and says what it is answered (sections 2 and 3 of the 1997 paper).
+    // Two loops take steps. A call at each step would add 3 % to a replay.
+    #[inline(always)]
     pub fn step<R: Wait>(&mut self, rt: &R, step: Step) -> Result<Reply, Refusal>
         ensures answer { (past : List Steps) → Stands self.old past → IsFalse (found_no_room result) → result ≡ answer_next past step }
         ensures goes_on { (past : List Steps) → Stands self.old past → IsFalse (found_no_room result) → Stands self.new (past ++ step ∷ []) }
@@ -63,10 +67,42 @@ impl<'t> Machine<'t> {
         // A show alone is answered with a state, and changes nothing.
         ensures shows { IsTrue (is_state result) → IsTrue (is_show step.event) }
         ensures still { IsTrue (is_show step.event) → (past : List Steps) → Stands self.old past → Stands self.new past }
+
+        // The same by the machine's own holdings and states, for one that stands for no list because it has passed steps.
+        ensures answered { IsFalse (found_no_room result) → result ≡ answered (holding self.old step.thread) (states self.old) step }
+        ensures holdings { IsFalse (found_no_room result) → (t : ℕ) → holding self.new t ≡ after_step (holding self.old t) t step }
+        ensures states { IsFalse (found_no_room result) → (w : ℕ) → states self.new w ≡ state_after (holding self.old step.thread) (states self.old w) w step }
     {
         self.follow(rt, step)
     }
 
+    /// Takes what a step makes of its thread's holdings, and leaves every word as it is: for a step whose word another machine keeps. A
+    /// step that the definitions refuse changes nothing. The only error is that there is no memory, which changes nothing either.
+    pub fn pass(&mut self, step: Step) -> Result<(), AllocError>
+        ensures holdings { OnOk result ((t : ℕ) → holding self.new t ≡ after_step (holding self.old t) t step) }
+        ensures states { (w : ℕ) → states self.new w ≡ states self.old w }
+        ensures err { OnErr result ((t : ℕ) → holding self.new t ≡ holding self.old t) }
+
+        // Only a step that changes its thread's holdings may find no memory.
+        ensures memory { IsErr result → (refused_by (holding self.old step.thread) step.event ≡ None) × IsTrue (changes_holdings step.event && wants_memory step.event) }
+    {
+        let Step { thread, event } = step;
+        match event {
+            Event::Access(..) | Event::Reuse(_) | Event::Show(_) => Ok(()),
+            Event::Acquire(..)
+            | Event::Release(..)
+            | Event::IgnoreOn
+            | Event::IgnoreOff
+            | Event::Level(_) => match self.threads.change(thread, event) {
+                Ok(()) => Ok(()),
+                Err(Refusal::OutOfMemory) => Err(AllocError),
+                Err(_) => Ok(()),
+            },
+        }
+    }
+
+    // By the machine's own holdings and states. Split for the prover.
+    #[inline(always)]
     fn follow<R: Wait>(&mut self, rt: &R, step: Step) -> Result<Reply, Refusal>
         ensures answer { IsFalse (found_no_room result) → result ≡ answered (holding self.old step.thread) (states self.old) step }
         ensures holdings { IsFalse (found_no_room result) → (t : ℕ) → holding self.new t ≡ after_step (holding self.old t) t step }
@@ -96,6 +132,7 @@ impl<'t> Machine<'t> {
     }
 
     // An access, which isn't counted while its thread ignores.
+    #[inline(always)]
     fn access<R: Wait>(
         &mut self,
         rt: &R,

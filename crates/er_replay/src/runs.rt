@@ -5,7 +5,8 @@ ghost use Rattle.er_event.specs.declared.steps.Step.{Step as Steps};
 ghost use Rattle.er_model.specs.Answers.{answer_next};
 ghost use Rattle.er_model.specs.Runs.{answers_after};
 ghost use Rattle.er_replay.specs.Standing.{Stands, found_no_room};
-ghost use Rattle.er_replay.specs.Stops.{taken, MayLack, MayStop};
+ghost use Rattle.er_journal.specs.Stops.{answered_steps};
+ghost use Rattle.er_replay.specs.Stops.{MayLack, MayStop};
 
 use crate::Machine;
 use er_event::{NoRoom, Refusal, Reply, Step};
@@ -16,8 +17,8 @@ use std::sync::Wait;
 /// Takes the steps of a list in turn, up to the first that finds no room. The room for the whole list of answers is taken
 /// first, and where there is none the run stops at place 0. An empty list takes no memory.
 pub fn run<R: Wait>(rt: &R, alloc: Global, machine: &mut Machine<'_>, steps: &[Step]) -> Outcome
-    ensures answers { (past : List Steps) → Stands machine.old past → result.answers ≡ answers_after past (taken result.stopped steps.now) }
-    ensures goes_on { (past : List Steps) → Stands machine.old past → Stands machine.new (past ++ taken result.stopped steps.now) }
+    ensures answers { (past : List Steps) → Stands machine.old past → result.answers ≡ answers_after past (answered_steps steps.now result.stopped) }
+    ensures goes_on { (past : List Steps) → Stands machine.old past → Stands machine.new (past ++ answered_steps steps.now result.stopped) }
     ensures within { IfSome result.stopped (λ stopped. stopped.at < length steps.now) }
     ensures cause { (past : List Steps) → Stands machine.old past → IfSome result.stopped (λ stopped. MayStop past steps.now stopped) }
 {

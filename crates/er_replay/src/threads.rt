@@ -54,6 +54,7 @@ impl Threads {
     }
 
     /// What an event makes of its thread's holdings. A thread without a place gets one where its event is accepted.
+    #[inline(always)]
     pub(crate) fn change(&mut self, thread: ThreadId, event: Event) -> Result<(), Refusal>
         requires { IsTrue (changes_holdings event) }
         ensures accepted { OnOk result (refused_by (holding_among self.old thread) event ≡ None) }

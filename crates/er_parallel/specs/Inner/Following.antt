@@ -8,14 +8,8 @@ use Rattle.er_model.specs.Holdings.{Holdings, holdings_at}
 use Rattle.er_journal.specs.Merges.{shard_of}
 use Rattle.er_parallel.specs.Found.{Found, IsFoundBelow}
 use Rattle.er_parallel.specs.declared.task.Task.{Task}
-use Rattle.er_shadow.specs.Shadows.{Shadows}
 
--- the threads that took something, with their holdings, and the words
-pub record Followed : Type 0 where
-  pub holders : List (ℕ × Holdings)
-  pub words : Shadows
-
--- after the first k steps it has every thread's holdings, the states of its own shards' words, and its answers
+-- after the first k steps a worker's machine has every thread's holdings and the states of its own shards' words, and the worker has its answers
 pub record AreFollowed (k : ℕ) (found : Found) (holding : ℕ → Holdings) (states : ℕ → WordState) : Type 0 where
   pub held : (t : ℕ) → holding t ≡ holdings_at found.steps t k
   pub words : (w : ℕ) → shard_of found.shards w % found.workers ≡ found.worker → states w ≡ state_at found.steps w k

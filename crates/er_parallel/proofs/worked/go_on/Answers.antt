@@ -1,28 +1,30 @@
-use Rattle.std.proofs.Common.{◌≡◌, ap, sym, refl, ◌∙◌}
+use Rattle.std.proofs.Common.{◌≡◌, sym, refl, ◌∙◌, IsFalse}
 use Rattle.er_parallel.specs.Tasks.{worker_for}
 use Rattle.er_parallel.specs.Inner.Following.{found_by}
-use Rattle.er_held.specs.ThreadLocks.{holding_among}
-use Rattle.er_shadow.specs.Shadows.{states}
-use Rattle.er_parallel.proofs.FollowingLemmas.{followed-past, followed-usual, followed-found}
+use Rattle.er_parallel.proofs.FollowingLemmas.{followed-past, followed-usual, followed-found, usual-found}
+use Rattle.er_replay.specs.Standing.{holding, states, found_no_room}
 use Rattle.er_parallel.proofs.worked.go_on.Goals as goal
 
 pub returns-then-worker_for-task-clause-far : goal.returns-then-worker_for-task-clause-far
 returns-then-worker_for-task-clause-far g c =
     followed-past c.args.at (found_by c.args.task c.args.places.now.items c.args.answers.now) c.args.step.now c.requires.there
-    (holding_among c.args.follower.now.holders) (holding_among c.pass.new.self.holders) (states c.args.follower.now.words) (states c.pass.new.self.words) c.requires.far c.in_ok-pass.ensures.holdings
-    (λ mine. c.if-worker_for-task.true (c.worker_for.ensures ∙ mine)) (λ w. ap (λ s. states s w) c.in_ok-pass.ensures.words)
+    (holding c.args.machine.now) (holding c.pass.new.self) (states c.args.machine.now) (states c.pass.new.self) c.requires.far c.in_ok-pass.ensures.holdings
+    (λ mine. c.if-worker_for-task.true (c.worker_for.ensures ∙ mine)) c.in_ok-pass.ensures.states
 
 pub returns-then-is_usual-clause-far : goal.returns-then-is_usual-clause-far
 returns-then-is_usual-clause-far g c =
     let mine : worker_for c.args.task.shards c.args.task.workers c.args.step.now.event ≡ c.args.task.worker = sym c.worker_for.ensures ∙ c.if-worker_for-task.false in
+    let usual = c.is_usual.ensures c.if-is_usual.true in
+    let room : IsFalse (found_no_room c.step-answer.result) = usual-found c.args.step.now.event c.step-answer.result usual in
     followed-usual c.args.at (found_by c.args.task c.args.places.now.items c.args.answers.now) c.args.step.now c.requires.there
-    (holding_among c.args.follower.now.holders) (holding_among c.take.new.self.holders) (states c.args.follower.now.words) (states c.take.new.self.words) c.requires.far c.in_ok-answer.ensures.holdings
-    mine c.in_ok-answer.answer c.in_ok-answer.ensures.answer c.in_ok-answer.ensures.words (c.is_usual.ensures c.if-is_usual.true)
+    (holding c.args.machine.now) (holding c.step-answer.new.self) (states c.args.machine.now) (states c.step-answer.new.self) c.requires.far (c.step-answer.ensures.holdings room)
+    mine c.step-answer.result (c.step-answer.ensures.answered room) (c.step-answer.ensures.states room) usual
 
 pub returns-clause-far : goal.returns-clause-far
 returns-clause-far g c =
     let mine : worker_for c.args.task.shards c.args.task.workers c.args.step.now.event ≡ c.args.task.worker = sym c.worker_for.ensures ∙ c.if-worker_for-task.false in
+    let room : IsFalse (found_no_room c.step-answer.result) = c.in_default.ensures in
     followed-found c.args.at (found_by c.args.task c.args.places.now.items c.args.answers.now) c.args.step.now c.requires.there
-    (holding_among c.args.follower.now.holders) (holding_among c.take.new.self.holders) (states c.args.follower.now.words) (states c.take.new.self.words) c.requires.far c.in_ok-answer.ensures.holdings
-    mine c.in_ok-answer.answer (found_by c.args.task c.push.new.self.items c.push-2.new.self) c.in_ok-answer.ensures.answer c.in_ok-answer.ensures.words
+    (holding c.args.machine.now) (holding c.step-answer.new.self) (states c.args.machine.now) (states c.step-answer.new.self) c.requires.far (c.step-answer.ensures.holdings room)
+    mine c.step-answer.result (found_by c.args.task c.push.new.self.items c.push-2.new.self) (c.step-answer.ensures.answered room) (c.step-answer.ensures.states room)
     refl refl refl refl c.in_ok-push.ensures.items c.in_ok-push-2.ensures.ok

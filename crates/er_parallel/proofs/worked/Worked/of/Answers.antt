@@ -6,7 +6,7 @@ use Rattle.er_parallel.proofs.FollowingLemmas.{followed-none}
 use Rattle.er_parallel.proofs.worked.Worked.of.Goals as goal
 
 pub loop-at-init : goal.loop-at-init
-loop-at-init g c = followed-none _ _ _ c.in-Ok.ensures.holdings c.in-Ok.ensures.words c.new-places.ensures.items c.new-answers.ensures
+loop-at-init g c = followed-none _ _ _ c.in-Ok.ensures c.new-places.ensures.items c.new-answers.ensures
 
 pub go_on-requires-clause-there : goal.go_on-requires-clause-there
 go_on-requires-clause-there g c = slice_get_read c.args.task.steps.now _ c.loop-at.at c.index-steps-at.result refl c.loop-at-test.true c.index-steps-at.is
