@@ -1,11 +1,10 @@
 -- Facts on the pairs of an explanation.
-use Rattle.std.proofs.Common.{◌≡◌, ◌<◌, ◌≤◌, ◌+◌, ℕ, zero, suc, cond, nat_lt, List, [], ◌∷◌, length, map, drop, slice_get, slice_index_or, Some, refl, sym, ap, ◌∙◌, arith, inl, inr}
+use Rattle.std.proofs.Common.{◌≡◌, ◌<◌, ◌+◌, ℕ, List, length, map, slice_get, slice_index_or, Some, refl, sym, ap, ◌∙◌, arith, inl, inr}
 use Rattle.std.specs.Prelude.{All}
 use Rattle.std.proofs.lemmas.Option.{slice_get-map, slice_get_read, slice_get-get_or, get_or_from_slice_get, slice_get_within, same_Some}
 use Rattle.std.proofs.lemmas.List.{length-map}
 use Rattle.std.proofs.lemmas.Bool.{cases_order}
-use Rattle.er_model.specs.Explanations.{latest}
-use Rattle.er_explain.specs.declared.explanation.Uncovered.{Uncovered}
+use Rattle.er_journal.specs.declared.explanations.Uncovered.{Uncovered}
 
 -- what a pair of the list is seen as
 abbrev pub seen : Uncovered → ℕ × ℕ
@@ -35,18 +34,3 @@ module _ (P : ℕ × ℕ → Type 0) (pairs : List (ℕ × ℕ)) where
         | inl same ↦ (let both : pair ≡ other = same_Some pair other (sym here ∙ (ap (slice_get pairs) (sym same) ∙ is)) in rw (← both) holds)
         | inr differ ↦ elim differ [ inl less ↦ before j other less is | inr more ↦ absurd (omega arith) ]
       ]
-
--- the latest position, pair by pair
-pub latest-next : (pairs : List (ℕ × ℕ)) (last k n : ℕ) (pair : ℕ × ℕ) → n ≡ suc k → slice_get pairs k ≡ Some pair →
-    latest last (drop k pairs) ≡ latest (cond (nat_lt last pair.1) pair.1 last) (drop n pairs)
-unfolding latest
-latest-next [] last k n pair next is = cc
-latest-next (x ∷ xs) last zero n pair next is = let same : x ≡ pair = same_Some x pair is in rw (next, same) refl
-latest-next (x ∷ xs) last (suc k) n pair next is = rw next (latest-next xs last k (suc k) pair refl is)
-
-pub latest-end : (pairs : List (ℕ × ℕ)) (last k : ℕ) → length pairs ≤ k → latest last (drop k pairs) ≡ last
-unfolding latest
-latest-end [] last zero past = refl
-latest-end [] last (suc k) past = refl
-latest-end (x ∷ xs) last zero past = absurd (omega arith)
-latest-end (x ∷ xs) last (suc k) past = latest-end xs last k (omega arith)

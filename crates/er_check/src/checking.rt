@@ -1,7 +1,7 @@
 //! The check of an explanation.
 ghost use Rattle.std.specs.Prelude.{◌≡◌, ◌<◌, ◌≤◌, ◌↔◌, ℕ, suc, All, length, slice_get, Some, IfOk, IsTrue};
 ghost use Rattle.er_model.specs.Answers.{reading_of};
-ghost use Rattle.er_model.specs.Explanations.{Explains, word_in, word_of, latest};
+ghost use Rattle.er_model.specs.Explanations.{Explains, word_in, word_of};
 ghost use Rattle.er_held.specs.ThreadLocks.{held_by};
 ghost use Rattle.er_model.specs.Following.{marked};
 ghost use Rattle.er_model.specs.Words.{era};
@@ -10,11 +10,11 @@ ghost use Rattle.er_check.specs.Claims.{Agrees, IsAccess, NamesAccesses, reused_
 use crate::access::Access;
 use crate::claims::Claims;
 use er_event::{Event, Step, Word};
-use er_explain::Explanation;
 use er_held::ThreadLocks;
+use er_journal::Explanation;
 use std::alloc::{AllocError, Global};
 
-/// Whether the explanation shows why step `k` of the list, counted from 0, is answered with a race (own). Its pairs may come in
+/// Whether the explanation shows why step `k` of the list, counted from 0, is answered with a race. Its pairs may come in
 /// any order. The answer is no if step `k` is no access or past the end of the list. The error is refused memory alone.
 pub fn check_explanation(
     alloc: Global,
@@ -28,7 +28,7 @@ pub fn check_explanation(
     let Some(word) = word_at(steps, k) else {
         return Ok(false);
     };
-    if latest(explanation) != k {
+    if explanation.latest() != k {
         return Ok(false);
     }
     let start = era_of(steps, k, word);
@@ -51,19 +51,6 @@ fn word_at(steps: &[Step], at: u64) -> Option<Word>
         Event::Access(_, word, _) => Some(word),
         _ => None,
     }
-}
-
-// The latest of the positions of the write and of the pairs.
-fn latest(explanation: &Explanation) -> u64
-    ensures { result ≡ latest explanation.now.write explanation.now.uncovered }
-{
-    let mut last = explanation.write;
-    for pair in &explanation.uncovered {
-        if last < pair.at {
-            last = pair.at;
-        }
-    }
-    last
 }
 
 // Where the era of the word begins that holds step k, found by going back.

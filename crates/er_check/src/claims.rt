@@ -7,7 +7,7 @@ ghost use Rattle.er_check.specs.Claims.{Agrees, FitsPair, IsLeast, ListsOnce};
 
 use crate::access::Access;
 use er_event::{LockId, Lockset, ThreadId};
-use er_explain::Explanation;
+use er_journal::Explanation;
 use std::alloc::{AllocError, Global};
 
 /// An explanation, and what its claims rest on: where the word's era begins, and the thread of the first access.

@@ -1,6 +1,6 @@
 //! Whether an explanation shows why an access is a race, for whoever trusts neither the report nor what made it.
 //!
-//! Begin with [`check_explanation`]. It takes a list of steps, a position in it and an [`Explanation`](er_explain::Explanation), and
+//! Begin with [`check_explanation`]. It takes a list of steps, a position in it and an [`Explanation`], and
 //! answers yes or no.
 //!
 //! What it promises, by the names of clauses: it says yes only if the explanation is one by the definitions (`explains`), and says
@@ -21,6 +21,7 @@
 #![tactic(auto)]
 
 pub use checking::check_explanation;
+pub use er_journal::{Explanation, Uncovered};
 
 mod access;
 mod checking;

@@ -3,7 +3,7 @@ use Rattle.std.proofs.Common.{◌≡◌, ℕ, List, [], ◌∷◌, map, slice_ge
 use Rattle.std.proofs.lemmas.Option.{slice_get-map}
 use Rattle.er_model.specs.Explanations.{Explanation}
 use Rattle.er_explain.specs.declared.book.Pair.{Pair}
-use Rattle.er_explain.specs.declared.explanation.Uncovered.{Uncovered}
+use Rattle.er_journal.specs.declared.explanations.Uncovered.{Uncovered}
 use Rattle.er_explain.specs.Books.{joining_of}
 use Rattle.er_explain.specs.Joined.{Joining}
 

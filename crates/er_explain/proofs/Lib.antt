@@ -5,4 +5,4 @@ pub mod Explained
 pub mod Passes
 pub mod RaceLemmas
 pub mod RacyLemmas
-pub mod Told
+pub mod FoundLemmas

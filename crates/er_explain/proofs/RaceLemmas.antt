@@ -1,5 +1,5 @@
 -- The explanations of races, one after another.
-use Rattle.std.proofs.Common.{◌≡◌, ℕ, zero, suc, ◌+◌, ◌<◌, ◌≤◌, ◌⊎◌, Bool, true, false, cond, List, [], ◌∷◌, ◌++◌, length, take, flat_map, slice_get, slice_index, slice_index_or, All, AllPairs, Contains, Option, Some, None, Result, Ok, Err, add-one, append-nil, refl, sym, ◌∙◌, ap, subst, arith, ⊎_elim}
+use Rattle.std.proofs.Common.{◌≡◌, ℕ, zero, suc, ◌+◌, ◌<◌, ◌≤◌, ◌⊎◌, Bool, true, false, cond, List, [], ◌∷◌, ◌++◌, length, take, slice_get, slice_index, slice_index_or, All, AllPairs, Contains, Option, Some, None, Result, Ok, Err, add-one, append-nil, refl, sym, ◌∙◌, ap, arith, ⊎_elim}
 use Rattle.std.specs.Option.{option_to_list}
 use Rattle.std.proofs.lemmas.Option.{slice_get_read, slice_get_within}
 use Rattle.er_event.specs.declared.refusals.Refusal.{Refusal}
@@ -25,7 +25,7 @@ use Rattle.er_explain.specs.declared.book.Book.{Book}
 use Rattle.er_explain.specs.declared.book.Book.TheVariants.{Joined}
 use Rattle.er_explain.proofs.BookSteps.{book-start}
 use Rattle.er_explain.proofs.Passes.{held-start, held-next, book-next}
-use Rattle.er_explain.proofs.Told.{race-told, unraced-at}
+use Rattle.er_explain.proofs.FoundLemmas.{race-told, unraced-at}
 
 -- books before any step
 pub books-start : (steps : List Step) (words : List ℕ) (threads : List Holdings) (books : List Book) → threads ≡ [] → AreBegun words books → HaveFollowed steps words threads books 0

@@ -25,14 +25,13 @@
 #![tactic(auto)]
 
 pub use all_races::{explain_races, explain_races_at};
-pub use explanation::{Explanation, Uncovered};
+pub use er_journal::{Explanation, Uncovered};
 pub use laws::an_explanation_explains;
 pub use one_access::explain;
 
 mod all_races;
 mod book;
 mod books;
-mod explanation;
 mod laws;
 mod one_access;
 mod racy_words;

@@ -30,13 +30,13 @@ impl Model for Held {
 }
 
 impl Held {
-    /// How many locks a thread may have acquired at once. The locks of its level come on top (own).
+    /// How many locks a thread may have acquired at once. The locks of its level come on top.
     pub const MOST_LOCKS: usize = 64;
 
-    /// How many ignore brackets a thread may have open (own).
+    /// How many ignore brackets a thread may have open.
     pub const MOST_BRACKETS: u8 = 255;
 
-    /// No lock, level 0 and no bracket (own).
+    /// No lock, level 0 and no bracket.
     pub fn new(alloc: Global) -> Self
         ensures { result ≡ nothing_held }
     {
@@ -86,7 +86,7 @@ impl Held {
         self.depth > 0
     }
 
-    /// Takes a lock that is held in neither mode (section 2 of the 1997 paper; the refusals are own).
+    /// Takes a lock that is held in neither mode (section 2 of the 1997 paper).
     pub fn acquire(&mut self, lock: LockId, mode: Mode) -> Result<(), Refusal>
         ensures refused { (why : Refusal) → refused_by self.old (Event.Acquire lock mode) ≡ Some why → result ≡ Err why }
         ensures accepted { OnOk result (refused_by self.old (Event.Acquire lock mode) ≡ None) }
@@ -139,7 +139,7 @@ impl Held {
         }
     }
 
-    /// Gives up a lock that is held in this mode (section 2 of the 1997 paper; the refusals are own). It takes no memory.
+    /// Gives up a lock that is held in this mode (section 2 of the 1997 paper). It takes no memory.
     pub fn release(&mut self, lock: LockId, mode: Mode) -> Result<(), Refusal>
         ensures refused { (why : Refusal) → refused_by self.old (Event.Release lock mode) ≡ Some why → result ≡ Err why }
         ensures accepted { OnOk result (refused_by self.old (Event.Release lock mode) ≡ None) }
@@ -181,7 +181,7 @@ impl Held {
         self.write_mode.remove(lock);
     }
 
-    /// Opens an ignore bracket (section 3 of the 1997 paper; the limit is own). It takes no memory.
+    /// Opens an ignore bracket (section 3 of the 1997 paper). It takes no memory.
     pub fn ignore_on(&mut self) -> Result<(), Refusal>
         ensures refused { (why : Refusal) → refused_by self.old Event.IgnoreOn ≡ Some why → result ≡ Err why }
         ensures accepted { OnOk result (refused_by self.old Event.IgnoreOn ≡ None) }
@@ -196,7 +196,7 @@ impl Held {
         Ok(())
     }
 
-    /// Closes the innermost ignore bracket (section 3 of the 1997 paper; the refusal is own). It takes no memory.
+    /// Closes the innermost ignore bracket (section 3 of the 1997 paper). It takes no memory.
     pub fn ignore_off(&mut self) -> Result<(), Refusal>
         ensures refused { (why : Refusal) → refused_by self.old Event.IgnoreOff ≡ Some why → result ≡ Err why }
         ensures accepted { OnOk result (refused_by self.old Event.IgnoreOff ≡ None) }
@@ -227,7 +227,7 @@ impl Held {
         Ok(())
     }
 
-    /// Makes the change of one event, unless the definitions refuse it (own). An access, a reuse and a show change nothing.
+    /// Makes the change of one event, unless the definitions refuse it. An access, a reuse and a show change nothing.
     pub fn follow(&mut self, event: Event) -> Result<(), AllocError>
         ensures ok { OnOk result (self.new ≡ changed_unless (refused_by self.old event) self.old event) }
         ensures err { OnErr result (self.new ≡ self.old) }

@@ -11,7 +11,7 @@ use er_event::{Event, Kind, LockId, Lockset, Step, ThreadId};
 use std::alloc::{AllocError, Global};
 use std::marker::Model;
 
-/// What each thread holds (own). Contracts see it as a list of holdings by thread number; a thread past its end holds nothing.
+/// What each thread holds. Contracts see it as a list of holdings by thread number; a thread past its end holds nothing.
 /// Threads are numbered by first appearance, so the list has few gaps, and memory goes by the greatest number of a thread that
 /// has taken a lock, a bracket or a level.
 #[derive(Drop)]

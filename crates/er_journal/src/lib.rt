@@ -1,4 +1,4 @@
-//! What is written down as a run goes on: the answers of a replay, the journal of a shard, the calls of a seat.
+//! What is written down of a run: the answers of a replay, the explanation of a race, the journal of a shard, the calls of a seat.
 //!
 //! Begin with [`Answers`], what a replay answered, step by step, and with [`Entry`] and [`Call`], what shards and seats keep.
 //! `specs/Journals` says when a journal is legal, and `specs/Merges` when calls and journals are parts of one run.
@@ -19,10 +19,12 @@
 
 pub use answers::{Answer, Answers, Outcome, Stopped};
 pub use entries::{Call, Entry, Stamp, What};
+pub use explanations::{Explanation, Uncovered};
 pub use laws::a_merge_is_legal;
 pub use replies::BriefReply;
 
 mod answers;
 mod entries;
+mod explanations;
 mod laws;
 mod replies;

@@ -16,6 +16,7 @@ use Rattle.er_event.proofs.LocksetLemmas.{has-with_lock, without_absent}
 use Rattle.er_held.proofs.HeldLemmas.{without-with_lock}
 use Rattle.er_journal.specs.declared.entries.Call.{Call}
 use Rattle.er_model.specs.Answers.{answer, answer_unless, state_end}
+use Rattle.er_model.specs.Events.{is_show}
 use Rattle.er_model.specs.Following.{replied}
 use Rattle.er_model.specs.Holdings.{Holdings, holdings, acquired_among, at_level, holdings_at, holdings_end, after_step, refused_by, changed_by}
 use Rattle.er_model.specs.Locality.{is_own_call}
@@ -26,7 +27,7 @@ use Rattle.er_model.proofs.Prefixes.{holdings-empty, holdings-front, holdings-gr
 use Rattle.er_model.proofs.Threads.{has-held, has-write_held, held-ends, no_level_lock}
 use Rattle.er_event.proofs.Bools.{itself}
 use Rattle.er_event.proofs.Lists.{length_filter}
-use Rattle.er_seat.specs.Seats.{done, ignored, ticketed, steps_in, held_after, is_show, IsOwnList, IsSeat, calls_to_unwind}
+use Rattle.er_seat.specs.Seats.{done, ignored, ticketed, steps_in, held_after, IsOwnList, IsSeat, calls_to_unwind}
 
 -- the step of a call
 abbrev step_of : ℕ → Call → Step

@@ -1,13 +1,13 @@
 -- A seat as contracts see it: whose it is, and the calls that it accepted.
-use Rattle.std.specs.Prelude.{◌≡◌, ◌≤◌, ◌+◌, ◌++◌, ◌∷◌, [], ℕ, Bool, true, false, List, length, Some, None, slice_get}
+use Rattle.std.specs.Prelude.{◌≡◌, ◌≤◌, ◌+◌, ◌++◌, ◌∷◌, [], ℕ, false, List, length, Some, None, slice_get}
 use Rattle.er_event.specs.declared.steps.Event.{Event}
-use Rattle.er_event.specs.declared.steps.Event.TheVariants.{Show}
 use Rattle.er_event.specs.declared.steps.Kind.{Kind}
 use Rattle.er_event.specs.declared.steps.Reply.{Reply}
 use Rattle.er_event.specs.declared.steps.Reply.TheVariants.{Done, Ignored}
 use Rattle.er_event.specs.declared.steps.Step.{Step}
 use Rattle.er_journal.specs.declared.entries.Call.{Call}
 use Rattle.er_journal.specs.declared.entries.Stamp.{Stamp}
+use Rattle.er_model.specs.Events.{is_show}
 use Rattle.er_model.specs.Holdings.{Holdings, acquired_among, holdings_end}
 use Rattle.er_model.specs.Locality.{steps_by}
 use Rattle.er_journal.specs.Merges.{events_in}
@@ -44,11 +44,6 @@ ticketed event ticket reply = record { event = event; reply = reply; ticket = So
 -- the stamp of an access that the seat's thread makes now
 unfoldable pub access_stamp : SeatList → ℕ → Kind → ℕ → Stamp
 access_stamp seat word kind site = record { thread = seat.thread; word = word; kind = kind; site = site; held = (holdings_of seat).held; write_held = (holdings_of seat).write_held }
-
--- the event asks for a word's state
-abbrev pub is_show : Event → Bool
-is_show (Show word) = true
-is_show _ = false
 
 -- a thread's calls as its seat lists them: such as can be settled, and none is a show
 pub record IsOwnList (t : ℕ) (calls : List Call) : Type 0 where

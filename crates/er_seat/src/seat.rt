@@ -2,13 +2,14 @@
 ghost use Rattle.std.specs.Prelude.{◌≡◌, ◌≤◌, ◌<◌, ◌+◌, ◌↔◌, ◌⊎◌, [], ℕ, Bool, cond, length, IsTrue, IsFalse, IsOk, IfOk, IsOkUnless, IsErrAnd, IsErrOf, OnOk, OnErr, None, Some, slice_get, is_some, not};
 ghost use Rattle.er_held.specs.Held.{nothing_held};
 ghost use Rattle.er_journal.specs.declared.entries.Call.{Call as Calls};
+ghost use Rattle.er_model.specs.Events.{is_show};
 ghost use Rattle.er_model.specs.Holdings.{refused_by, changed_by};
 ghost use Rattle.er_journal.specs.Journals.{journal_state};
 ghost use Rattle.er_journal.specs.Merges.{IsLegalSeat};
 ghost use Rattle.er_shadow.specs.Shadows.{needs_set};
 ghost use Rattle.er_shard.specs.Journaled.{entry_of, with_entry};
 ghost use Rattle.er_settle.specs.Seats.{AreTicketed};
-ghost use Rattle.er_seat.specs.Seats.{holdings_of, access_stamp, with_call, done, ignored, ticketed, is_show, calls_to_unwind};
+ghost use Rattle.er_seat.specs.Seats.{holdings_of, access_stamp, with_call, done, ignored, ticketed, calls_to_unwind};
 
 use er_event::{
     Event, Kind, Level, LockId, Lockset, Mode, NoRoom, PageRange, Refusal, Reply, Site, ThreadId,

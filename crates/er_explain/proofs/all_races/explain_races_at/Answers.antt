@@ -1,4 +1,4 @@
-use Rattle.std.proofs.Common.{◌≡◌, ◌∙◌, ◌+◌, ◌<◌, ◌≤◌, ℕ, List, [], length, take, slice_get, slice_index, Some, None, Ok, Contains, refl, sym, ap, arith}
+use Rattle.std.proofs.Common.{◌≡◌, ◌∙◌, ◌<◌, ℕ, List, length, slice_get, slice_index, Some, Ok, Contains, sym, ap, arith}
 use Rattle.std.proofs.lemmas.List.{take_all}
 use Rattle.er_event.specs.declared.steps.Reply.TheVariants.{Race}
 use Rattle.er_event.specs.declared.steps.Step.{Step}
@@ -6,7 +6,6 @@ use Rattle.er_model.specs.Answers.{answer}
 use Rattle.er_model.specs.Explanations.{word_of}
 use Rattle.er_explain.proofs.RaceLemmas.{books-start, explained-next, explained-same, race-found, race-within, tracked-in}
 use Rattle.er_explain.specs.Explaining.{explanation_at, explanations_at}
-use Rattle.er_explain.specs.Following.{HaveFollowed}
 use Rattle.er_explain.specs.Racing.{AreTracked}
 use Rattle.er_explain.proofs.all_races.explain_races_at.Goals as goal
 use Rattle.er_explain.proofs.all_races.explain_races_at.Goals.{in-Some+in_ok-push, in_default}

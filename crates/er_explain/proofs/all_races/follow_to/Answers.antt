@@ -1,6 +1,5 @@
 use Rattle.std.proofs.Common.{◌≡◌, ◌∙◌, length, slice_get, Some, refl, arith}
 use Rattle.std.proofs.lemmas.Option.{slice_get_read}
-use Rattle.er_event.specs.declared.steps.Step.{Step}
 use Rattle.er_explain.proofs.RaceLemmas.{books-next}
 use Rattle.er_explain.proofs.all_races.follow_to.Goals as goal
 

@@ -1,4 +1,4 @@
-use Rattle.std.proofs.Common.{◌≡◌, ℕ, slice_index, Some, None, sym, ap, ◌∙◌, arith}
+use Rattle.std.proofs.Common.{sym, ◌∙◌, arith}
 use Rattle.er_explain.proofs.RaceLemmas.{tracked-more, tracked-same}
 use Rattle.er_explain.proofs.all_races.words_at.Goals as goal
 use Rattle.er_explain.proofs.all_races.words_at.Goals.{in-Some+in_ok-push, in_default}

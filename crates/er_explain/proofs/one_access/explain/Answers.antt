@@ -1,5 +1,5 @@
 use Rattle.std.proofs.Common.{◌≡◌, sym}
-use Rattle.er_explain.proofs.Told.{found-at, unfound-at, found-explains, found-none}
+use Rattle.er_explain.proofs.FoundLemmas.{found-at, unfound-at, found-explains, found-none}
 use Rattle.er_explain.specs.Explaining.{explanation_at}
 use Rattle.er_explain.proofs.one_access.explain.Goals as goal
 

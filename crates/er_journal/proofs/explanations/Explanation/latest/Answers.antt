@@ -1,11 +1,14 @@
 use Rattle.std.proofs.Common.{◌≡◌, ◌∙◌, ◌<◌, ◌+◌, ℕ, nat_lt, cond, List, [], ◌∷◌, length, drop, map, get_or, drop-cons, add-one, refl, sym}
 use Rattle.std.proofs.lemmas.Bool.{lt-ltb, le-ltb}
 use Rattle.std.proofs.lemmas.List.{drop_all}
-use Rattle.er_explain.specs.declared.explanation.Uncovered.{Uncovered}
-use Rattle.er_explain.proofs.BookLemmas.{kept}
+use Rattle.er_journal.specs.declared.explanations.Uncovered.{Uncovered}
 use Rattle.er_model.specs.Explanations.{latest}
-use Rattle.er_explain.proofs.explanation.Explanation.latest.Goals as goal
-use Rattle.er_explain.proofs.explanation.Explanation.latest.Goals.{then-latest-pair, else-latest-pair}
+use Rattle.er_journal.proofs.explanations.Explanation.latest.Goals as goal
+use Rattle.er_journal.proofs.explanations.Explanation.latest.Goals.{then-latest-pair, else-latest-pair}
+
+-- what a pair is seen as
+abbrev kept : Uncovered → ℕ × ℕ
+kept u = (u.lock, u.at)
 
 step : (m n i : ℕ) (us : List Uncovered) (u : Uncovered) → i < length us → u ≡ get_or us i u → n ≡ cond (nat_lt m u.at) u.at m
     → latest n (map kept (drop (i + 1) us)) ≡ latest m (map kept (drop i us))

@@ -39,7 +39,7 @@ impl Model for Explanation {
 
 impl Explanation {
     /// The last of the places that it names for the write and for the locks. It is that of the race.
-    pub(crate) fn latest(&self) -> u64
+    pub fn latest(&self) -> u64
         ensures { result ≡ latest self.now.write self.now.uncovered }
     {
         let mut latest = self.write;
