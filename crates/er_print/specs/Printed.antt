@@ -1,7 +1,7 @@
 -- The bytes of a report: each word here is the text of one thing, and a line ends with its LF.
 use Rattle.std.specs.Prelude.{ℕ, zero, suc, ◌+◌, ◌-◌, ◌*◌, ◌/◌, ◌%◌, Bool, cond, List, [], ◌∷◌, ◌++◌, flat_map, slice_index_or, Option, Some, None, codes, decimal}
 use Rattle.std.specs.Char.{digit_char}
-use Rattle.er_event.specs.Lockset.{is_level_lock}
+use Rattle.er_event.specs.Lockset.{is_level_lock, level_base}
 use Rattle.er_trace.specs.Names.{NameTable}
 use Rattle.er_event.specs.Refusal.{text_of, refusal_of}
 use Rattle.er_event.specs.declared.refusals.NoRoom.{NoRoom}
@@ -16,7 +16,7 @@ use Rattle.er_event.specs.declared.steps.WordState.TheVariants.{Virgin, Exclusiv
 use Rattle.er_trace.specs.Trace.{Recording}
 use Rattle.er_journal.specs.declared.answers.Stopped.{Stopped}
 use Rattle.er_report.specs.Report.{Summary, report_of}
-use Rattle.er_report.specs.Lines.{LineTold, RaceTold, RefusedTold, ShownTold}
+use Rattle.er_report.specs.Lines.{LineView, RaceView, RefusedView, ShownView}
 use Rattle.er_report.specs.declared.report.Because.{Because}
 use Rattle.er_report.specs.declared.report.Label.{Label}
 use Rattle.er_report.specs.declared.report.Label.TheVariants as label
@@ -42,7 +42,7 @@ site_text names (suc n) = name_at names.sites n
 
 -- the lock of a level is a mark and the level
 abbrev pub lock_text : NameTable → ℕ → List ℕ
-lock_text names lock = cond (is_level_lock lock) (codes "!" ++ decimal (lock - 4294967264)) (name_at names.locks lock)
+lock_text names lock = cond (is_level_lock lock) (codes "!" ++ decimal (lock - level_base)) (name_at names.locks lock)
 
 -- the locks after the first, each behind a space
 abbrev pub more_locks : NameTable → List ℕ → List ℕ
@@ -103,23 +103,23 @@ reason_text names because =
     ++ name_at names.threads because.thread ++ codes " " ++ kind_text because.kind ++ 10 ∷ []
 
 -- what a line says of its step
-abbrev pub own_text : NameTable → LineTold → List ℕ
-own_text names (RaceTold number thread kind word site held explained) =
+abbrev pub own_text : NameTable → LineView → List ℕ
+own_text names (RaceView number thread kind word site held explained) =
     place_text number ++ codes "race: " ++ name_at names.threads thread ++ codes " " ++ kind_text kind
     ++ codes " " ++ address_text word ++ codes " at " ++ site_text names site ++ codes ", holds " ++ locks_text names held ++ 10 ∷ []
-own_text names (RefusedTold number step refusal) =
+own_text names (RefusedView number step refusal) =
     place_text number ++ codes "refused: " ++ name_at names.threads step.thread ++ codes " "
     ++ event_text names step.event ++ codes ": " ++ text_of refusal ++ 10 ∷ []
-own_text names (ShownTold number word state) =
+own_text names (ShownView number word state) =
     place_text number ++ codes "state " ++ address_text word ++ codes ": " ++ state_text names state ++ 10 ∷ []
 
 -- and why it is a race
-abbrev pub reasons_text : NameTable → LineTold → List ℕ
-reasons_text names (RaceTold number thread kind word site held explained) = flat_map (reason_text names) explained
-reasons_text names (RefusedTold number step refusal) = []
-reasons_text names (ShownTold number word state) = []
+abbrev pub reasons_text : NameTable → LineView → List ℕ
+reasons_text names (RaceView number thread kind word site held explained) = flat_map (reason_text names) explained
+reasons_text names (RefusedView number step refusal) = []
+reasons_text names (ShownView number word state) = []
 
-abbrev pub line_text : NameTable → LineTold → List ℕ
+abbrev pub line_text : NameTable → LineView → List ℕ
 line_text names line = own_text names line ++ reasons_text names line
 
 -- where the run stopped, if it did

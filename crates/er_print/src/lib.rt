@@ -19,6 +19,8 @@
 #![tactic(auto)]
 
 pub use fault::WriteFault;
+pub use lines::{put_rule_counts, put_stop, put_totals};
+pub use numbers::{put_address, put_number};
 pub use report::write_report;
 
 mod fault;

@@ -1,6 +1,6 @@
 //! The lines of a report.
 ghost use Rattle.std.specs.Prelude.{◌≡◌, ◌++◌, All, flat_map, OnOk};
-ghost use Rattle.er_report.specs.Lines.{line_told};
+ghost use Rattle.er_report.specs.Lines.{line_view};
 ghost use Rattle.er_report.specs.Names.{HasNames, HasReasonNames};
 ghost use Rattle.er_report.specs.Report.{told};
 ghost use Rattle.er_print.specs.Printed.{place_text, reason_text, own_text, line_text, stop_text, count_text, counts_text, totals_text};
@@ -15,7 +15,7 @@ use std::alloc::AllocError;
 /// Puts one line. A race has a further line for each of its reasons.
 pub(crate) fn put_line(out: &mut Vec<u8>, names: &Names, line: &Line) -> Result<(), AllocError>
     requires { HasNames names.now line.now }
-    ensures { OnOk result (out.new.items ≡ out.old.items ++ line_text names.now (line_told line.now)) }
+    ensures { OnOk result (out.new.items ≡ out.old.items ++ line_text names.now (line_view line.now)) }
 {
     put_own_line(out, names, line)?;
     match line {
@@ -27,7 +27,7 @@ pub(crate) fn put_line(out: &mut Vec<u8>, names: &Names, line: &Line) -> Result<
 // Puts what a line says of its step.
 fn put_own_line(out: &mut Vec<u8>, names: &Names, line: &Line) -> Result<(), AllocError>
     requires { HasNames names.now line.now }
-    ensures { OnOk result (out.new.items ≡ out.old.items ++ own_text names.now (line_told line.now)) }
+    ensures { OnOk result (out.new.items ≡ out.old.items ++ own_text names.now (line_view line.now)) }
 {
     match line {
         Line::Race {
@@ -104,7 +104,7 @@ fn put_reason(out: &mut Vec<u8>, names: &Names, because: &Because) -> Result<(),
 }
 
 /// Puts the line of the stop, if there is one.
-pub(crate) fn put_stop(out: &mut Vec<u8>, stop: Option<(u64, NoRoom)>) -> Result<(), AllocError>
+pub fn put_stop(out: &mut Vec<u8>, stop: Option<(u64, NoRoom)>) -> Result<(), AllocError>
     ensures { OnOk result (out.new.items ≡ out.old.items ++ stop_text stop) }
 {
     let Some((line, cause)) = stop else {
@@ -117,7 +117,7 @@ pub(crate) fn put_stop(out: &mut Vec<u8>, stop: Option<(u64, NoRoom)>) -> Result
 }
 
 /// Puts a line for each rule, with its number, from 1, and how many races it took.
-pub(crate) fn put_rule_counts(out: &mut Vec<u8>, rule_counts: &[u64]) -> Result<(), AllocError>
+pub fn put_rule_counts(out: &mut Vec<u8>, rule_counts: &[u64]) -> Result<(), AllocError>
     ensures { OnOk result (out.new.items ≡ out.old.items ++ counts_text 1 rule_counts.now) }
 {
     for (k, count) in rule_counts.iter().enumerate() {
@@ -138,7 +138,7 @@ fn put_rule_count(out: &mut Vec<u8>, number: u64, count: u64) -> Result<(), Allo
 }
 
 /// Puts the line of totals.
-pub(crate) fn put_totals(out: &mut Vec<u8>, report: &Report) -> Result<(), AllocError>
+pub fn put_totals(out: &mut Vec<u8>, report: &Report) -> Result<(), AllocError>
     ensures { OnOk result (out.new.items ≡ out.old.items ++ totals_text (told report.now)) }
 {
     out.extend_from_slice(b"steps ")?;

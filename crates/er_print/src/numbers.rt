@@ -7,7 +7,7 @@ use er_event::Word;
 use std::alloc::AllocError;
 
 /// Puts a number in decimal, without leading zeros.
-pub(crate) fn put_number(out: &mut Vec<u8>, n: u64) -> Result<(), AllocError>
+pub fn put_number(out: &mut Vec<u8>, n: u64) -> Result<(), AllocError>
     ensures { OnOk result (out.new.items ≡ out.old.items ++ decimal n) }
 {
     if n >= 10 {
@@ -18,7 +18,7 @@ pub(crate) fn put_number(out: &mut Vec<u8>, n: u64) -> Result<(), AllocError>
 }
 
 /// Puts the address of the word's first byte.
-pub(crate) fn put_address(out: &mut Vec<u8>, word: Word) -> Result<(), AllocError>
+pub fn put_address(out: &mut Vec<u8>, word: Word) -> Result<(), AllocError>
     ensures { OnOk result (out.new.items ≡ out.old.items ++ address_text word) }
 {
     out.extend_from_slice(b"0x")?;

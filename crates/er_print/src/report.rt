@@ -14,7 +14,7 @@ use er_trace::Names;
 use std::alloc::{AllocError, Global};
 use std::io::Write;
 
-/// Writes a report, with these names for its numbers. The text is whole before its first byte is written (own).
+/// Writes a report, with these names for its numbers. The text is whole before its first byte is written.
 pub fn write_report<W: Write>(
     alloc: Global,
     writer: &mut Device<W>,

@@ -13,7 +13,7 @@ use Rattle.std.specs.List.{All}
 use Rattle.std.proofs.lemmas.List.Elements.{All-same, All-nil, All-cons, All-head, All-tail}
 use Rattle.er_trace.specs.Trace.{Recording, IsNamed}
 use Rattle.er_event.specs.declared.refusals.NoRoom.{NoRoom}
-use Rattle.er_report.specs.Lines.{LineTold, line_told, RaceTold}
+use Rattle.er_report.specs.Lines.{LineView, line_view, RaceView}
 use Rattle.er_journal.specs.declared.answers.Stopped.{Stopped}
 use Rattle.er_model.specs.Answers.{answer, answers, answers_below}
 use Rattle.er_model.specs.Holdings.{Holdings, after_step, holdings, holdings_at}
@@ -24,7 +24,7 @@ use Rattle.er_explain.specs.Racing.{is_race, places_below, AreRaces}
 use Rattle.er_explain.proofs.RaceLemmas.{are-races}
 use Rattle.er_held.specs.Held.{nothing_held}
 use Rattle.er_held.specs.ThreadLocks.{held_by}
-use Rattle.er_report.specs.Names.{HasNames, HasToldNames}
+use Rattle.er_report.specs.Names.{HasNames, HasViewNames}
 use Rattle.er_report.specs.declared.report.Line.{Line}
 use Rattle.er_report.proofs.NamedLemmas.{named_lines}
 use Rattle.er_report.specs.Builder.{Built, report_below, IsBuilt, IsStepAt}
@@ -32,7 +32,7 @@ use Rattle.er_explain.specs.Explaining.{explanations_at}
 use Rattle.er_report.proofs.ReasonLemmas.{lines-explained}
 use Rattle.er_report.specs.Inner.Explained.{with_reasons}
 use Rattle.er_report.specs.Inner.Adding.{empty_report, with_answer, one_more, IsCounted, HasRoom}
-use Rattle.er_report.specs.Report.{Summary, answer_line, reply_line, line_of, line_at, lines_below, is_refused, is_printed, is_rule, rule_count, count_below, answer_taker, taker_at, answered_steps, stop_line, report_of}
+use Rattle.er_report.specs.Report.{Summary, answer_line, reply_line, line_of, line_at, lines_below, is_refused, is_printed, is_rule, rule_count, count_below, answer_matching_rule, matching_rule_at, answered_steps, stop_line, report_of}
 use Rattle.er_report.proofs.CountLemmas.{no_counts, same_counts, counts_more, one_more-most, length-one_more}
 use Rattle.er_rules.specs.Rules.{Target}
 use Rattle.er_trace.specs.Names.{NameTable}
@@ -78,7 +78,7 @@ answered_within steps None = omega arith
 answered_within steps (Some stop) = omega (arith, length-take stop.at steps)
 
 -- reports by their parts
-pub same_summary : (k l : List LineTold) (o p : Option (ℕ × NoRoom)) (a b : List ℕ) (m n q r s t u v : ℕ) → k ≡ l → o ≡ p → a ≡ b → m ≡ n → q ≡ r → s ≡ t → u ≡ v
+pub same_summary : (k l : List LineView) (o p : Option (ℕ × NoRoom)) (a b : List ℕ) (m n q r s t u v : ℕ) → k ≡ l → o ≡ p → a ≡ b → m ≡ n → q ≡ r → s ≡ t → u ≡ v
     → (let one : Summary = record { lines = k; stop = o; rule_counts = a; steps = m; races = q; suppressed = s; refused = u } in
     let two : Summary = record { lines = l; stop = p; rule_counts = b; steps = n; races = r; suppressed = t; refused = v } in
     one ≡ two)
@@ -106,7 +106,7 @@ same_line number locks known step (Err why) same = refl
 
 -- what a rule takes is a race
 taken_race : (rules : List Target) (names : NameTable) (event : Event) (a : Result Reply Refusal) (i : ℕ)
-    → answer_taker rules names event a ≡ Some i → (is_race a ≡ true) × (is_refused a ≡ false)
+    → answer_matching_rule rules names event a ≡ Some i → (is_race a ≡ true) × (is_refused a ≡ false)
 taken_race rules names event (Ok Race) i taken = (refl, refl)
 taken_race rules names event (Ok Done) i taken = absurd (cc)
 taken_race rules names event (Ok Quiet) i taken = absurd (cc)
@@ -125,16 +125,16 @@ module _ (r : Recording) (rules : List Target) (k : ℕ) (names : NameTable) (nu
       ∙ ap (answer_line (slice_index r.lines k) (held (accepted r.steps k) step.thread) [] step) at.answered
       ∙ ap (line_of r false k) (sym at.here)
 
-  rule-here : answer_taker rules names step.event given ≡ taker_at r rules k
-  unfolding taker_at
+  rule-here : answer_matching_rule rules names step.event given ≡ matching_rule_at r rules k
+  unfolding matching_rule_at
   rule-here = rw (at.here, at.named, at.answered) refl
 
   -- one step more, by what becomes of its race
-  more-by : (o : Option ℕ) → taker_at r rules k ≡ o → with_answer (report_below r rules k) number locks step given o ≡ report_below r rules (suc k)
+  more-by : (o : Option ℕ) → matching_rule_at r rules k ≡ o → with_answer (report_below r rules k) number locks step given o ≡ report_below r rules (suc k)
   unfolding report_below lines_below count_below
   more-by None taken =
       same_summary _ _ _ _ _ _ _ _ _ _ _ _ _ _
-      (rw taken (ap (λ (more : List LineTold). lines_below r rules false k ++ more) line-here))
+      (rw taken (ap (λ (more : List LineView). lines_below r rules false k ++ more) line-here))
       refl
       (same_counts (rule_count r rules k) (rule_count r rules (suc k)) (λ i. rw taken (omega arith)) (range_with_len 0 (length rules)))
       (add-one k)
@@ -153,11 +153,11 @@ module _ (r : Recording) (rules : List Target) (k : ℕ) (names : NameTable) (nu
       (rw taken refl)
       (rw known.1 (omega arith))
 
-  more : with_answer (report_below r rules k) number locks step given (answer_taker rules names step.event given) ≡ report_below r rules (k + 1)
-  more = ap (with_answer (report_below r rules k) number locks step given) rule-here ∙ more-by (taker_at r rules k) refl ∙ ap (report_below r rules) (sym (add-one k))
+  more : with_answer (report_below r rules k) number locks step given (answer_matching_rule rules names step.event given) ≡ report_below r rules (k + 1)
+  more = ap (with_answer (report_below r rules k) number locks step given) rule-here ∙ more-by (matching_rule_at r rules k) refl ∙ ap (report_below r rules) (sym (add-one k))
 
   -- and the position of its race
-  race-here : places_below (is_printed r rules) k ++ cond (is_race given && is_none (answer_taker rules names step.event given)) (k ∷ []) []
+  race-here : places_below (is_printed r rules) k ++ cond (is_race given && is_none (answer_matching_rule rules names step.event given)) (k ∷ []) []
       ≡ places_below (is_printed r rules) (k + 1)
   unfolding places_below
   race-here = rw (add-one k, rule-here, at.answered) refl
@@ -178,12 +178,12 @@ built-start builder n empty known none r =
 
 pub built-next : (before after : Built) (r : Recording) (k : ℕ) (names : NameTable) (number : ℕ) (step : Step) (given : Result Reply Refusal) (locks : List ℕ)
     → IsBuilt before r k → IsStepAt r k names number step given locks → after.rules ≡ before.rules
-    → after.report ≡ with_answer before.report number locks step given (answer_taker before.rules names step.event given)
-    → after.races ≡ before.races ++ cond (is_race given && is_none (answer_taker before.rules names step.event given)) (before.report.steps ∷ []) []
+    → after.report ≡ with_answer before.report number locks step given (answer_matching_rule before.rules names step.event given)
+    → after.races ≡ before.races ++ cond (is_race given && is_none (answer_matching_rule before.rules names step.event given)) (before.report.steps ∷ []) []
     → IsBuilt after r (k + 1)
 built-next before after r k names number step given locks built at kept added placed =
     let count : before.report.steps ≡ k = ap (λ (s : Summary). s.steps) built.report ∙ report-steps r before.rules k in
-    let rule : Option ℕ = answer_taker before.rules names step.event given in
+    let rule : Option ℕ = answer_matching_rule before.rules names step.event given in
     let printed : Bool = is_race given && is_none rule in
     record {
       report =
@@ -203,7 +203,7 @@ built-next before after r k names number step given locks built at kept added pl
 pub built-races : (builder : Built) (r : Recording) (n : ℕ) → IsBuilt builder r n → AreRaces r.steps builder.races
 built-races builder r n built =
     subst (AreRaces r.steps) (sym built.races)
-    (are-races r.steps (is_printed r builder.rules) n (λ k below printed. first-true (is_race (answer r.steps k)) (is_none (taker_at r builder.rules k)) printed))
+    (are-races r.steps (is_printed r builder.rules) n (λ k below printed. first-true (is_race (answer r.steps k)) (is_none (matching_rule_at r builder.rules k)) printed))
   where
     first-true : (a b : Bool) → (a && b) ≡ true → a ≡ true
     first-true true b both = refl
@@ -264,7 +264,7 @@ unfolding report_below
 built-lines builder r n built = ap (λ (s : Summary). s.lines) built.report
 
 -- the lines with reasons, if they are asked for
-pub explained-lines : (builder : Built) (r : Recording) (n : ℕ) (explain : Bool) (lines : List LineTold) → IsBuilt builder r n
+pub explained-lines : (builder : Built) (r : Recording) (n : ℕ) (explain : Bool) (lines : List LineView) → IsBuilt builder r n
     → lines ≡ cond explain (with_reasons r (explanations_at r.steps builder.races) builder.report.lines) builder.report.lines → lines ≡ lines_below r builder.rules explain n
 explained-lines builder r n false lines built are = are ∙ built-lines builder r n built
 explained-lines builder r n true lines built are =
@@ -273,7 +273,7 @@ explained-lines builder r n true lines built are =
     ∙ ap (with_reasons r (explanations_at r.steps (places_below (is_printed r builder.rules) n))) (built-lines builder r n built)
     ∙ lines-explained r builder.rules n
 
-pub explained-end : (builder : Built) (r : Recording) (stop : Option Stopped) (explain : Bool) (lines : List LineTold) (o : Option (ℕ × NoRoom))
+pub explained-end : (builder : Built) (r : Recording) (stop : Option Stopped) (explain : Bool) (lines : List LineView) (o : Option (ℕ × NoRoom))
     → IsBuilt builder r (length (answered_steps r.steps stop)) → o ≡ stop_line r stop
     → lines ≡ cond explain (with_reasons r (explanations_at r.steps builder.races) builder.report.lines) builder.report.lines
     → record builder.report { lines = lines; stop = o } ≡ report_of r builder.rules explain stop
@@ -281,20 +281,20 @@ unfolding report_below
 explained-end builder r stop explain lines o built stopped are =
     let n : ℕ = length (answered_steps r.steps stop) in
     ap (λ (t : Summary). record t { lines = lines; stop = o }) built.report
-    ∙ ap (λ (all : List LineTold). record (report_below r builder.rules n) { lines = all; stop = o }) (explained-lines builder r n explain lines built are)
+    ∙ ap (λ (all : List LineView). record (report_below r builder.rules n) { lines = all; stop = o }) (explained-lines builder r n explain lines built are)
     ∙ ap (λ (p : Option (ℕ × NoRoom)). record (report_below r builder.rules n) { lines = lines_below r builder.rules explain n; stop = p }) stopped
 
 -- the names of what the lines tell are the names of the lines
-lines_named : (names : NameTable) (lines : List Line) → All (HasToldNames names) (map line_told lines) → All (HasNames names) lines
+lines_named : (names : NameTable) (lines : List Line) → All (HasViewNames names) (map line_view lines) → All (HasNames names) lines
 lines_named names [] all = All-nil (HasNames names)
 lines_named names (line ∷ lines) all =
-    All-cons (HasNames names) line lines (All-head (HasToldNames names) (line_told line) (map line_told lines) all)
-    (lines_named names lines (All-tail (HasToldNames names) (line_told line) (map line_told lines) all))
+    All-cons (HasNames names) line lines (All-head (HasViewNames names) (line_view line) (map line_view lines) all)
+    (lines_named names lines (All-tail (HasViewNames names) (line_view line) (map line_view lines) all))
 
-pub report-named : (r : Recording) (rules : List Target) (explain : Bool) (n : ℕ) (lines : List Line) → map line_told lines ≡ lines_below r rules explain n
+pub report-named : (r : Recording) (rules : List Target) (explain : Bool) (n : ℕ) (lines : List Line) → map line_view lines ≡ lines_below r rules explain n
     → All (IsNamed r.names) r.steps → All (HasNames r.names) lines
 report-named r rules explain n lines are all =
-    lines_named r.names lines (All-same (HasToldNames r.names) (map line_told lines) (lines_below r rules explain n) are (named_lines r all rules explain n))
+    lines_named r.names lines (All-same (HasViewNames r.names) (map line_view lines) (lines_below r rules explain n) are (named_lines r all rules explain n))
 
 pub built-steps : (builder : Built) (r : Recording) (n : ℕ) → IsBuilt builder r n → builder.report.steps ≡ n
 built-steps builder r n built = ap (λ (s : Summary). s.steps) built.report ∙ report-steps r builder.rules n

@@ -1,5 +1,6 @@
 pub mod CountLemmas
 pub mod BuilderLemmas
+pub mod GrowthLemmas
 pub mod LawLemmas
 pub mod NamedLemmas
 pub mod ReasonLemmas

@@ -31,10 +31,10 @@ use Rattle.er_model.specs.Words.{Reading, Counted, Nothing, is_within, cover_of,
 use Rattle.er_model.proofs.Threads.{holdings-step, accepted-past_end}
 use Rattle.er_model.proofs.AnswersLemmas.{state-step, state-moved, answer-step}
 use Rattle.er_model.proofs.Prefixes.{holdings-empty, state-start}
-use Rattle.er_report.specs.Names.{HasLockName, HasLockNames, HasStateNames, HasEventNames, HasSiteName, HasLabelName, HasReasonNames, HasToldNames}
-use Rattle.er_report.specs.Report.{reply_line, answer_line, line_of, line_at, lines_below, taker_at}
+use Rattle.er_report.specs.Names.{HasLockName, HasLockNames, HasStateNames, HasEventNames, HasSiteName, HasLabelName, HasReasonNames, HasViewNames}
+use Rattle.er_report.specs.Report.{reply_line, answer_line, line_of, line_at, lines_below, matching_rule_at}
 use Rattle.er_rules.specs.Rules.{Target}
-use Rattle.er_report.specs.Lines.{RaceTold, RefusedTold, ShownTold}
+use Rattle.er_report.specs.Lines.{RaceView, RefusedView, ShownView}
 use Rattle.er_report.specs.Reasons.{access_reason, step_reason, reason_at, reasons_of, reasons_by, reasons_at}
 use Rattle.er_report.specs.declared.report.Because.{Because}
 use Rattle.er_report.specs.declared.report.Label.{Label}
@@ -150,25 +150,25 @@ module _ (names : NameTable) where
   -- a line
   named_reply : (number : ℕ) (locks : List ℕ) (reasons : List Because) (h : Holdings) (states : ℕ → WordState) (t : ℕ) (e : Event) → t < length names.threads
       → HasNumbersNamed names e → HasLockNames names locks → All (HasReasonNames names) reasons → ((w : ℕ) → HasStateNames names (states w))
-      → All (HasToldNames names) (reply_line number locks reasons t e (replied h states t e))
+      → All (HasViewNames names) (reply_line number locks reasons t e (replied h states t e))
   named_reply number locks reasons h states t (Access kind w site) own new all because shown =
-      elim (nat_lt 0 h.depth) as (λ b. All (HasToldNames names) (reply_line number locks reasons t (Access kind w site)
+      elim (nat_lt 0 h.depth) as (λ b. All (HasViewNames names) (reply_line number locks reasons t (Access kind w site)
       (cond b Ignored (cond (reports (states w) (advanced (states w) t kind (locks_for h kind))) Race Quiet)))) [
-        | true ↦ All-nil (HasToldNames names)
+        | true ↦ All-nil (HasViewNames names)
         | false ↦ elim (reports (states w) (advanced (states w) t kind (locks_for h kind))) as (λ b.
-            All (HasToldNames names) (reply_line number locks reasons t (Access kind w site) (cond b Race Quiet))) [
-              | true ↦ All-cons (HasToldNames names) (RaceTold number t kind w site locks reasons) [] (own, new, all, because) (All-nil (HasToldNames names))
-              | false ↦ All-nil (HasToldNames names)
+            All (HasViewNames names) (reply_line number locks reasons t (Access kind w site) (cond b Race Quiet))) [
+              | true ↦ All-cons (HasViewNames names) (RaceView number t kind w site locks reasons) [] (own, new, all, because) (All-nil (HasViewNames names))
+              | false ↦ All-nil (HasViewNames names)
             ]
       ]
   named_reply number locks reasons h states t (Show w) own new all because shown =
-      All-cons (HasToldNames names) (ShownTold number w (states w)) [] (shown w) (All-nil (HasToldNames names))
-  named_reply number locks reasons h states t (Acquire l m) own new all because shown = All-nil (HasToldNames names)
-  named_reply number locks reasons h states t (Release l m) own new all because shown = All-nil (HasToldNames names)
-  named_reply number locks reasons h states t (Reuse range) own new all because shown = All-nil (HasToldNames names)
-  named_reply number locks reasons h states t IgnoreOn own new all because shown = All-nil (HasToldNames names)
-  named_reply number locks reasons h states t IgnoreOff own new all because shown = All-nil (HasToldNames names)
-  named_reply number locks reasons h states t (Level n) own new all because shown = All-nil (HasToldNames names)
+      All-cons (HasViewNames names) (ShownView number w (states w)) [] (shown w) (All-nil (HasViewNames names))
+  named_reply number locks reasons h states t (Acquire l m) own new all because shown = All-nil (HasViewNames names)
+  named_reply number locks reasons h states t (Release l m) own new all because shown = All-nil (HasViewNames names)
+  named_reply number locks reasons h states t (Reuse range) own new all because shown = All-nil (HasViewNames names)
+  named_reply number locks reasons h states t IgnoreOn own new all because shown = All-nil (HasViewNames names)
+  named_reply number locks reasons h states t IgnoreOff own new all because shown = All-nil (HasViewNames names)
+  named_reply number locks reasons h states t (Level n) own new all because shown = All-nil (HasViewNames names)
 
   named_event : (e : Event) → HasNumbersNamed names e → HasEventNames names e
   named_event (Acquire l m) new = λ _. new
@@ -182,11 +182,11 @@ module _ (names : NameTable) where
 
   named_answer : (number : ℕ) (locks : List ℕ) (reasons : List Because) (h : Holdings) (states : ℕ → WordState) (step : Step) (o : Option Refusal) → IsNamed names step
       → HasLockNames names locks → All (HasReasonNames names) reasons → ((w : ℕ) → HasStateNames names (states w))
-      → All (HasToldNames names) (answer_line number locks reasons step (answer_unless o (replied h states step.thread step.event)))
+      → All (HasViewNames names) (answer_line number locks reasons step (answer_unless o (replied h states step.thread step.event)))
   named_answer number locks reasons h states step None new all because shown =
       named_reply number locks reasons h states step.thread step.event new.thread new.event all because shown
   named_answer number locks reasons h states step (Some why) new all because shown =
-      All-cons (HasToldNames names) (RefusedTold number step why) [] (new.thread, named_event step.event new.event) (All-nil (HasToldNames names))
+      All-cons (HasViewNames names) (RefusedView number step why) [] (new.thread, named_event step.event new.event) (All-nil (HasViewNames names))
 
   -- at each point of the list
   module _ (steps : List Step) (all : All (IsNamed names) steps) where
@@ -298,9 +298,9 @@ module _ (r : Recording) (all : All (IsNamed r.names) r.steps) where
   named_reasons true k = named_where k (answer r.steps k)
   named_reasons false k = All-nil (HasReasonNames r.names)
 
-  named_line_by : (explain : Bool) (k : ℕ) (o : Option Step) → slice_get r.steps k ≡ o → All (HasToldNames r.names) (line_of r explain k o)
+  named_line_by : (explain : Bool) (k : ℕ) (o : Option Step) → slice_get r.steps k ≡ o → All (HasViewNames r.names) (line_of r explain k o)
   unfolding holdings
-  named_line_by explain k None is = All-nil (HasToldNames r.names)
+  named_line_by explain k None is = All-nil (HasViewNames r.names)
   named_line_by explain k (Some step) is =
       let h : Holdings = holdings_at r.steps step.thread k in
       rw (answer-step r.steps k step is)
@@ -310,12 +310,12 @@ module _ (r : Recording) (all : All (IsNamed r.names) r.steps) where
       (named_state r.names r.steps all k))
 
   -- each line that the definitions give has its names
-  pub named_lines : (rules : List Target) (explain : Bool) (n : ℕ) → All (HasToldNames r.names) (lines_below r rules explain n)
+  pub named_lines : (rules : List Target) (explain : Bool) (n : ℕ) → All (HasViewNames r.names) (lines_below r rules explain n)
   unfolding lines_below line_at
-  named_lines rules explain zero = All-nil (HasToldNames r.names)
+  named_lines rules explain zero = All-nil (HasViewNames r.names)
   named_lines rules explain (suc n) =
-      All-append (HasToldNames r.names) (lines_below r rules explain n) (cond (is_some (taker_at r rules n)) [] (line_at r explain n)) (named_lines rules explain n)
-      (elim (is_some (taker_at r rules n)) as (λ b. All (HasToldNames r.names) (cond b [] (line_at r explain n))) [
-        | true ↦ All-nil (HasToldNames r.names)
+      All-append (HasViewNames r.names) (lines_below r rules explain n) (cond (is_some (matching_rule_at r rules n)) [] (line_at r explain n)) (named_lines rules explain n)
+      (elim (is_some (matching_rule_at r rules n)) as (λ b. All (HasViewNames r.names) (cond b [] (line_at r explain n))) [
+        | true ↦ All-nil (HasViewNames r.names)
         | false ↦ named_line_by explain n (slice_get r.steps n) refl
       ])

@@ -15,35 +15,35 @@ use Rattle.er_event.specs.declared.steps.Reply.TheVariants.{Race, Done, Quiet, I
 use Rattle.er_event.specs.declared.steps.Step.{Step}
 use Rattle.er_trace.specs.Trace.{Recording}
 use Rattle.er_explain.proofs.RaceLemmas.{explained-here}
-use Rattle.er_explain.proofs.Told.{no-word, unraced-at}
+use Rattle.er_explain.proofs.FoundLemmas.{no-word, unraced-at}
 use Rattle.er_explain.specs.Explaining.{explanation_of, explanation_where, explanation_at, explanations_at}
 use Rattle.er_explain.specs.Racing.{is_race, places_below}
-use Rattle.er_explain.specs.declared.explanation.Uncovered.{Uncovered}
+use Rattle.er_journal.specs.declared.explanations.Uncovered.{Uncovered}
 use Rattle.er_model.specs.Answers.{answer}
 use Rattle.er_model.specs.Explanations.{Explanation, word_in, word_of}
 use Rattle.er_model.specs.Threads.{accepted, held}
 use Rattle.er_report.specs.Inner.Explained.{line_with, left_after, with_reasons, left_by}
-use Rattle.er_report.specs.Lines.{LineTold}
+use Rattle.er_report.specs.Lines.{LineView}
 use Rattle.er_report.specs.Reasons.{access_reason, step_reason, reason_at, reasons_of, reasons_by, reasons_at}
-use Rattle.er_report.specs.Report.{answer_line, reply_line, line_at, lines_below, is_printed, taker_at}
+use Rattle.er_report.specs.Report.{answer_line, reply_line, line_at, lines_below, is_printed, matching_rule_at}
 use Rattle.er_report.specs.declared.report.Because.{Because}
 use Rattle.er_report.specs.declared.report.Label.{Label}
 use Rattle.er_report.specs.declared.report.Label.TheVariants as label
 use Rattle.er_rules.specs.Rules.{Target}
 
 -- lines one after another
-with-append : (r : Recording) (es : List Explanation) (xs ys : List LineTold) → with_reasons r es (xs ++ ys) ≡ with_reasons r es xs ++ with_reasons r (left_by es xs) ys
+with-append : (r : Recording) (es : List Explanation) (xs ys : List LineView) → with_reasons r es (xs ++ ys) ≡ with_reasons r es xs ++ with_reasons r (left_by es xs) ys
 unfolding with_reasons left_by
 with-append r es [] ys = refl
-with-append r es (x ∷ xs) ys = ap (λ (rest : List LineTold). line_with r es x ∷ rest) (with-append r (left_after es x) xs ys)
+with-append r es (x ∷ xs) ys = ap (λ (rest : List LineView). line_with r es x ∷ rest) (with-append r (left_after es x) xs ys)
 
-left-append : (es : List Explanation) (xs ys : List LineTold) → left_by es (xs ++ ys) ≡ left_by (left_by es xs) ys
+left-append : (es : List Explanation) (xs ys : List LineView) → left_by es (xs ++ ys) ≡ left_by (left_by es xs) ys
 unfolding left_by
 left-append es [] ys = refl
 left-append es (x ∷ xs) ys = left-append (left_after es x) xs ys
 
 -- with these explanations, and whatever comes behind them, the lines get their reasons, and no other explanation is used up
-record Gains (r : Recording) (found : List Explanation) (plain explained : List LineTold) : Type 0 where
+record Gains (r : Recording) (found : List Explanation) (plain explained : List LineView) : Type 0 where
   pub lines : (more : List Explanation) → with_reasons r (found ++ more) plain ≡ explained
   pub left : (more : List Explanation) → left_by (found ++ more) plain ≡ more
 
@@ -51,15 +51,15 @@ gains-nil : (r : Recording) → Gains r [] [] []
 unfolding with_reasons left_by
 gains-nil r = record { lines = λ more. refl; left = λ more. refl }
 
-gains-append : (r : Recording) (f g : List Explanation) (p q e d : List LineTold) → Gains r f p e → Gains r g q d → Gains r (f ++ g) (p ++ q) (e ++ d)
+gains-append : (r : Recording) (f g : List Explanation) (p q e d : List LineView) → Gains r f p e → Gains r g q d → Gains r (f ++ g) (p ++ q) (e ++ d)
 gains-append r f g p q e d first second =
     record {
       lines = λ more.
           ap (λ (es : List Explanation). with_reasons r es (p ++ q)) (append_assoc f g more)
           ∙ with-append r (f ++ (g ++ more)) p q
-          ∙ ap (λ (lines : List LineTold). lines ++ with_reasons r (left_by (f ++ (g ++ more)) p) q) (first.lines (g ++ more))
+          ∙ ap (λ (lines : List LineView). lines ++ with_reasons r (left_by (f ++ (g ++ more)) p) q) (first.lines (g ++ more))
           ∙ ap (λ (es : List Explanation). e ++ with_reasons r es q) (first.left (g ++ more))
-          ∙ ap (λ (lines : List LineTold). e ++ lines) (second.lines more);
+          ∙ ap (λ (lines : List LineView). e ++ lines) (second.lines more);
       left = λ more.
           ap (λ (es : List Explanation). left_by es (p ++ q)) (append_assoc f g more)
           ∙ left-append (f ++ (g ++ more)) p q
@@ -115,8 +115,8 @@ line-gains r k = line-gains-by r k (slice_get r.steps k) refl
 abbrev found_below : Recording → List Target → ℕ → List Explanation
 found_below r rules n = explanations_at r.steps (places_below (is_printed r rules) n)
 
-last-gains : (r : Recording) (rules : List Target) (n : ℕ) (o : Option ℕ) → taker_at r rules n ≡ o
-    → Gains r (explanations_at r.steps (cond (is_printed r rules n) (n ∷ []) [])) (cond (is_some (taker_at r rules n)) [] (line_at r false n)) (cond (is_some (taker_at r rules n)) [] (line_at r true n))
+last-gains : (r : Recording) (rules : List Target) (n : ℕ) (o : Option ℕ) → matching_rule_at r rules n ≡ o
+    → Gains r (explanations_at r.steps (cond (is_printed r rules n) (n ∷ []) [])) (cond (is_some (matching_rule_at r rules n)) [] (line_at r false n)) (cond (is_some (matching_rule_at r rules n)) [] (line_at r true n))
 last-gains r rules n None taken = rw (taken, and-true (is_race (answer r.steps n)), explained-here r.steps n) (line-gains r n)
 last-gains r rules n (Some i) taken = rw (taken, and-false (is_race (answer r.steps n))) (gains-nil r)
 
@@ -127,7 +127,7 @@ lines-gain r rules (suc n) =
     let split : found_below r rules (suc n) ≡ found_below r rules n ++ explanations_at r.steps (cond (is_printed r rules n) (n ∷ []) []) =
     flat_map-append (λ (k : ℕ). option_to_list (explanation_at r.steps k)) (places_below (is_printed r rules) n) (cond (is_printed r rules n) (n ∷ []) []) in
     rw split
-    (gains-append r (found_below r rules n) _ (lines_below r rules false n) _ (lines_below r rules true n) _ (lines-gain r rules n) (last-gains r rules n (taker_at r rules n) refl))
+    (gains-append r (found_below r rules n) _ (lines_below r rules false n) _ (lines_below r rules true n) _ (lines-gain r rules n) (last-gains r rules n (matching_rule_at r rules n) refl))
 
 pub lines-explained : (r : Recording) (rules : List Target) (n : ℕ) → with_reasons r (found_below r rules n) (lines_below r rules false n) ≡ lines_below r rules true n
 lines-explained r rules n =
@@ -135,7 +135,7 @@ lines-explained r rules n =
     ∙ (lines-gain r rules n).lines []
 
 -- one line after another gets its reasons
-pub explained-next : (r : Recording) (lines : List LineTold) (i : ℕ) (line : LineTold) (es : List Explanation) → i < length lines → line ≡ get_or lines i line
+pub explained-next : (r : Recording) (lines : List LineView) (i : ℕ) (line : LineView) (es : List Explanation) → i < length lines → line ≡ get_or lines i line
     → take i lines ++ with_reasons r es (drop i lines)
     ≡ take (i + 1) (set lines i (line_with r es line)) ++ with_reasons r (left_after es line) (drop (i + 1) (set lines i (line_with r es line)))
 unfolding with_reasons
@@ -144,11 +144,11 @@ explained-next r lines i line es within is =
     let same : drop (i + 1) (set lines i (line_with r es line)) ≡ drop (i + 1) lines = drop-set-lt (i + 1) lines i (line_with r es line) (omega arith) in
     rw (rest, take_more_set lines i (line_with r es line) within, same, append_assoc (take i lines) (line_with r es line ∷ []) (with_reasons r (left_after es line) (drop (i + 1) lines))) refl
 
-pub explained-end : (r : Recording) (lines : List LineTold) (i : ℕ) (es : List Explanation) → length lines ≤ i → take i lines ++ with_reasons r es (drop i lines) ≡ lines
+pub explained-end : (r : Recording) (lines : List LineView) (i : ℕ) (es : List Explanation) → length lines ≤ i → take i lines ++ with_reasons r es (drop i lines) ≡ lines
 unfolding with_reasons
 explained-end r lines i es past = rw (drop_all i lines past, take_all i lines past, append-nil lines) refl
 
-pub explained-start : (r : Recording) (lines : List LineTold) (es : List Explanation) → with_reasons r es lines ≡ take 0 lines ++ with_reasons r es (drop 0 lines)
+pub explained-start : (r : Recording) (lines : List LineView) (es : List Explanation) → with_reasons r es lines ≡ take 0 lines ++ with_reasons r es (drop 0 lines)
 explained-start r lines es = refl
 
 -- what has no reason: a place past the end, and an event that is no access

@@ -1,14 +1,14 @@
 -- A report that grows by one step after another.
-use Rattle.std.specs.Prelude.{◌≡◌, ℕ, false, is_some, List, slice_get, slice_index, IsTrue, Some, None, Result}
+use Rattle.std.specs.Prelude.{◌≡◌, ◌++◌, ℕ, All, false, is_some, List, length, slice_get, slice_index, IsTrue, Some, None, Result}
 use Rattle.er_trace.specs.Names.{NameTable}
-use Rattle.er_trace.specs.Trace.{Recording}
+use Rattle.er_trace.specs.Trace.{Recording, IsNamed}
 use Rattle.er_event.specs.declared.refusals.Refusal.{Refusal}
 use Rattle.er_event.specs.declared.steps.Reply.{Reply}
 use Rattle.er_event.specs.declared.steps.Step.{Step}
 use Rattle.er_explain.specs.Racing.{is_race, places_below}
 use Rattle.er_model.specs.Answers.{answer}
 use Rattle.er_model.specs.Threads.{accepted, held}
-use Rattle.er_report.specs.Report.{Summary, taker_at, lines_below, count_below, rule_counts, is_printed, is_refused}
+use Rattle.er_report.specs.Report.{Summary, matching_rule_at, lines_below, count_below, rule_counts, is_printed, is_refused}
 use Rattle.er_rules.specs.Rules.{Target}
 
 -- what a builder holds: a report without reasons, the positions of the races that have lines, and the rules
@@ -26,7 +26,7 @@ report_below r rules n =
       rule_counts = rule_counts r rules n;
       steps = n;
       races = count_below (is_printed r rules) n;
-      suppressed = count_below (λ k. is_some (taker_at r rules k)) n;
+      suppressed = count_below (λ k. is_some (matching_rule_at r rules k)) n;
       refused = count_below (λ k. is_refused (answer r.steps k)) n;
     }
 
@@ -43,3 +43,13 @@ pub record IsStepAt (r : Recording) (k : ℕ) (names : NameTable) (number : ℕ)
   pub named : names ≡ r.names
   pub answered : given ≡ answer r.steps k
   pub locked : IsTrue (is_race given) → locks ≡ held (accepted r.steps k) step.thread
+
+-- the second recording goes on from the first: it has more steps and lines, and perhaps more names, and each site keeps its name
+pub record GoesOn (before after : Recording) : Type 0 where
+  pub named : All (IsNamed before.names) before.steps
+  pub long : length before.lines ≡ length before.steps
+  pub more : List Step
+  pub others : List ℕ
+  pub steps : after.steps ≡ before.steps ++ more
+  pub lines : after.lines ≡ before.lines ++ others
+  pub sites : (n : ℕ) (name : List ℕ) → slice_get before.names.sites n ≡ Some name → slice_get after.names.sites n ≡ Some name

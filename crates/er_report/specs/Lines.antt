@@ -9,13 +9,13 @@ use Rattle.er_report.specs.declared.report.Line.{Line}
 use Rattle.er_report.specs.declared.report.Line.TheVariants.{Race, Refused, Shown}
 
 -- a race with the locks that its thread held and its reasons, a refused step, or a word that was shown
-pub data LineTold : Type 0 where
-  RaceTold : (number : ℕ) → (thread : ℕ) → (kind : Kind) → (word : ℕ) → (site : ℕ) → (held : List ℕ) → (explained : List Because) → LineTold
-  RefusedTold : (number : ℕ) → (step : Step) → (refusal : Refusal) → LineTold
-  ShownTold : (number : ℕ) → (word : ℕ) → (state : WordState) → LineTold
+pub data LineView : Type 0 where
+  RaceView : (number : ℕ) → (thread : ℕ) → (kind : Kind) → (word : ℕ) → (site : ℕ) → (held : List ℕ) → (explained : List Because) → LineView
+  RefusedView : (number : ℕ) → (step : Step) → (refusal : Refusal) → LineView
+  ShownView : (number : ℕ) → (word : ℕ) → (state : WordState) → LineView
 
 -- what a line says
-abbrev pub line_told : Line → LineTold
-line_told (Race number thread kind word site held explained) = RaceTold number thread kind word site held explained.items
-line_told (Refused number step refusal) = RefusedTold number step refusal
-line_told (Shown number word state) = ShownTold number word state
+abbrev pub line_view : Line → LineView
+line_view (Race number thread kind word site held explained) = RaceView number thread kind word site held explained.items
+line_view (Refused number step refusal) = RefusedView number step refusal
+line_view (Shown number word state) = ShownView number word state

@@ -6,7 +6,7 @@ use Rattle.er_event.specs.declared.steps.Event.{Event}
 use Rattle.er_event.specs.declared.steps.Event.TheVariants.{Acquire, Release, Access, Reuse, IgnoreOn, IgnoreOff, Show, Level}
 use Rattle.er_event.specs.declared.steps.WordState.{WordState}
 use Rattle.er_event.specs.declared.steps.WordState.TheVariants.{Virgin, Exclusive, Shared, SharedModified}
-use Rattle.er_report.specs.Lines.{LineTold, RaceTold, RefusedTold, ShownTold, line_told}
+use Rattle.er_report.specs.Lines.{LineView, RaceView, RefusedView, ShownView, line_view}
 use Rattle.er_report.specs.declared.report.Because.{Because}
 use Rattle.er_report.specs.declared.report.Label.{Label}
 use Rattle.er_report.specs.declared.report.Label.TheVariants as label
@@ -61,11 +61,11 @@ abbrev pub HasReasonNames : NameTable → Because → Type 0
 HasReasonNames names because = (because.thread < length names.threads) × HasLabelName names because.label
 
 -- each thread, lock and site of a line has; site 0 needs none
-abbrev pub HasToldNames : NameTable → LineTold → Type 0
-HasToldNames names (RaceTold number thread kind word site held explained) =
+abbrev pub HasViewNames : NameTable → LineView → Type 0
+HasViewNames names (RaceView number thread kind word site held explained) =
     (thread < length names.threads) × (site ≤ length names.sites) × HasLockNames names held × All (HasReasonNames names) explained
-HasToldNames names (RefusedTold number step refusal) = (step.thread < length names.threads) × HasEventNames names step.event
-HasToldNames names (ShownTold number word state) = HasStateNames names state
+HasViewNames names (RefusedView number step refusal) = (step.thread < length names.threads) × HasEventNames names step.event
+HasViewNames names (ShownView number word state) = HasStateNames names state
 
 abbrev pub HasNames : NameTable → Line → Type 0
-HasNames names line = HasToldNames names (line_told line)
+HasNames names line = HasViewNames names (line_view line)

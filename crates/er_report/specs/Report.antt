@@ -14,15 +14,16 @@ use Rattle.er_explain.specs.Racing.{is_race}
 use Rattle.er_model.specs.Answers.{answer}
 use Rattle.er_model.specs.Threads.{accepted, held}
 use Rattle.er_journal.specs.declared.answers.Stopped.{Stopped}
-use Rattle.er_report.specs.Lines.{LineTold, RaceTold, RefusedTold, ShownTold, line_told}
+pub use Rattle.er_journal.specs.Stops.{answered_steps}
+use Rattle.er_report.specs.Lines.{LineView, RaceView, RefusedView, ShownView, line_view}
 use Rattle.er_report.specs.Reasons.{reasons_at}
 use Rattle.er_report.specs.declared.report.Because.{Because}
 use Rattle.er_report.specs.declared.report.Report.{Report}
-use Rattle.er_rules.specs.Rules.{Target, taker}
+use Rattle.er_rules.specs.Rules.{Target, matching_rule}
 
 -- a report, as contracts compare it
 pub record Summary : Type 0 where
-  pub lines : List LineTold
+  pub lines : List LineView
   pub stop : Option (ℕ × NoRoom)
   pub rule_counts : List ℕ
   pub steps : ℕ
@@ -34,7 +35,7 @@ pub record Summary : Type 0 where
 abbrev pub told : Report → Summary
 told r =
     record {
-      lines = map line_told r.lines.items;
+      lines = map line_view r.lines.items;
       stop = r.stop;
       rule_counts = r.rule_counts.items;
       steps = r.steps;
@@ -44,24 +45,24 @@ told r =
     }
 
 -- the line of a race or of a show, and none of another reply; these are the locks that the thread holds, and why it is a race
-abbrev pub reply_line : ℕ → List ℕ → List Because → ℕ → Event → Reply → List LineTold
-reply_line number locks reasons thread (Access kind word site) Race = RaceTold number thread kind word site locks reasons ∷ []
-reply_line number locks reasons thread (Show word) (State state) = ShownTold number word state ∷ []
+abbrev pub reply_line : ℕ → List ℕ → List Because → ℕ → Event → Reply → List LineView
+reply_line number locks reasons thread (Access kind word site) Race = RaceView number thread kind word site locks reasons ∷ []
+reply_line number locks reasons thread (Show word) (State state) = ShownView number word state ∷ []
 reply_line number locks reasons thread event reply = []
 
 -- the line of a step that is answered so, if it has one
-abbrev pub answer_line : ℕ → List ℕ → List Because → Step → Result Reply Refusal → List LineTold
+abbrev pub answer_line : ℕ → List ℕ → List Because → Step → Result Reply Refusal → List LineView
 answer_line number locks reasons step (Ok reply) = reply_line number locks reasons step.thread step.event reply
-answer_line number locks reasons step (Err refusal) = RefusedTold number step refusal ∷ []
+answer_line number locks reasons step (Err refusal) = RefusedView number step refusal ∷ []
 
 -- past the list's end there is nothing; reasons are given where they are asked for
-abbrev pub line_of : Recording → Bool → ℕ → Option Step → List LineTold
+abbrev pub line_of : Recording → Bool → ℕ → Option Step → List LineView
 line_of r explain k None = []
 line_of r explain k (Some step) =
     answer_line (slice_index r.lines k) (held (accepted r.steps k) step.thread) (cond explain (reasons_at r k) []) step (answer r.steps k)
 
 -- the line of the step at position k, if it has one
-unfoldable pub line_at : Recording → Bool → ℕ → List LineTold
+unfoldable pub line_at : Recording → Bool → ℕ → List LineView
 line_at r explain k = line_of r explain k (slice_get r.steps k)
 
 -- the answer is a refusal
@@ -75,27 +76,27 @@ site_name names zero = None
 site_name names (suc n) = slice_get names.sites n
 
 -- the first rule that takes races of the event, which only an access has
-abbrev pub event_taker : List Target → NameTable → Event → Option ℕ
-event_taker rules names (Access kind word site) = taker rules (site_name names site) word
-event_taker rules names event = None
+abbrev pub event_matching_rule : List Target → NameTable → Event → Option ℕ
+event_matching_rule rules names (Access kind word site) = matching_rule rules (site_name names site) word
+event_matching_rule rules names event = None
 
 -- the rule that takes an event of this answer, which must be a race
-abbrev pub answer_taker : List Target → NameTable → Event → Result Reply Refusal → Option ℕ
-answer_taker rules names event answer = cond (is_race answer) (event_taker rules names event) None
+abbrev pub answer_matching_rule : List Target → NameTable → Event → Result Reply Refusal → Option ℕ
+answer_matching_rule rules names event answer = cond (is_race answer) (event_matching_rule rules names event) None
 
 -- past the list's end there is none
-abbrev pub taker_of : Recording → List Target → ℕ → Option Step → Option ℕ
-taker_of r rules k None = None
-taker_of r rules k (Some step) = answer_taker rules r.names step.event (answer r.steps k)
+abbrev pub matching_rule_of : Recording → List Target → ℕ → Option Step → Option ℕ
+matching_rule_of r rules k None = None
+matching_rule_of r rules k (Some step) = answer_matching_rule rules r.names step.event (answer r.steps k)
 
 -- the rule that takes the race at position k, if there is a race and such a rule
-unfoldable pub taker_at : Recording → List Target → ℕ → Option ℕ
-taker_at r rules k = taker_of r rules k (slice_get r.steps k)
+unfoldable pub matching_rule_at : Recording → List Target → ℕ → Option ℕ
+matching_rule_at r rules k = matching_rule_of r rules k (slice_get r.steps k)
 
 -- the lines of the first n steps, but for the races that a rule takes
-unfoldable pub lines_below : Recording → List Target → Bool → ℕ → List LineTold
+unfoldable pub lines_below : Recording → List Target → Bool → ℕ → List LineView
 lines_below r rules explain zero = []
-lines_below r rules explain (suc n) = lines_below r rules explain n ++ cond (is_some (taker_at r rules n)) [] (line_at r explain n)
+lines_below r rules explain (suc n) = lines_below r rules explain n ++ cond (is_some (matching_rule_at r rules n)) [] (line_at r explain n)
 
 -- how many positions below n pass the test
 unfoldable pub count_below : (ℕ → Bool) → ℕ → ℕ
@@ -104,7 +105,7 @@ count_below test (suc n) = count_below test n + cond (test n) 1 0
 
 -- the race at position k is printed
 abbrev pub is_printed : Recording → List Target → ℕ → Bool
-is_printed r rules k = is_race (answer r.steps k) && is_none (taker_at r rules k)
+is_printed r rules k = is_race (answer r.steps k) && is_none (matching_rule_at r rules k)
 
 -- the rule that is told is the one in place i
 abbrev pub is_rule : ℕ → Option ℕ → Bool
@@ -113,16 +114,11 @@ is_rule i (Some j) = i == j
 
 -- how many races of the first n steps the rule in place i takes
 abbrev pub rule_count : Recording → List Target → ℕ → ℕ → ℕ
-rule_count r rules n i = count_below (λ k. is_rule i (taker_at r rules k)) n
+rule_count r rules n i = count_below (λ k. is_rule i (matching_rule_at r rules k)) n
 
 -- and each rule, in order
 abbrev pub rule_counts : Recording → List Target → ℕ → List ℕ
 rule_counts r rules n = map (rule_count r rules n) (range_with_len 0 (length rules))
-
--- the steps that were answered: those before the stop, or all of them
-abbrev pub answered_steps : List Step → Option Stopped → List Step
-answered_steps steps None = steps
-answered_steps steps (Some stop) = take stop.at steps
 
 -- the line of the step at which the run stopped, and why
 abbrev pub stop_line : Recording → Option Stopped → Option (ℕ × NoRoom)
@@ -139,6 +135,6 @@ report_of r rules explain stop =
       rule_counts = rule_counts r rules n;
       steps = n;
       races = count_below (is_printed r rules) n;
-      suppressed = count_below (λ k. is_some (taker_at r rules k)) n;
+      suppressed = count_below (λ k. is_some (matching_rule_at r rules k)) n;
       refused = count_below (λ k. is_refused (answer r.steps k)) n;
     }

@@ -7,7 +7,7 @@ ghost use Rattle.er_journal.specs.AnswerList.{shown};
 ghost use Rattle.er_journal.specs.declared.answers.Stopped.{Stopped as Stop};
 ghost use Rattle.er_report.specs.Builder.{IsBuilt, IsStepAt};
 ghost use Rattle.er_report.specs.Inner.Adding.{empty_report, with_answer, HasRoom};
-ghost use Rattle.er_report.specs.Lines.{line_told};
+ghost use Rattle.er_report.specs.Lines.{line_view};
 ghost use Rattle.er_report.specs.Names.{HasNames, HasSiteName};
 ghost use Rattle.er_report.specs.Report.{told, answer_line, answered_steps, report_of, stop_line};
 ghost use Rattle.er_rules.specs.Rules.{targets_of};
@@ -24,8 +24,8 @@ use std::marker::Model;
 
 /// The report of the steps so far, under some rules. It keeps no step: a line has what a report says of its step.
 ///
-/// Contracts see the report without reasons, the positions of the races that have lines, and the rules. If a call finds no memory
-/// it may have done a part of its work, and the builder is of no more use.
+/// Contracts see the report without reasons, the positions of the races that have lines, and the rules. A call that finds no memory
+/// leaves the builder as it was.
 #[derive(Drop)]
 pub struct ReportBuilder<'r> {
     rules: &'r Suppressions,
@@ -63,8 +63,22 @@ impl<'r> ReportBuilder<'r> {
         })
     }
 
+    /// How many steps were added.
+    pub fn steps(&self) -> u64
+        ensures { result ≡ self.now.report.steps }
+    {
+        self.report.steps
+    }
+
+    /// How many of them are races that have a line.
+    pub fn races(&self) -> u64
+        ensures { result ≡ self.now.report.races }
+    {
+        self.report.races
+    }
+
     /// Adds the next step: the line of the text that it came from, its answer, and the locks that its thread holds, in any mode,
-    /// which are looked at for a race alone.
+    /// which are looked at for a race alone. `AllocError`: memory was refused, and the builder is as it was.
     pub fn add(
         &mut self,
         names: &Names,
@@ -76,7 +90,9 @@ impl<'r> ReportBuilder<'r> {
         requires room { self.old.report.steps + 1 < 2 ^ 64 }
         requires site { HasSiteName names.now step.now.event }
         ensures rules { OnOk result (self.new.rules ≡ self.old.rules) }
+        ensures steps { OnOk result (self.new.report.steps ≡ self.old.report.steps + 1) }
         ensures built { (r : Recording) (k : ℕ) → IsBuilt self.old r k → IsStepAt r k names.now line step.now answer.now held.now → OnOk result (IsBuilt self.new r (k + 1)) }
+        ensures err { OnErr result (self.new ≡ self.old) }
     {
         self.add_answer(names, line, step, view_of(answer), held)?;
         Ok(())
@@ -94,10 +110,18 @@ impl<'r> ReportBuilder<'r> {
         requires room { self.old.report.steps + 1 < 2 ^ 64 }
         requires site { HasSiteName names.now step.now.event }
         ensures rules { OnOk result (self.new.rules ≡ self.old.rules) }
+        ensures steps { OnOk result (self.new.report.steps ≡ self.old.report.steps + 1) }
         ensures built { (r : Recording) (k : ℕ) → IsBuilt self.old r k → IsStepAt r k names.now line step.now (shown answer.entry) held.now → OnOk result (IsBuilt self.new r (k + 1)) }
+        ensures err { OnErr result (self.new ≡ self.old) }
     {
         let rule = first_rule(self.rules, names, step.event, answer);
-        add_race(&mut self.races, self.report.steps, answer, rule)?;
+        let place = self.report.steps;
+        if is_printed(answer, rule) {
+            self.races.reserve(1)?;
+            add_step(self.alloc, &mut self.report, line, step, answer, rule, held)?;
+            self.races.push_reserved(place);
+            return Ok(());
+        }
         add_step(self.alloc, &mut self.report, line, step, answer, rule, held)?;
         Ok(())
     }
@@ -172,19 +196,11 @@ fn view_of(answer: &Result<Reply, Refusal>) -> Answer<'_>
     }
 }
 
-// Puts the place of a race that has a line.
-fn add_race(
-    races: &mut Vec<u64>,
-    place: u64,
-    answer: Answer<'_>,
-    rule: Option<usize>,
-) -> Result<(), AllocError>
-    ensures { OnOk result (races.new.items ≡ races.old.items ++ cond (is_race (shown answer.entry) && is_none rule) (place ∷ []) []) }
+// Whether the answer is a race that no rule takes.
+fn is_printed(answer: Answer<'_>, rule: Option<usize>) -> bool
+    ensures { result ≡ (is_race (shown answer.entry) && is_none rule) }
 {
-    if let (Answer::Race, None) = (answer, rule) {
-        races.push(place)?;
-    }
-    Ok(())
+    matches!((answer, rule), (Answer::Race, None))
 }
 
 // Adds a step of this line and answer, whose race the rule takes, if there is one.
@@ -230,7 +246,7 @@ fn line_of(
     answer: Answer<'_>,
     held: &Lockset,
 ) -> Result<Option<Line>, AllocError>
-    ensures { IfOk result (λ line. map line_told (option_to_list line) ≡ answer_line number held.now [] step.now (shown answer.entry)) }
+    ensures { IfOk result (λ line. map line_view (option_to_list line) ≡ answer_line number held.now [] step.now (shown answer.entry)) }
 {
     Ok(match (answer, step.event) {
         (Answer::Race, Event::Access(kind, word, site)) => Some(Line::Race {

@@ -1,11 +1,12 @@
-//! The laws of reports: each function does nothing, and its contract is proved of the definitions. All are own.
-ghost use Rattle.std.specs.Prelude.{◌≡◌, ◌+◌, ◌∷◌, ℕ, Bool, List, Option, length, map, sum};
+//! The laws of reports: each function does nothing, and its contract is proved of the definitions.
+ghost use Rattle.std.specs.Prelude.{◌≡◌, ◌≤◌, ◌+◌, ◌∷◌, ℕ, Bool, List, Option, length, map, sum};
 ghost use Rattle.er_trace.specs.Trace.{Recording};
 ghost use Rattle.er_explain.specs.Explaining.{explanation_at};
 ghost use Rattle.er_explain.specs.Racing.{is_race};
 ghost use Rattle.er_model.specs.Answers.{answer};
 ghost use Rattle.er_model.specs.Explanations.{Explanation};
 ghost use Rattle.er_journal.specs.declared.answers.Stopped.{Stopped};
+ghost use Rattle.er_report.specs.Builder.{Built, GoesOn, IsBuilt};
 ghost use Rattle.er_report.specs.Reasons.{reasons_at};
 ghost use Rattle.er_report.specs.Report.{report_of, count_below};
 ghost use Rattle.er_rules.specs.Rules.{Target};
@@ -21,4 +22,10 @@ pub fn the_counts_add_up()
 /// Each access that an explanation names is told: the first, the joining, the write, and one for each lock, in this order.
 pub fn each_reason_is_told()
     ensures { (r : Recording) (k : ℕ) (e : Explanation) → explanation_at r.steps k ≡ Option.Some e → map (λ because. because.label) (reasons_at r k) ≡ Label.First ∷ Label.Joined ∷ Label.Write ∷ map (λ pair. Label.Uncovered pair.0) e.uncovered }
+{}
+
+/// What was built of a recording's first steps is also built of every recording that goes on from it: later steps and new names
+/// change nothing of a report so far.
+pub fn a_report_goes_on()
+    ensures { (builder : Built) (before after : Recording) (n : ℕ) → GoesOn before after → n ≤ length before.steps → IsBuilt builder before n → IsBuilt builder after n }
 {}

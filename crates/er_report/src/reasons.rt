@@ -4,7 +4,7 @@ ghost use Rattle.std.specs.Vec.Iter.{into_iter_items};
 ghost use Rattle.er_explain.specs.Explaining.{explanations_at};
 ghost use Rattle.er_explain.specs.Racing.{AreRaces};
 ghost use Rattle.er_report.specs.Inner.Explained.{line_with, left_after, with_reasons};
-ghost use Rattle.er_report.specs.Lines.{line_told};
+ghost use Rattle.er_report.specs.Lines.{line_view};
 ghost use Rattle.er_report.specs.Reasons.{reason_at, reasons_of};
 
 use crate::{Because, Label, Line};
@@ -23,7 +23,7 @@ pub(crate) fn explain_lines(
     lines: &mut [Line],
 ) -> Result<(), AllocError>
     requires { AreRaces trace.now.steps races.now }
-    ensures { OnOk result (map line_told lines.new ≡ cond explain (with_reasons trace.now (explanations_at trace.now.steps races.now) (map line_told lines.old)) (map line_told lines.old)) }
+    ensures { OnOk result (map line_view lines.new ≡ cond explain (with_reasons trace.now (explanations_at trace.now.steps races.now) (map line_view lines.old)) (map line_view lines.old)) }
 {
     if explain {
         let explanations = explain_races_at(alloc, trace.steps(), races)?;
@@ -39,7 +39,7 @@ fn put_reasons(
     mut to_come: IntoIter<Explanation>,
     lines: &mut [Line],
 ) -> Result<(), AllocError>
-    ensures { OnOk result (map line_told lines.new ≡ with_reasons trace.now (into_iter_items to_come) (map line_told lines.old)) }
+    ensures { OnOk result (map line_view lines.new ≡ with_reasons trace.now (into_iter_items to_come) (map line_view lines.old)) }
 {
     for i in 0..lines.len() {
         explain_line(alloc, trace, &mut to_come, &mut lines[i])?;
@@ -54,8 +54,8 @@ fn explain_line(
     to_come: &mut IntoIter<Explanation>,
     line: &mut Line,
 ) -> Result<(), AllocError>
-    ensures line { OnOk result (line_told line.new ≡ line_with trace.now (into_iter_items to_come.old) (line_told line.old)) }
-    ensures left { OnOk result (into_iter_items to_come.new ≡ left_after (into_iter_items to_come.old) (line_told line.old)) }
+    ensures line { OnOk result (line_view line.new ≡ line_with trace.now (into_iter_items to_come.old) (line_view line.old)) }
+    ensures left { OnOk result (into_iter_items to_come.new ≡ left_after (into_iter_items to_come.old) (line_view line.old)) }
 {
     if let Line::Race { explained, .. } = line {
         if let Some(explanation) = to_come.next() {

@@ -2,7 +2,7 @@
 ghost use Rattle.std.specs.Prelude.{◌≡◌, ◌<◌, ◌≤◌, length, option_copied, IfSome};
 ghost use Rattle.er_journal.specs.AnswerList.{shown};
 ghost use Rattle.er_report.specs.Names.{HasSiteName};
-ghost use Rattle.er_report.specs.Report.{site_name, answer_taker};
+ghost use Rattle.er_report.specs.Report.{site_name, answer_matching_rule};
 ghost use Rattle.er_rules.specs.Rules.{targets_of};
 
 use er_event::{Event, Site};
@@ -18,12 +18,12 @@ pub(crate) fn first_rule(
     answer: Answer<'_>,
 ) -> Option<usize>
     requires { HasSiteName names.now event }
-    ensures value { result ≡ answer_taker (targets_of suppressions.now) names.now event (shown answer.entry) }
+    ensures value { result ≡ answer_matching_rule (targets_of suppressions.now) names.now event (shown answer.entry) }
     ensures within { IfSome result (λ rule. rule < length (targets_of suppressions.now)) }
 {
     match (answer, event) {
         (Answer::Race, Event::Access(_, word, site)) => {
-            suppressions.taker(name_of(names, site), word)
+            suppressions.matching_rule(name_of(names, site), word)
         }
         _ => None,
     }

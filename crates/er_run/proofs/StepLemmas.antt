@@ -11,13 +11,13 @@ use Rattle.er_event.specs.declared.steps.Reply.{Reply}
 use Rattle.er_event.specs.declared.steps.Reply.TheVariants.{Race}
 use Rattle.er_event.specs.declared.steps.Step.{Step}
 use Rattle.er_explain.proofs.RaceLemmas.{race-is}
-use Rattle.er_explain.proofs.Told.{no-word}
+use Rattle.er_explain.proofs.FoundLemmas.{no-word}
 use Rattle.er_model.proofs.Prefixes.{answer-front, holdings-front, holdings-grow}
 use Rattle.er_model.specs.Answers.{answer, answer_next}
 use Rattle.er_model.specs.Explanations.{word_in, word_of}
 use Rattle.er_model.specs.Holdings.{Holdings, changed_unless, refused_by, holdings, holdings_at, holdings_end}
 use Rattle.er_model.specs.Threads.{accepted, held}
-use Rattle.er_report.specs.Builder.{Built, IsBuilt, IsStepAt}
+use Rattle.er_report.specs.Builder.{IsStepAt}
 
 -- an access leaves what its thread holds
 after-access : (h : Holdings) (event : Event) → (word_in event ≡ None → ⊥) → changed_unless (refused_by h event) h event ≡ h
@@ -86,10 +86,3 @@ step-at r k names number step given locks here line named answered locked =
       answered = known;
       locked = λ race. locked ∙ held-here r.steps k step here step.thread (sym known ∙ race-is given race);
     }
-
--- the steps before a stop, and all of them
-pub stop-built : (builder : Built) (r : Recording) (k : ℕ) → k < length r.steps → IsBuilt builder r k → IsBuilt builder r (length (take k r.steps))
-stop-built builder r k within built = subst (IsBuilt builder r) (sym (length-take-le k r.steps (omega (arith, within)))) built
-
-pub end-built : (builder : Built) (r : Recording) (k : ℕ) → length r.steps ≤ k → IsBuilt builder r k → k ≤ length r.steps → IsBuilt builder r (length r.steps)
-end-built builder r k past built within = subst (IsBuilt builder r) (omega (arith, past, within)) built

@@ -64,8 +64,8 @@ WritesNothing old new (Replay fault) = Keeps old new
 WritesNothing old new Memory = Keeps old new
 
 -- the reader failed exactly where a failed read is told, and the writer exactly where a failed write is
-abbrev pub FailsBy : Bool → Bool → Result Verdict RunFault → Type 0
-FailsBy read written (Ok verdict) = (read ≡ false) × (written ≡ false)
+abbrev pub FailsBy : {X : Type 0} → Bool → Bool → Result X RunFault → Type 0
+FailsBy read written (Ok x) = (read ≡ false) × (written ≡ false)
 FailsBy read written (Err (Read (reading.Text fault))) = (read ≡ false) × (written ≡ false)
 FailsBy read written (Err (Read reading.Memory)) = (read ≡ false) × (written ≡ false)
 FailsBy read written (Err (Read reading.Read)) = (read ≡ true) × (written ≡ false)

@@ -23,7 +23,10 @@
 pub use fault::{RunFault, Verdict};
 pub use options::Options;
 pub use replay::replay_text;
+pub use sites::replay_by_site;
 
 mod fault;
 mod options;
+mod passes;
 mod replay;
+mod sites;

@@ -1,6 +1,6 @@
 //! How a replay is run.
 ghost use Rattle.std.specs.Prelude.{◌≡◌, ◌≤◌, ◌<◌, ◌⊎◌, false, IsSome, IsNone, IfSome};
-ghost use Rattle.er_run.specs.Limits.{AreInLimits};
+ghost use Rattle.er_run.specs.Limits.{AreInLimits, most_bytes, most_sets, most_shards, most_workers, usual_shards};
 
 /// How a replay is run. Each number is in its limits.
 #[derive(Clone, Copy, Debug, PartialEq, Eq)]
@@ -16,12 +16,12 @@ pub struct Options {
     /// How many workers replay the shards, from 1 to 16. One worker has all words in one shard.
     pub workers: u32,
     pub ghost some_sets: { 1 ≤ max_sets },
-    pub ghost few_sets: { max_sets ≤ 1048576 },
-    pub ghost few_bytes: { byte_limit ≤ 268435456 },
+    pub ghost few_sets: { max_sets ≤ most_sets },
+    pub ghost few_bytes: { byte_limit ≤ most_bytes },
     pub ghost some_shards: { 1 ≤ shards },
-    pub ghost few_shards: { shards ≤ 64 },
+    pub ghost few_shards: { shards ≤ most_shards },
     pub ghost some_workers: { 1 ≤ workers },
-    pub ghost few_workers: { workers ≤ 16 },
+    pub ghost few_workers: { workers ≤ most_workers },
 }
 
 impl Options {
@@ -44,9 +44,9 @@ impl Options {
     pub fn new(max_sets: u32, byte_limit: u64) -> Option<Options>
         ensures kept { IfSome result (λ options. (options.max_sets ≡ max_sets) × (options.byte_limit ≡ byte_limit)) }
         ensures plain { IfSome result (λ options. options.explain ≡ false) }
-        ensures alone { IfSome result (λ options. (options.shards ≡ 8) × (options.workers ≡ 1)) }
-        ensures some { 1 ≤ max_sets → max_sets ≤ 1048576 → byte_limit ≤ 268435456 → IsSome result }
-        ensures none { (max_sets ≡ 0) ⊎ ((1048576 < max_sets) ⊎ (268435456 < byte_limit)) → IsNone result }
+        ensures alone { IfSome result (λ options. (options.shards ≡ usual_shards) × (options.workers ≡ 1)) }
+        ensures some { 1 ≤ max_sets → max_sets ≤ most_sets → byte_limit ≤ most_bytes → IsSome result }
+        ensures none { (max_sets ≡ 0) ⊎ ((most_sets < max_sets) ⊎ (most_bytes < byte_limit)) → IsNone result }
     {
         let sets_fit = 1 <= max_sets && max_sets <= Options::MOST_SETS;
         if sets_fit && byte_limit <= Options::MOST_BYTES {
@@ -64,10 +64,10 @@ impl Options {
 
     /// The greatest limits, which the program uses, without explanations and with one worker.
     pub fn greatest() -> Options
-        ensures sets { result.max_sets ≡ 1048576 }
-        ensures bytes { result.byte_limit ≡ 268435456 }
+        ensures sets { result.max_sets ≡ most_sets }
+        ensures bytes { result.byte_limit ≡ most_bytes }
         ensures plain { result.explain ≡ false }
-        ensures alone { (result.shards ≡ 8) × (result.workers ≡ 1) }
+        ensures alone { (result.shards ≡ usual_shards) × (result.workers ≡ 1) }
     {
         Options {
             max_sets: Options::MOST_SETS,

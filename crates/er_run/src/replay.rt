@@ -1,20 +1,20 @@
 //! Bytes in, report out.
-ghost use Rattle.std.specs.Prelude.{◌≡◌, ◌+◌, ◌≤◌, ◌<◌, [], false, length, All, IfSome, IfOk, IfErr, IsFalse, None, OnOk};
+ghost use Rattle.std.specs.Prelude.{◌≡◌, ◌+◌, ◌≤◌, ◌<◌, false, All, IfSome, IfOk, IfErr, IsFalse, None};
 ghost use Rattle.er_device.specs.Device.{inner_of, has_failed, taken_of};
-ghost use Rattle.er_replay.specs.Standing.{Stands};
-ghost use Rattle.er_replay.specs.Stops.{MayStop};
-ghost use Rattle.er_report.specs.Builder.{IsBuilt};
+ghost use Rattle.er_print.specs.Printed.{report_text};
 ghost use Rattle.er_report.specs.Names.{HasNames};
-ghost use Rattle.er_report.specs.Report.{answered_steps};
+ghost use Rattle.er_report.specs.Report.{told};
 ghost use Rattle.er_rules.specs.Rules.{targets_of};
+ghost use Rattle.er_run.specs.Inner.Reports.{IsReportOfText, IsFaultOfText, WritesFound};
+ghost use Rattle.er_run.specs.Limits.{bytes_past_limit};
 ghost use Rattle.er_run.specs.Replays.{IsReplayed, IsFailed, WritesNothing, FailsBy, IsReportOfRun, is_stopped, is_verdict_of};
 
+use crate::passes::{Reported, answer_steps, report_in_batches};
 use crate::{Options, RunFault, Verdict};
 use er_device::Device;
-use er_journal::Stopped;
 use er_parallel::{OpenGate, ReplayConfig, ReplayFault, replay_parallel};
 use er_print::write_report;
-use er_replay::{Machine, no_room};
+use er_replay::Machine;
 use er_report::{Report, ReportBuilder, summarise};
 use er_rules::Suppressions;
 use er_table::LocksetTable;
@@ -27,8 +27,9 @@ use std::thread::Threads;
 
 /// Reads a trace text, replays it, and writes its report, without the races that the rules take.
 ///
-/// The text is read to its end and the report built whole before the first byte is written. With `explain` each race that is
-/// printed has its reasons. One worker stops at a step that is refused for want of room, and the report says so. Several
+/// The text is read to its end and the report built whole before the first byte is written. One worker forgets the steps of each batch
+/// of lines once they are answered, so that memory goes by the words, the names and the lines of the report. Several workers keep the
+/// whole trace, and so does a replay with `explain`, by which each race that is printed has its reasons. One worker stops at a step that is refused for want of room, and the report says so. Several
 /// workers write what one worker writes, and never such a report: they return a fault instead.
 pub fn replay_text<R, D, W>(
     rt: &R,
@@ -47,14 +48,29 @@ where
     ensures fault { IsFailed (D.remaining (inner_of reader.old)) options.now.byte_limit (targets_of suppressions.now) options.now.explain (W.contents (inner_of writer.old)) (W.contents (inner_of writer.new)) result }
     ensures nothing { IfErr result (λ why. WritesNothing (W.contents (inner_of writer.old)) (W.contents (inner_of writer.new)) why) }
     ensures failed { FailsBy (has_failed reader.new) (has_failed writer.new) result }
-    ensures taken { taken_of reader.new ≤ taken_of reader.old + options.now.byte_limit + 1025 }
+    ensures taken { taken_of reader.new ≤ taken_of reader.old + options.now.byte_limit + bytes_past_limit }
     ensures whole { 1 < options.now.workers → IfOk result (λ verdict. IsFalse (is_stopped verdict)) }
 {
-    let trace = read_trace(rt.alloc(), reader, options.byte_limit)?;
-    let report = report_on(rt, rt.alloc(), &trace, suppressions, options)?;
-    let verdict = verdict_of(&report);
-    match write_report(rt.alloc(), writer, &report, trace.names()) {
-        Ok(()) => Ok(verdict),
+    match report_on(rt, rt.alloc(), reader, suppressions, options) {
+        Ok(found) => write_found(rt.alloc(), writer, &found),
+        Err(why) => Err(why),
+    }
+}
+
+// Writes a report and says what it comes to.
+fn write_found<W: Write>(
+    alloc: Global,
+    writer: &mut Device<W>,
+    found: &Reported,
+) -> Result<Verdict, RunFault>
+    requires writer { has_failed writer.old ≡ false }
+    requires named { All (HasNames found.now.trace.names) found.now.report.lines.items }
+    ensures verdict { IfOk result (λ verdict. verdict ≡ is_verdict_of found.now.report) }
+    ensures bytes { WritesFound (W.contents (inner_of writer.old)) (W.contents (inner_of writer.new)) (report_text found.now.trace.names (told found.now.report)) result }
+    ensures failed { FailsBy false (has_failed writer.new) result }
+{
+    match write_report(alloc, writer, &found.report, found.trace.names()) {
+        Ok(()) => Ok(verdict_of(&found.report)),
         Err(why) => Err(RunFault::Write(why)),
     }
 }
@@ -66,7 +82,7 @@ fn config_of(options: &Options) -> ReplayConfig {
     }
 }
 
-// The report of a replay by one worker: each step is added as it is answered, up to a stop.
+// The report of a replay by one worker of a trace that is kept: each step is added as it is answered, up to a stop.
 fn report_alone<R: Wait>(
     rt: &R,
     alloc: Global,
@@ -82,34 +98,6 @@ fn report_alone<R: Wait>(
     let mut builder = ReportBuilder::new(alloc, suppressions)?;
     let stopped = answer_steps(rt, &mut machine, trace, &mut builder)?;
     builder.finish_for(trace, stopped, options.explain)
-}
-
-// Answers each step and adds it to the report, up to the first that finds no room.
-fn answer_steps<R: Wait>(
-    rt: &R,
-    machine: &mut Machine<'_>,
-    trace: &Trace,
-    builder: &mut ReportBuilder<'_>,
-) -> Result<Option<Stopped>, AllocError>
-    requires machine { Stands machine.old [] }
-    requires builder { IsBuilt builder.old trace.now 0 }
-    ensures rules { OnOk result (builder.new.rules ≡ builder.old.rules) }
-    ensures built { IfOk result (λ stopped. IsBuilt builder.new trace.now (length (answered_steps trace.now.steps stopped))) }
-    ensures within { IfOk result (λ stopped. IfSome stopped (λ stop. stop.at < length trace.now.steps)) }
-    ensures cause { IfOk result (λ stopped. IfSome stopped (λ stop. MayStop [] trace.now.steps stop)) }
-{
-    for (k, step) in trace.steps().iter().enumerate() {
-        let answer = machine.step(rt, *step);
-        if let Some(cause) = no_room(&answer) {
-            return Ok(Some(Stopped {
-                at: k as u64,
-                cause,
-            }));
-        }
-        let held = machine.held(step.thread).held();
-        builder.add(trace.names(), trace.lines()[k], step, &answer, held)?;
-    }
-    Ok(None)
 }
 
 // The report of a replay by several workers, which all have ended before it is begun.
@@ -129,7 +117,8 @@ fn report_by_several<R: Threads + Wait + Sync>(
     Ok(summarise(alloc, trace, &outcome, suppressions, options.explain)?)
 }
 
-fn report_on<R: Threads + Wait + Sync>(
+// The report of a trace that is kept whole.
+pub(crate) fn report_whole<R: Threads + Wait + Sync>(
     rt: &R,
     alloc: Global,
     trace: &Trace,
@@ -146,7 +135,56 @@ fn report_on<R: Threads + Wait + Sync>(
     Ok(report_alone(rt, alloc, trace, suppressions, options)?)
 }
 
-fn verdict_of(report: &Report) -> Verdict
+// Reads a trace to its end and keeps it for its replay.
+fn report_kept<R, D>(
+    rt: &R,
+    alloc: Global,
+    reader: &mut Device<D>,
+    suppressions: &Suppressions,
+    options: &Options,
+) -> Result<Reported, RunFault>
+where
+    R: Threads + Wait + Sync,
+    D: Read,
+    requires reader { has_failed reader.old ≡ false }
+    ensures report { IfOk result (λ found. IfSome (D.remaining (inner_of reader.old)) (λ text. IsReportOfText text options.now.byte_limit (targets_of suppressions.now) options.now.explain found.trace.names found.report)) }
+    ensures named { IfOk result (λ found. All (HasNames found.trace.names) found.report.lines.items) }
+    ensures fault { IfErr result (λ why. IsFaultOfText (D.remaining (inner_of reader.old)) options.now.byte_limit why) }
+    ensures failed { FailsBy (has_failed reader.new) false result }
+    ensures taken { taken_of reader.new ≤ taken_of reader.old + options.now.byte_limit + bytes_past_limit }
+    ensures whole { 1 < options.now.workers → IfOk result (λ found. found.report.stop ≡ None) }
+{
+    let trace = read_trace(alloc, reader, options.byte_limit)?;
+    let report = report_whole(rt, alloc, &trace, suppressions, options)?;
+    Ok(Reported { report, trace })
+}
+
+// Reads and replays a text, and keeps its steps for several workers and for explanations alone.
+fn report_on<R, D>(
+    rt: &R,
+    alloc: Global,
+    reader: &mut Device<D>,
+    suppressions: &Suppressions,
+    options: &Options,
+) -> Result<Reported, RunFault>
+where
+    R: Threads + Wait + Sync,
+    D: Read,
+    requires reader { has_failed reader.old ≡ false }
+    ensures report { IfOk result (λ found. IfSome (D.remaining (inner_of reader.old)) (λ text. IsReportOfText text options.now.byte_limit (targets_of suppressions.now) options.now.explain found.trace.names found.report)) }
+    ensures named { IfOk result (λ found. All (HasNames found.trace.names) found.report.lines.items) }
+    ensures fault { IfErr result (λ why. IsFaultOfText (D.remaining (inner_of reader.old)) options.now.byte_limit why) }
+    ensures failed { FailsBy (has_failed reader.new) false result }
+    ensures taken { taken_of reader.new ≤ taken_of reader.old + options.now.byte_limit + bytes_past_limit }
+    ensures whole { 1 < options.now.workers → IfOk result (λ found. found.report.stop ≡ None) }
+{
+    if options.explain || options.workers > 1 {
+        return report_kept(rt, alloc, reader, suppressions, options);
+    }
+    report_in_batches(rt, alloc, reader, suppressions, options)
+}
+
+pub(crate) fn verdict_of(report: &Report) -> Verdict
     ensures { result ≡ is_verdict_of report.now }
 {
     if report.stop.is_some() {

@@ -2,7 +2,7 @@
 use Rattle.std.specs.Prelude.{List, [], ◌∷◌, drop}
 use Rattle.er_trace.specs.Trace.{Recording}
 use Rattle.er_model.specs.Explanations.{Explanation}
-use Rattle.er_report.specs.Lines.{LineTold, RaceTold, RefusedTold, ShownTold}
+use Rattle.er_report.specs.Lines.{LineView, RaceView, RefusedView, ShownView}
 use Rattle.er_report.specs.Reasons.{reasons_of}
 use Rattle.er_report.specs.declared.report.Because.{Because}
 
@@ -12,23 +12,23 @@ next_reasons r [] reasons = reasons
 next_reasons r (e ∷ rest) reasons = reasons_of r e
 
 -- the line of a race has the reasons of the next explanation
-abbrev pub line_with : Recording → List Explanation → LineTold → LineTold
-line_with r to_come (RaceTold number thread kind word site held reasons) = RaceTold number thread kind word site held (next_reasons r to_come reasons)
-line_with r to_come (RefusedTold number step refusal) = RefusedTold number step refusal
-line_with r to_come (ShownTold number word state) = ShownTold number word state
+abbrev pub line_with : Recording → List Explanation → LineView → LineView
+line_with r to_come (RaceView number thread kind word site held reasons) = RaceView number thread kind word site held (next_reasons r to_come reasons)
+line_with r to_come (RefusedView number step refusal) = RefusedView number step refusal
+line_with r to_come (ShownView number word state) = ShownView number word state
 
 -- and uses it up
-abbrev pub left_after : List Explanation → LineTold → List Explanation
-left_after to_come (RaceTold number thread kind word site held reasons) = drop 1 to_come
-left_after to_come (RefusedTold number step refusal) = to_come
-left_after to_come (ShownTold number word state) = to_come
+abbrev pub left_after : List Explanation → LineView → List Explanation
+left_after to_come (RaceView number thread kind word site held reasons) = drop 1 to_come
+left_after to_come (RefusedView number step refusal) = to_come
+left_after to_come (ShownView number word state) = to_come
 
 -- each line in turn
-unfoldable pub with_reasons : Recording → List Explanation → List LineTold → List LineTold
+unfoldable pub with_reasons : Recording → List Explanation → List LineView → List LineView
 with_reasons r to_come [] = []
 with_reasons r to_come (line ∷ lines) = line_with r to_come line ∷ with_reasons r (left_after to_come line) lines
 
 -- the explanations that these lines leave
-unfoldable pub left_by : List Explanation → List LineTold → List Explanation
+unfoldable pub left_by : List Explanation → List LineView → List Explanation
 left_by to_come [] = to_come
 left_by to_come (line ∷ lines) = left_by (left_after to_come line) lines

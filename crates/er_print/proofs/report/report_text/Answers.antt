@@ -2,7 +2,7 @@
 use Rattle.std.proofs.Common.{◌≡◌, ◌≤◌, ℕ, List, length, take, map, flat_map, ◌∙◌, ap, refl}
 use Rattle.std.proofs.lemmas.List.{take_all}
 use Rattle.er_trace.specs.Names.{NameTable}
-use Rattle.er_report.specs.Lines.{line_told}
+use Rattle.er_report.specs.Lines.{line_view}
 use Rattle.er_report.specs.declared.report.Line.{Line}
 use Rattle.er_print.proofs.LineLemmas.{told-lines}
 use Rattle.er_print.specs.Printed.{line_text, report_text}
@@ -16,7 +16,7 @@ returns c =
     let text : List ℕ = c.loop-line.text.items in
     let past : length items ≤ c.loop-line.line-index = rw c.deref-line-items.ensures.value at c.loop-line-test.false in
     let done : take c.loop-line.line-index items ≡ items = take_all c.loop-line.line-index items past in
-    let lines : text ≡ flat_map (line_text names) (map line_told items) =
-    c.loop-line.invariant ∙ ap (λ (all : List Line). flat_map (λ (line : Line). line_text names (line_told line)) all) done
+    let lines : text ≡ flat_map (line_text names) (map line_view items) =
+    c.loop-line.invariant ∙ ap (λ (all : List Line). flat_map (λ (line : Line). line_text names (line_view line)) all) done
     ∙ told-lines names items in
     rw (c.in_ok-put_totals.ensures, c.in_ok-put_rule_counts.ensures, c.in_ok-put_stop.ensures, lines, c.deref.ensures.value) refl

@@ -1,7 +1,7 @@
 -- The three first, and behind them those of all locks.
 use Rattle.std.proofs.Common.{◌≡◌, ◌++◌, List, take, flat_map, ◌∙◌, ap, refl}
 use Rattle.std.proofs.lemmas.List.{take_all}
-use Rattle.er_explain.specs.declared.explanation.Uncovered.{Uncovered}
+use Rattle.er_journal.specs.declared.explanations.Uncovered.{Uncovered}
 use Rattle.er_report.specs.Reasons.{reason_at}
 use Rattle.er_report.specs.declared.report.Because.{Because}
 use Rattle.er_report.specs.declared.report.Label.TheVariants as label

@@ -1,6 +1,6 @@
 -- Those that were there before the loop, and those of the locks so far.
 use Rattle.std.proofs.Common.{◌≡◌, ◌++◌, take, flat_map}
-use Rattle.er_explain.specs.declared.explanation.Uncovered.{Uncovered}
+use Rattle.er_journal.specs.declared.explanations.Uncovered.{Uncovered}
 use Rattle.er_report.specs.Reasons.{reason_at}
 use Rattle.er_report.specs.declared.report.Label.TheVariants as label
 use Rattle.er_report.proofs.reasons.reasons_of.Given as goal

@@ -1,15 +1,29 @@
+-- What was built of the text is written, and a fault before that leaves the writer alone.
+use Rattle.std.proofs.Common.{sym, subst, ap}
+use Rattle.er_device.specs.Device.{inner_of}
 use Rattle.er_rules.specs.Rules.{targets_of}
-use Rattle.er_run.proofs.ReplayLemmas.{whole, part, not_stopped}
+use Rattle.er_run.proofs.ReplayLemmas.{whole-of, part, nothing, unwritten, untouched, whole-verdict}
 use Rattle.er_run.proofs.replay.replay_text.Goals as goal
 
 pub returns-in-Ok-clause-report : goal.returns-in-Ok-clause-report
 returns-in-Ok-clause-report g c =
-    rw c.verdict_of-verdict.ensures
-    (whole _ c.args.options.now.byte_limit (targets_of c.args.suppressions.now) c.args.options.now.explain _ _ c.in_ok-trace.trace c.names.result.now c.in_ok-report.report c.names.ensures c.in_ok-trace.ensures.told c.in_ok-report.ensures.report c.in-Ok.ensures.bytes)
+    whole-of (g.D.Read.remaining (inner_of c.args.reader.now)) c.args.options.now.byte_limit (targets_of c.args.suppressions.now) c.args.options.now.explain _ _ c.in-Ok.found.trace.names c.in-Ok.found.report c.write_found.result
+    c.in-Ok.ensures.report c.write_found.ensures.verdict c.write_found.ensures.bytes
 
-pub returns-clause-fault : goal.returns-clause-fault
-returns-clause-fault g c =
-    part _ c.args.options.now.byte_limit (targets_of c.args.suppressions.now) c.args.options.now.explain _ _ c.in_ok-trace.trace c.names.result.now c.in_ok-report.report c.in-Err.why c.names.ensures c.in_ok-trace.ensures.told c.in_ok-report.ensures.report c.in-Err.ensures.bytes
+pub returns-in-Ok-clause-fault : goal.returns-in-Ok-clause-fault
+returns-in-Ok-clause-fault g c =
+    part (g.D.Read.remaining (inner_of c.args.reader.now)) c.args.options.now.byte_limit (targets_of c.args.suppressions.now) c.args.options.now.explain _ _ c.in-Ok.found.trace.names c.in-Ok.found.report c.write_found.result
+    c.in-Ok.ensures.report c.write_found.ensures.bytes
+
+pub returns-in-Ok-clause-nothing : goal.returns-in-Ok-clause-nothing
+returns-in-Ok-clause-nothing g c = nothing _ _ _ c.write_found.result c.write_found.ensures.bytes
 
 pub returns-in-Ok-clause-whole : goal.returns-in-Ok-clause-whole
-returns-in-Ok-clause-whole g c = λ several. rw c.verdict_of-verdict.ensures (not_stopped _ _ (c.in_ok-report.ensures.whole several))
+returns-in-Ok-clause-whole g c = λ several. whole-verdict c.in-Ok.found.report c.write_found.result (c.in-Ok.ensures.whole several) c.write_found.ensures.verdict
+
+pub returns-in-Err-clause-fault : goal.returns-in-Err-clause-fault
+returns-in-Err-clause-fault g c =
+    unwritten (g.D.Read.remaining (inner_of c.args.reader.now)) c.args.options.now.byte_limit (targets_of c.args.suppressions.now) c.args.options.now.explain _ _ c.in-Err.why c.in-Err.ensures.fault
+
+pub returns-in-Err-clause-nothing : goal.returns-in-Err-clause-nothing
+returns-in-Err-clause-nothing g c = untouched (g.D.Read.remaining (inner_of c.args.reader.now)) _ c.args.options.now.byte_limit c.in-Err.why c.in-Err.ensures.fault

@@ -1,4 +1,5 @@
-use Rattle.std.proofs.Common.{◌∙◌, ◌++◌, ◌∷◌, ◌&&◌, ℕ, [], Bool, cond, is_none, List, Option, Result, refl, sym, ap, subst}
+use Rattle.std.proofs.Common.{◌≡◌, ◌∙◌, true, false, ◌++◌, ◌∷◌, ◌&&◌, ℕ, [], Bool, cond, is_none, List, Option, Result, refl, sym, ap, subst}
+use Rattle.std.proofs.lemmas.List.{append-nil}
 use Rattle.er_event.specs.declared.refusals.Refusal.{Refusal}
 use Rattle.er_event.specs.declared.steps.Reply.{Reply}
 use Rattle.er_explain.specs.Racing.{is_race}
@@ -10,14 +11,31 @@ use Rattle.er_rules.specs.Rules.{targets_of}
 use Rattle.er_report.proofs.BuilderLemmas.{built-next}
 use Rattle.er_report.proofs.builder.ReportBuilder.add_answer.Goals as goal
 
+pub returns-then-is_printed-clause-built : goal.returns-then-is_printed-clause-built
+returns-then-is_printed-clause-built c = λ r k built at.
+    let given : Result Reply Refusal = shown c.args.answer in
+    let races : List ℕ = c.self.inside.races.items in
+    let place : ℕ = c.self.inside.report.steps in
+    let before : Built = record { report = told c.self.inside.report; races = races; rules = targets_of c.self.inside.rules.now } in
+    let printed : (is_race given && is_none c.first_rule-rule.result) ≡ true = sym c.is_printed.ensures ∙ c.if-is_printed.true in
+    built-next before _ r k c.args.names.now c.args.line c.args.step.now given c.args.held.now
+    (subst (λ (builder : Built). IsBuilt builder r k) (sym c.self.view_is) built) at refl
+    (c.in_ok-add_step.ensures.ok ∙ ap (with_answer before.report c.args.line c.args.held.now c.args.step.now given) c.first_rule-rule.ensures.value)
+    (c.push_reserved.ensures.items
+    ∙ ap (λ (before : List ℕ). before ++ place ∷ []) c.in_ok-reserve.ensures.items
+    ∙ ap (λ (b : Bool). races ++ cond b (place ∷ []) []) (sym printed)
+    ∙ ap (λ (rule : Option ℕ). races ++ cond (is_race given && is_none rule) (place ∷ []) []) c.first_rule-rule.ensures.value)
+
 pub returns-clause-built : goal.returns-clause-built
 returns-clause-built c = λ r k built at.
     let given : Result Reply Refusal = shown c.args.answer in
     let races : List ℕ = c.self.inside.races.items in
     let place : ℕ = c.self.inside.report.steps in
     let before : Built = record { report = told c.self.inside.report; races = races; rules = targets_of c.self.inside.rules.now } in
+    let printed : (is_race given && is_none c.first_rule-rule.result) ≡ false = sym c.is_printed.ensures ∙ c.if-is_printed.false in
     built-next before _ r k c.args.names.now c.args.line c.args.step.now given c.args.held.now
     (subst (λ (builder : Built). IsBuilt builder r k) (sym c.self.view_is) built) at refl
-    (c.in_ok-add_step.ensures.ok ∙ ap (with_answer before.report c.args.line c.args.held.now c.args.step.now given) c.first_rule-rule.ensures.value)
-    (c.in_ok-add_race.ensures
+    (c.in_ok-add_step-2.ensures.ok ∙ ap (with_answer before.report c.args.line c.args.held.now c.args.step.now given) c.first_rule-rule.ensures.value)
+    (sym (append-nil races)
+    ∙ ap (λ (b : Bool). races ++ cond b (place ∷ []) []) (sym printed)
     ∙ ap (λ (rule : Option ℕ). races ++ cond (is_race given && is_none rule) (place ∷ []) []) c.first_rule-rule.ensures.value)

@@ -5,7 +5,7 @@ use Rattle.std.specs.Vec.{with_items}
 use Rattle.er_explain.specs.Explaining.{explanations_at}
 use Rattle.er_report.specs.Builder.{Built, IsBuilt}
 use Rattle.er_report.specs.Inner.Explained.{with_reasons}
-use Rattle.er_report.specs.Lines.{LineTold, line_told}
+use Rattle.er_report.specs.Lines.{LineView, line_view}
 use Rattle.er_report.specs.Report.{told, report_of, answered_steps}
 use Rattle.er_report.specs.declared.report.Line.{Line}
 use Rattle.er_rules.specs.Rules.{targets_of}
@@ -24,11 +24,11 @@ before c = record { report = told c.self.inside.report; races = c.self.inside.ra
 built : (c : goal.After-drop-races-2) → IsBuilt (before c) c.args.trace.now (length (answered_steps c.args.trace.now.steps c.args.stopped))
 built c = subst (λ (builder : Built). IsBuilt builder c.args.trace.now (length (answered_steps c.args.trace.now.steps c.args.stopped))) (sym c.self.view_is) c.requires.built
 
-lines : (c : goal.After-drop-races-2) → map line_told (with_items c.self.inside.report.lines c.explain_lines.new.lines).items
+lines : (c : goal.After-drop-races-2) → map line_view (with_items c.self.inside.report.lines c.explain_lines.new.lines).items
     ≡ cond c.args.explain (with_reasons c.args.trace.now (explanations_at c.args.trace.now.steps (before c).races) (before c).report.lines) (before c).report.lines
 lines c =
     let long : length c.explain_lines.new.lines ≡ c.self.inside.report.lines.len = omega (arith, c.explain_lines.auto.lines, c.deref_mut.ensures.len) in
-    ap (map line_told) (with_items_is c.self.inside.report.lines c.explain_lines.new.lines long)
+    ap (map line_view) (with_items_is c.self.inside.report.lines c.explain_lines.new.lines long)
     ∙ rw (c.deref.ensures.value, c.deref_mut.ensures.value) at c.in_ok-explain_lines.ensures
 
 pub returns-clause-report : goal.returns-clause-report

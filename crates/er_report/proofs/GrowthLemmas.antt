@@ -1,0 +1,118 @@
+-- The report of the first steps doesn't change if more steps and names come behind them.
+use Rattle.std.proofs.Common.{◌≡◌, ◌<◌, ◌≤◌, ◌+◌, ℕ, zero, suc, Bool, true, false, cond, List, [], ◌++◌, ◌&&◌, length, slice_get, slice_index, Option, Some, None, is_some, is_none, Result, refl, sym, ap, subst, ◌∙◌, arith}
+use Rattle.std.specs.List.{All, range_with_len}
+use Rattle.std.proofs.lemmas.List.{get_or_append_left}
+use Rattle.std.proofs.lemmas.Option.{slice_get-get_or}
+use Rattle.er_event.proofs.Lists.{get_front}
+use Rattle.er_event.specs.declared.refusals.Refusal.{Refusal}
+use Rattle.er_event.specs.declared.steps.Event.{Event}
+use Rattle.er_event.specs.declared.steps.Event.TheVariants.{Acquire, Release, Access, Reuse, IgnoreOn, IgnoreOff, Show, Level}
+use Rattle.er_event.specs.declared.steps.Reply.{Reply}
+use Rattle.er_event.specs.declared.steps.Step.{Step}
+use Rattle.er_explain.specs.Racing.{is_race, places_below}
+use Rattle.er_model.specs.Answers.{answer}
+use Rattle.er_model.specs.Threads.{accepted, held}
+use Rattle.er_model.proofs.Prefixes.{accepted-front, answer-front}
+use Rattle.er_report.specs.Builder.{Built, IsBuilt, GoesOn, report_below}
+use Rattle.er_report.specs.Lines.{LineView}
+use Rattle.er_report.specs.Report.{Summary, answer_matching_rule, answer_line, event_matching_rule, site_name, matching_rule_of, matching_rule_at, line_of, line_at, lines_below, count_below, rule_count, rule_counts, is_printed, is_refused, is_rule}
+use Rattle.er_report.proofs.BuilderLemmas.{same_summary}
+use Rattle.er_report.proofs.CountLemmas.{same_counts}
+use Rattle.er_report.proofs.NamedLemmas.{site_named}
+use Rattle.er_report.specs.Names.{HasSiteName}
+use Rattle.er_rules.specs.Rules.{Target, matching_rule}
+use Rattle.er_trace.specs.Names.{NameTable}
+use Rattle.er_trace.specs.Trace.{Recording}
+
+-- counts and places below n, by tests that agree there
+count-agree : (f g : ℕ → Bool) (n : ℕ) → ((k : ℕ) → k < n → f k ≡ g k) → count_below f n ≡ count_below g n
+unfolding count_below
+count-agree f g zero same = refl
+count-agree f g (suc n) same = rw (same n (omega arith), count-agree f g n (λ k below. same k (omega arith))) refl
+
+places-agree : (f g : ℕ → Bool) (n : ℕ) → ((k : ℕ) → k < n → f k ≡ g k) → places_below f n ≡ places_below g n
+unfolding places_below
+places-agree f g zero same = refl
+places-agree f g (suc n) same = rw (same n (omega arith), places-agree f g n (λ k below. same k (omega arith))) refl
+
+module _ (before after : Recording) (rules : List Target) (on : GoesOn before after) where
+  -- a site that has a name keeps it
+  site-by : (n : ℕ) (o : Option (List ℕ)) → slice_get before.names.sites n ≡ o → n < length before.names.sites → slice_get before.names.sites n ≡ slice_get after.names.sites n
+  site-by n None is within = absurd (let found = sym is ∙ slice_get-get_or before.names.sites n [] within in cc)
+  site-by n (Some name) is within = is ∙ sym (on.sites n name is)
+
+  site-same : (site : ℕ) → site ≤ length before.names.sites → site_name before.names site ≡ site_name after.names site
+  site-same zero within = refl
+  site-same (suc n) within = site-by n (slice_get before.names.sites n) refl (omega arith)
+
+  event-same : (event : Event) → HasSiteName before.names event → event_matching_rule rules before.names event ≡ event_matching_rule rules after.names event
+  event-same (Access kind word site) named = ap (λ (name : Option (List ℕ)). matching_rule rules name word) (site-same site named)
+  event-same (Acquire l m) named = refl
+  event-same (Release l m) named = refl
+  event-same (Reuse range) named = refl
+  event-same IgnoreOn named = refl
+  event-same IgnoreOff named = refl
+  event-same (Show w) named = refl
+  event-same (Level n) named = refl
+
+  step-there : (k : ℕ) → k < length before.steps → slice_get after.steps k ≡ slice_get before.steps k
+  step-there k below = ap (λ (steps : List Step). slice_get steps k) on.steps ∙ get_front before.steps on.more k below
+
+  answer-there : (k : ℕ) → k < length before.steps → answer after.steps k ≡ answer before.steps k
+  answer-there k below = ap (λ (steps : List Step). answer steps k) on.steps ∙ answer-front before.steps on.more k below
+
+  accepted-there : (k : ℕ) → k ≤ length before.steps → accepted after.steps k ≡ accepted before.steps k
+  accepted-there k below = ap (λ (steps : List Step). accepted steps k) on.steps ∙ accepted-front before.steps on.more k below
+
+  number-there : (k : ℕ) → k < length before.steps → slice_index after.lines k ≡ slice_index before.lines k
+  number-there k below = ap (λ (lines : List ℕ). slice_index lines k) on.lines ∙ get_or_append_left before.lines on.others 0 k (let long : length before.lines ≡ length before.steps = on.long in omega arith)
+
+  matching_rule-by : (k : ℕ) (o : Option Step) → slice_get before.steps k ≡ o → k < length before.steps → matching_rule_of before rules k o ≡ matching_rule_of after rules k o
+  matching_rule-by k None is below = refl
+  matching_rule-by k (Some step) is below =
+      ap (λ (o : Option ℕ). cond (is_race (answer before.steps k)) o None) (event-same step.event (site_named before.names before.steps on.named k step is))
+      ∙ ap (answer_matching_rule rules after.names step.event) (sym (answer-there k below))
+
+  matching_rule-same : (k : ℕ) → k < length before.steps → matching_rule_at before rules k ≡ matching_rule_at after rules k
+  unfolding matching_rule_at
+  matching_rule-same k below =
+      matching_rule-by k (slice_get before.steps k) refl below ∙ ap (matching_rule_of after rules k) (sym (step-there k below))
+
+  line-by : (k : ℕ) (o : Option Step) → k < length before.steps → line_of before false k o ≡ line_of after false k o
+  line-by k None below = refl
+  line-by k (Some step) below =
+      ap (λ (n : ℕ). answer_line n (held (accepted before.steps k) step.thread) [] step (answer before.steps k)) (sym (number-there k below))
+      ∙ ap (λ (past : List Step). answer_line (slice_index after.lines k) (held past step.thread) [] step (answer before.steps k)) (sym (accepted-there k (omega arith)))
+      ∙ ap (answer_line (slice_index after.lines k) (held (accepted after.steps k) step.thread) [] step) (sym (answer-there k below))
+
+  line-same : (k : ℕ) → k < length before.steps → line_at before false k ≡ line_at after false k
+  unfolding line_at
+  line-same k below = line-by k (slice_get before.steps k) below ∙ ap (line_of after false k) (sym (step-there k below))
+
+  lines-same : (n : ℕ) → n ≤ length before.steps → lines_below before rules false n ≡ lines_below after rules false n
+  unfolding lines_below
+  lines-same zero within = refl
+  lines-same (suc n) within = rw (lines-same n (omega arith), matching_rule-same n (omega arith), line-same n (omega arith)) refl
+
+  printed-same : (k : ℕ) → k < length before.steps → is_printed before rules k ≡ is_printed after rules k
+  printed-same k below = rw (matching_rule-same k below, answer-there k below) refl
+
+  report-same : (n : ℕ) → n ≤ length before.steps → report_below before rules n ≡ report_below after rules n
+  unfolding report_below
+  report-same n within =
+      same_summary _ _ _ _ _ _ _ _ _ _ _ _ _ _
+      (lines-same n within)
+      refl
+      (same_counts (rule_count before rules n) (rule_count after rules n)
+      (λ i. count-agree _ _ n (λ k below. ap (is_rule i) (matching_rule-same k (omega arith)))) (range_with_len 0 (length rules)))
+      refl
+      (count-agree _ _ n (λ k below. printed-same k (omega arith)))
+      (count-agree _ _ n (λ k below. ap (λ (o : Option ℕ). is_some o) (matching_rule-same k (omega arith))))
+      (count-agree _ _ n (λ k below. ap is_refused (sym (answer-there k (omega arith)))))
+
+pub goes-on : (builder : Built) (before after : Recording) (n : ℕ) → GoesOn before after → n ≤ length before.steps → IsBuilt builder before n → IsBuilt builder after n
+goes-on builder before after n on within built =
+    record {
+      report = built.report ∙ report-same before after builder.rules on n within;
+      races = built.races ∙ places-agree _ _ n (λ k below. printed-same before after builder.rules on k (omega arith));
+    }

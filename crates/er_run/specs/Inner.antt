@@ -1,0 +1,3 @@
+-- What the parts of a replay keep true of one another.
+pub mod Reports
+pub mod Passes

@@ -1,0 +1,226 @@
+//! A replay in one pass: each batch of lines is read, run and forgotten.
+ghost use Rattle.std.specs.Prelude.{◌≡◌, ◌+◌, ◌<◌, ◌≤◌, ℕ, List, Option, All, false, true, length, IfSome, IfOk, IfErr, OnOk};
+ghost use Rattle.er_device.specs.Device.{inner_of, has_failed, taken_of};
+ghost use Rattle.er_event.specs.declared.steps.Step.{Step};
+ghost use Rattle.er_report.specs.Names.{HasNames};
+ghost use Rattle.er_rules.specs.Rules.{targets_of};
+ghost use Rattle.er_run.specs.Inner.Passes.{HasAnswered, Answers, HasRun, HasCome, HasEnded, recorded};
+ghost use Rattle.er_run.specs.Inner.Reports.{IsReportOfText, IsFaultOfText};
+ghost use Rattle.er_run.specs.Limits.{bytes_past_limit, most_bytes};
+ghost use Rattle.er_run.specs.Replays.{FailsBy};
+ghost use Rattle.er_text.specs.Batches.{joined};
+ghost use Rattle.er_text.specs.Inner.Lending.{taken_by};
+ghost use Rattle.er_text.specs.Named.{KeepsNames};
+ghost use Rattle.er_trace.specs.Names.{NameTable};
+
+use crate::{Options, RunFault};
+use er_device::Device;
+use er_event::NoRoom;
+use er_journal::Stopped;
+use er_replay::{Machine, no_room};
+use er_report::{Report, ReportBuilder};
+use er_rules::Suppressions;
+use er_table::LocksetTable;
+use er_text::{Batch, TraceReader};
+use er_trace::Trace;
+use std::alloc::{AllocError, Global};
+use std::io::Read;
+use std::sync::Wait;
+
+/// How many lines a batch has.
+const BATCH_LINES: u32 = 1024;
+
+/// A report, and a trace that has the names of its numbers.
+#[derive(Drop)]
+pub(crate) struct Reported {
+    pub(crate) report: Report,
+    pub(crate) trace: Trace,
+}
+
+/// A replay by one worker that keeps no step: what reads the lines, the trace that each batch fills, and what is left of the steps so
+/// far.
+#[derive(Drop)]
+struct Pass<'t, 'r> {
+    lines: TraceReader,
+    trace: Trace,
+    machine: Machine<'t>,
+    builder: ReportBuilder<'r>,
+    stop: Option<(u64, NoRoom)>,
+}
+
+impl<'t, 'r> Pass<'t, 'r> {
+    fn new(
+        alloc: Global,
+        table: &'t LocksetTable,
+        suppressions: &'r Suppressions,
+        byte_limit: u64,
+    ) -> Result<Pass<'t, 'r>, AllocError>
+        requires { byte_limit ≤ most_bytes }
+        ensures come { IfOk result (λ pass. (told : Option (List ℕ)) → HasCome told told pass.lines pass.trace pass.machine pass.builder pass.stop) }
+        ensures rules { IfOk result (λ pass. pass.builder.rules ≡ targets_of suppressions.now) }
+        ensures limit { IfOk result (λ pass. pass.lines.place.limit ≡ byte_limit) }
+        ensures taken { IfOk result (λ pass. taken_by pass.lines.place ≡ 0) }
+    {
+        let lines = TraceReader::new(alloc, byte_limit)?;
+        let machine = Machine::new(alloc, table)?;
+        let builder = ReportBuilder::new(alloc, suppressions)?;
+        Ok(Pass {
+            lines,
+            trace: Trace::new(alloc),
+            machine,
+            builder,
+            stop: None,
+        })
+    }
+
+    /// Reads a batch, runs its steps and forgets them, and says whether lines may follow.
+    fn turn<R: Wait, D: Read>(&mut self, rt: &R, reader: &mut Device<D>) -> Result<bool, RunFault>
+        requires open { has_failed reader.old ≡ false }
+        ensures come { (told : Option (List ℕ)) → HasCome told (D.remaining (inner_of reader.old)) self.old.lines self.old.trace self.old.machine self.old.builder self.old.stop
+            → IfOk result (λ more. more ≡ true → HasCome told (D.remaining (inner_of reader.new)) self.new.lines self.new.trace self.new.machine self.new.builder self.new.stop) }
+        ensures ended { (told : Option (List ℕ)) → HasCome told (D.remaining (inner_of reader.old)) self.old.lines self.old.trace self.old.machine self.old.builder self.old.stop
+            → IfOk result (λ more. more ≡ false → HasEnded told self.old.lines.place.limit self.new.trace self.new.machine self.new.builder self.new.stop) }
+        ensures fault { (told : Option (List ℕ)) → HasCome told (D.remaining (inner_of reader.old)) self.old.lines self.old.trace self.old.machine self.old.builder self.old.stop
+            → IfErr result (λ why. IsFaultOfText told self.old.lines.place.limit why) }
+        ensures rules { OnOk result (self.new.builder.rules ≡ self.old.builder.rules) }
+        ensures limit { self.new.lines.place.limit ≡ self.old.lines.place.limit }
+        ensures more { IfOk result (λ more. more ≡ true → self.old.lines.place.start < self.new.lines.place.start) }
+        ensures within { self.new.lines.place.start ≤ self.new.lines.place.limit }
+        ensures failed { FailsBy (has_failed reader.new) false result }
+        ensures taken { taken_of reader.new + taken_by self.old.lines.place ≤ taken_of reader.old + taken_by self.new.lines.place }
+        ensures most { taken_by self.new.lines.place ≤ self.new.lines.place.limit + bytes_past_limit }
+    {
+        let batch = self.lines.next_batch(reader, &mut self.trace, BATCH_LINES)?;
+        self.stop = answer_batch(
+            rt,
+            &mut self.machine,
+            &self.trace,
+            &mut self.builder,
+            self.stop,
+        )?;
+        match batch {
+            Batch::End => Ok(false),
+            Batch::More => {
+                self.trace.clear();
+                Ok(true)
+            }
+        }
+    }
+
+    /// Reads and runs all batches.
+    fn run<R: Wait, D: Read>(&mut self, rt: &R, reader: &mut Device<D>) -> Result<(), RunFault>
+        requires open { has_failed reader.old ≡ false }
+        ensures ended { (told : Option (List ℕ)) → HasCome told (D.remaining (inner_of reader.old)) self.old.lines self.old.trace self.old.machine self.old.builder self.old.stop
+            → OnOk result (HasEnded told self.old.lines.place.limit self.new.trace self.new.machine self.new.builder self.new.stop) }
+        ensures fault { (told : Option (List ℕ)) → HasCome told (D.remaining (inner_of reader.old)) self.old.lines self.old.trace self.old.machine self.old.builder self.old.stop
+            → IfErr result (λ why. IsFaultOfText told self.old.lines.place.limit why) }
+        ensures rules { OnOk result (self.new.builder.rules ≡ self.old.builder.rules) }
+        ensures failed { FailsBy (has_failed reader.new) false result }
+        ensures taken { taken_of reader.new + taken_by self.old.lines.place ≤ taken_of reader.old + self.old.lines.place.limit + bytes_past_limit }
+    {
+        while self.turn(rt, reader)? {}
+        Ok(())
+    }
+
+    /// The report of the text that was read, and its names.
+    fn finish(self) -> Reported
+        ensures report { (told : Option (List ℕ)) (limit : ℕ) → HasEnded told limit self.entry.trace self.entry.machine self.entry.builder self.entry.stop
+            → IfSome told (λ text. IsReportOfText text limit self.entry.builder.rules false result.trace.names result.report) }
+        ensures named { (told : Option (List ℕ)) (limit : ℕ) → HasEnded told limit self.entry.trace self.entry.machine self.entry.builder self.entry.stop
+            → All (HasNames result.trace.names) result.report.lines.items }
+    {
+        let Pass {
+            lines,
+            trace,
+            machine,
+            builder,
+            stop,
+        } = self;
+        close(lines, machine);
+        Reported {
+            report: builder.finish(stop),
+            trace,
+        }
+    }
+}
+
+// Lets go of what has read and answered the steps. Split for the prover.
+fn close(_lines: TraceReader, _machine: Machine<'_>) {}
+
+/// The report of a replay by one worker that forgets the steps, without reasons.
+pub(crate) fn report_in_batches<R: Wait, D: Read>(
+    rt: &R,
+    alloc: Global,
+    reader: &mut Device<D>,
+    suppressions: &Suppressions,
+    options: &Options,
+) -> Result<Reported, RunFault>
+    requires reader { has_failed reader.old ≡ false }
+    ensures report { IfOk result (λ found. IfSome (D.remaining (inner_of reader.old)) (λ text. IsReportOfText text options.now.byte_limit (targets_of suppressions.now) false found.trace.names found.report)) }
+    ensures named { IfOk result (λ found. All (HasNames found.trace.names) found.report.lines.items) }
+    ensures fault { IfErr result (λ why. IsFaultOfText (D.remaining (inner_of reader.old)) options.now.byte_limit why) }
+    ensures failed { FailsBy (has_failed reader.new) false result }
+    ensures taken { taken_of reader.new ≤ taken_of reader.old + options.now.byte_limit + bytes_past_limit }
+{
+    let table = LocksetTable::new(alloc, options.max_sets)?;
+    let mut pass = Pass::new(alloc, &table, suppressions, options.byte_limit)?;
+    match pass.run(rt, reader) {
+        Ok(()) => Ok(pass.finish()),
+        Err(why) => Err(why),
+    }
+}
+
+// Answers the steps of a batch and adds them to the report, and says where the run has stopped. Once it has stopped nothing is added.
+fn answer_batch<R: Wait>(
+    rt: &R,
+    machine: &mut Machine<'_>,
+    trace: &Trace,
+    builder: &mut ReportBuilder<'_>,
+    stop: Option<(u64, NoRoom)>,
+) -> Result<Option<(u64, NoRoom)>, AllocError>
+    ensures rules { OnOk result (builder.new.rules ≡ builder.old.rules) }
+    ensures run { (past : List Step) (lines : List ℕ) (names : NameTable) → KeepsNames names trace.now.names → HasRun machine.old builder.old stop (recorded past lines names)
+        → IfOk result (λ stop. HasRun machine.new builder.new stop (joined past lines trace.now)) }
+{
+    let steps = trace.steps();
+    let lines = trace.lines();
+    prove!(steps.len() == lines.len());
+    if stop.is_some() {
+        return Ok(stop);
+    }
+    Ok(match answer_steps(rt, machine, trace, builder)? {
+        Some(Stopped { at, cause }) => Some((lines[at as usize], cause)),
+        None => None,
+    })
+}
+
+/// Answers each step and adds it to the report, up to the first that finds no room. So many steps that they can't be counted any more
+/// are reported as a want of memory.
+pub(crate) fn answer_steps<R: Wait>(
+    rt: &R,
+    machine: &mut Machine<'_>,
+    trace: &Trace,
+    builder: &mut ReportBuilder<'_>,
+) -> Result<Option<Stopped>, AllocError>
+    ensures rules { OnOk result (builder.new.rules ≡ builder.old.rules) }
+    ensures within { IfOk result (λ stopped. IfSome stopped (λ stop. stop.at < length trace.now.steps)) }
+    ensures run { (past : List Step) (lines : List ℕ) → length lines ≡ length past → HasAnswered machine.old builder.old (joined past lines trace.now) (length past)
+        → IfOk result (λ stopped. Answers machine.new builder.new (joined past lines trace.now) (length past) stopped) }
+{
+    let steps = trace.steps();
+    if steps.len() as u64 > u64::MAX - builder.steps() {
+        return Err(AllocError);
+    }
+    for (k, step) in steps.iter().enumerate() {
+        let answer = machine.step(rt, *step);
+        if let Some(cause) = no_room(&answer) {
+            return Ok(Some(Stopped {
+                at: k as u64,
+                cause,
+            }));
+        }
+        let held = machine.held(step.thread).held();
+        builder.add(trace.names(), trace.lines()[k], step, &answer, held)?;
+    }
+    Ok(None)
+}
