@@ -1,6 +1,7 @@
 -- What the program leaves in its two writers.
 use Rattle.std.specs.Prelude.{◌≡◌, ◌⊎◌, ℕ, Bool, true, false, List, [], Option, Result, Ok, Err, take, codes}
 use Rattle.std.specs.Io.KnownBytes.{Appends, Keeps}
+use Rattle.er_run.specs.Limits.{most_bytes}
 use Rattle.er_run.specs.Replays.{IsReplayed}
 use Rattle.er_run.specs.declared.fault.Verdict.{Verdict}
 use Rattle.eraser.specs.Statuses.{verdict_status}
@@ -29,4 +30,4 @@ GetsLine old new line failed = WritesBytes old new line failed ⊎ WritesBytes o
 
 -- the text was replayed under no rules, with the greatest limit of bytes, with reasons or without, and the status is that of its verdict
 abbrev pub ReplaysTo : List ℕ → Bool → Option (List ℕ) → Option (List ℕ) → ℕ → Type 0
-ReplaysTo text explain old new status = (verdict : Verdict) × IsReplayed text 268435456 [] explain old new verdict × (status ≡ verdict_status verdict)
+ReplaysTo text explain old new status = (verdict : Verdict) × IsReplayed text most_bytes [] explain old new verdict × (status ≡ verdict_status verdict)

@@ -3,6 +3,7 @@ ghost use Rattle.std.specs.Prelude.{◌≡◌, ◌≢◌, ◌≤◌, [], false, 
 ghost use Rattle.std.specs.Io.KnownBytes.{Keeps};
 ghost use Rattle.er_device.specs.Device.{inner_of, has_failed};
 ghost use Rattle.er_rules.specs.Rules.{targets_of};
+ghost use Rattle.er_run.specs.Limits.{most_bytes};
 ghost use Rattle.er_run.specs.Replays.{IsReplayed};
 ghost use Rattle.eraser.specs.Demos.{IsDemo};
 ghost use Rattle.eraser.specs.Statuses.{verdict_status};
@@ -10,13 +11,13 @@ ghost use Rattle.eraser.specs.Writes.{LeavesOutput, ReplaysTo};
 
 use crate::faults::Fault;
 use crate::lines::{put, tell, tell_demo};
-use crate::request::{Replay, Request, read_request};
 use clap::error::ErrorKind;
 use er_detector::OpenGate;
 use er_device::Device;
 use er_load::{Workload, run_workload};
+use er_request::{Replay, Request, read_request};
 use er_rules::Suppressions;
-use er_run::{Options, Verdict, replay_text};
+use er_run::{Options, Verdict, replay_by_site, replay_text};
 use er_text::read_suppressions;
 use std::alloc::Global;
 use std::fs::File;
@@ -76,7 +77,7 @@ where
 {
     let outcome = match request {
         Request::Replay(replay) => run_replay(rt, replay, input, output),
-        Request::Demo(workload) => run_demo(rt, rt.alloc(), workload, output),
+        Request::Demo(demo) => run_demo(rt, rt.alloc(), Workload::ALL[demo.place], output),
     };
     match outcome {
         Ok(status) => status,
@@ -94,6 +95,15 @@ fn status_of(verdict: Verdict) -> u8
     }
 }
 
+// The greatest limits, and what was asked for.
+fn options_of(replay: &Replay<'_>) -> Options
+    ensures explain { result.explain ≡ replay.now.explain }
+    ensures bytes { result.byte_limit ≡ most_bytes }
+{
+    let options = Options::greatest().with_explain(replay.explain);
+    options.with_workers(replay.shards, replay.workers).unwrap()
+}
+
 // The suppressions are opened and read before the trace is opened.
 fn run_replay<R, I, O>(
     rt: &R,
@@ -108,12 +118,21 @@ where
     requires input { has_failed input.old ≡ false }
     requires output { has_failed output.old ≡ false }
     ensures status { IfOk result (λ status. (status ≤ 4) × (status ≢ 2)) }
-    ensures report { replay.entry.suppressions ≡ None → replay.entry.trace.now ≡ codes "-" → IfOk result (λ status. IfSome (I.remaining (inner_of input.old)) (λ text. ReplaysTo text replay.entry.options.explain (O.contents (inner_of output.old)) (O.contents (inner_of output.new)) status)) }
+    ensures report { replay.entry.by_site ≡ false → replay.entry.suppressions ≡ None → replay.entry.trace.now ≡ codes "-" → IfOk result (λ status. IfSome (I.remaining (inner_of input.old)) (λ text. ReplaysTo text replay.entry.explain (O.contents (inner_of output.old)) (O.contents (inner_of output.new)) status)) }
     ensures nothing { IfErr result (LeavesOutput (O.contents (inner_of output.old)) (O.contents (inner_of output.new))) }
 {
-    let options = replay.options;
+    let options = options_of(&replay);
     let suppressions = suppressions_at(rt, replay.suppressions, &options)?;
-    let verdict = replay_trace(rt, replay.trace, &suppressions, &options, input, output)?;
+    let by_site = replay.by_site;
+    let verdict = replay_trace(
+        rt,
+        replay.trace,
+        &suppressions,
+        &options,
+        by_site,
+        input,
+        output,
+    )?;
     Ok(status_of(verdict))
 }
 
@@ -158,6 +177,7 @@ fn replay_trace<R, I, O>(
     path: &str,
     suppressions: &Suppressions,
     options: &Options,
+    by_site: bool,
     input: &mut Device<I>,
     output: &mut Device<O>,
 ) -> Result<Verdict, Fault>
@@ -167,17 +187,41 @@ where
     O: Write,
     requires input { has_failed input.old ≡ false }
     requires output { has_failed output.old ≡ false }
-    ensures report { path.now ≡ codes "-" → IfOk result (λ verdict. IfSome (I.remaining (inner_of input.old)) (λ text. IsReplayed text options.now.byte_limit (targets_of suppressions.now) options.now.explain (O.contents (inner_of output.old)) (O.contents (inner_of output.new)) verdict)) }
+    ensures report { by_site ≡ false → path.now ≡ codes "-" → IfOk result (λ verdict. IfSome (I.remaining (inner_of input.old)) (λ text. IsReplayed text options.now.byte_limit (targets_of suppressions.now) options.now.explain (O.contents (inner_of output.old)) (O.contents (inner_of output.new)) verdict)) }
     ensures nothing { IfErr result (LeavesOutput (O.contents (inner_of output.old)) (O.contents (inner_of output.new))) }
 {
     if path == "-" {
-        return Ok(replay_text(rt, input, output, suppressions, options)?);
+        return replay_from(rt, input, output, suppressions, options, by_site);
     }
     let Ok(file) = File::open(rt, path) else {
         return Err(Fault::OpenTrace);
     };
     let mut source = Device::new(file);
-    Ok(replay_text(rt, &mut source, output, suppressions, options)?)
+    replay_from(rt, &mut source, output, suppressions, options, by_site)
+}
+
+// Replays what the reader gives, and writes the report, or the races by their sites.
+fn replay_from<R, D, O>(
+    rt: &R,
+    source: &mut Device<D>,
+    output: &mut Device<O>,
+    suppressions: &Suppressions,
+    options: &Options,
+    by_site: bool,
+) -> Result<Verdict, Fault>
+where
+    R: AllocGlobal + Threads + Wait + Sync,
+    D: Read,
+    O: Write,
+    requires source { has_failed source.old ≡ false }
+    requires output { has_failed output.old ≡ false }
+    ensures report { by_site ≡ false → IfOk result (λ verdict. IfSome (D.remaining (inner_of source.old)) (λ text. IsReplayed text options.now.byte_limit (targets_of suppressions.now) options.now.explain (O.contents (inner_of output.old)) (O.contents (inner_of output.new)) verdict)) }
+    ensures nothing { IfErr result (LeavesOutput (O.contents (inner_of output.old)) (O.contents (inner_of output.new))) }
+{
+    if by_site {
+        return Ok(replay_by_site(rt, source, output, suppressions, options)?);
+    }
+    Ok(replay_text(rt, source, output, suppressions, options)?)
 }
 
 // Help goes to the output and every other text of the parser to the errors.

@@ -7,7 +7,6 @@
 mod command;
 mod faults;
 mod lines;
-mod request;
 
 pub use command::command;
 use er_device::Device;

@@ -1,10 +1,8 @@
 //! What a command line asks for.
-ghost use Rattle.std.specs.Prelude.{◌≡◌};
+ghost use Rattle.std.specs.Prelude.{◌≡◌, ◌<◌, ◌≤◌};
 
 use clap::error::ErrorKind;
 use clap::{Arg, ArgAction, ArgMatches, Command, Error, value_parser};
-use er_load::Workload;
-use er_run::Options;
 use std::alloc::{AllocError, Global};
 
 /// What a command line asks for.
@@ -13,20 +11,41 @@ pub enum Request<'a> {
     /// A replay of a trace.
     Replay(Replay<'a>),
     /// A workload on threads of this program.
-    Demo(Workload),
+    Demo(Demo),
 }
 
 /// Which trace to replay, by which suppressions, and how.
 #[derive(Clone, Copy, Drop)]
 pub struct Replay<'a> {
-    /// The path of the suppressions, where there are some.
+    /// The path of the suppressions, if there are some.
     pub suppressions: Option<&'a str>,
-    /// The path of the trace, which is standard input where it is `-`.
+    /// The path of the trace, or `-` for standard input.
     pub trace: &'a str,
-    /// Whether races are explained, and how many workers there are. The limits of sets and of bytes are the greatest.
-    pub options: Options,
-    pub ghost greatest: { options.byte_limit ≡ 268435456 },
+    /// Whether the races are written by their sites, each site with an example.
+    pub by_site: bool,
+    /// Whether races are explained, as they are for examples too.
+    pub explain: bool,
+    /// In how many shards the words are, from 1 to 64.
+    pub shards: u32,
+    /// How many workers replay them, from 1 to 16.
+    pub workers: u32,
+    pub ghost some_shards: { 1 ≤ shards },
+    pub ghost few_shards: { shards ≤ 64 },
+    pub ghost some_workers: { 1 ≤ workers },
+    pub ghost few_workers: { workers ≤ 16 },
 }
+
+/// Which of the six workloads to run.
+#[derive(Clone, Copy, Drop)]
+pub struct Demo {
+    /// Its place in the list of names that `--help` shows, from 0.
+    pub place: usize,
+    pub ghost within: { place < 6 },
+}
+
+const MOST_SHARDS: u32 = 64;
+
+const MOST_WORKERS: u32 = 16;
 
 // A number from 1 to a greatest one.
 fn count<'a>(alloc: Global, name: &'a str, most: i64, default: &'a str, help: &'a str) -> Arg<'a> {
@@ -47,6 +66,12 @@ fn replay_command<'a>(alloc: Global) -> Result<Command<'a>, AllocError> {
         .long("explain")
         .action(ArgAction::SetTrue)
         .help("Name the accesses that make each race");
+    let by_site = Arg::new(alloc, "by-site")
+        .long("by-site")
+        .action(ArgAction::SetTrue)
+        .help(
+            "Write a table of the sites with races, most words first, and explain a race of each",
+        );
     let workers = count(
         alloc,
         "workers",
@@ -69,6 +94,7 @@ fn replay_command<'a>(alloc: Global) -> Result<Command<'a>, AllocError> {
         .about("Replay a trace and report its races")
         .arg(suppress)?
         .arg(explain)?
+        .arg(by_site)?
         .arg(workers)?
         .arg(shards)?
         .arg(trace)
@@ -132,28 +158,36 @@ Exit status:
 
 The texts of traces, suppressions and reports are described in docs/FORMATS.md.";
 
-fn workload_of(name: &str) -> Option<Workload> {
-    Workload::ALL
-        .iter()
-        .copied()
-        .find(|workload| workload.name() == name)
+fn demo_of(name: &str) -> Option<Demo> {
+    let place = NAMES.iter().position(|known| *known == name)?;
+    if place < NAMES.len() {
+        Some(Demo { place })
+    } else {
+        None
+    }
 }
 
 fn replay_of<'a>(found: &ArgMatches<'a>) -> Option<Replay<'a>> {
     let shards = found.get_one::<u32>("shards")?;
     let workers = found.get_one::<u32>("workers")?;
-    let options = Options::greatest().with_explain(found.get_flag("explain"));
+    if shards < 1 || shards > MOST_SHARDS || workers < 1 || workers > MOST_WORKERS {
+        return None;
+    }
+    let by_site = found.get_flag("by-site");
     Some(Replay {
         suppressions: found.get_str("suppress"),
         trace: found.get_str("trace")?,
-        options: options.with_workers(shards, workers)?,
+        by_site,
+        explain: by_site || found.get_flag("explain"),
+        shards,
+        workers,
     })
 }
 
 fn request_of<'a>(matches: &ArgMatches<'a>) -> Option<Request<'a>> {
     match matches.subcommand()? {
         ("replay", found) => Some(Request::Replay(replay_of(found)?)),
-        ("demo", found) => Some(Request::Demo(workload_of(found.get_str("name")?)?)),
+        ("demo", found) => Some(Request::Demo(demo_of(found.get_str("name")?)?)),
         _ => None,
     }
 }

@@ -1,0 +1,9 @@
+//! What a command line asks for: its words, read by `clap`.
+//!
+//! [`read_request`] returns a [`Request`], or the parser's error, whose text says what is wrong or is the help that was asked for. This is
+//! a crate of its own, below no other but the program, so that the parser is proved while the rest is.
+#![tactic(auto)]
+
+pub use request::{Demo, Replay, Request, read_request};
+
+mod request;

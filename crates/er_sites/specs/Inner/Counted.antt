@@ -1,0 +1,19 @@
+-- Counts by site, and the rows that are made of them.
+use Rattle.std.specs.Prelude.{◌≡◌, ◌≤◌, ◌^◌, ℕ, cond, nat_lt, List, length, slice_index, count_by, All}
+use Rattle.std.specs.List.{sum_by}
+use Rattle.er_report.specs.declared.report.Line.{Line}
+use Rattle.er_sites.specs.Table.{reads_at, writes_at, races_at, words_at, IsOwnCount}
+use Rattle.er_sites.specs.declared.counts.Counts.{Counts}
+use Rattle.er_sites.specs.declared.row.SiteRow.{SiteRow}
+
+-- the counts are those of the races of the lines, and their lists are no longer than there are sites
+pub record AreCounts (lines : List Line) (counts : Counts) : Type 0 where
+  pub reads : (s : ℕ) → slice_index counts.reads.items s ≡ count_by (reads_at s) lines
+  pub writes : (s : ℕ) → slice_index counts.writes.items s ≡ count_by (writes_at s) lines
+  pub few_reads : length counts.reads.items ≤ 2 ^ 32
+  pub few_writes : length counts.writes.items ≤ 2 ^ 32
+
+-- the rows are those of the sites below this one
+pub record HasRowsBelow (lines : List Line) (rows : List SiteRow) (site : ℕ) : Type 0 where
+  pub own : All (IsOwnCount lines) rows
+  pub each : (q : ℕ) → sum_by (words_at q) rows ≡ cond (nat_lt q site) (races_at lines q) 0

@@ -1,0 +1,4 @@
+pub mod Inner
+pub mod Table
+pub mod Text
+pub mod Written

@@ -1,0 +1,174 @@
+-- The text for people: a table of the sites with races, a race of each site in sentences, and the lines that every report ends with.
+use Rattle.std.specs.Prelude.{ℕ, zero, suc, ◌-◌, ◌==◌, ◌&&◌, Bool, true, false, cond, nat_le, List, [], ◌∷◌, ◌++◌, length, drop, flat_map, min, Option, Some, None, codes, decimal, slice_get}
+use Rattle.std.specs.List.{list_any, find}
+use Rattle.er_event.specs.Lockset.{is_level_lock, level_base}
+use Rattle.er_event.specs.Refusal.{text_of}
+use Rattle.er_event.specs.declared.steps.Kind.{Kind}
+use Rattle.er_event.specs.declared.steps.Kind.TheVariants as kind
+use Rattle.er_trace.specs.Names.{NameTable}
+use Rattle.er_print.specs.Printed.{name_at, address_text, stop_text, counts_text, totals_text}
+use Rattle.er_report.specs.Lines.{LineView, RaceView, RefusedView, ShownView, line_view}
+use Rattle.er_report.specs.Report.{told}
+use Rattle.er_report.specs.declared.report.Because.{Because}
+use Rattle.er_report.specs.declared.report.Label.{Label}
+use Rattle.er_report.specs.declared.report.Label.TheVariants as label
+use Rattle.er_report.specs.declared.report.Line.{Line}
+use Rattle.er_report.specs.declared.report.Line.TheVariants.{Race, Refused, Shown}
+use Rattle.er_report.specs.declared.report.Report.{Report}
+use Rattle.er_sites.specs.Table.{words_of}
+use Rattle.er_sites.specs.declared.row.SiteRow.{SiteRow}
+
+-- a name in so many bytes at most: of a longer one the end
+abbrev pub short : ℕ → List ℕ → List ℕ
+short most name = cond (nat_le (length name) most) name (codes ".." ++ drop (length name - (most - 2)) name)
+
+abbrev pub thread_text : NameTable → ℕ → List ℕ
+thread_text names thread = short 24 (name_at names.threads thread)
+
+-- the lock of a level is a mark and the level
+abbrev pub lock_text : NameTable → ℕ → List ℕ
+lock_text names lock = cond (is_level_lock lock) (codes "!" ++ decimal (lock - level_base)) (short 32 (name_at names.locks lock))
+
+-- sites count from 1, and the missing one is a dash
+abbrev pub site_text : NameTable → ℕ → List ℕ
+site_text names zero = codes "-"
+site_text names (suc n) = short 72 (name_at names.sites n)
+
+-- a number, and spaces up to the next column
+abbrev pub column_text : ℕ → List ℕ
+column_text n = decimal n ++ drop (min (length (decimal n)) 10) (codes "          ")
+
+-- what the accesses of a row do, and spaces up to the next column
+abbrev pub kinds_text : ℕ → ℕ → List ℕ
+kinds_text zero writes = codes "write       "
+kinds_text (suc k) zero = codes "read        "
+kinds_text (suc k) (suc l) = codes "read write  "
+
+abbrev pub row_text : NameTable → SiteRow → List ℕ
+row_text names row =
+    column_text (words_of row) ++ kinds_text row.reads row.writes ++ column_text row.threads ++ column_text row.locks
+    ++ site_text names row.site ++ 10 ∷ []
+
+-- what an access did
+abbrev pub did_text : Kind → List ℕ
+did_text kind.Read = codes " read it"
+did_text kind.Write = codes " wrote it"
+
+-- and that of the race did to the word
+abbrev pub access_text : Kind → List ℕ
+access_text kind.Read = codes " read the word at "
+access_text kind.Write = codes " wrote the word at "
+
+-- the line of the trace
+abbrev pub line_text : ℕ → List ℕ
+line_text number = codes " (line " ++ decimal number ++ codes ")"
+
+-- if this reason is the race itself, the lock did not protect it: the reason names the lock, or is the second thread's first access, which
+-- is a race only if no lock protects it
+abbrev pub is_failed : ℕ → Label → Bool
+is_failed lock label.First = false
+is_failed lock label.Joined = true
+is_failed lock label.Write = false
+is_failed lock (label.Uncovered other) = other == lock
+
+-- the reason shows that this lock did not protect the race on that line
+abbrev pub is_without : ℕ → ℕ → Because → Bool
+is_without number lock because = is_failed lock because.label && because.line == number
+
+-- a lock that is held and does not protect is held only to read
+abbrev pub mode_text : ℕ → List Because → ℕ → List ℕ
+mode_text number explained lock = cond (list_any (is_without number lock) explained) (codes ", but only to read") []
+
+-- a lock that the thread of a race held
+abbrev pub held_text : NameTable → ℕ → ℕ → List Because → ℕ → List ℕ
+held_text names number thread explained lock =
+    codes "  " ++ thread_text names thread ++ codes " held " ++ lock_text names lock ++ mode_text number explained lock ++ 10 ∷ []
+
+-- or that it held none
+abbrev pub holds_text : NameTable → ℕ → ℕ → List Because → List ℕ → List ℕ
+holds_text names number thread explained [] = codes "  " ++ thread_text names thread ++ codes " held no lock" ++ 10 ∷ []
+holds_text names number thread explained (lock ∷ locks) = flat_map (held_text names number thread explained) (lock ∷ locks)
+
+-- a lock that did not protect
+abbrev pub failed_lock_text : NameTable → ℕ → List ℕ
+failed_lock_text names lock = lock_text names lock ++ codes " did not protect it when "
+
+-- and the access that it did not protect
+abbrev pub deed_text : NameTable → ℕ → Kind → List ℕ
+deed_text names thread kind = thread_text names thread ++ did_text kind
+
+abbrev pub unprotected_text : NameTable → ℕ → Kind → ℕ → List ℕ
+unprotected_text names thread kind lock = failed_lock_text names lock ++ deed_text names thread kind
+
+-- what an access has to do with a race
+abbrev pub story_text : NameTable → ℕ → Kind → Label → List ℕ
+story_text names thread kind label.First = thread_text names thread ++ codes " used it first: it" ++ did_text kind
+story_text names thread kind label.Joined = thread_text names thread ++ codes " was the second: it" ++ did_text kind
+story_text names thread kind label.Write = thread_text names thread ++ codes " has written it since then"
+story_text names thread kind (label.Uncovered lock) = unprotected_text names thread kind lock
+
+-- one of a race's reasons
+abbrev pub reason_text : NameTable → Because → List ℕ
+reason_text names because = codes "  " ++ story_text names because.thread because.kind because.label ++ line_text because.line ++ 10 ∷ []
+
+-- and what follows from them, if they are known
+abbrev pub so_text : List Because → List ℕ
+so_text [] = []
+so_text (because ∷ more) = codes "  So no lock protected all accesses from the second thread's first one on" ++ 10 ∷ []
+
+-- the site of a race, behind an empty line
+abbrev pub title_text : NameTable → ℕ → List ℕ
+title_text names site = 10 ∷ [] ++ site_text names site ++ 58 ∷ 10 ∷ []
+
+-- the access of a race
+abbrev pub head_text : NameTable → ℕ → ℕ → Kind → ℕ → List ℕ
+head_text names number thread kind word =
+    codes "  " ++ thread_text names thread ++ access_text kind ++ address_text word ++ line_text number ++ 10 ∷ []
+
+-- a race in sentences, under its site
+abbrev pub example_text : NameTable → LineView → List ℕ
+example_text names (RaceView number thread kind word site held explained) =
+    title_text names site ++ head_text names number thread kind word ++ holds_text names number thread explained held ++ flat_map (reason_text names) explained ++ so_text explained
+example_text names (RefusedView number step refusal) = []
+example_text names (ShownView number word state) = []
+
+-- the example of a row, among the lines of the report
+abbrev pub example_of : NameTable → Option Line → List ℕ
+example_of names None = []
+example_of names (Some line) = example_text names (line_view line)
+
+-- the heads of the columns, if there are rows
+abbrev pub heading_text : List SiteRow → List ℕ
+heading_text [] = []
+heading_text (row ∷ rows) = codes "words     kinds       threads   locks     site" ++ 10 ∷ []
+
+-- an empty line, if there are rows
+abbrev pub blank_text : List SiteRow → List ℕ
+blank_text [] = []
+blank_text (row ∷ rows) = 10 ∷ []
+
+-- the table, and an example of each of its rows
+abbrev pub rows_text : NameTable → List Line → List SiteRow → List ℕ
+rows_text names lines rows =
+    heading_text rows ++ flat_map (row_text names) rows ++ flat_map (λ (row : SiteRow). example_of names (slice_get lines row.example)) rows ++ blank_text rows
+
+-- the line of a refused step, and why it was refused
+abbrev pub refusal_text : LineView → List ℕ
+refusal_text (RaceView number thread kind word site held explained) = []
+refusal_text (RefusedView number step refusal) = codes "first refused: line " ++ decimal number ++ codes ": " ++ text_of refusal ++ 10 ∷ []
+refusal_text (ShownView number word state) = []
+
+abbrev pub is_refused : Line → Bool
+is_refused (Race number thread kind word site held explained) = false
+is_refused (Refused number step refusal) = true
+is_refused (Shown number word state) = false
+
+-- and of the first one of a report
+abbrev pub refused_text : Option Line → List ℕ
+refused_text None = []
+refused_text (Some line) = refusal_text (line_view line)
+
+-- the whole text
+unfoldable pub sites_text : NameTable → Report → List SiteRow → List ℕ
+sites_text names r rows =
+    rows_text names r.lines.items rows ++ refused_text (find is_refused r.lines.items) ++ stop_text r.stop ++ counts_text 1 r.rule_counts.items ++ totals_text (told r)

@@ -1,0 +1,198 @@
+//! The whole text.
+ghost use Rattle.std.specs.Prelude.{◌≡◌, ◌++◌, ◌≤◌, All, flat_map, false, find, length, option_copied, slice_get, IfOk, OnOk};
+ghost use Rattle.er_device.specs.Device.{inner_of, has_failed, taken_of};
+ghost use Rattle.er_print.specs.Written.{FailsWriting};
+ghost use Rattle.er_report.specs.Lines.{line_view};
+ghost use Rattle.er_report.specs.Names.{HasNames};
+ghost use Rattle.er_sites.specs.Table.{IsTable};
+ghost use Rattle.er_sites.specs.Text.{blank_text, example_of, heading_text, is_refused, kinds_text, refusal_text, refused_text, row_text, rows_text, sites_text};
+ghost use Rattle.er_sites.specs.Written.{WritesSites};
+
+use crate::names::{put_column, put_site};
+use crate::row::SiteRow;
+use crate::stories::put_example;
+use crate::table::site_rows;
+use er_device::Device;
+use er_print::{WriteFault, put_number, put_rule_counts, put_stop, put_totals};
+use er_report::{Line, Report};
+use er_trace::Names;
+use std::alloc::{AllocError, Global};
+use std::io::Write;
+
+/// Writes the races of a report by their sites, with these names for its numbers. The text is whole before its first byte is written.
+pub fn write_sites<W: Write>(
+    alloc: Global,
+    writer: &mut Device<W>,
+    report: &Report,
+    names: &Names,
+) -> Result<(), WriteFault>
+    requires open { has_failed writer.old ≡ false }
+    requires names { All (HasNames names.now) report.now.lines.items }
+    ensures bytes { WritesSites (W.contents (inner_of writer.old)) (W.contents (inner_of writer.new)) names.now report.now result }
+    ensures failed { FailsWriting (has_failed writer.new) result }
+    ensures taken { taken_of writer.new ≡ taken_of writer.old }
+{
+    let Ok(rows) = site_rows(alloc, &report.lines) else {
+        return Err(WriteFault::Memory);
+    };
+    let Ok(text) = sites_text(alloc, report, names, &rows) else {
+        return Err(WriteFault::Memory);
+    };
+    if writer.write_all(&text).is_err() {
+        return Err(WriteFault::Write);
+    }
+    Ok(())
+}
+
+#[tactic(auto, unfolding(crate::specs::Text::sites_text))]
+fn sites_text(
+    alloc: Global,
+    report: &Report,
+    names: &Names,
+    rows: &[SiteRow],
+) -> Result<Vec<u8>, AllocError>
+    requires names { All (HasNames names.now) report.now.lines.items }
+    requires rows { IsTable report.now.lines.items rows.now }
+    ensures { IfOk result (λ text. text.items ≡ sites_text names.now report.now rows.now) }
+{
+    let mut text = Vec::new(alloc);
+    put_rows(&mut text, names, &report.lines, rows)?;
+    put_refused(&mut text, first_refused(&report.lines))?;
+    put_stop(&mut text, report.stop)?;
+    put_rule_counts(&mut text, &report.rule_counts)?;
+    put_totals(&mut text, report)?;
+    Ok(text)
+}
+
+// Puts the table, and an example of each of its rows.
+fn put_rows(
+    out: &mut Vec<u8>,
+    names: &Names,
+    lines: &[Line],
+    rows: &[SiteRow],
+) -> Result<(), AllocError>
+    requires names { All (HasNames names.now) lines.now }
+    requires rows { All (λ row. row.site ≤ length names.now.sites) rows.now }
+    ensures { OnOk result (out.new.items ≡ out.old.items ++ rows_text names.now lines.now rows.now) }
+{
+    put_heading(out, rows)?;
+    put_table(out, names, rows)?;
+    put_examples(out, names, lines, rows)?;
+    put_blank(out, rows)
+}
+
+// Puts the heads of the columns, if there are rows.
+fn put_heading(out: &mut Vec<u8>, rows: &[SiteRow]) -> Result<(), AllocError>
+    ensures { OnOk result (out.new.items ≡ out.old.items ++ heading_text rows.now) }
+{
+    if rows.is_empty() {
+        return Ok(());
+    }
+    out.extend_from_slice(b"words     kinds       threads   locks     site\n")
+}
+
+// Puts an empty line, if there are rows.
+fn put_blank(out: &mut Vec<u8>, rows: &[SiteRow]) -> Result<(), AllocError>
+    ensures { OnOk result (out.new.items ≡ out.old.items ++ blank_text rows.now) }
+{
+    if rows.is_empty() {
+        return Ok(());
+    }
+    out.extend_from_slice(b"\n")
+}
+
+fn put_table(out: &mut Vec<u8>, names: &Names, rows: &[SiteRow]) -> Result<(), AllocError>
+    requires { All (λ row. row.site ≤ length names.now.sites) rows.now }
+    ensures { OnOk result (out.new.items ≡ out.old.items ++ flat_map (row_text names.now) rows.now) }
+{
+    for row in rows {
+        put_row(out, names, row)?;
+    }
+    Ok(())
+}
+
+fn put_row(out: &mut Vec<u8>, names: &Names, row: &SiteRow) -> Result<(), AllocError>
+    requires { row.now.site ≤ length names.now.sites }
+    ensures { OnOk result (out.new.items ≡ out.old.items ++ row_text names.now row.now) }
+{
+    put_column(out, row.words())?;
+    put_kinds(out, row.reads, row.writes)?;
+    put_column(out, row.threads)?;
+    put_column(out, row.locks)?;
+    put_site(out, names, row.site)?;
+    out.extend_from_slice(b"\n")
+}
+
+// Puts what the accesses of a row do, and spaces up to the next column.
+fn put_kinds(out: &mut Vec<u8>, reads: u64, writes: u64) -> Result<(), AllocError>
+    ensures { OnOk result (out.new.items ≡ out.old.items ++ kinds_text reads writes) }
+{
+    out.extend_from_slice(match (reads, writes) {
+        (0, _) => b"write       ".as_slice(),
+        (_, 0) => b"read        ".as_slice(),
+        _ => b"read write  ".as_slice(),
+    })
+}
+
+fn put_examples(
+    out: &mut Vec<u8>,
+    names: &Names,
+    lines: &[Line],
+    rows: &[SiteRow],
+) -> Result<(), AllocError>
+    requires { All (HasNames names.now) lines.now }
+    ensures { OnOk result (out.new.items ≡ out.old.items ++ flat_map (λ row. example_of names.now (slice_get lines.now row.example)) rows.now) }
+{
+    for row in rows {
+        put_example_at(out, names, lines, row.example)?;
+    }
+    Ok(())
+}
+
+// Puts the story of the line in a place.
+fn put_example_at(
+    out: &mut Vec<u8>,
+    names: &Names,
+    lines: &[Line],
+    place: usize,
+) -> Result<(), AllocError>
+    requires { All (HasNames names.now) lines.now }
+    ensures { OnOk result (out.new.items ≡ out.old.items ++ example_of names.now (slice_get lines.now place)) }
+{
+    match lines.get(place) {
+        Some(line) => put_example(out, names, line),
+        None => Ok(()),
+    }
+}
+
+// The first refused step's line.
+fn first_refused(lines: &[Line]) -> Option<&Line>
+    ensures { option_copied result ≡ find is_refused lines.now }
+{
+    lines
+        .iter()
+        .find(|line| matches!(line, Line::Refused { .. }))
+}
+
+// Puts the line of the first refused step, if there is one, and why it was refused.
+fn put_refused(out: &mut Vec<u8>, found: Option<&Line>) -> Result<(), AllocError>
+    ensures { OnOk result (out.new.items ≡ out.old.items ++ refused_text (option_copied found.entry)) }
+{
+    match found {
+        Some(line) => put_refusal(out, line),
+        None => Ok(()),
+    }
+}
+
+fn put_refusal(out: &mut Vec<u8>, line: &Line) -> Result<(), AllocError>
+    ensures { OnOk result (out.new.items ≡ out.old.items ++ refusal_text (line_view line.now)) }
+{
+    let Line::Refused { line, refusal, .. } = line else {
+        return Ok(());
+    };
+    out.extend_from_slice(b"first refused: line ")?;
+    put_number(out, *line)?;
+    out.extend_from_slice(b": ")?;
+    out.extend_from_slice(refusal.text().as_bytes())?;
+    out.extend_from_slice(b"\n")
+}

@@ -1,0 +1,247 @@
+//! One race in sentences.
+ghost use Rattle.std.specs.Prelude.{◌≡◌, ◌++◌, ◌<◌, ◌≤◌, All, flat_map, length, OnOk};
+ghost use Rattle.std.specs.List.{list_any};
+ghost use Rattle.er_report.specs.Lines.{line_view};
+ghost use Rattle.er_report.specs.Names.{HasLabelName, HasLockName, HasLockNames, HasNames, HasReasonNames};
+ghost use Rattle.er_sites.specs.Text.{deed_text, example_text, failed_lock_text, head_text, held_text, holds_text, title_text, mode_text, reason_text, so_text, story_text, unprotected_text, is_without};
+
+use crate::names::{put_access, put_did, put_line, put_lock, put_site, put_thread};
+use er_event::{Kind, LockId, Site, ThreadId, Word};
+use er_print::put_address;
+use er_report::{Because, Label, Line};
+use er_trace::Names;
+use std::alloc::AllocError;
+
+/// Puts a race in sentences, under its site. Other lines have no story.
+pub(crate) fn put_example(out: &mut Vec<u8>, names: &Names, line: &Line) -> Result<(), AllocError>
+    requires { HasNames names.now line.now }
+    ensures { OnOk result (out.new.items ≡ out.old.items ++ example_text names.now (line_view line.now)) }
+{
+    let Line::Race {
+        line,
+        thread,
+        kind,
+        word,
+        site,
+        held,
+        explained,
+    } = line
+    else {
+        return Ok(());
+    };
+    put_title(out, names, *site)?;
+    put_head(out, names, *line, *thread, *kind, *word)?;
+    put_locks(out, names, *line, *thread, explained, held.as_slice())?;
+    put_reasons(out, names, explained)?;
+    put_so(out, explained)
+}
+
+// Puts the site of a race, behind an empty line.
+fn put_title(out: &mut Vec<u8>, names: &Names, site: Site) -> Result<(), AllocError>
+    requires { site ≤ length names.now.sites }
+    ensures { OnOk result (out.new.items ≡ out.old.items ++ title_text names.now site) }
+{
+    out.extend_from_slice(b"\n")?;
+    put_site(out, names, site)?;
+    out.extend_from_slice(b":\n")
+}
+
+// Puts the access of a race.
+fn put_head(
+    out: &mut Vec<u8>,
+    names: &Names,
+    line: u64,
+    thread: ThreadId,
+    kind: Kind,
+    word: Word,
+) -> Result<(), AllocError>
+    requires { thread < length names.now.threads }
+    ensures { OnOk result (out.new.items ≡ out.old.items ++ head_text names.now line thread kind word) }
+{
+    out.extend_from_slice(b"  ")?;
+    put_thread(out, names, thread)?;
+    put_access(out, kind)?;
+    put_address(out, word)?;
+    put_line(out, line)?;
+    out.extend_from_slice(b"\n")
+}
+
+// Puts the locks that the thread of a race held.
+fn put_locks(
+    out: &mut Vec<u8>,
+    names: &Names,
+    line: u64,
+    thread: ThreadId,
+    explained: &[Because],
+    locks: &[LockId],
+) -> Result<(), AllocError>
+    requires thread { thread < length names.now.threads }
+    requires locks { HasLockNames names.now locks.now }
+    ensures { OnOk result (out.new.items ≡ out.old.items ++ holds_text names.now line thread explained.now locks.now) }
+{
+    if locks.is_empty() {
+        out.extend_from_slice(b"  ")?;
+        put_thread(out, names, thread)?;
+        return out.extend_from_slice(b" held no lock\n");
+    }
+    for lock in locks {
+        put_held(out, names, line, thread, explained, *lock)?;
+    }
+    Ok(())
+}
+
+// Puts one lock that the thread of a race held.
+fn put_held(
+    out: &mut Vec<u8>,
+    names: &Names,
+    line: u64,
+    thread: ThreadId,
+    explained: &[Because],
+    lock: LockId,
+) -> Result<(), AllocError>
+    requires thread { thread < length names.now.threads }
+    requires lock { HasLockName names.now lock }
+    ensures { OnOk result (out.new.items ≡ out.old.items ++ held_text names.now line thread explained.now lock) }
+{
+    out.extend_from_slice(b"  ")?;
+    put_thread(out, names, thread)?;
+    out.extend_from_slice(b" held ")?;
+    put_lock(out, names, lock)?;
+    put_mode(out, line, explained, lock)?;
+    out.extend_from_slice(b"\n")
+}
+
+// Puts that a lock was held only to read, if it didn't protect the access on the line.
+fn put_mode(
+    out: &mut Vec<u8>,
+    line: u64,
+    explained: &[Because],
+    lock: LockId,
+) -> Result<(), AllocError>
+    ensures { OnOk result (out.new.items ≡ out.old.items ++ mode_text line explained.now lock) }
+{
+    if is_unprotected(line, explained, lock) {
+        return out.extend_from_slice(b", but only to read");
+    }
+    Ok(())
+}
+
+// Whether a reason is that the lock didn't protect the access on the line.
+fn is_unprotected(line: u64, explained: &[Because], lock: LockId) -> bool
+    ensures { result ≡ list_any (is_without line lock) explained.now }
+{
+    explained
+        .iter()
+        .any(|because| is_without(line, lock, because))
+}
+
+fn is_without(line: u64, lock: LockId, because: &Because) -> bool
+    ensures { result ≡ is_without line lock because.now }
+{
+    match because.label {
+        Label::Joined => because.line == line,
+        Label::Uncovered(other) => other.number() == lock.number() && because.line == line,
+        _ => false,
+    }
+}
+
+fn put_reasons(out: &mut Vec<u8>, names: &Names, explained: &[Because]) -> Result<(), AllocError>
+    requires { All (HasReasonNames names.now) explained.now }
+    ensures { OnOk result (out.new.items ≡ out.old.items ++ flat_map (reason_text names.now) explained.now) }
+{
+    for because in explained {
+        put_reason(out, names, because)?;
+    }
+    Ok(())
+}
+
+// Puts the sentence of one reason.
+fn put_reason(out: &mut Vec<u8>, names: &Names, because: &Because) -> Result<(), AllocError>
+    requires { HasReasonNames names.now because.now }
+    ensures { OnOk result (out.new.items ≡ out.old.items ++ reason_text names.now because.now) }
+{
+    out.extend_from_slice(b"  ")?;
+    put_story(out, names, because.thread, because.kind, because.label)?;
+    put_line(out, because.line)?;
+    out.extend_from_slice(b"\n")
+}
+
+fn put_story(
+    out: &mut Vec<u8>,
+    names: &Names,
+    thread: ThreadId,
+    kind: Kind,
+    label: Label,
+) -> Result<(), AllocError>
+    requires thread { thread < length names.now.threads }
+    requires label { HasLabelName names.now label }
+    ensures { OnOk result (out.new.items ≡ out.old.items ++ story_text names.now thread kind label) }
+{
+    match label {
+        Label::First => {
+            put_thread(out, names, thread)?;
+            out.extend_from_slice(b" used it first: it")?;
+            put_did(out, kind)
+        }
+        Label::Joined => {
+            put_thread(out, names, thread)?;
+            out.extend_from_slice(b" was the second: it")?;
+            put_did(out, kind)
+        }
+        Label::Write => {
+            put_thread(out, names, thread)?;
+            out.extend_from_slice(b" has written it since then")
+        }
+        Label::Uncovered(lock) => put_unprotected(out, names, thread, kind, lock),
+    }
+}
+
+// Puts that a lock didn't protect an access.
+fn put_unprotected(
+    out: &mut Vec<u8>,
+    names: &Names,
+    thread: ThreadId,
+    kind: Kind,
+    lock: LockId,
+) -> Result<(), AllocError>
+    requires thread { thread < length names.now.threads }
+    requires lock { HasLockName names.now lock }
+    ensures { OnOk result (out.new.items ≡ out.old.items ++ unprotected_text names.now thread kind lock) }
+{
+    put_failed_lock(out, names, lock)?;
+    put_deed(out, names, thread, kind)
+}
+
+fn put_failed_lock(out: &mut Vec<u8>, names: &Names, lock: LockId) -> Result<(), AllocError>
+    requires { HasLockName names.now lock }
+    ensures { OnOk result (out.new.items ≡ out.old.items ++ failed_lock_text names.now lock) }
+{
+    put_lock(out, names, lock)?;
+    out.extend_from_slice(b" did not protect it when ")?;
+    Ok(())
+}
+
+fn put_deed(
+    out: &mut Vec<u8>,
+    names: &Names,
+    thread: ThreadId,
+    kind: Kind,
+) -> Result<(), AllocError>
+    requires { thread < length names.now.threads }
+    ensures { OnOk result (out.new.items ≡ out.old.items ++ deed_text names.now thread kind) }
+{
+    put_thread(out, names, thread)?;
+    put_did(out, kind)
+}
+
+// Puts what follows from the reasons, if they are known.
+fn put_so(out: &mut Vec<u8>, explained: &[Because]) -> Result<(), AllocError>
+    ensures { OnOk result (out.new.items ≡ out.old.items ++ so_text explained.now) }
+{
+    if explained.is_empty() {
+        return Ok(());
+    }
+    out.extend_from_slice(
+        b"  So no lock protected all accesses from the second thread's first one on\n",
+    )
+}
