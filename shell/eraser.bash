@@ -1,0 +1,49 @@
+# Completions of eraser for bash. tests/shell_tests.py keeps them equal to what --help says.
+
+_eraser() {
+    local word=${COMP_WORDS[COMP_CWORD]} before=${COMP_WORDS[COMP_CWORD - 1]} command=
+    # The first word that is no option is the command.
+    local place
+    for ((place = 1; place < COMP_CWORD; place++)); do
+        case ${COMP_WORDS[place]} in
+        -*) ;;
+        *) command=${COMP_WORDS[place]} && break ;;
+        esac
+    done
+    COMPREPLY=()
+    case $command:$before in
+    replay:--suppress)
+        _eraser_files
+        return
+        ;;
+    replay:--workers)
+        _eraser_words "1 2 3 4 5 6 7 8 9 10 11 12 13 14 15 16"
+        return
+        ;;
+    replay:--shards)
+        _eraser_words "1 2 4 8 16 32 64"
+        return
+        ;;
+    esac
+    case $command:$word in
+    :-*) _eraser_words "--help --version -h -V" ;;
+    :*) _eraser_words "replay demo help" ;;
+    replay:-?*) _eraser_words "--suppress --explain --by-site --workers --shards --help -h" ;;
+    replay:*) _eraser_files ;;
+    demo:-*) _eraser_words "--help -h" ;;
+    demo:*) _eraser_words "locked-counter racy-counter init-then-read rw-table reuse-pool ignored-stats" ;;
+    help:*) _eraser_words "replay demo help" ;;
+    esac
+}
+
+# Those of the words that begin as the word at the cursor.
+_eraser_words() {
+    mapfile -t COMPREPLY < <(compgen -W "$1" -- "$word")
+}
+
+_eraser_files() {
+    compopt -o filenames 2>/dev/null
+    mapfile -t COMPREPLY < <(compgen -f -- "$word")
+}
+
+complete -F _eraser eraser

@@ -1,0 +1,22 @@
+# Completions of eraser for fish. tests/shell_tests.py keeps them equal to what --help says.
+
+complete -c eraser -f
+
+complete -c eraser -n __fish_use_subcommand -s h -l help -d 'Print help'
+complete -c eraser -n __fish_use_subcommand -s V -l version -d 'Print version'
+complete -c eraser -n __fish_use_subcommand -a replay -d 'Replay a trace and report its races'
+complete -c eraser -n __fish_use_subcommand -a demo -d 'Run threads that call the detector, and print how many steps and races they made'
+complete -c eraser -n __fish_use_subcommand -a help -d 'Print this message or the help of the given subcommand(s)'
+
+complete -c eraser -n '__fish_seen_subcommand_from replay' -l suppress -r -F -d 'Count the races that this file\'s rules take, and leave their lines out'
+complete -c eraser -n '__fish_seen_subcommand_from replay' -l explain -d 'Name the accesses that make each race'
+complete -c eraser -n '__fish_seen_subcommand_from replay' -l by-site -d 'Write a table of the sites with races, most words first, and explain a race of each'
+complete -c eraser -n '__fish_seen_subcommand_from replay' -l workers -x -a '(seq 16)' -d 'How many threads replay the trace, 1 to 16'
+complete -c eraser -n '__fish_seen_subcommand_from replay' -l shards -x -a '1 2 4 8 16 32 64' -d 'Into how many parts several workers cut the words, 1 to 64'
+complete -c eraser -n '__fish_seen_subcommand_from replay' -s h -l help -d 'Print help'
+complete -c eraser -n '__fish_seen_subcommand_from replay' -F
+
+complete -c eraser -n '__fish_seen_subcommand_from demo' -s h -l help -d 'Print help'
+complete -c eraser -n '__fish_seen_subcommand_from demo' -a 'locked-counter racy-counter init-then-read rw-table reuse-pool ignored-stats'
+
+complete -c eraser -n '__fish_seen_subcommand_from help' -a 'replay demo help'
