@@ -336,6 +336,26 @@ def many_locksets():
     return Case("many_locksets", "".join(f"{line}\n" for line in trace).encode(), "".join(f"{line}\n" for line in report).encode())
 
 
+def many_meets():
+    """65,703 words, each shared under one of 363 locks and then written under another, beside a lock that is held at both.
+
+    Each pair of locksets comes once, and has that lock in common: more intersections than an owner remembers.
+    """
+    count = 363
+    pairs = [(first, second) for second in range(count) for first in range(second)]
+    words = {pair: 4 * place for place, pair in enumerate(pairs)}
+    trace, report = ["eraser trace 1", "t2 lock m"] + [f"t1 write {word}" for word in words.values()], []
+    for first in range(count):
+        trace += [f"t2 lock m{first}", *(f"t2 read {words[first, second]}" for second in range(first + 1, count)), f"t2 unlock m{first}"]
+    for second in range(count):
+        trace += [f"t2 lock m{second}", *(f"t2 write {words[first, second]}" for first in range(second)), f"t2 unlock m{second}"]
+    for word in words.values():
+        trace.append(f"t1 show {word}")
+        report.append(f"line {len(trace)}: state 0x{word:012x}: shared-modified, candidates m")
+    report.append(totals(len(trace) - 1, 0, 0, 0))
+    return Case("many_meets", "".join(f"{line}\n" for line in trace).encode(), "".join(f"{line}\n" for line in report).encode())
+
+
 def many_rules():
     """1,000 rules, by turns of a site and of a word, each of which takes a race of its own; one race is left."""
     count = 1000
@@ -364,7 +384,26 @@ def many_pages():
     return Case("many_pages", "".join(f"{line}\n" for line in trace).encode(), "".join(f"{line}\n" for line in report).encode(), status=1)
 
 
+def many_races():
+    """65,600 words, locks, sites and races, by 65,601 threads, and behind them as many accesses in a bracket.
+
+    Thread k writes word k. Thread k + 1 takes lock k, which it keeps, and writes the word too. Then thread k writes it once more.
+    """
+    count = 65600
+    trace, report = ["eraser trace 1"], []
+    for k in range(count):
+        owner, other, word = f"t{k}", f"t{k + 1}", 4096 + 4 * k
+        trace += [f"{owner} write {word}", f"{other} lock m{k}", f"{other} write {word}", f"{owner} write {word} s{k}"]
+        last = len(trace)
+        first, joined, again = f"{last - 3}, {owner} write", f"{last - 1}, {other} write", f"{last}, {owner} write"
+        report.append(f"line {last}: race: {owner} write 0x{word:012x} at s{k}, holds {f'm{k - 1}' if k else 'none'}")
+        report += lines(reasons(first, joined, joined, (f"m{k}", again)))
+    trace += ["t0 ignore-on", *["t0 read 0"] * count]
+    report.append(totals(len(trace) - 1, count, 0, 0))
+    return Case("many_races", "".join(f"{line}\n" for line in trace).encode(), "".join(f"{line}\n" for line in report).encode(), status=1)
+
+
 # Each has more of something than a limit that nobody asked for would let through.
-MANY = [many_locksets(), many_rules(), many_pages()]
+MANY = [many_locksets(), many_meets(), many_rules(), many_pages()]
 
 CASES = REPLAYED + BEGINNINGS + FAULTY + FIRST_FAULTS + SUPPRESSED + FAULTY_RULES + MANY

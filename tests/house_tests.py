@@ -265,7 +265,7 @@ def glossary_faults():
             yield f"{where}: no file is named"
 
 
-PATH = re.compile(r"^(?:\./)?((?:bench|crates|docs|examples|record|tests|tools)/[\w./*+-]+)$")
+PATH = re.compile(r"^(?:\./)?((?:bench|crates|docs|examples|record|shell|tests|tools)/[\w./*+-]+)$")
 
 
 def path_faults():

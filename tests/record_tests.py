@@ -255,7 +255,21 @@ def ways_to_use(folder, findings, counter, queue):
     findings.check("two programs, of which one is recorded", "record: 1 further program" in found.stderr and found.stdout.startswith("30\n30\n"), f"{found}")
     findings.check("a program that is not there", command([RUN, folder / "nothing"]).returncode == 127)
     findings.check("a program that can't be started", command([RUN, folder]).returncode == 126)
-    findings.check("an unknown option", command([RUN, "--wrong", counter]).returncode == 125)
+    for words in (["--wrong"], ["--limit", "10x"], ["--limit", "-1"], ["--limit", ""], ["--exit-status", "other"]):
+        found = command([RUN, *words, counter])
+        findings.check(f"wrong options {words}", (found.stdout, found.returncode) == ("", 125) and "record: --" in found.stderr, f"{found}")
+    found = command([RUN])
+    findings.check("no program", (found.stdout, found.returncode) == ("", 125) and found.stderr.startswith("Usage: record/run "), f"{found}")
+    found = command([RUN, "--help"])
+    findings.check("help", found.stdout.startswith("Usage: record/run ") and (found.stderr, found.returncode) == ("", 0), f"{found}")
+    # Each of these options wants a report, also if the trace is kept.
+    for words in (["--replay"], ["--suppress", rules], ["--explain"], ["--exit-status", "report"]):
+        found = command([RUN, "-o", trace, *words, counter])
+        status = 1 if "report" in words else 3
+        findings.check(f"a trace that is kept, and its report by {words[0]}", "\nsteps " in found.stdout and found.returncode == status, f"{found}")
+    report = folder / "kept.report"
+    found = command([RUN, "-o", trace, "--report", report, counter])
+    findings.check("a trace and a report that are kept", (found.stdout, found.returncode) == ("30\n", 3) and "\nsteps " in report.read_text(), f"{found}")
     findings.check("a trace that can't be written", command([RUN, "-o", folder / "no/where", counter]).returncode == 125)
     found = command([RUN, "-o", "/dev/full", counter])
     findings.check("a full disk", found.returncode == 3 and "cannot write /dev/full" in found.stderr, f"{found}")
@@ -357,7 +371,8 @@ def linked_by_hand(folder, findings):
 
 
 def fresh_copy(folder, findings):
-    """Without a compiler or libdw's headers, it says which package is missing; with them it is built without a warning."""
+    """Without a compiler or libdw's headers, it says which package is missing; with them it is built without a warning, and again if a
+    source is newer."""
     copy = folder / "copy"
     shutil.copytree(TOP / "record", copy, ignore=shutil.ignore_patterns("out"), symlinks=True)
     found = command([copy / "build"], env={**os.environ, "CC": "no-such-compiler"})
@@ -371,6 +386,14 @@ def fresh_copy(folder, findings):
         made = sorted(path.name for path in (copy / "out").iterdir())
         clean = (found.returncode, found.stdout, found.stderr) == (0, "", "")
         findings.check(f"it is built by {compiler} without a warning", clean and made == ["liberaser_record.so", "libtsan.so.2", "lock", "writer"], f"{found} {made}")
+    writer = copy / "out/writer"
+    for changed in (None, "ring.h"):
+        before = writer.stat().st_ino
+        if changed:
+            os.utime(copy / changed)
+        found = command([copy / "build"])
+        is_new = writer.stat().st_ino != before
+        findings.check(f"it is built again if {changed or 'nothing'} has changed", found.returncode == 0 and is_new == bool(changed), f"{found}")
 
 
 def as_the_readme_says(folder, findings):

@@ -4,7 +4,6 @@
 
 #include <errno.h>
 #include <threads.h>
-#include <time.h>
 
 static pthread_mutex_t lock = PTHREAD_MUTEX_INITIALIZER, alone = PTHREAD_MUTEX_INITIALIZER;
 static pthread_cond_t never;
@@ -12,23 +11,11 @@ static mtx_t plain;
 static cnd_t also_never;
 static int guarded, c11_guarded, bare, after_wait;
 
-static struct timespec soon(clockid_t clock)
-{
-    struct timespec when;
-    clock_gettime(clock, &when);
-    when.tv_nsec += 20000000;
-    if (when.tv_nsec >= 1000000000) {
-        when.tv_sec++;
-        when.tv_nsec -= 1000000000;
-    }
-    return when;
-}
-
 /* Nobody else wants this mutex during the wait. It is released behind it, and what follows is not protected. */
 static void wait_alone(int number)
 {
     take_turn(number);
-    struct timespec when = soon(CLOCK_MONOTONIC);
+    struct timespec when = soon(CLOCK_MONOTONIC, 20);
     pthread_mutex_lock(&alone);
     while (pthread_cond_timedwait(&never, &alone, &when) != ETIMEDOUT)
         ;
@@ -43,12 +30,12 @@ static void work(int number)
     wait_alone(number);
     pthread_mutex_lock(&lock);
     guarded++;
-    struct timespec before, after, when = soon(CLOCK_MONOTONIC);
+    struct timespec before, after, when = soon(CLOCK_MONOTONIC, 20);
     clock_gettime(CLOCK_MONOTONIC, &before);
     while (pthread_cond_timedwait(&never, &lock, &when) != ETIMEDOUT)
         ;
     clock_gettime(CLOCK_MONOTONIC, &after);
-    when = soon(CLOCK_MONOTONIC);
+    when = soon(CLOCK_MONOTONIC, 20);
     while (pthread_cond_clockwait(&never, &lock, CLOCK_MONOTONIC, &when) != ETIMEDOUT)
         ;
     guarded++;
@@ -58,7 +45,7 @@ static void work(int number)
 
     mtx_lock(&plain);
     c11_guarded++;
-    when = soon(CLOCK_REALTIME);
+    when = soon(CLOCK_REALTIME, 20);
     while (cnd_timedwait(&also_never, &plain, &when) != thrd_timedout)
         ;
     c11_guarded++;

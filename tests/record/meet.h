@@ -7,6 +7,7 @@
 #include <sched.h>
 #include <stdio.h>
 #include <stdlib.h>
+#include <time.h>
 
 static pthread_barrier_t meeting;
 static int turn;
@@ -14,6 +15,19 @@ static int turn;
 static inline void meet(void) { pthread_barrier_wait(&meeting); }
 static inline void take_turn(int number) { while (__atomic_load_n(&turn, __ATOMIC_RELAXED) != number) sched_yield(); }
 static inline void next_turn(void) { __atomic_fetch_add(&turn, 1, __ATOMIC_RELAXED); }
+
+/* The time of a clock in so many milliseconds, fewer than 1,000. */
+static inline struct timespec soon(clockid_t clock, long milliseconds)
+{
+    struct timespec when;
+    clock_gettime(clock, &when);
+    when.tv_nsec += milliseconds * 1000000;
+    if (when.tv_nsec >= 1000000000) {
+        when.tv_sec++;
+        when.tv_nsec -= 1000000000;
+    }
+    return when;
+}
 
 /* Runs a body in `count` threads, each with its number from 0, and waits for them. */
 typedef void body(int number);

@@ -3,22 +3,9 @@
 #include "meet.h"
 
 #include <errno.h>
-#include <time.h>
 
 static int skipped, timed, clocked, guarded;
 static pthread_mutex_t lock = PTHREAD_MUTEX_INITIALIZER;
-
-static struct timespec soon(clockid_t clock)
-{
-    struct timespec when;
-    clock_gettime(clock, &when);
-    when.tv_nsec += 1000000;
-    if (when.tv_nsec >= 1000000000) {
-        when.tv_sec++;
-        when.tv_nsec -= 1000000000;
-    }
-    return when;
-}
 
 static void hold(void)
 {
@@ -32,7 +19,7 @@ static void hold(void)
 static void try(void)
 {
     meet();
-    struct timespec when = soon(CLOCK_REALTIME), other = soon(CLOCK_MONOTONIC);
+    struct timespec when = soon(CLOCK_REALTIME, 1), other = soon(CLOCK_MONOTONIC, 1);
     int first = pthread_mutex_trylock(&lock);
     skipped++; /* RACE */
     int second = pthread_mutex_timedlock(&lock, &when);
@@ -56,7 +43,7 @@ static void work(int number)
             sched_yield();
         guarded++;
         pthread_mutex_unlock(&lock);
-        struct timespec when = soon(CLOCK_REALTIME);
+        struct timespec when = soon(CLOCK_REALTIME, 1);
         if (pthread_mutex_timedlock(&lock, &when) == 0) {
             guarded++;
             pthread_mutex_unlock(&lock);

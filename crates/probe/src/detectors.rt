@@ -1,5 +1,6 @@
 //! Rows of two detectors over one table: `a`, which is named 7, and `b`.
 use crate::Fault;
+use crate::answered::{Answered, Tally};
 use crate::calls::{Call, Times, call_of, times_of};
 use crate::endings::{Ending, end, ending_of};
 use crate::questions::{ask, question_of};
@@ -7,7 +8,6 @@ use crate::rows::{Row, count_of, number_of, place_of};
 use crate::seats::{call_by, open};
 use crate::shards::{Raw, put_entry, raw_of, swap_shards};
 use crate::shown::now_shown;
-use crate::told::{Tally, Told};
 use er_detector::{Config, Detector};
 use er_seat::Seat;
 use er_table::LocksetTable;
@@ -231,10 +231,10 @@ fn make_times<R: Runtime + AllocGlobal + Wait>(
         let Some(raised) = act.raised(nth, times.step) else {
             return Err(Fault::Row(line));
         };
-        let told = make_or_again(rt, scene, seats, &raised, line)?;
+        let answered = make_or_again(rt, scene, seats, &raised, line)?;
         tally = match tally {
-            None => Some(Tally::of(told)),
-            Some(before) => Some(before.and(rt, told)?),
+            None => Some(Tally::of(answered)),
+            Some(before) => Some(before.and(rt, answered)?),
         };
     }
     match tally {
@@ -251,31 +251,31 @@ fn make_or_again<R: Runtime + AllocGlobal + Wait>(
     seats: &mut Vec<Option<Seat>>,
     act: &Act,
     line: usize,
-) -> Result<Told, Fault> {
+) -> Result<Answered, Fault> {
     let place = act.seat();
     let before = now_shown(rt, scene, seats.as_slice(), place);
-    let told = make(rt, scene, seats, *act);
-    if told == Told::Missing {
+    let answered = make(rt, scene, seats, *act);
+    if answered == Answered::Missing {
         return Err(Fault::Row(line));
     }
-    if !told.lacks_memory() {
-        return Ok(told);
+    if !answered.lacks_memory() {
+        return Ok(answered);
     }
     let is_same = before == now_shown(rt, scene, seats.as_slice(), place);
-    tell_refused(rt, told, is_same, line)?;
-    Ok(make(rt, scene, seats, left_of(*act, told)))
+    report_refused(rt, answered, is_same, line)?;
+    Ok(make(rt, scene, seats, left_of(*act, answered)))
 }
 
 /// Tells on standard error that a call was refused for want of memory.
-pub(crate) fn tell_refused<R: Runtime>(
+pub(crate) fn report_refused<R: Runtime>(
     rt: &R,
-    told: Told,
+    answered: Answered,
     is_same: bool,
     line: usize,
 ) -> Result<(), Fault> {
     let left = if is_same { "unchanged" } else { "changed" };
-    match told {
-        Told::Stopped(address, _) => {
+    match answered {
+        Answered::Stopped(address, _) => {
             eprintln!(rt; "line {line}: stopped at {address:#x} for want of memory, {left}")?
         }
         _ => eprintln!(rt; "line {line}: out of memory, {left}")?,
@@ -284,9 +284,9 @@ pub(crate) fn tell_refused<R: Runtime>(
 }
 
 // What is left to be done of an act: a reuse goes on where it stopped.
-fn left_of(act: Act, told: Told) -> Act {
-    match (act, told) {
-        (Act::Call(place, side, shard, Call::Reuse(address, size)), Told::Stopped(stop, _)) => {
+fn left_of(act: Act, answered: Answered) -> Act {
+    match (act, answered) {
+        (Act::Call(place, side, shard, Call::Reuse(address, size)), Answered::Stopped(stop, _)) => {
             let done = stop.saturating_sub(address);
             let left = Call::Reuse(address.max(stop), size.saturating_sub(done));
             Act::Call(place, side, shard, left)
@@ -300,17 +300,17 @@ fn make<R: Wait + AllocGlobal>(
     scene: Scene<'_, '_>,
     seats: &mut Vec<Option<Seat>>,
     act: Act,
-) -> Told {
+) -> Answered {
     match act {
         Act::Open(side) => open(scene.at(side), seats),
         Act::Call(place, side, shard, call) => match seats.get_mut(place) {
             Some(Some(seat)) => call_by(rt, scene.at(side), seat, shard, call),
-            _ => Told::Missing,
+            _ => Answered::Missing,
         },
         Act::Enter(side, shard, raw) => put_entry(rt, scene.at(side), shard, raw),
         Act::Swap(side, shard, other, place) => {
             if side == other && shard == place {
-                return Told::Missing;
+                return Answered::Missing;
             }
             swap_shards(rt, scene.at(side), shard, scene.at(other), place)
         }

@@ -5,6 +5,7 @@
 //! everything as it was, and is made once more. A row that asks for nothing is told with its line, and the status is 2.
 #![tactic(auto)]
 
+mod answered;
 mod answers;
 mod calls;
 mod detectors;
@@ -16,7 +17,6 @@ mod seats;
 mod shards;
 mod shown;
 mod steps;
-mod told;
 mod values;
 
 use detectors::detector_rows;

@@ -1,22 +1,22 @@
 //! Calls of seats.
+use crate::answered::Answered;
 use crate::calls::Call;
-use crate::told::Told;
 use er_detector::Detector;
 use er_event::{Kind, Level, Refusal, Site, Word, WordRange};
 use er_seat::Seat;
 use std::sync::Wait;
 
 /// Opens one more seat, which stands behind the others.
-pub(crate) fn open(detector: &Detector<'_>, seats: &mut Vec<Option<Seat>>) -> Told {
+pub(crate) fn open(detector: &Detector<'_>, seats: &mut Vec<Option<Seat>>) -> Answered {
     if seats.reserve(1).is_err() {
-        return Told::Refused(Refusal::OutOfMemory);
+        return Answered::Refused(Refusal::OutOfMemory);
     }
     match detector.open_seat() {
         Ok(seat) => {
             seats.push_reserved(Some(seat));
-            Told::Done
+            Answered::Done
         }
-        Err(why) => Told::Refused(why),
+        Err(why) => Answered::Refused(why),
     }
 }
 
@@ -27,8 +27,8 @@ pub(crate) fn call_by<R: Wait>(
     seat: &mut Seat,
     shard: Option<u32>,
     call: Call,
-) -> Told {
-    let told = match call {
+) -> Answered {
+    let answered = match call {
         Call::Acquire(lock, mode) => seat.acquire(lock, mode),
         Call::Release(lock, mode) => seat.release(lock, mode),
         Call::IgnoreOn => seat.ignore_on(),
@@ -42,11 +42,11 @@ pub(crate) fn call_by<R: Wait>(
             (Err(why), _) => Err(why),
         },
         Call::Reuse(address, size) => return reuse(rt, detector, seat, address, size),
-        Call::Show(_) => return Told::Missing,
+        Call::Show(_) => return Answered::Missing,
     };
-    match told {
-        Ok(()) => Told::Done,
-        Err(why) => Told::Refused(why),
+    match answered {
+        Ok(()) => Answered::Done,
+        Err(why) => Answered::Refused(why),
     }
 }
 
@@ -61,8 +61,8 @@ fn access<R: Wait>(
     word: Word,
     kind: Kind,
     site: Site,
-) -> Told {
-    Told::of_answer(&detector.access(rt, seat, word, kind, site))
+) -> Answered {
+    Answered::of_answer(&detector.access(rt, seat, word, kind, site))
 }
 
 // The same in a shard whose lock is taken here.
@@ -74,12 +74,12 @@ fn access_in<R: Wait>(
     word: Word,
     kind: Kind,
     site: Site,
-) -> Told {
+) -> Answered {
     if number >= detector.config().shards {
-        return Told::Missing;
+        return Answered::Missing;
     }
     let mut shard = detector.shard(rt, number);
-    Told::of_answer(&detector.access_in(rt, &mut shard, seat, word, kind, site))
+    Answered::of_answer(&detector.access_in(rt, &mut shard, seat, word, kind, site))
 }
 
 // A reuse of no bytes is none.
@@ -89,13 +89,13 @@ fn reuse<R: Wait>(
     seat: &mut Seat,
     address: u64,
     size: u64,
-) -> Told {
+) -> Answered {
     match WordRange::of_bytes(address, size) {
         Ok(Some(range)) => match detector.reuse(rt, seat, &range) {
-            Ok(()) => Told::Done,
-            Err(stopped) => Told::Stopped(stopped.first_word_not_done.address(), stopped.cause),
+            Ok(()) => Answered::Done,
+            Err(stopped) => Answered::Stopped(stopped.first_word_not_done.address(), stopped.cause),
         },
-        Ok(None) => Told::Done,
-        Err(why) => Told::Refused(why),
+        Ok(None) => Answered::Done,
+        Err(why) => Answered::Refused(why),
     }
 }

@@ -1,6 +1,6 @@
 //! Entries that no seat called for, and shards that change places.
+use crate::answered::Answered;
 use crate::rows::{count_of, kind_of, number_of, thread_of};
-use crate::told::Told;
 use er_detector::Detector;
 use er_event::{Kind, LockId, Lockset, Refusal, Reply, Site, ThreadId, Word, WordRange};
 use er_journal::Stamp;
@@ -117,17 +117,17 @@ pub(crate) fn put_entry<R: Wait + AllocGlobal>(
     detector: &Detector<'_>,
     number: u32,
     raw: Raw,
-) -> Told {
+) -> Answered {
     if number >= detector.config().shards {
-        return Told::Missing;
+        return Answered::Missing;
     }
     let mut shard = detector.shard(rt, number);
     match raw.what {
         What::Access(kind, address, locks) => {
             match stamp_of(rt.alloc(), raw.thread, kind, address, locks) {
-                Ok(Some(stamp)) => Told::of_room(&shard.apply(rt, raw.ticket, stamp)),
-                Ok(None) => Told::Missing,
-                Err(AllocError) => Told::Refused(Refusal::OutOfMemory),
+                Ok(Some(stamp)) => Answered::of_room(&shard.apply(rt, raw.ticket, stamp)),
+                Ok(None) => Answered::Missing,
+                Err(AllocError) => Answered::Refused(Refusal::OutOfMemory),
             }
         }
         What::Reset(address, size) => reset(&mut shard, raw, address, size),
@@ -154,13 +154,13 @@ fn stamp_of(
     }))
 }
 
-fn reset(shard: &mut Shard<'_>, raw: Raw, address: u64, size: u64) -> Told {
+fn reset(shard: &mut Shard<'_>, raw: Raw, address: u64, size: u64) -> Answered {
     match WordRange::of_bytes(address, size) {
         Ok(Some(range)) if range.parts() > 0 => {
             let reset = shard.reset(raw.ticket, raw.thread, range.part(0));
-            Told::of_room(&reset.map(|_| Reply::Done))
+            Answered::of_room(&reset.map(|_| Reply::Done))
         }
-        _ => Told::Missing,
+        _ => Answered::Missing,
     }
 }
 
@@ -171,12 +171,12 @@ pub(crate) fn swap_shards<'t, R: Wait>(
     number: u32,
     there: &Detector<'t>,
     place: u32,
-) -> Told {
+) -> Answered {
     if number >= here.config().shards || place >= there.config().shards {
-        return Told::Missing;
+        return Answered::Missing;
     }
     let mut mine = here.shard(rt, number);
     let mut other = there.shard(rt, place);
     swap::<Shard>(&mut *mine, &mut *other);
-    Told::Done
+    Answered::Done
 }

@@ -1,11 +1,11 @@
 //! Rows of a machine, of the list of its steps, and of what the list explains.
 use crate::Fault;
+use crate::answered::Answered;
 use crate::answers::{put_answer, put_answers, put_state};
 use crate::calls::{Call, call_of};
-use crate::detectors::{table_of, tell_refused};
+use crate::detectors::{report_refused, table_of};
 use crate::explained::{Question, put_explained, question_of};
 use crate::rows::{Row, count_of, number_of, thread_of};
-use crate::told::Told;
 use er_event::{Event, Level, Refusal, Reply, Step, ThreadId, Word, WordRange, WordState};
 use er_gate::OpenGate;
 use er_journal::Outcome;
@@ -107,12 +107,12 @@ fn step_or_again<R: Runtime + Wait>(
 ) -> Result<Result<Reply, Refusal>, Fault> {
     let before = state_at(machine, step.event);
     let answer = machine.step(rt, *step);
-    let told = Told::of_answer(&answer);
-    if !told.lacks_memory() {
+    let answered = Answered::of_answer(&answer);
+    if !answered.lacks_memory() {
         return Ok(answer);
     }
     let is_same = before == state_at(machine, step.event);
-    tell_refused(rt, told, is_same, line)?;
+    report_refused(rt, answered, is_same, line)?;
     Ok(machine.step(rt, *step))
 }
 

@@ -5,7 +5,7 @@ use std::rt::Runtime;
 
 /// What a call is answered.
 #[derive(Clone, Copy, Debug, PartialEq, Eq)]
-pub(crate) enum Told {
+pub(crate) enum Answered {
     Done,
     Quiet,
     Race,
@@ -17,37 +17,37 @@ pub(crate) enum Told {
     Missing,
 }
 
-impl Told {
+impl Answered {
     /// What stands for a reply. The state that a show found isn't looked at.
-    pub(crate) fn of(reply: &Reply) -> Told {
+    pub(crate) fn of(reply: &Reply) -> Answered {
         match reply {
-            Reply::Done | Reply::State(_) => Told::Done,
-            Reply::Quiet => Told::Quiet,
-            Reply::Race => Told::Race,
-            Reply::Ignored => Told::Ignored,
+            Reply::Done | Reply::State(_) => Answered::Done,
+            Reply::Quiet => Answered::Quiet,
+            Reply::Race => Answered::Race,
+            Reply::Ignored => Answered::Ignored,
         }
     }
 
     /// What stands for an answer.
-    pub(crate) fn of_answer(answer: &Result<Reply, Refusal>) -> Told {
+    pub(crate) fn of_answer(answer: &Result<Reply, Refusal>) -> Answered {
         match answer {
-            Ok(reply) => Told::of(reply),
-            Err(why) => Told::Refused(*why),
+            Ok(reply) => Answered::of(reply),
+            Err(why) => Answered::Refused(*why),
         }
     }
 
     /// The same of a call that wants room alone.
-    pub(crate) fn of_room(answer: &Result<Reply, NoRoom>) -> Told {
+    pub(crate) fn of_room(answer: &Result<Reply, NoRoom>) -> Answered {
         match answer {
-            Ok(reply) => Told::of(reply),
-            Err(cause) => Told::Refused(cause.refusal()),
+            Ok(reply) => Answered::of(reply),
+            Err(cause) => Answered::Refused(cause.refusal()),
         }
     }
 
     /// Whether it was refused for want of memory.
     pub(crate) fn lacks_memory(self) -> bool {
         match self {
-            Told::Refused(why) | Told::Stopped(_, why) => why == Refusal::OutOfMemory,
+            Answered::Refused(why) | Answered::Stopped(_, why) => why == Refusal::OutOfMemory,
             _ => false,
         }
     }
@@ -55,21 +55,21 @@ impl Told {
     // The answer in words, but for where a reuse stopped.
     fn text(self) -> &'static str {
         match self {
-            Told::Done => "done",
-            Told::Quiet => "quiet",
-            Told::Race => "race",
-            Told::Ignored => "ignored",
-            Told::Refused(why) | Told::Stopped(_, why) => why.text(),
-            Told::Missing => "missing",
+            Answered::Done => "done",
+            Answered::Quiet => "quiet",
+            Answered::Race => "race",
+            Answered::Ignored => "ignored",
+            Answered::Refused(why) | Answered::Stopped(_, why) => why.text(),
+            Answered::Missing => "missing",
         }
     }
 }
 
 /// Prints an answer, without the end of the line.
-pub(crate) fn print_told<R: Runtime>(rt: &R, told: Told) -> io::Result<()> {
-    let text = told.text();
-    match told {
-        Told::Stopped(address, _) => print!(rt; "stopped at {address:#x}: {text}"),
+pub(crate) fn print_answered<R: Runtime>(rt: &R, answered: Answered) -> io::Result<()> {
+    let text = answered.text();
+    match answered {
+        Answered::Stopped(address, _) => print!(rt; "stopped at {address:#x}: {text}"),
         _ => print!(rt; "{text}"),
     }
 }
@@ -77,32 +77,32 @@ pub(crate) fn print_told<R: Runtime>(rt: &R, told: Told) -> io::Result<()> {
 /// Answers that follow one another, of which equal ones are printed once, with their count.
 #[derive(Clone, Copy)]
 pub(crate) struct Tally {
-    told: Told,
+    answered: Answered,
     count: u32,
 }
 
 impl Tally {
     /// The first answer.
-    pub(crate) fn of(told: Told) -> Tally {
-        Tally { told, count: 1 }
+    pub(crate) fn of(answered: Answered) -> Tally {
+        Tally { answered, count: 1 }
     }
 
     /// With one more answer. Prints those before it if they are others.
-    pub(crate) fn and<R: Runtime>(self, rt: &R, told: Told) -> io::Result<Tally> {
-        if told == self.told {
+    pub(crate) fn and<R: Runtime>(self, rt: &R, answered: Answered) -> io::Result<Tally> {
+        if answered == self.answered {
             return Ok(Tally {
-                told,
+                answered,
                 count: self.count.saturating_add(1),
             });
         }
         self.print(rt)?;
         print!(rt; ", ")?;
-        Ok(Tally::of(told))
+        Ok(Tally::of(answered))
     }
 
     /// Prints the answers that are left.
     pub(crate) fn print<R: Runtime>(self, rt: &R) -> io::Result<()> {
-        print_told(rt, self.told)?;
+        print_answered(rt, self.answered)?;
         if self.count > 1 {
             print!(rt; " x{}", self.count)?;
         }

@@ -1,0 +1,196 @@
+#!/usr/bin/env python3
+"""Compares `eraser replay --by-site` with a second reading of docs/FORMATS.md, made from the explained report of tests/reference.py.
+
+`tests/run` calls `tests`. By itself this file runs these tests alone.
+"""
+
+import os
+import pathlib
+import re
+import subprocess
+import sys
+import tempfile
+
+sys.path.insert(0, str(pathlib.Path(__file__).parent))
+sys.dont_write_bytecode = True
+import cases
+import reference
+
+TOP = pathlib.Path(__file__).resolve().parent.parent
+PROGRAM = TOP / "crates/eraser/out/eraser"
+RANDOM_TRACES = 300
+WIDEST = 120
+
+RACE = re.compile(r"line (\d+): race: (\S+) (read|write) (0x[0-9a-f]{12}) at (\S+), holds (.*)")
+REASON = re.compile(r"  (.+): line (\d+), (\S+) (read|write)")
+REFUSED = re.compile(r"line (\d+): refused: .*: ([^:]+)")
+DID = {"read": "read", "write": "wrote"}
+
+
+def run(words, text=b"", **more):
+    done = subprocess.run([str(PROGRAM), *words], input=text, capture_output=True, timeout=120, **more)
+    return done.stdout, done.stderr, done.returncode
+
+
+def short(name, most):
+    return name if len(name) <= most else ".." + name[2 - most:]
+
+
+def lock_name(name):
+    return name if name.startswith("!") else short(name, 32)
+
+
+def sites_in(text):
+    """The sites of a trace by their numbers: the missing one, and the others by first appearance."""
+    found = {"-": 0}
+    for _, (_, verb, operands) in reference.events_of(text):
+        if verb in (b"read", b"write") and len(operands) > 1 and operands[1] != b"-":
+            found.setdefault(operands[1].decode(), len(found))
+    return found
+
+
+def story(race):
+    """A race in sentences."""
+    line, thread, kind, address, site, held, reasons = race
+    who = short(thread, 24)
+    yield ""
+    yield f"{short(site, 72)}:"
+    yield f"  {who} {DID[kind]} the word at {address} (line {line})"
+    for lock in held:
+        is_weak = {("joined", line), (f"{lock} not covering", line)} & {(label, at) for label, at, _, _ in reasons}
+        yield f"  {who} held {lock_name(lock)}" + (", but only to read" if is_weak else "")
+    if not held:
+        yield f"  {who} held no lock"
+    for label, at, other, did in reasons:
+        one, deed = short(other, 24), f"{DID[did]} it"
+        if label == "first":
+            yield f"  {one} used it first: it {deed} (line {at})"
+        elif label == "joined":
+            yield f"  {one} was the second: it {deed} (line {at})"
+        elif label == "write":
+            yield f"  {one} has written it since then (line {at})"
+        else:
+            yield f"  {lock_name(label.removesuffix(' not covering'))} did not protect it when {one} {deed} (line {at})"
+    if reasons:
+        yield "  So no lock protected all accesses from the second thread's first one on"
+
+
+def by_site(report, numbers):
+    """The text for people, from the lines of an explained report."""
+    races, refused, rest = [], None, []
+    for line in report.splitlines():
+        race, reason, refusal = RACE.fullmatch(line), REASON.fullmatch(line), REFUSED.fullmatch(line)
+        if race:
+            held = [] if race[6] == "none" else race[6].split(" ")
+            races.append((race[1], race[2], race[3], race[4], race[5], held, []))
+        elif reason:
+            races[-1][-1].append((reason[1], reason[2], reason[3], reason[4]))
+        elif refusal:
+            refused = refused or f"first refused: line {refusal[1]}: {refusal[2]}"
+        elif not re.match(r"line \d+: state ", line):
+            rest.append(line)
+    sites = {}
+    for race in races:
+        sites.setdefault(race[4], []).append(race)
+    rows = sorted(sites.items(), key=lambda row: (-len(row[1]), numbers[row[0]]))
+    lines = ["words     kinds       threads   locks     site"] if rows else []
+    for site, found in rows:
+        kinds = " ".join(sorted({race[2] for race in found}))
+        threads, locks = len({race[1] for race in found}), len({lock for race in found for lock in race[5]})
+        lines.append(f"{len(found):<10}{kinds:<12}{threads:<10}{locks:<10}{short(site, 72)}")
+    for _, found in rows:
+        lines += story(found[0])
+    lines += ([""] if rows else []) + ([refused] if refused else []) + rest
+    return "".join(line + "\n" for line in lines)
+
+
+def expected(text, rules):
+    output, errors, status = reference.replay(text, rules or b"", explain=True)
+    if status < 2:
+        output = by_site(output, sites_in(text))
+    return output.encode(), errors.encode(), status
+
+
+def run_with(rules, text, *options):
+    if rules is None:
+        return run(["replay", *options, "-"], text)
+    with tempfile.NamedTemporaryFile() as file:
+        file.write(rules)
+        file.flush()
+        return run(["replay", *options, "--suppress", file.name, "-"], text)
+
+
+def texts():
+    for trace in sorted((TOP / "examples").glob("*.trace")):
+        rules = trace.with_suffix(".rules")
+        yield f"example {trace.stem}", trace.read_bytes(), rules.read_bytes() if rules.exists() else None
+    for case in cases.CASES + cases.EXPLAINED:
+        # The reference looks back over the whole trace for each race, so the largest traces are left out.
+        if len(case.text) < 20_000:
+            yield f"worked trace {case.name}", case.text, case.rules
+    for seed in range(RANDOM_TRACES):
+        yield f"random trace {seed}", reference.random_trace(seed), None if seed % 3 else reference.random_rules(seed)
+
+
+def long_names(count):
+    """A trace of names of 128 bytes: its widest lines."""
+    site, lock, one, two = "s" * 128, "l" * 127, "t" * 127 + "1", "t" * 127 + "2"
+    lines = ["eraser trace 1"]
+    for k in range(count):
+        lines += [f"{one} lock {lock}{k}", f"{one} write {hex(4 * k)} {site}"]
+    for k in range(count):
+        lines += [f"{two} lock {lock}{k}" if k else f"{two} rlock {lock}{k}", f"{two} write {hex(4 * k)} {site}"]
+    lines += [f"{one} unlock {lock}{k}" for k in range(count)] + [f"{one} write {hex(4 * k)} {site}" for k in range(count)]
+    return "\n".join(lines).encode() + b"\n"
+
+
+def tests(record, preloaded):
+    raced = 0
+    for name, text, rules in texts():
+        wanted, found = expected(text, rules), run_with(rules, text, "--by-site")
+        record(f"{name} by site", found == wanted, f"{found}"[:1000])
+        record(f"{name} by site, status", found[1:] == run_with(rules, text)[1:], f"{found[1:]}")
+        record(f"{name} by site, explained or by several workers", found == run_with(rules, text, "--by-site", "--explain", "--workers", "3"))
+        raced += b"used it first" in found[0]
+    record("traces by site have races", raced > 100, f"{raced}")
+    found = run(["replay", "--by-site", "-"], long_names(9))
+    record("long names by site", found == expected(long_names(9), None) and found[2] == 1 and b"only to read" in found[0], f"{found}"[:1000])
+    record("long names by site are cut", max(len(line) for line in found[0].splitlines()) <= WIDEST)
+    record("no colour by site", b"\x1b" not in found[0])
+    # As many sites as there are races: a pass over the rows for each would take minutes.
+    many = "eraser trace 1\n" + "".join(f"t{who} write {4 * k} s:{k}\n" for who in (1, 2) for k in range(100_000))
+    output, errors, status = run(["replay", "--by-site", "-"], many.encode())
+    record("many sites", (errors, status) == (b"", 1) and output.count(b"\n1         write       1         0         s:") == 100_000)
+    formats = (TOP / "docs/FORMATS.md").read_text()
+    shown = run(["replay", "--by-site", str(TOP / "examples/explained.trace")])[0].decode()
+    record("the report by site of the formats", shown in formats, shown)
+    with tempfile.TemporaryDirectory() as folder:
+        library, count = preloaded(folder, "refuse"), pathlib.Path(folder) / "count"
+        words = ["replay", "--by-site", str(TOP / "examples/explained.trace")]
+        whole = run(words)
+        for nth in range(1, 100000):
+            found = run(words, env={**os.environ, "LD_PRELOAD": str(library), "REFUSE": str(nth), "REFUSE_FOUND": str(count)})
+            if not count.exists():
+                record("by site with all allocations", found == whole and nth > 20, f"{nth}")
+                break
+            count.unlink()
+            is_stopped = found[1:] == (b"", 3) and b": stopped: out of memory\n" in found[0]
+            record(f"by site without allocation {nth}", found in (whole, (b"", b"out of memory\n", 3)) or is_stopped, f"{found}")
+
+
+if __name__ == "__main__":
+    failed = []
+
+    def note(name, is_right, detail=""):
+        if not is_right:
+            failed.append(name)
+            print(f"FAILED {name} {detail}")
+
+    def library(folder, name):
+        path = pathlib.Path(folder) / f"{name}.so"
+        subprocess.run(["cc", "-O1", "-shared", "-fPIC", "-o", str(path), str(TOP / f"tests/{name}.c"), "-ldl"], check=True)
+        return path
+
+    tests(note, library)
+    print("all passed" if not failed else f"{len(failed)} failed")
+    sys.exit(1 if failed else 0)
