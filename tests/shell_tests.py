@@ -17,6 +17,9 @@ import subprocess
 import sys
 import tempfile
 
+sys.dont_write_bytecode = True
+from alone import run_alone
+
 TOP = pathlib.Path(__file__).resolve().parent.parent
 SHELL = TOP / "shell"
 PROGRAM = TOP / "crates/eraser/out/eraser"
@@ -296,13 +299,4 @@ def tests(record):
 
 
 if __name__ == "__main__":
-    failed = []
-
-    def note(name, is_right, detail=""):
-        if not is_right:
-            failed.append(name)
-            print(f"FAILED {name} {detail}")
-
-    tests(note)
-    print("all passed" if not failed else f"{len(failed)} failed")
-    sys.exit(1 if failed else 0)
+    run_alone(tests)

@@ -15,6 +15,7 @@ sys.path.insert(0, str(pathlib.Path(__file__).parent))
 sys.dont_write_bytecode = True
 import cases
 import reference
+from alone import run_alone
 
 TOP = pathlib.Path(__file__).resolve().parent.parent
 PROGRAM = TOP / "crates/eraser/out/eraser"
@@ -178,19 +179,12 @@ def tests(record, preloaded):
             record(f"by site without allocation {nth}", found in (whole, (b"", b"out of memory\n", 3)) or is_stopped, f"{found}")
 
 
+def preloaded(folder, name):
+    """A library of tests/ for LD_PRELOAD, as `tests/run` builds it."""
+    path = pathlib.Path(folder) / f"{name}.so"
+    subprocess.run(["cc", "-O1", "-shared", "-fPIC", "-o", str(path), str(TOP / f"tests/{name}.c"), "-ldl"], check=True)
+    return path
+
+
 if __name__ == "__main__":
-    failed = []
-
-    def note(name, is_right, detail=""):
-        if not is_right:
-            failed.append(name)
-            print(f"FAILED {name} {detail}")
-
-    def library(folder, name):
-        path = pathlib.Path(folder) / f"{name}.so"
-        subprocess.run(["cc", "-O1", "-shared", "-fPIC", "-o", str(path), str(TOP / f"tests/{name}.c"), "-ldl"], check=True)
-        return path
-
-    tests(note, library)
-    print("all passed" if not failed else f"{len(failed)} failed")
-    sys.exit(1 if failed else 0)
+    run_alone(tests, preloaded)
