@@ -9,7 +9,7 @@ use Rattle.er_event.specs.declared.steps.Event.{Event}
 use Rattle.er_event.specs.declared.steps.Event.TheVariants.{Reuse}
 use Rattle.er_event.specs.declared.steps.Reply.TheVariants.{Done}
 use Rattle.er_event.specs.Span.{Span, part_of, parts_below}
-use Rattle.er_journal.specs.declared.entries.Call.{Call}
+use Rattle.er_journal.specs.Entries.{Call}
 use Rattle.er_settle.specs.Seats.{SeatList}
 use Rattle.er_seat.specs.Seats.{with_call, ticketed}
 use Rattle.er_detector.specs.Calls.{IsReused, HasReused}

@@ -3,7 +3,7 @@ ghost use Rattle.std.specs.Prelude.{◌≡◌, ◌++◌, filter, IfOk, OnOk};
 ghost use Rattle.er_detector.specs.Races.{is_race};
 
 use er_event::Reply;
-use er_journal::{Entry, Stamp, What};
+use er_journal::{Entry, What};
 use std::alloc::AllocError;
 
 /// Adds copies of the journal's entries of races, in order.
@@ -29,8 +29,8 @@ fn copy_of(entry: &Entry) -> Result<Entry, AllocError>
 {
     Ok(Entry {
         ticket: entry.ticket,
-        thread: entry.thread,
         what: copy_of_what(&entry.what)?,
+        thread: entry.thread,
         reply: entry.reply.copy(),
     })
 }
@@ -39,20 +39,7 @@ fn copy_of_what(what: &What) -> Result<What, AllocError>
     ensures { IfOk result (λ copied. copied ≡ what.now) }
 {
     match what {
-        What::Access(stamp) => Ok(What::Access(copy_of_stamp(stamp)?)),
+        What::Access(stamp) => Ok(What::Access(stamp.copy()?)),
         What::Reset(range) => Ok(What::Reset(*range)),
     }
-}
-
-fn copy_of_stamp(stamp: &Stamp) -> Result<Stamp, AllocError>
-    ensures { IfOk result (λ copied. copied ≡ stamp.now) }
-{
-    Ok(Stamp {
-        thread: stamp.thread,
-        word: stamp.word,
-        kind: stamp.kind,
-        site: stamp.site,
-        held: stamp.held.copy()?,
-        write_held: stamp.write_held.copy()?,
-    })
 }

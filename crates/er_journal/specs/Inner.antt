@@ -1,2 +1,3 @@
 pub mod Briefs
+pub mod KeptCalls
 pub mod Replies

@@ -1,4 +1,5 @@
 pub mod AnswerList
+pub mod Entries
 pub mod Inner
 pub mod Journals
 pub mod Merges

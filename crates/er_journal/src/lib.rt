@@ -18,13 +18,17 @@
 #![tactic(auto)]
 
 pub use answers::{Answer, Answers, Outcome, Stopped};
-pub use entries::{Call, Entry, Stamp, What};
+pub use calls::Call;
+pub use entries::{Entry, Stamp, What};
 pub use explanations::{Explanation, Uncovered};
 pub use laws::a_merge_is_legal;
+pub use locks::HeldLocks;
 pub use replies::BriefReply;
 
 mod answers;
+mod calls;
 mod entries;
 mod explanations;
 mod laws;
+mod locks;
 mod replies;

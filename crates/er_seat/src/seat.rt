@@ -1,7 +1,7 @@
 //! `Seat`, one thread's handle.
 ghost use Rattle.std.specs.Prelude.{◌≡◌, ◌≤◌, ◌<◌, ◌+◌, ◌↔◌, ◌⊎◌, [], ℕ, Bool, cond, length, IsTrue, IsFalse, IsOk, IfOk, IsOkUnless, IsErrAnd, IsErrOf, OnOk, OnErr, None, Some, slice_get, is_some, not};
 ghost use Rattle.er_held.specs.Held.{nothing_held};
-ghost use Rattle.er_journal.specs.declared.entries.Call.{Call as Calls};
+ghost use Rattle.er_journal.specs.Entries.{Call as Calls};
 ghost use Rattle.er_model.specs.Events.{is_show};
 ghost use Rattle.er_model.specs.Holdings.{refused_by, changed_by};
 ghost use Rattle.er_journal.specs.Journals.{journal_state};
@@ -11,6 +11,7 @@ ghost use Rattle.er_shard.specs.Journaled.{entry_of, with_entry};
 ghost use Rattle.er_settle.specs.Seats.{AreTicketed};
 ghost use Rattle.er_seat.specs.Seats.{holdings_of, access_stamp, with_call, done, ignored, ticketed, calls_to_unwind};
 
+use crate::recent::RecentLocks;
 use er_event::{
     Event, Kind, Level, LockId, Lockset, Mode, NoRoom, PageRange, Refusal, Reply, Site, ThreadId,
     Word,
@@ -60,6 +61,7 @@ impl VacantSeat {
             name,
             thread,
             held: Held::new(alloc),
+            recent: RecentLocks::new(alloc),
             calls,
         }
     }
@@ -74,6 +76,7 @@ pub struct Seat {
     name: u64,
     thread: ThreadId,
     held: Held,
+    recent: RecentLocks,
     calls: Vec<Call>,
 }
 
@@ -238,11 +241,9 @@ impl Seat {
         ensures err { OnErr result (self.new ≡ self.old) }
     {
         self.calls.reserve(1 + calls_to_unwind(&self.held))?;
-        self.calls.push_reserved(Call {
-            event: Event::Access(kind, word, site),
-            reply: BriefReply::ignored(),
-            ticket: None,
-        });
+        let event = Event::Access(kind, word, site);
+        self.calls
+            .push_reserved(Call::own(event, BriefReply::ignored()));
         Ok(())
     }
 
@@ -271,13 +272,12 @@ impl Seat {
         ensures table_full { IsErrOf result NoRoom.TableFull → IsTrue (needs_set (journal_state shard.old.journal word) self.old.thread) }
     {
         self.calls.reserve(1 + calls_to_unwind(&self.held))?;
-        let stamp = stamp(self.thread, &self.held, word, kind, site)?;
+        let locks = self.recent.locks(&self.held)?;
+        let stamp = Stamp::new(self.thread, word, kind, site, locks);
         let reply = shard.apply(rt, ticket, stamp)?;
-        self.calls.push_reserved(Call {
-            event: Event::Access(kind, word, site),
-            reply: in_brief(&reply),
-            ticket: Some(ticket),
-        });
+        let brief = in_brief(&reply);
+        self.calls
+            .push_reserved(Call::counted(kind, word, site, brief, ticket));
         Ok(reply)
     }
 
@@ -296,44 +296,16 @@ impl Seat {
         self.calls.reserve(1 + calls_to_unwind(&self.held))?;
         let range = &range;
         shard.reset(ticket, self.thread, *range)?;
-        self.calls.push_reserved(Call {
-            event: Event::Reuse(*range),
-            reply: BriefReply::done(),
-            ticket: Some(ticket),
-        });
+        self.calls.push_reserved(Call::reuse(*range, ticket));
         Ok(())
     }
-}
-
-// The stamp of an access, with copies of the locks that are held.
-fn stamp(
-    thread: ThreadId,
-    held: &Held,
-    word: Word,
-    kind: Kind,
-    site: Site,
-) -> Result<Stamp, AllocError>
-    ensures { IfOk result (λ stamp. stamp ≡ record { thread = thread; word = word; kind = kind; site = site; held = held.now.held; write_held = held.now.write_held }) }
-{
-    Ok(Stamp {
-        thread,
-        word,
-        kind,
-        site,
-        held: held.held().copy()?,
-        write_held: held.write_held().copy()?,
-    })
 }
 
 // A call that no shard sees, and that is done.
 fn done(event: Event) -> Call
     ensures { result ≡ done event }
 {
-    Call {
-        event,
-        reply: BriefReply::done(),
-        ticket: None,
-    }
+    Call::own(event, BriefReply::done())
 }
 
 // How many calls give back what is held.

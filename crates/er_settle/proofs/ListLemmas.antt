@@ -4,7 +4,7 @@ use Rattle.std.proofs.lemmas.Option.{slice_get_within, slice_get_read, get_or_fr
 use Rattle.std.proofs.lemmas.List.{take_more}
 use Rattle.std.specs.Prelude.{slice_get, slice_index, Some, None, Option}
 use Rattle.std.proofs.lemmas.Bool.{cases_order}
-use Rattle.er_journal.specs.declared.entries.Call.{Call}
+use Rattle.er_journal.specs.Entries.{Call}
 use Rattle.er_settle.specs.Faults.{EachTwo, CallsRise, IsSooner, Not}
 use Rattle.er_event.proofs.Lists.{get_last}
 use Rattle.er_settle.specs.Inner.SeatChecks.{IsAbove, IsLast}

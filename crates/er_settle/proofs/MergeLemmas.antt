@@ -13,9 +13,9 @@ use Rattle.er_event.specs.declared.steps.Kind.TheVariants.{Read as reading, Writ
 use Rattle.er_event.specs.declared.steps.Reply.{Reply}
 use Rattle.er_event.specs.declared.steps.Reply.TheVariants.{Done}
 use Rattle.er_event.specs.declared.steps.Step.{Step}
-use Rattle.er_journal.specs.declared.entries.Call.{Call}
+use Rattle.er_journal.specs.Entries.{Call}
 use Rattle.er_journal.specs.declared.entries.Entry.{Entry}
-use Rattle.er_journal.specs.declared.entries.Stamp.{Stamp}
+use Rattle.er_journal.specs.Entries.{Stamp}
 use Rattle.er_journal.specs.declared.entries.What.{What}
 use Rattle.er_journal.specs.declared.entries.What.TheVariants.{Access, Reset}
 use Rattle.er_model.specs.Words.{Counted, Nothing}

@@ -17,7 +17,7 @@ use Rattle.er_settle.proofs.ListLemmas.{take_next, all_taken}
 use Rattle.er_event.specs.declared.addresses.PageRange.{PageRange}
 use Rattle.er_event.specs.declared.steps.Event.{Event}
 use Rattle.er_event.specs.declared.steps.Event.TheVariants.{Reuse}
-use Rattle.er_journal.specs.declared.entries.Call.{Call}
+use Rattle.er_journal.specs.Entries.{Call}
 use Rattle.er_journal.specs.declared.entries.Entry.{Entry}
 use Rattle.er_settle.specs.Seats.{SeatList}
 use Rattle.er_settle.specs.Faults.{place_of}

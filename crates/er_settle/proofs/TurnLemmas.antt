@@ -12,7 +12,7 @@ use Rattle.std.proofs.Math.Seq.{take-add}
 use Rattle.std.proofs.Math.ListN.{drop_of_length-le}
 use Rattle.std.proofs.lemmas.Option.{slice_get_within, slice_get_read, get_or_from_slice_get}
 use Rattle.er_event.specs.declared.steps.Event.{Event}
-use Rattle.er_journal.specs.declared.entries.Call.{Call}
+use Rattle.er_journal.specs.Entries.{Call}
 use Rattle.er_settle.specs.Seats.{SeatList}
 use Rattle.er_settle.specs.Faults.{AreDistinct, event_of, Not}
 use Rattle.er_settle.specs.Inner.SeatChecks.{IsIndex}

@@ -1,7 +1,7 @@
 -- A seat as contracts see it: its detector's name, its thread, and the calls that it accepted.
 use Rattle.std.specs.Prelude.{◌≡◌, ◌==◌, not, ℕ, cond, List, [], ◌∷◌, slice_get, Some}
 use Rattle.std.specs.Option.{is_some}
-use Rattle.er_journal.specs.declared.entries.Call.{Call}
+use Rattle.er_journal.specs.Entries.{Call}
 use Rattle.er_model.specs.Holdings.{Holdings, holdings_at}
 use Rattle.er_model.specs.Locality.{steps_by, is_own_call}
 use Rattle.er_journal.specs.Merges.{events_in, IsLegalSeat}

@@ -143,7 +143,7 @@ fn take_turn<'a>(
     for at in from..calls.len() {
         let call = &calls[at];
         turns.push(Turn { thread, call })?;
-        if call.ticket.is_some() {
+        if call.ticket().is_some() {
             return Ok(at + 1);
         }
     }

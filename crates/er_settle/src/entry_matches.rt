@@ -18,13 +18,13 @@ fn is_matched<'a>(calls: &[Call], group: &[PlacedEntry<'a>]) -> bool
 {
     let mut at = 0;
     for call in calls {
-        let Some(ticket) = call.ticket else {
+        let Some(ticket) = call.ticket() else {
             continue;
         };
         if at >= group.len() {
             return false;
         }
-        if !is_asked(ticket, call.event, &group[at]) {
+        if !is_asked(ticket, call.event(), &group[at]) {
             return false;
         }
         at += 1;
@@ -47,7 +47,7 @@ fn is_event_of(event: Event, what: &What) -> bool
     match what {
         What::Access(stamp) => match event {
             Event::Access(kind, word, site) => {
-                kind == stamp.kind && word == stamp.word && site == stamp.site
+                kind == stamp.kind() && word == stamp.word() && site == stamp.site()
             }
             _ => false,
         },
@@ -94,7 +94,7 @@ fn place_of(shards: usize, what: &What) -> usize
     ensures { result ≡ place_of shards what.now }
 {
     let word = match what {
-        What::Access(stamp) => stamp.word,
+        What::Access(stamp) => stamp.word(),
         What::Reset(range) => range.lo,
     };
     word.page() as usize % shards

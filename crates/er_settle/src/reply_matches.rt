@@ -45,7 +45,7 @@ fn is_answered(
     let mut held = Held::new(alloc);
     let mut at = 0;
     for call in seat.calls() {
-        if call.ticket.is_some() {
+        if call.ticket().is_some() {
             let count = group.len();
             prove!(at < count);
             if !is_alike(&held, thread, call, group[at].entry()) {
@@ -53,7 +53,7 @@ fn is_answered(
             }
             at += 1;
         }
-        held.follow(call.event)?;
+        held.follow(call.event())?;
     }
     Ok(true)
 }
@@ -63,7 +63,7 @@ fn is_alike(held: &Held, thread: ThreadId, call: &Call, entry: &Entry) -> bool
     requires { call.now.event ≡ event_of entry.now.what }
     ensures { IsTrue result ↔ IsAlike held.now thread call.now entry.now }
 {
-    entry.reply.is_same(&call.reply) && is_stamped(held, thread, entry)
+    entry.reply.is_same(&call.reply()) && is_stamped(held, thread, entry)
 }
 
 // Whether an entry of a counted access names this thread and the locks that it holds.
@@ -73,9 +73,9 @@ fn is_stamped(held: &Held, thread: ThreadId, entry: &Entry) -> bool
     match &entry.what {
         What::Access(stamp) => {
             !held.ignoring()
-                && stamp.thread == thread
-                && stamp.held == *held.held()
-                && stamp.write_held == *held.write_held()
+                && stamp.thread() == thread
+                && *stamp.held() == *held.held()
+                && *stamp.write_held() == *held.write_held()
         }
         What::Reset(_) => true,
     }

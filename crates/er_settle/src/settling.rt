@@ -78,9 +78,9 @@ fn run_of(alloc: Global, turns: &[Turn<'_>]) -> Result<Run, AllocError>
         let call = turn.call();
         steps.push(Step {
             thread: turn.thread(),
-            event: call.event,
+            event: call.event(),
         })?;
-        replies.push(call.reply.reply())?;
+        replies.push(call.reply().reply())?;
     }
     Ok(Run { steps, replies })
 }

@@ -25,7 +25,7 @@ fn calls_rise(calls: &[Call]) -> bool
 {
     let mut last = None;
     for call in calls {
-        let Some(ticket) = call.ticket else {
+        let Some(ticket) = call.ticket() else {
             continue;
         };
         if !is_above(last, ticket) {

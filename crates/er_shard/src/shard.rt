@@ -105,10 +105,11 @@ impl<'t> Shard<'t> {
         reserve_entry(&mut self.journal, self.limit)?;
         let reply = self.words.apply(rt, &stamp)?;
         let brief = in_brief(&reply);
+        let thread = stamp.thread();
         self.journal.push_reserved(Entry {
             ticket,
-            thread: stamp.thread,
             what: What::Access(stamp),
+            thread,
             reply: brief,
         });
         Ok(reply)
@@ -128,8 +129,8 @@ impl<'t> Shard<'t> {
         self.words.reset(*range);
         self.journal.push_reserved(Entry {
             ticket,
-            thread,
             what: What::Reset(*range),
+            thread,
             reply: BriefReply::done(),
         });
         Ok(())

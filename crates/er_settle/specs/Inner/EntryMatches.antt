@@ -2,7 +2,7 @@
 use Rattle.std.specs.Prelude.{◌≡◌, ℕ, List, length, map, filter, slice_get, Option, Some, ◌⊎◌}
 use Rattle.std.specs.Option.{is_some}
 use Rattle.er_event.specs.declared.steps.Event.{Event}
-use Rattle.er_journal.specs.declared.entries.Call.{Call}
+use Rattle.er_journal.specs.Entries.{Call}
 use Rattle.er_journal.specs.declared.entries.Entry.{Entry}
 use Rattle.er_settle.specs.Seats.{SeatList}
 use Rattle.er_settle.specs.Faults.{place_of}

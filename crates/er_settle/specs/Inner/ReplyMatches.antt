@@ -1,6 +1,6 @@
 -- Calls with tickets and the entries that they meet, seat by seat.
 use Rattle.std.specs.Prelude.{◌≡◌, ◌<◌, ℕ, List, length, take, slice_get, Some, IsSome}
-use Rattle.er_journal.specs.declared.entries.Call.{Call}
+use Rattle.er_journal.specs.Entries.{Call}
 use Rattle.er_settle.specs.Seats.{SeatList}
 use Rattle.er_settle.specs.Faults.{IsAnswered}
 use Rattle.er_settle.specs.Inner.JournalOrder.{EntryAt, entries_by}

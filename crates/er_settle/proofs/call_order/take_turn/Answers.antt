@@ -8,18 +8,18 @@ pub loop-at-preserved : goal.loop-at-preserved
 loop-at-preserved c =
     let here = rw c.calls-calls.ensures.calls at (slice_get_read c.calls-calls.result.now _ _ c.index-calls-at.result refl c.loop-at-test.true c.index-calls-at.is) in
     let grown : c.push.new.self.items ≡ c.loop-at.turns.items ++ turn_of c.args.seat.now.thread c.index-calls-at.result ∷ [] = rw c.thread-thread.ensures at c.in_ok-push.ensures.items in
-    rw grown (taking-more c.args.seat.now.thread c.args.seat.now.calls c.args.from _ c.loop-at.at c.loop-at.turns.items c.loop-at.invariant c.index-calls-at.result here (sym c.is_some.ensures ∙ c.if-is_some.false))
+    rw grown (taking-more c.args.seat.now.thread c.args.seat.now.calls c.args.from _ c.loop-at.at c.loop-at.turns.items c.loop-at.invariant c.index-calls-at.result here (rw c.ticket.ensures at (sym c.is_some.ensures ∙ c.if-is_some.false)))
 
 pub returns-then-is_some-clause-next : goal.returns-then-is_some-clause-next
 returns-then-is_some-clause-next c =
     let here = rw c.calls-calls.ensures.calls at (slice_get_read c.calls-calls.result.now _ _ c.index-calls-at.result refl c.loop-at-test.true c.index-calls-at.is) in
-    (taking-last c.args.seat.now.thread c.args.seat.now.calls c.args.from _ c.loop-at.at c.loop-at.turns.items c.loop-at.invariant c.index-calls-at.result here (sym c.is_some.ensures ∙ c.if-is_some.true)).0
+    (taking-last c.args.seat.now.thread c.args.seat.now.calls c.args.from _ c.loop-at.at c.loop-at.turns.items c.loop-at.invariant c.index-calls-at.result here (rw c.ticket.ensures at (sym c.is_some.ensures ∙ c.if-is_some.true))).0
 
 pub returns-then-is_some-clause-turns : goal.returns-then-is_some-clause-turns
 returns-then-is_some-clause-turns c =
     let here = rw c.calls-calls.ensures.calls at (slice_get_read c.calls-calls.result.now _ _ c.index-calls-at.result refl c.loop-at-test.true c.index-calls-at.is) in
     let grown : c.push.new.self.items ≡ c.loop-at.turns.items ++ turn_of c.args.seat.now.thread c.index-calls-at.result ∷ [] = rw c.thread-thread.ensures at c.in_ok-push.ensures.items in
-    grown ∙ (taking-last c.args.seat.now.thread c.args.seat.now.calls c.args.from _ c.loop-at.at c.loop-at.turns.items c.loop-at.invariant c.index-calls-at.result here (sym c.is_some.ensures ∙ c.if-is_some.true)).1
+    grown ∙ (taking-last c.args.seat.now.thread c.args.seat.now.calls c.args.from _ c.loop-at.at c.loop-at.turns.items c.loop-at.invariant c.index-calls-at.result here (rw c.ticket.ensures at (sym c.is_some.ensures ∙ c.if-is_some.true))).1
 
 pub returns-clause-next : goal.returns-clause-next
 returns-clause-next c =

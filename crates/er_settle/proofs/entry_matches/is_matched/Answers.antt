@@ -1,4 +1,4 @@
-use Rattle.std.proofs.Common.{sym, refl, arith, length}
+use Rattle.std.proofs.Common.{◌∙◌, sym, refl, arith, length}
 use Rattle.std.proofs.lemmas.Bool.{eqb-true, eq-eqb}
 use Rattle.std.proofs.lemmas.Option.{slice_get_read}
 use Rattle.er_settle.proofs.PairLemmas.{agree-skip, agree-more, agree-past, agree-not, agree-end}
@@ -7,25 +7,25 @@ use Rattle.er_settle.proofs.entry_matches.is_matched.Goals as goal
 pub loop-call-preserved : goal.loop-call-preserved
 loop-call-preserved c =
     let next = slice_get_read c.args.group.now _ _ c.index-group-at.result refl c.if-at-group.false c.index-group-at.is in
-    let same = c.if-not-is_asked.ensures.0 refl in
+    let same = rw c.event.ensures at (c.if-not-is_asked.ensures.0 refl) in
     record {
-      same = agree-more c.args.calls.now c.args.group.now c.loop-call.call-index c.loop-call.at c.in-Some.ticket c.call-item.result c.index-group-at.result (slice_get_read c.args.calls.now _ _ c.call-item.result refl c.loop-call-test.true c.call-item.is) c.in-Some.is c.loop-call.invariant.same next same.0 same.1;
+      same = agree-more c.args.calls.now c.args.group.now c.loop-call.call-index c.loop-call.at c.in-Some.ticket c.call-item.result c.index-group-at.result (slice_get_read c.args.calls.now _ _ c.call-item.result refl c.loop-call-test.true c.call-item.is) (sym c.ticket.ensures ∙ c.in-Some.is) c.loop-call.invariant.same next same.0 same.1;
       within = omega (arith, c.if-at-group.false);
     }
 
 pub loop-call-preserved-in_default : goal.loop-call-preserved-in_default
 loop-call-preserved-in_default c =
-    record { same = agree-skip c.args.calls.now c.args.group.now c.loop-call.call-index c.loop-call.at c.call-item.result (slice_get_read c.args.calls.now _ _ c.call-item.result refl c.loop-call-test.true c.call-item.is) c.in_default.is c.loop-call.invariant.same; within = c.loop-call.invariant.within }
+    record { same = agree-skip c.args.calls.now c.args.group.now c.loop-call.call-index c.loop-call.at c.call-item.result (slice_get_read c.args.calls.now _ _ c.call-item.result refl c.loop-call-test.true c.call-item.is) (sym c.ticket.ensures ∙ c.in_default.is) c.loop-call.invariant.same; within = c.loop-call.invariant.within }
 
 pub returns-then-at-group : goal.returns-then-at-group
-returns-then-at-group c = (λ t. cc, λ same. absurd (agree-past c.args.calls.now c.args.group.now c.loop-call.call-index c.loop-call.at c.in-Some.ticket c.call-item.result (slice_get_read c.args.calls.now _ _ c.call-item.result refl c.loop-call-test.true c.call-item.is) c.in-Some.is c.loop-call.invariant.same c.loop-call.invariant.within c.if-at-group.true same))
+returns-then-at-group c = (λ t. cc, λ same. absurd (agree-past c.args.calls.now c.args.group.now c.loop-call.call-index c.loop-call.at c.in-Some.ticket c.call-item.result (slice_get_read c.args.calls.now _ _ c.call-item.result refl c.loop-call-test.true c.call-item.is) (sym c.ticket.ensures ∙ c.in-Some.is) c.loop-call.invariant.same c.loop-call.invariant.within c.if-at-group.true same))
 
 pub returns-then-not-is_asked : goal.returns-then-not-is_asked
 returns-then-not-is_asked c =
     let next = slice_get_read c.args.group.now _ _ c.index-group-at.result refl c.if-at-group.false c.index-group-at.is in (
       λ t. cc,
-      λ same. absurd (agree-not c.args.calls.now c.args.group.now c.loop-call.call-index c.loop-call.at c.in-Some.ticket c.call-item.result (slice_get_read c.args.calls.now _ _ c.call-item.result refl c.loop-call-test.true c.call-item.is) c.in-Some.is c.loop-call.invariant.same c.loop-call.invariant.within c.index-group-at.result next
-          (λ both. let e = c.if-not-is_asked.ensures.1 both in cc) same),
+      λ same. absurd (agree-not c.args.calls.now c.args.group.now c.loop-call.call-index c.loop-call.at c.in-Some.ticket c.call-item.result (slice_get_read c.args.calls.now _ _ c.call-item.result refl c.loop-call-test.true c.call-item.is) (sym c.ticket.ensures ∙ c.in-Some.is) c.loop-call.invariant.same c.loop-call.invariant.within c.index-group-at.result next
+          (λ both. let e = c.if-not-is_asked.ensures.1 (both.0, c.event.ensures ∙ both.1) in cc) same),
     )
 
 pub returns : goal.returns
