@@ -1,5 +1,10 @@
 -- One thread's holdings among all, as the map of threads is read and written.
-use Rattle.std.proofs.Common.{◌≡◌, Result, Ok, Err, IfErr, IsErrAnd, ap}
+use Rattle.std.proofs.Common.{◌≡◌, ◌∙◌, ℕ, Bool, true, false, cond, List, Some, Result, Ok, Err, IfErr, IsErrAnd, refl, ap, eqb}
+use Rattle.std.specs.Map.{lookup}
+use Rattle.er_held.specs.ThreadLocks.{holding_among}
+use Rattle.er_held.proofs.MapLemmas.{holding_written}
+use Rattle.er_model.specs.Holdings.{Holdings}
+use borrow.Author.Tests.{eqb-true}
 
 -- an error that a `?` hands on
 pub err_from : {T E : Type 0} (r : Result T E) (G P : E → Type 0) → IsErrAnd r G → ((e : E) → G e → P e) → IfErr r P
@@ -10,3 +15,13 @@ err_from (Err e) G P is f = f e is
 pub err_is : {T E : Type 0} (r : Result T E) (G : E → Type 0) (why : E) → IsErrAnd r G → ((e : E) → G e → e ≡ why) → r ≡ Err why
 err_is (Ok v) G why is f = absurd is
 err_is (Err e) G why is f = ap Err (f e is)
+
+-- what is written is what was there
+pub holding_rewritten : (threads more : List (ℕ × Holdings)) (thread : ℕ) (h : Holdings) → h ≡ holding_among threads thread →
+    ((q : ℕ) → lookup (eqb q) more ≡ cond (eqb thread q) (Some h) (lookup (eqb q) threads)) →
+    (t : ℕ) → holding_among more t ≡ holding_among threads t
+holding_rewritten threads more thread h is written t = holding_written threads more thread h written t ∙ by (eqb thread t) refl
+  where
+    by : (b : Bool) → eqb thread t ≡ b → cond b h (holding_among threads t) ≡ holding_among threads t
+    by true e = is ∙ ap (λ u. holding_among threads u) (eqb-true thread t e)
+    by false e = refl

@@ -37,14 +37,16 @@ impl<'t> Model for Machine<'t> {
 impl<'t> Machine<'t> {
     ghost use Rattle.er_replay.specs.Standing.{holding, states, Stands, found_no_room};
 
+    // How many steps are looked at together.
+    const AHEAD: usize = 16;
+
     /// A machine that has taken no step. The sets of locks that its words need go into the table.
     pub fn new(alloc: Global, table: &'t LocksetTable) -> Result<Machine<'t>, AllocError>
         ensures { IfOk result (λ machine. Stands machine []) }
     {
-        Ok(Machine {
-            threads: Threads::new(alloc),
-            words: ShadowMap::new(alloc, table)?,
-        })
+        let threads = Threads::new(alloc)?;
+        let words = ShadowMap::new(alloc, table)?;
+        Ok(Machine { threads, words })
     }
 
     /// Takes one step and says what it is answered (sections 2 and 3 of the 1997 paper).
@@ -157,9 +159,34 @@ impl<'t> Machine<'t> {
         Ok(self.words.access(rt, thread, word, kind, locks)?)
     }
 
+    /// Each few steps reads the states of the words that the next few access, so that they come from memory side by side. `at` is the
+    /// place of the step that is answered next. It only saves time, and a caller that leaves it out gets the same answers.
+    #[inline(always)]
+    pub fn look_ahead(&mut self, steps: &[Step], at: usize)
+        ensures { self.new ≡ self.old }
+    {
+        if at % Machine::AHEAD == 0 {
+            self.read_ahead(steps, at);
+        }
+    }
+
+    fn read_ahead(&mut self, steps: &[Step], at: usize)
+        ensures { self.new ≡ self.old }
+    {
+        let end = at.saturating_add(Machine::AHEAD).min(steps.len());
+        for place in at..end {
+            if let Event::Access(_, word, _) = steps[place].event {
+                self.words.look_ahead(word);
+            }
+        }
+    }
+
     /// What a thread holds after the steps so far.
     pub fn held(&self, thread: ThreadId) -> &Held
-        ensures { (past : List Steps) → Stands self.now past → result.now ≡ holdings_end past thread }
+        ensures past { (past : List Steps) → Stands self.now past → result.now ≡ holdings_end past thread }
+
+        // The same of the machine's own holdings, for one that stands for no list because it has passed steps.
+        ensures own { result.now ≡ holding self.now thread }
     {
         self.threads.get(thread)
     }

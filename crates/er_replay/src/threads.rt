@@ -1,5 +1,6 @@
 //! Every thread's holdings.
-ghost use Rattle.std.specs.Prelude.{◌≡◌, ◌&&◌, ℕ, nat_eq, cond, IsTrue, IfErr, OnOk, OnErr, Err, None, Some};
+ghost use Rattle.std.specs.Prelude.{◌≡◌, ◌&&◌, ◌<◌, ℕ, nat_eq, cond, slice_get, IsTrue, IfOk, IfErr, IfSome, IfNone, OnOk, OnErr, Err, None, Some};
+ghost use Rattle.indexmap.specs.IndexMap.{get, keys, index_map_len, IsUnique};
 ghost use Rattle.er_model.specs.Holdings.{refused_by, changed_by};
 ghost use Rattle.er_held.specs.Held.{nothing_held};
 ghost use Rattle.er_held.specs.ThreadLocks.{changes_holdings, holding_among};
@@ -7,14 +8,17 @@ ghost use Rattle.er_replay.specs.Wants.{wants_memory, is_no_memory};
 
 use er_event::{Event, Refusal, ThreadId};
 use er_held::Held;
-use std::alloc::Global;
-use std::collections::HashMap;
+use er_shadow::Hints;
+use indexmap::IndexMap;
+use std::alloc::{AllocError, Global};
 use std::marker::Model;
 
 /// The holdings of the threads that took something, by thread. Any other thread has nothing.
 #[derive(Drop)]
 pub(crate) struct Threads {
-    held: HashMap<ThreadId, Held>,
+    held: IndexMap<ThreadId, Held>,
+    // Where a thread stands.
+    places: Hints,
     nothing: Held,
     alloc: Global,
 }
@@ -33,22 +37,27 @@ impl Model for Threads {
 
 impl Threads {
     /// Nobody has anything.
-    pub(crate) fn new(alloc: Global) -> Self
-        ensures { (t : ℕ) → holding_among result t ≡ nothing_held }
+    pub(crate) fn new(alloc: Global) -> Result<Threads, AllocError>
+        ensures { IfOk result (λ threads. (t : ℕ) → holding_among threads t ≡ nothing_held) }
     {
-        Threads {
-            held: HashMap::new(alloc),
+        let held = IndexMap::new(alloc);
+        let places = Hints::new(alloc)?;
+        Ok(Threads {
+            held,
+            places,
             nothing: Held::new(alloc),
             alloc,
-        }
+        })
     }
 
     /// The thread's holdings.
+    #[inline]
     pub(crate) fn get(&self, thread: ThreadId) -> &Held
         ensures { result.now ≡ holding_among self.now thread }
     {
-        match self.held.get(&thread) {
-            Some(held) => held,
+        let key = u64::from(thread.number());
+        match index_of_thread(&self.held, self.places.hint(key), thread) {
+            Some(index) => &self.held[index],
             None => &self.nothing,
         }
     }
@@ -63,15 +72,35 @@ impl Threads {
         ensures refused { (why : Refusal) → refused_by (holding_among self.old thread) event ≡ Some why → result ≡ Err why }
         ensures memory { refused_by (holding_among self.old thread) event ≡ None → IfErr result (λ why. IsTrue (wants_memory event && is_no_memory why)) }
     {
-        match self.held.get_mut(&thread) {
-            Some(held) => change(held, event),
+        let key = u64::from(thread.number());
+        match index_of_thread(&self.held, self.places.hint(key), thread) {
+            Some(index) => {
+                self.places.note(key, index);
+                let held = &mut self.held[index];
+                change(held, event)
+            }
             None => {
                 let mut held = Held::new(self.alloc);
                 change(&mut held, event)?;
+                self.places.note(key, self.held.len());
                 self.held.insert(thread, held)?;
                 Ok(())
             }
         }
+    }
+}
+
+// Where the thread stands. It looks at the place of the hint first, and needs no hash if that is the one.
+#[inline]
+fn index_of_thread(held: &IndexMap<ThreadId, Held>, hint: usize, thread: ThreadId) -> Option<usize>
+    ensures key { IfSome result (λ index. slice_get (keys held.now) index ≡ Some thread) }
+    ensures within { IfSome result (λ index. index < index_map_len held.now) }
+    ensures none { IfNone result (get nat_eq held.now thread ≡ None) }
+    ensures unique { IsUnique nat_eq held.now }
+{
+    match held.as_slice().get_index(hint) {
+        Some((key, _)) if *key == thread => Some(hint),
+        _ => held.get_index_of(&thread),
     }
 }
 

@@ -15,8 +15,10 @@
 //! ```
 #![tactic(auto)]
 
+pub use hints::Hints;
 pub use map::ShadowMap;
 
+mod hints;
 mod map;
 mod page;
 mod refining;

@@ -7,6 +7,7 @@ ghost use Rattle.er_model.specs.Table.{advanced, moved, reports};
 ghost use Rattle.er_model.specs.Words.{Counted, Reused};
 ghost use Rattle.er_shadow.specs.Replies.{reply_if};
 
+use crate::Hints;
 use crate::page::{Page, WORDS};
 use crate::refining::{named, step};
 use er_event::{Kind, Lockset, NoRoom, PageRange, Reply, ThreadId, Word, WordState};
@@ -22,9 +23,13 @@ use std::sync::Wait;
 #[derive(Drop)]
 pub struct ShadowMap<'t> {
     pages: IndexMap<u64, Page>,
-    // Where the page stands that was accessed last.
-    last: usize,
+    // Where the page of a number stands.
+    places: Hints,
     known: Known<'t>,
+    // The number of what a thread's accesses of a kind are covered by.
+    covers: Hints,
+    // What `look_ahead` has read. Nobody asks for it.
+    ahead: u32,
     alloc: Global,
 }
 
@@ -46,10 +51,16 @@ impl<'t> ShadowMap<'t> {
     pub fn new(alloc: Global, table: &'t LocksetTable) -> Result<ShadowMap<'t>, AllocError>
         ensures { IfOk result (λ map. (w : ℕ) → states map w ≡ Virgin) }
     {
+        let pages = IndexMap::new(alloc);
+        let known = Known::new(alloc, table)?;
+        let places = Hints::new(alloc)?;
+        let covers = Hints::new(alloc)?;
         Ok(ShadowMap {
-            pages: IndexMap::new(alloc),
-            last: 0,
-            known: Known::new(alloc, table)?,
+            pages,
+            places,
+            known,
+            covers,
+            ahead: 0,
             alloc,
         })
     }
@@ -76,13 +87,14 @@ impl<'t> ShadowMap<'t> {
     {
         let number = word.page();
         let place = place_of(word);
-        match index_of_page(&self.pages, self.last, number) {
+        match index_of_page(&self.pages, self.places.hint(number), number) {
             Some(index) => {
-                self.last = index;
+                self.places.note(number, index);
                 let page = &mut self.pages[index];
                 let (shadow, race) = step(
                     rt,
                     &mut self.known,
+                    &mut self.covers,
                     page.get(place),
                     thread,
                     kind,
@@ -94,7 +106,7 @@ impl<'t> ShadowMap<'t> {
             None => {
                 let mut page = Page::new(self.alloc)?;
                 page.set(place, Shadow::exclusive(thread));
-                self.last = self.pages.len();
+                self.places.note(number, self.pages.len());
                 self.pages.insert(number, page)?;
                 Ok(Reply::Quiet)
             }
@@ -110,11 +122,24 @@ impl<'t> ShadowMap<'t> {
         ensures own { states self.old stamp.now.word ≡ Exclusive stamp.now.thread → IsOk result }
         ensures refusals { ¬ IsErrOf result NoRoom.JournalFull }
     {
-        let locks = match stamp.kind {
-            Kind::Read => &stamp.held,
-            Kind::Write => &stamp.write_held,
+        let locks = match stamp.kind() {
+            Kind::Read => stamp.held(),
+            Kind::Write => stamp.write_held(),
         };
-        self.access(rt, stamp.thread, stamp.word, stamp.kind, locks)
+        self.access(rt, stamp.thread(), stamp.word(), stamp.kind(), locks)
+    }
+
+    /// Reads what stands for a word that will be accessed soon. Nothing waits for what is read, so several words of several pages come
+    /// from memory side by side, and are at hand at their accesses.
+    #[inline]
+    pub fn look_ahead(&mut self, word: Word)
+        ensures { self.new ≡ self.old }
+    {
+        let number = word.page();
+        if let Some(index) = index_of_page(&self.pages, self.places.hint(number), number) {
+            self.places.note(number, index);
+            self.ahead ^= self.pages[index].get(place_of(word)).bits();
+        }
     }
 
     /// Makes the words of a range virgin. It takes no memory.
@@ -150,17 +175,16 @@ impl<'t> ShadowMap<'t> {
     }
 }
 
-// Where the page of this number stands. It looks at the page at `last` first: most accesses are to the page of the access before, and
-// need no hash then.
+// Where the page of this number stands. It looks at the page at `hint` first, and needs no hash if that is the one.
 #[inline]
-fn index_of_page(pages: &IndexMap<u64, Page>, last: usize, number: u64) -> Option<usize>
+fn index_of_page(pages: &IndexMap<u64, Page>, hint: usize, number: u64) -> Option<usize>
     ensures key { IfSome result (λ index. slice_get (keys pages.now) index ≡ Some number) }
     ensures within { IfSome result (λ index. index < index_map_len pages.now) }
     ensures none { IfNone result (get nat_eq pages.now number ≡ None) }
     ensures unique { IsUnique nat_eq pages.now }
 {
-    match pages.as_slice().get_index(last) {
-        Some((key, _)) if *key == number => Some(last),
+    match pages.as_slice().get_index(hint) {
+        Some((key, _)) if *key == number => Some(hint),
         _ => pages.get_index_of(&number),
     }
 }

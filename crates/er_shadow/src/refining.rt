@@ -2,9 +2,10 @@
 ghost use Rattle.std.specs.Prelude.{◌≡◌, ◌<◌, ◌^◌, length, IsOk, IfOk, IsErrOf};
 ghost use Rattle.er_model.specs.Table.{advanced, reports};
 ghost use Rattle.er_owner.specs.Advancing.{need_of};
-ghost use Rattle.er_owner.specs.Numbering.{state_in, IsNumbered, IsNeedIn, IsRefined};
+ghost use Rattle.er_owner.specs.Numbering.{state_in, IsNumbered, IsNumberOf, IsNeedIn, IsRefined};
 ghost use Rattle.er_table.specs.Sets.{KeepsNumbers, set_at};
 
+use crate::Hints;
 use er_event::{Kind, Lockset, NoRoom, ThreadId, WordState};
 use er_owner::{Need, NumberedState, Shadow, advance, need};
 use er_table::Known;
@@ -15,6 +16,7 @@ use std::sync::Wait;
 pub(crate) fn step<R: Wait>(
     rt: &R,
     known: &mut Known,
+    covers: &mut Hints,
     shadow: Shadow,
     thread: ThreadId,
     kind: Kind,
@@ -28,12 +30,20 @@ pub(crate) fn step<R: Wait>(
     ensures refusals { ¬ IsErrOf result NoRoom.JournalFull }
     ensures free { need_of shadow thread ≡ Need.Nothing → IsOk result }
 {
-    let set = refined(rt, known, need(shadow, thread, kind), locks)?;
+    let key = key_of(thread, kind);
+    let set = refined(rt, known, covers, key, need(shadow, thread, kind), locks)?;
     Ok(advance(shadow, thread, kind, set))
 }
 
 // The number of the set that is needed. The thread's locks go into the table before what they have in common with the candidates.
-fn refined<R: Wait>(rt: &R, known: &mut Known, need: Need, locks: &Lockset) -> Result<u32, NoRoom>
+fn refined<R: Wait>(
+    rt: &R,
+    known: &mut Known,
+    covers: &mut Hints,
+    key: u64,
+    need: Need,
+    locks: &Lockset,
+) -> Result<u32, NoRoom>
     requires { IsNeedIn known.old need }
     ensures refined { IfOk result (λ set. IsRefined known.new need locks.now set) }
     ensures small { IfOk result (λ set. set < 2 ^ 30) }
@@ -43,9 +53,9 @@ fn refined<R: Wait>(rt: &R, known: &mut Known, need: Need, locks: &Lockset) -> R
 {
     let set = match need {
         Need::Nothing => return Ok(0),
-        Need::Fresh => known.number_of(rt, locks)?,
+        Need::Fresh => number_near(rt, known, covers, key, locks)?,
         Need::Meet(candidates) => {
-            let held = number_beside(rt, known, candidates, locks)?;
+            let held = number_beside(rt, known, covers, key, candidates, locks)?;
             known.intersect(rt, candidates, held)?
         }
     };
@@ -58,6 +68,8 @@ fn refined<R: Wait>(rt: &R, known: &mut Known, need: Need, locks: &Lockset) -> R
 fn number_beside<R: Wait>(
     rt: &R,
     known: &mut Known,
+    covers: &mut Hints,
+    key: u64,
     candidates: u32,
     locks: &Lockset,
 ) -> Result<u32, NoRoom>
@@ -70,8 +82,41 @@ fn number_beside<R: Wait>(
     if known.set(candidates) == locks {
         Ok(candidates)
     } else {
-        known.number_of(rt, locks)
+        number_near(rt, known, covers, key, locks)
     }
+}
+
+// The number of a thread's locks. They seldom change from one access to the next of the same kind, so the number that they had then is
+// tried first: two short lists are compared sooner than one is found by its hash.
+fn number_near<R: Wait>(
+    rt: &R,
+    known: &mut Known,
+    covers: &mut Hints,
+    key: u64,
+    locks: &Lockset,
+) -> Result<u32, NoRoom>
+    ensures number { IfOk result (λ n. n < length known.new) }
+    ensures names { IfOk result (λ n. set_at known.new n ≡ locks.now) }
+    ensures stands { IfOk result (λ n. IsNumberOf known.new n locks.now) }
+    ensures kept { KeepsNumbers known.old known.new }
+    ensures refusals { ¬ IsErrOf result NoRoom.JournalFull }
+{
+    let hint = covers.hint(key);
+    if hint < known.count() as usize && known.set(hint as u32) == locks {
+        return Ok(hint as u32);
+    }
+    let number = known.number_of(rt, locks)?;
+    covers.note(key, number as usize);
+    Ok(number)
+}
+
+// The key of a thread's accesses of a kind.
+fn key_of(thread: ThreadId, kind: Kind) -> u64 {
+    let reads = match kind {
+        Kind::Read => 1,
+        Kind::Write => 0,
+    };
+    u64::from(thread.number()) * 2 + reads
 }
 
 /// The state, with the set for its number.

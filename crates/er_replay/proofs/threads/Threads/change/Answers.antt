@@ -1,41 +1,55 @@
-use Rattle.std.proofs.Common.{◌≡◌, ap, ◌∙◌, sym, rules}
-use Rattle.std.proofs.lemmas.Map.Steps.{set_value_same}
+use Rattle.std.proofs.Common.{◌≡◌, ℕ, nat_eq, cond, Some, slice_get, ap, ◌∙◌, sym}
+use Rattle.std.specs.Map.{lookup}
+use Rattle.indexmap.specs.IndexMap.{values, with_value_at}
 use Rattle.er_held.specs.ThreadLocks.{holding_among}
 use Rattle.er_held.specs.Held.{nothing_held}
-use Rattle.er_replay.proofs.ThreadsLemmas.{err_from, err_is}
+use Rattle.er_model.specs.Holdings.{Holdings}
+use Rattle.er_replay.proofs.ThreadsLemmas.{err_from, err_is, holding_rewritten}
 use Rattle.er_replay.proofs.threads.Threads.change.Goals as goal
 use Rattle.er_held.proofs.MapLemmas.{holding_found, holding_absent, holding_written}
+use Rattle.er_shadow.proofs.PageLemmas.{page_found, page_put}
 use Rattle.er_event.proofs.Results.{on_ok, on_err}
 use Rattle.er_replay.proofs.threads.Threads.change.Goals.{In-Some, In-None}
 
-found : (c : In-Some) → c.in-Some.held.now ≡ holding_among c.args.self.now c.args.thread
-found c =
-    holding_found c.self.inside.held.entries c.args.thread c.in-Some.held.now c.in-Some.ensures.value
-    ∙ ap (λ threads. holding_among threads c.args.thread) c.self.view_is
+module _ (c : In-Some) (was : Holdings) (is : slice_get (values c.self.inside.held) c.in-Some.index ≡ Some was) where
+  -- the holdings that stand there are the thread's
+  here : was ≡ holding_among c.self.inside.held.entries c.args.thread
+  here = holding_found c.self.inside.held.entries c.args.thread was (page_found c.self.inside.held c.in-Some.index c.args.thread was c.in-Some.ensures.unique c.in-Some.ensures.key is)
+
+  found : was ≡ holding_among c.args.self.now c.args.thread
+  found = here ∙ ap (λ threads. holding_among threads c.args.thread) c.self.view_is
+
+  put : (w : Holdings) (q : ℕ) → lookup (nat_eq q) (with_value_at c.self.inside.held c.in-Some.index w).entries ≡ cond (nat_eq c.args.thread q) (Some w) (lookup (nat_eq q) c.self.inside.held.entries)
+  put = page_put c.self.inside.held c.in-Some.index c.args.thread was c.in-Some.ensures.unique c.in-Some.ensures.key is
 
 pub returns-in-Some-clause-accepted : goal.returns-in-Some-clause-accepted
-returns-in-Some-clause-accepted c = rw (← found (goal.at.returns-in-Some-clause-accepted c).In-Some) c.change.ensures.accepted
+returns-in-Some-clause-accepted c = rw (← found (goal.at.returns-in-Some-clause-accepted c).In-Some c.index_mut-held.result.now c.index_mut-held.ensures.value) c.change.ensures.accepted
 
 pub returns-in-Some-clause-refused : goal.returns-in-Some-clause-refused
-returns-in-Some-clause-refused c = rw (← found (goal.at.returns-in-Some-clause-refused c).In-Some) c.change.ensures.refused
+returns-in-Some-clause-refused c = rw (← found (goal.at.returns-in-Some-clause-refused c).In-Some c.index_mut-held.result.now c.index_mut-held.ensures.value) c.change.ensures.refused
 
 pub returns-in-Some-clause-memory : goal.returns-in-Some-clause-memory
-returns-in-Some-clause-memory c = rw (← found (goal.at.returns-in-Some-clause-memory c).In-Some) c.change.ensures.memory
+returns-in-Some-clause-memory c = rw (← found (goal.at.returns-in-Some-clause-memory c).In-Some c.index_mut-held.result.now c.index_mut-held.ensures.value) c.change.ensures.memory
 
 pub returns-in-Some-clause-ok : goal.returns-in-Some-clause-ok
 returns-in-Some-clause-ok c =
-    let is = found (goal.at.returns-in-Some-clause-ok c).In-Some in
-    rw (← is, ← c.self.view_is)
-    (on_ok c.change.result _ _ c.change.ensures.ok (λ new t. rw (← new) (holding_written c.self.inside.held.entries _ c.args.thread c.change.new.held ((c.get_mut.follows.holds c.change.new.held).3 (search rules)).0 t)))
+    let some = (goal.at.returns-in-Some-clause-ok c).In-Some in
+    let was = c.index_mut-held.result.now in
+    let is = c.index_mut-held.ensures.value in
+    rw (← found some was is, ← c.self.view_is)
+    (on_ok c.change.result _ _ c.change.ensures.ok (λ new t. rw (← new) (holding_written c.self.inside.held.entries _ c.args.thread c.change.new.held (put some was is c.change.new.held) t)))
 
 pub returns-in-Some-clause-err : goal.returns-in-Some-clause-err
 returns-in-Some-clause-err c =
-    let same = (c.get_mut.follows.holds c.in-Some.held.now).0 ∙ set_value_same _ c.self.inside.held.entries c.in-Some.held.now (sym c.in-Some.ensures.value) in
-    on_err c.change.result _ _ c.change.ensures.err (λ new t. ap (λ w. holding_among (c.get_mut.follows.lender w).entries t) new ∙ ap (λ threads. holding_among threads t) (same ∙ c.self.view_is))
+    let some = (goal.at.returns-in-Some-clause-err c).In-Some in
+    let was = c.index_mut-held.result.now in
+    let is = c.index_mut-held.ensures.value in
+    on_err c.change.result _ _ c.change.ensures.err (λ new t. ap (λ w. holding_among (with_value_at c.self.inside.held c.in-Some.index w).entries t) new
+    ∙ (holding_rewritten c.self.inside.held.entries _ c.args.thread was (here some was is) (put some was is was) t ∙ ap (λ threads. holding_among threads t) c.self.view_is))
 
 absent : (c : In-None) → nothing_held ≡ holding_among c.args.self.now c.args.thread
 absent c =
-    holding_absent c.self.inside.held.entries c.args.thread c.in-None.ensures.value
+    holding_absent c.self.inside.held.entries c.args.thread (sym c.in-None.ensures.none)
     ∙ ap (λ threads. holding_among threads c.args.thread) c.self.view_is
 
 pub returns-in_ok-insert-in-None-clause-accepted : goal.returns-in_ok-insert-in-None-clause-accepted
@@ -45,8 +59,8 @@ returns-in_ok-insert-in-None-clause-accepted c =
 pub returns-in_ok-insert-in-None-clause-ok : goal.returns-in_ok-insert-in-None-clause-ok
 returns-in_ok-insert-in-None-clause-ok c =
     let none = absent (goal.at.returns-in_ok-insert-in-None-clause-ok c).In-None in
-    rw (← none, ← c.self.view_is, ← c.get_mut.follows.holds-at-none, ← c.new-held.ensures, ← c.in_ok-change-in-None.ensures.ok)
-    (holding_written c.get_mut.follows.lender-at-none.entries _ c.args.thread c.change-in-None.new.held c.in_ok-insert-in-None.ensures.updates.0)
+    rw (← none, ← c.self.view_is, ← c.new-held.ensures, ← c.in_ok-change-in-None.ensures.ok)
+    (holding_written c.self.inside.held.entries _ c.args.thread c.change-in-None.new.held c.in_ok-insert-in-None.ensures.updates.0)
 
 pub returns-in_err-change-in-None-clause-refused : goal.returns-in_err-change-in-None-clause-refused
 returns-in_err-change-in-None-clause-refused c =

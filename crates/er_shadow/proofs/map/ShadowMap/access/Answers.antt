@@ -1,15 +1,14 @@
 -- The word's page was found, or made for it: in each case one word of one page is written, or none.
-use Rattle.std.proofs.Common.{◌≡◌, ◌∙◌, ◌==◌, ℕ, nat_eq, true≢false, IsSome, IsTrue, List, Result, Ok, Err, OnErr, cond, sym, subst, refl, ap, arith}
+use Rattle.std.proofs.Common.{◌≡◌, ◌∙◌, ℕ, true≢false, IsTrue, List, sym, subst, refl, ap, arith}
 use Rattle.er_model.specs.Words.{Counted}
 use Rattle.er_model.specs.Table.{advanced, moved, reports}
 use Rattle.er_event.specs.declared.steps.Reply.TheVariants.{Quiet}
 use Rattle.er_event.specs.declared.steps.WordState.{WordState}
 use Rattle.er_event.specs.declared.steps.WordState.TheVariants as known
-use Rattle.std.specs.Map.{lookup}
 use Rattle.er_owner.specs.Numbering.{IsNumbered, state_in}
 use Rattle.er_table.specs.Sets.{KeepsNumbers}
 use Rattle.er_shadow.specs.Replies.{reply_if}
-use Rattle.er_shadow.specs.Shadows.{Shadows, numbered_state, states, needs_set}
+use Rattle.er_shadow.specs.Shadows.{Shadows, states, needs_set}
 use Rattle.er_shadow.specs.declared.map.ShadowMap.TheInside.{Inside}
 use Rattle.er_shadow.proofs.Moves.{found_word, state_found, state_absent, unwritten_page, written_page, made_page, all_numbered, all_kept, states_kept, states_put, needs_from_need, own_needs_nothing}
 use Rattle.er_event.proofs.Results.{on_err_of}

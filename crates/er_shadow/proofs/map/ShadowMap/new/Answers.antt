@@ -10,8 +10,8 @@ unfolding numbered_state
 no_pages pages w none = ap (λ es. numbered_state es w) none
 
 pub invariant_of-result : goal.invariant_of-result
-invariant_of-result c = λ w. subst (λ s. IsNumbered c.in_ok-new.field-0 s) (sym (no_pages _ w c.new.ensures.empty)) tt
+invariant_of-result c = λ w. subst (λ s. IsNumbered c.in_ok-known.known s) (sym (no_pages _ w c.new-pages.ensures.empty)) tt
 
 pub returns : goal.returns
 unfolding states
-returns c = λ w. ap (λ s. state_in c.in_ok-new.field-0 s) (no_pages _ w c.new.ensures.empty)
+returns c = λ w. ap (λ s. state_in c.in_ok-known.known s) (no_pages _ w c.new-pages.ensures.empty)
