@@ -83,7 +83,7 @@ module _ (shards workers worker w t : ℕ) (h : Holdings) (before : WordState) (
       absurd (other (ap (λ (s : ℕ). s % workers) same ∙ mine))
   apart_reuse range false within other = refl
 
-  apart : (e : Event) → (worker_for shards workers e ≡ worker → ⊥) → moved before w (marked h t e) ≡ before
+  pub apart : (e : Event) → (worker_for shards workers e ≡ worker → ⊥) → moved before w (marked h t e) ≡ before
   apart (Access kind word site) other = apart_counted kind word (locks_for h kind) (nat_lt 0 h.depth) other
   apart (Reuse range) other = apart_reuse range (is_within w range) refl other
   apart (Show word) other = refl
@@ -95,7 +95,7 @@ module _ (shards workers worker w t : ℕ) (h : Holdings) (before : WordState) (
 
 -- a step's reply depends on the states of its own shard's words alone
 module _ (shards workers worker t : ℕ) (h : Holdings) (states others : ℕ → WordState) (same : (w : ℕ) → shard_of shards w % workers ≡ worker → states w ≡ others w) where
-  replied-same : (e : Event) → worker_for shards workers e ≡ worker → replied h states t e ≡ replied h others t e
+  pub replied-same : (e : Event) → worker_for shards workers e ≡ worker → replied h states t e ≡ replied h others t e
   replied-same (Access kind w site) mine = rw (same w mine) refl
   replied-same (Show w) mine = ap State (same w mine)
   replied-same (Reuse range) mine = refl
@@ -106,7 +106,7 @@ module _ (shards workers worker t : ℕ) (h : Holdings) (states others : ℕ →
   replied-same (Level n) mine = refl
 
   -- and so does whether it asks for a set
-  asks-same : (e : Event) → worker_for shards workers e ≡ worker → asks_by h states t e ≡ asks_by h others t e
+  pub asks-same : (e : Event) → worker_for shards workers e ≡ worker → asks_by h states t e ≡ asks_by h others t e
   asks-same (Access kind w site) mine = rw (same w mine) refl
   asks-same (Show w) mine = refl
   asks-same (Reuse range) mine = refl

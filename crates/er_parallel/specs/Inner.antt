@@ -1,1 +1,4 @@
+pub mod Crewing
 pub mod Following
+pub mod Merging
+pub mod Taking

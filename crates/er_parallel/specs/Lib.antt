@@ -1,3 +1,4 @@
+pub mod Crews
 pub mod Faults
 pub mod Found
 pub mod Inner

@@ -4,6 +4,10 @@
 //! many shards the words are and how many sets of locks the table takes. A [`ReplayFault`] says why there are no answers. Each worker
 //! enters a [`Gate`] for each of its shards before its first step. Tests use it to see that workers are at work at once.
 //!
+//! A [`Crew`] answers a list batch after batch: `take` returns the answers of a batch that aren't the usual ones, each with its position
+//! ([`Unusual`]). It stands for the steps that it has taken (`HaveAnswered`), and its answers are those of the definitions for the whole
+//! list so far (`answers`), for any number of workers and shards.
+//!
 //! A worker has a machine of its own, which answers the steps of the worker's shards and passes all others.
 //!
 //! What it promises, by the names of clauses: where there is an outcome nothing stopped (`stopped`), and the answers are those that the
@@ -14,17 +18,30 @@
 //! let config = ReplayConfig::new(8, 1_048_576).ok_or("out of the limits")?;
 //! let outcome = replay_parallel(rt, alloc, config, steps, 4, &OpenGate)?;
 //! ```
+//!
+//! A crew answers one batch while its caller reads the next:
+//!
+//! ```text
+//! let mut crew = Crew::new(rt, alloc, &table, config, 4)?;
+//! let (unusual, read) = thread::join_mut(rt, &mut || crew.take(rt, steps), &mut || read_more(&mut next));
+//! ```
 #![tactic(auto)]
 
 pub use config::ReplayConfig;
+pub use crew::Crew;
 pub use er_gate::{Gate, OpenGate, PairGate};
 pub use faults::ReplayFault;
 pub use replay::replay_parallel;
+pub use unusual::Unusual;
 
 mod config;
+mod crew;
 mod faults;
 mod gathering;
+mod merging;
 mod replay;
 mod task;
+mod unusual;
 mod worked;
+mod worker;
 mod workers;

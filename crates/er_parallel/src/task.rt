@@ -15,6 +15,15 @@ pub(crate) struct Task<'s> {
     pub(crate) workers: u32,
 }
 
+/// A worker's share of all steps: of so many workers, the one of this number answers the steps of the shards that have its number modulo
+/// theirs. A step that is on no word goes with shard 0.
+#[derive(Clone, Copy)]
+pub(crate) struct Share {
+    pub(crate) shards: u32,
+    pub(crate) worker: u32,
+    pub(crate) workers: u32,
+}
+
 /// The shard of an event's words. An event on no word goes with shard 0.
 #[inline]
 pub(crate) fn shard_for(shards: u32, event: Event) -> u32
@@ -65,6 +74,7 @@ fn remainder(number: u64, by: u32) -> u32
     ensures limit { result < by }
 {
     match by {
+        1 => 0,
         2 => (number % 2) as u32,
         4 => (number % 4) as u32,
         8 => (number % 8) as u32,

@@ -79,7 +79,7 @@ fn go_on<R: Wait>(
 
 // Whether it is the usual answer to the step.
 #[inline]
-fn is_usual(step: &Step, answer: &Result<Reply, Refusal>) -> bool
+pub(crate) fn is_usual(step: &Step, answer: &Result<Reply, Refusal>) -> bool
     ensures { IsTrue result → answer.now ≡ usual step.now.event }
 {
     let Step { event, .. } = *step;

@@ -1,0 +1,32 @@
+use Rattle.std.proofs.Common.{◌≡◌, sym, ◌∙◌, IsFalse}
+use Rattle.er_parallel.specs.Tasks.{worker_for}
+use Rattle.er_parallel.proofs.FollowingLemmas.{usual-found}
+use Rattle.er_parallel.proofs.TakingLemmas.{come-asks, come-past, come-usual, come-found, full-answer}
+use Rattle.er_replay.specs.Standing.{found_no_room}
+use Rattle.er_parallel.proofs.worker.go_on.Goals as goal
+
+pub returns-then-worker_for-share-clause-far : goal.returns-then-worker_for-share-clause-far
+returns-then-worker_for-share-clause-far g c past come =
+    come-past past c.args.steps.now c.args.share c.args.at c.args.step.now c.requires.there c.args.found.now.items c.args.machine.now c.pass.new.self come c.in_ok-pass.ensures.holdings
+    (λ mine. c.if-worker_for-share.true (c.worker_for.ensures ∙ mine)) c.in_ok-pass.ensures.states
+
+pub returns-then-is_usual-clause-far : goal.returns-then-is_usual-clause-far
+returns-then-is_usual-clause-far g c past come =
+    let mine : worker_for c.args.share.shards c.args.share.workers c.args.step.now.event ≡ c.args.share.worker = sym c.worker_for.ensures ∙ c.if-worker_for-share.false in
+    let usual = c.is_usual.ensures c.if-is_usual.true in
+    let room : IsFalse (found_no_room c.step-answer.result) = usual-found c.args.step.now.event c.step-answer.result usual in
+    come-usual past c.args.steps.now c.args.share c.args.at c.args.step.now c.requires.there c.args.found.now.items c.args.machine.now c.step-answer.new.self come (c.step-answer.ensures.holdings room)
+    mine c.step-answer.result (c.step-answer.ensures.answered room) (c.step-answer.ensures.states room) usual
+
+pub returns-in-Some-clause-full : goal.returns-in-Some-clause-full
+returns-in-Some-clause-full g c past come full =
+    let mine : worker_for c.args.share.shards c.args.share.workers c.args.step.now.event ≡ c.args.share.worker = sym c.worker_for.ensures ∙ c.if-worker_for-share.false in
+    come-asks past c.args.steps.now c.args.share c.args.at c.args.step.now c.requires.there c.args.found.now.items c.args.machine.now c.step-answer.new.self come mine
+    (c.step-answer.ensures.table_full (full-answer c.step-answer.result c.in-Some.cause c.in-Some.ensures (let e = full in cc)))
+
+pub returns-clause-far : goal.returns-clause-far
+returns-clause-far g c past come =
+    let mine : worker_for c.args.share.shards c.args.share.workers c.args.step.now.event ≡ c.args.share.worker = sym c.worker_for.ensures ∙ c.if-worker_for-share.false in
+    let room : IsFalse (found_no_room c.step-answer.result) = c.in_default.ensures in
+    come-found past c.args.steps.now c.args.share c.args.at c.args.step.now c.requires.there c.args.found.now.items c.args.machine.now c.step-answer.new.self come (c.step-answer.ensures.holdings room)
+    mine c.step-answer.result (c.step-answer.ensures.answered room) (c.step-answer.ensures.states room) c.in_ok-held.held c.push_back.new.self.items c.in_ok-held.ensures c.in_ok-push_back.ensures.items

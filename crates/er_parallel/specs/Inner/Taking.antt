@@ -1,0 +1,47 @@
+-- How far a worker has come in a batch.
+use Rattle.std.specs.Prelude.{◌≡◌, ◌⊎◌, ◌<◌, ◌+◌, ◌%◌, ◌++◌, ℕ, List, length, slice_get, Some, MatchOption}
+use Rattle.er_event.specs.declared.steps.Event.{Event}
+use Rattle.er_event.specs.declared.steps.Step.{Step}
+use Rattle.er_journal.specs.Merges.{shard_of}
+use Rattle.er_model.specs.Answers.{answer, state_at}
+use Rattle.er_model.specs.Holdings.{holdings_at}
+use Rattle.er_parallel.specs.Crews.{IsAmong, IsAnswered, HasFollowed, Rise}
+use Rattle.er_parallel.specs.Found.{usual}
+use Rattle.er_parallel.specs.Tasks.{worker_for}
+use Rattle.er_parallel.specs.Work.{MayBeFull}
+use Rattle.er_parallel.specs.declared.task.Share.{Share}
+use Rattle.er_parallel.specs.declared.unusual.Unusual.{Unusual}
+use Rattle.er_parallel.specs.declared.worker.Worker.{Worker}
+use Rattle.er_replay.specs.Standing.{Replayed, holding, states}
+
+-- the worker that has the share answers the event
+abbrev pub IsOwn : Share → Event → Type 0
+IsOwn share event = worker_for share.shards share.workers event ≡ share.worker
+
+-- of some steps after this past, the positions of the items rise, and each has the answer to a step that passes the test
+pub record AreFound (own : Event → Type 0) (past batch : List Step) (items : List Unusual) : Type 0 where
+  pub rise : Rise items
+  pub right : (j : ℕ) (item : Unusual) → slice_get items j ≡ Some item → IsAnswered past batch item
+  pub owned : (j : ℕ) (item : Unusual) (step : Step) → slice_get items j ≡ Some item → slice_get batch item.at ≡ Some step → own step.event
+
+-- after the first n steps of the batch a worker's items are below n, and each step of its own without an item is answered as usual
+pub record IsFoundSoFar (n : ℕ) (past : List Step) (batch : List Step) (share : Share) (items : List Unusual) : Type 0 where
+  pub found : AreFound (IsOwn share) past batch items
+  pub below : (j : ℕ) (item : Unusual) → slice_get items j ≡ Some item → item.at < n
+  pub whole : (k : ℕ) (step : Step) → k < n → slice_get batch k ≡ Some step → IsOwn share step.event →
+      (answer (past ++ batch) (length past + k) ≡ usual step.event) ⊎ IsAmong items k
+
+-- after the first n steps its machine has every thread's holdings and the states of its own shards' words, and it has its items
+pub record HasCome (n : ℕ) (past : List Step) (batch : List Step) (share : Share) (items : List Unusual) (machine : Replayed) : Type 0 where
+  pub held : (t : ℕ) → holding machine t ≡ holdings_at (past ++ batch) t (length past + n)
+  pub words : (w : ℕ) → shard_of share.shards w % share.workers ≡ share.worker → states machine w ≡ state_at (past ++ batch) w (length past + n)
+  pub found : IsFoundSoFar n past batch share items
+
+-- it has followed the batch and found its items
+pub record HasDone (past : List Step) (batch : List Step) (share : Share) (items : List Unusual) (machine : Replayed) : Type 0 where
+  pub followed : HasFollowed share.shards share.workers share.worker (past ++ batch) machine
+  pub found : IsFoundSoFar (length batch) past batch share items
+
+-- or it has a fault, which says that the table is full only if some step asks it for a set
+abbrev pub HasTaken : List Step → List Step → Share → Worker → Type 0
+HasTaken past batch share worker = MatchOption worker.fault (HasDone past batch share worker.found.items worker.machine) (λ fault. MayBeFull (past ++ batch) fault)

@@ -1,0 +1,260 @@
+//! Workers that answer the steps of a list, one batch after another.
+ghost use Rattle.std.specs.Prelude.{◌≡◌, ◌⊎◌, ◌<◌, ◌≤◌, ◌+◌, ◌++◌, [], ℕ, List, length, slice_get, slice_index_or, IfOk, OnOk, IfErr, IsTrue, MatchOption, Some};
+ghost use Rattle.er_event.specs.declared.steps.Step.{Step as Steps};
+ghost use Rattle.er_parallel.specs.Crews.{AreUnusual, HaveAnswered};
+ghost use Rattle.er_parallel.specs.Faults.{MayFail};
+ghost use Rattle.er_parallel.specs.Crews.{HasFollowed};
+ghost use Rattle.er_parallel.specs.Inner.Crewing.{AreFresh, IsLeastFault, NoFaultBelow};
+ghost use Rattle.er_parallel.specs.Inner.Merging.{machines_of};
+ghost use Rattle.er_parallel.specs.Inner.Taking.{HasTaken};
+ghost use Rattle.er_parallel.specs.Work.{IsLesser};
+ghost use Rattle.er_parallel.specs.declared.worker.Worker.{Worker as Workers};
+ghost use Rattle.er_replay.specs.Standing.{Stands};
+
+use crate::merging::merge;
+use crate::task::Share;
+use crate::worked::WorkFault;
+use crate::worker::{Fresh, Worker};
+use crate::{ReplayConfig, ReplayFault, Unusual};
+use er_event::Step;
+use er_table::LocksetTable;
+use std::alloc::{AllocError, Global};
+use std::marker::Model;
+use std::sync::Wait;
+use std::thread;
+use std::thread::{PromisedHandle, Threads};
+
+/// Workers that answer the steps of a list, one batch after another.
+#[derive(Drop)]
+pub struct Crew<'t> {
+    alloc: Global,
+    shards: u32,
+    workers: Vec<Worker<'t>>,
+}
+
+impl<'t> Model for Crew<'t> {
+    ghost use Rattle.std.specs.Prelude.{◌≤◌, map, length};
+    ghost use Rattle.er_parallel.specs.Crews.{Crewed};
+    ghost use Rattle.er_parallel.specs.Limits.{IsShardCount};
+
+    ghost Value = { Crewed };
+
+    ghost view = { λ c. record { shards = c.shards; machines = map (λ w. w.machine) c.workers.items } };
+
+    ghost invariant = { λ c. IsShardCount c.shards × (1 ≤ length c.workers.items) × (length c.workers.items ≤ 16) };
+}
+
+impl<'t> Crew<'t> {
+    /// Workers that have answered no step, 1 to 16, each with a machine of its own. The words are in shards by their pages, and worker
+    /// `w` answers the steps of the shards whose number is `w` modulo the number of workers.
+    ///
+    /// Each machine is made by a thread of its worker's. The fault is `WorkerNotStarted` if a thread for one of them can't be started,
+    /// and `Memory` if there is no memory.
+    pub fn new<R: Threads + Wait + Sync>(
+        rt: &R,
+        alloc: Global,
+        table: &'t LocksetTable,
+        config: ReplayConfig,
+        workers: u32,
+    ) -> Result<Crew<'t>, ReplayFault>
+        requires { (1 ≤ workers) × (workers ≤ 16) }
+        ensures none { IfOk result (λ crew. HaveAnswered crew []) }
+        ensures fault { IfErr result (λ why. (why ≡ ReplayFault.Memory) ⊎ (why ≡ ReplayFault.WorkerNotStarted)) }
+    {
+        let ReplayConfig { shards, .. } = config;
+        match start(rt, alloc, table, workers) {
+            Ok(workers) => Ok(Crew {
+                alloc,
+                shards,
+                workers,
+            }),
+            Err(why) => Err(why),
+        }
+    }
+
+    /// Answers the next steps and returns the answers that aren't the usual ones, by rising position. Every other step of the batch has
+    /// its usual answer. Each worker has a thread of its own if one can be started. Otherwise the workers of a thread go one after
+    /// another.
+    ///
+    /// Each worker stops at the first step that finds no room. The fault is then that of the least shard whose step found none,
+    /// `TableFull` or `Memory`. `Memory` also comes if the list of answers finds none. After a fault the workers may have answered
+    /// different parts of the batch.
+    pub fn take<R: Threads + Wait + Sync>(
+        &mut self,
+        rt: &R,
+        steps: &[Step],
+    ) -> Result<Vec<Unusual>, ReplayFault>
+        ensures goes_on { (past : List Steps) → HaveAnswered self.old past → OnOk result (HaveAnswered self.new (past ++ steps.now)) }
+        ensures answers { (past : List Steps) → HaveAnswered self.old past → IfOk result (λ unusual. AreUnusual past steps.now unusual.items) }
+
+        // The table is full only if some step, as the list stands before it, asks for a set. No worker is lost.
+        ensures fault { (past : List Steps) → HaveAnswered self.old past → IfErr result (λ why. MayFail (past ++ steps.now) why) }
+    {
+        take_batch(
+            rt,
+            self.alloc,
+            self.shards,
+            self.workers.as_mut_slice(),
+            steps,
+        )
+    }
+}
+
+// What `take` does, on the workers themselves.
+fn take_batch<R: Threads + Wait + Sync>(
+    rt: &R,
+    alloc: Global,
+    shards: u32,
+    workers: &mut [Worker<'_>],
+    steps: &[Step],
+) -> Result<Vec<Unusual>, ReplayFault>
+    requires { (1 ≤ shards) × (shards ≤ 64) × (1 ≤ length workers.old) × (length workers.old ≤ 16) }
+    ensures count { length workers.new ≡ length workers.old }
+    ensures goes_on { (past : List Steps) → HaveAnswered (record { shards = shards; machines = machines_of workers.old }) past → OnOk result (HaveAnswered (record { shards = shards; machines = machines_of workers.new }) (past ++ steps.now)) }
+    ensures answers { (past : List Steps) → HaveAnswered (record { shards = shards; machines = machines_of workers.old }) past → IfOk result (λ unusual. AreUnusual past steps.now unusual.items) }
+    ensures fault { (past : List Steps) → HaveAnswered (record { shards = shards; machines = machines_of workers.old }) past → IfErr result (λ why. MayFail (past ++ steps.now) why) }
+{
+    answer_each(rt, alloc, shards, workers, steps);
+    if let Some(fault) = least_fault(workers) {
+        return Err(ReplayFault::from(fault.cause));
+    }
+    let items = merge(alloc, workers)?;
+    Ok(items)
+}
+
+// Workers that have answered no step. A thread of each makes it. All threads that were started are joined.
+fn start<'t, R: Threads + Wait + Sync>(
+    rt: &R,
+    alloc: Global,
+    table: &'t LocksetTable,
+    workers: u32,
+) -> Result<Vec<Worker<'t>>, ReplayFault>
+    requires { (1 ≤ workers) × (workers ≤ 16) }
+    ensures count { IfOk result (λ all. length all.items ≡ workers) }
+    ensures fresh { IfOk result (λ all. AreFresh all.items) }
+    ensures fault { IfErr result (λ why. (why ≡ ReplayFault.Memory) ⊎ (why ≡ ReplayFault.WorkerNotStarted)) }
+{
+    thread::scope(
+        thread::scope_env(),
+        rt,
+        |scope| -> Result<Vec<Worker>, ReplayFault>
+            requires { (1 ≤ workers) × (workers ≤ 16) }
+            ensures count { IfOk result (λ all. length all.items ≡ workers) }
+            ensures fresh { IfOk result (λ all. AreFresh all.items) }
+            ensures fault { IfErr result (λ why. (why ≡ ReplayFault.Memory) ⊎ (why ≡ ReplayFault.WorkerNotStarted)) }
+        {
+            let mut handles = Vec::with_capacity(alloc, workers as usize)?;
+            for _ in 0..workers {
+                let started = scope.spawn_with(
+                    Fresh,
+                    move || -> Result<Worker, AllocError>
+                        ensures { IfOk result (λ worker. Stands worker.machine []) }
+                    { Worker::new(alloc, table) },
+                );
+                let Ok(handle) = started else {
+                    // Those that were started are waited for all the same.
+                    let _ = join_all(rt, alloc, handles);
+                    return Err(ReplayFault::WorkerNotStarted);
+                };
+                handles.push_reserved(handle);
+            }
+            match join_all(rt, alloc, handles) {
+                Ok(all) => Ok(all),
+                Err(AllocError) => Err(ReplayFault::Memory),
+            }
+        },
+    )
+}
+
+// Joins all threads that make workers, also if one of them has found no memory.
+fn join_all<'t, R: Threads>(
+    rt: &R,
+    alloc: Global,
+    handles: Vec<PromisedHandle<Result<Worker<'t>, AllocError>, Fresh>>,
+) -> Result<Vec<Worker<'t>>, AllocError>
+    ensures count { IfOk result (λ all. length all.items ≡ length handles.entry.items) }
+    ensures fresh { IfOk result (λ all. AreFresh all.items) }
+{
+    let mut all = Vec::new(alloc);
+    let mut lacking = false;
+    for handle in handles {
+        if !add(&mut all, handle.join(rt)) {
+            lacking = true;
+        }
+    }
+    if lacking {
+        return Err(AllocError);
+    }
+    Ok(all)
+}
+
+// Adds a worker that was made, and says whether it is there.
+fn add<'t>(all: &mut Vec<Worker<'t>>, made: Result<Worker<'t>, AllocError>) -> bool
+    requires { IfOk made (λ worker. Stands worker.machine []) }
+    ensures fresh { AreFresh all.old.items → AreFresh all.new.items }
+    ensures count { IsTrue result → length all.new.items ≡ length all.old.items + 1 }
+{
+    let Ok(worker) = made else {
+        return false;
+    };
+    all.push(worker).is_ok()
+}
+
+// Each worker answers its steps of the batch, in a thread of its own if one can be started.
+fn answer_each<R: Threads + Wait + Sync>(
+    rt: &R,
+    alloc: Global,
+    shards: u32,
+    workers: &mut [Worker<'_>],
+    steps: &[Step],
+)
+    requires { (1 ≤ shards) × (shards ≤ 64) × (1 ≤ length workers.old) × (length workers.old ≤ 16) }
+    ensures count { length workers.new ≡ length workers.old }
+    ensures taken { (past : List Steps) (i : ℕ) (d : Workers) → i < length workers.old → HasFollowed shards (length workers.old) i past (slice_index_or workers.old i d).machine
+        → HasTaken past steps.now (record { shards = shards; worker = i; workers = length workers.old }) (slice_index_or workers.new i d) }
+{
+    let count = workers.len();
+    thread::for_each_mut(
+        rt,
+        workers,
+        count,
+        &|at: usize, worker: &mut Worker<'_>|
+            requires { (1 ≤ shards) × (shards ≤ 64) × (at < count) × (count ≤ 16) }
+            ensures { (past : List Steps) → HasFollowed shards count at past worker.entry.now.machine → HasTaken past steps.entry.now (record { shards = shards; worker = at; workers = count }) worker.exit.now }
+        {
+            worker.take(
+                rt,
+                alloc,
+                steps,
+                Share {
+                    shards,
+                    worker: at as u32,
+                    workers: count as u32,
+                },
+            );
+        },
+    );
+}
+
+// The fault of the least shard that has one. Of two faults of one shard it is the later worker's.
+fn least_fault(workers: &[Worker<'_>]) -> Option<WorkFault>
+    ensures { MatchOption result (NoFaultBelow (length workers.now) workers.now) (λ fault. IsLeastFault (length workers.now) workers.now fault) }
+{
+    let mut least = None;
+    for worker in workers {
+        if let Some(fault) = worker.fault {
+            least = Some(lesser(least, fault));
+        }
+    }
+    least
+}
+
+// The fault of the lesser shard, and of two faults of one shard the other.
+fn lesser(known: Option<WorkFault>, other: WorkFault) -> WorkFault
+    ensures { IsLesser known other result }
+{
+    match known {
+        Some(known) if known.shard < other.shard => known,
+        _ => other,
+    }
+}

@@ -1,0 +1,137 @@
+//! A worker of a crew: it answers the steps of its shards, and follows what the other steps make of their threads' holdings.
+ghost use Rattle.std.specs.Prelude.{◌≡◌, ◌+◌, ◌++◌, [], List, length, slice_get, IsTrue, IsSome, IfOk, OnOk, OnErr, IsErrOf, IfErr, MatchResult, Ok, Some};
+ghost use Rattle.er_event.specs.declared.steps.Step.{Step as Steps};
+ghost use Rattle.er_parallel.specs.Crews.{HasFollowed};
+ghost use Rattle.er_parallel.specs.Faults.{AsksForSet};
+ghost use Rattle.er_parallel.specs.Found.{usual};
+ghost use Rattle.er_parallel.specs.Inner.Taking.{HasCome, HasDone, HasTaken};
+ghost use Rattle.er_parallel.specs.Tasks.{IsShare};
+ghost use Rattle.er_parallel.specs.Work.{MayBeFull};
+ghost use Rattle.er_replay.specs.Standing.{holding, Stands};
+
+use crate::Unusual;
+use crate::task::{Share, shard_for, worker_for};
+use crate::worked::{WorkFault, is_usual};
+use er_event::{Lockset, NoRoom, Refusal, Reply, Step, ThreadId};
+use er_replay::{Machine, no_room};
+use er_table::LocksetTable;
+use std::alloc::{AllocError, Global};
+use std::collections::VecDeque;
+use std::sync::Wait;
+use std::thread::Promise;
+
+/// What a thread that makes a worker promises: the worker has answered no step.
+#[derive(Drop)]
+pub(crate) struct Fresh;
+
+impl<'t> Promise<Result<Worker<'t>, AllocError>> for Fresh {
+    ghost use Rattle.std.specs.Prelude.{[], IfOk};
+    ghost use Rattle.er_replay.specs.Standing.{Stands};
+
+    ghost kept_by = { λ _ r. IfOk r (λ worker. Stands worker.machine []) };
+}
+
+/// A worker: its machine, and what it found in the last batch.
+#[derive(Drop)]
+pub(crate) struct Worker<'t> {
+    pub(crate) machine: Machine<'t>,
+    pub(crate) found: VecDeque<Unusual>,
+    pub(crate) fault: Option<WorkFault>,
+}
+
+impl<'t> Worker<'t> {
+    /// A worker that has answered no step.
+    pub(crate) fn new(alloc: Global, table: &'t LocksetTable) -> Result<Worker<'t>, AllocError>
+        ensures { IfOk result (λ worker. Stands worker.machine []) }
+    {
+        Ok(Worker {
+            machine: Machine::new(alloc, table)?,
+            found: VecDeque::new(alloc),
+            fault: None,
+        })
+    }
+
+    /// Answers the steps of a batch that are its own. Its unusual answers stay in `found`, or the reason why there are none in `fault`.
+    pub(crate) fn take<R: Wait>(&mut self, rt: &R, alloc: Global, steps: &[Step], share: Share)
+        requires { IsShare share }
+        ensures { (past : List Steps) → HasFollowed share.shards share.workers share.worker past self.old.machine → HasTaken past steps.now share self.new }
+    {
+        self.found.clear();
+        self.fault = match answer_all(rt, alloc, steps, share, &mut self.machine, &mut self.found) {
+            Ok(()) => None,
+            Err(fault) => Some(fault),
+        };
+    }
+}
+
+// Answers the steps of a batch that are the worker's own.
+fn answer_all<R: Wait>(
+    rt: &R,
+    alloc: Global,
+    steps: &[Step],
+    share: Share,
+    machine: &mut Machine<'_>,
+    found: &mut VecDeque<Unusual>,
+) -> Result<(), WorkFault>
+    requires share { IsShare share }
+    requires empty { found.old.items ≡ [] }
+    ensures done { (past : List Steps) → HasFollowed share.shards share.workers share.worker past machine.old → OnOk result (HasDone past steps.now share found.new.items machine.new) }
+    ensures fault { (past : List Steps) → HasFollowed share.shards share.workers share.worker past machine.old → IfErr result (λ fault. MayBeFull (past ++ steps.now) fault) }
+{
+    for (at, step) in steps.iter().enumerate() {
+        if let Err(cause) = go_on(rt, alloc, steps, share, at, step, machine, found) {
+            let Step { event, .. } = *step;
+            let shard = shard_for(share.shards, event);
+            return Err(WorkFault { shard, cause });
+        }
+    }
+    Ok(())
+}
+
+// Takes the next step of a batch, and puts its answer down unless it is another worker's step or the answer is the usual one.
+fn go_on<R: Wait>(
+    rt: &R,
+    alloc: Global,
+    steps: &[Step],
+    share: Share,
+    at: usize,
+    step: &Step,
+    machine: &mut Machine<'_>,
+    found: &mut VecDeque<Unusual>,
+) -> Result<(), NoRoom>
+    requires share { IsShare share }
+    requires there { slice_get steps.now at ≡ Some step.now }
+    ensures far { (past : List Steps) → HasCome at past steps.now share found.old.items machine.old → OnOk result (HasCome (at + 1) past steps.now share found.new.items machine.new) }
+    ensures full { (past : List Steps) → HasCome at past steps.now share found.old.items machine.old → IsErrOf result NoRoom.TableFull → AsksForSet (past ++ steps.now) }
+{
+    let Step { thread, event } = *step;
+    if worker_for(share.shards, share.workers, event) != share.worker {
+        machine.pass(*step)?;
+        return Ok(());
+    }
+    let answer = machine.step(rt, *step);
+    if is_usual(step, &answer) {
+        return Ok(());
+    }
+    if let Some(cause) = no_room(&answer) {
+        return Err(cause);
+    }
+    let held = locks_at_race(alloc, machine, thread, &answer)?;
+    found.push_back(Unusual { at, answer, held })?;
+    Ok(())
+}
+
+// The locks that the thread holds, if the answer is a race.
+fn locks_at_race(
+    alloc: Global,
+    machine: &Machine<'_>,
+    thread: ThreadId,
+    answer: &Result<Reply, Refusal>,
+) -> Result<Lockset, AllocError>
+    ensures { answer.now ≡ Ok Reply.Race → IfOk result (λ locks. locks ≡ (holding machine.now thread).held) }
+{
+    match answer {
+        Ok(Reply::Race) => machine.held(thread).held().copy(),
+        _ => Ok(Lockset::new(alloc)),
+    }
+}
