@@ -1,0 +1,97 @@
+-- A list grows by a step; a shadow word may have numbers of epochs; and the latest reads are of distinct threads.
+use Rattle.std.proofs.Common.{◌≡◌, ℕ, zero, suc, ◌<◌, ◌≤◌, Bool, true, false, ◌&&◌, not, cond, List, [], ◌∷◌, ◌++◌, filter, map, length, Option, refl, sym, ◌∙◌, arith, ⊎_elim, inl, inr, ◌⊎◌}
+use Rattle.std.proofs.lemmas.Bool.{and_parts, both_ways, not-true}
+use Rattle.er_event.specs.Lockset.{has}
+use Rattle.er_event.proofs.LocksetLemmas.{has-filtered}
+use Rattle.er_event.specs.declared.steps.Event.TheVariants.{Access}
+use Rattle.er_event.specs.declared.steps.Kind.{Kind}
+use Rattle.er_event.specs.declared.steps.Kind.TheVariants.{Read as reading, Write as writing}
+use Rattle.er_model.specs.Words.{Reading, writes, counted_from}
+use Rattle.er_event.proofs.Lists.{get_front, get_last}
+use Rattle.er_order.specs.declared.steps.OrderEvent.TheVariants.{Plain}
+use Rattle.er_order.specs.declared.steps.OrderStep.{OrderStep}
+use Rattle.er_order.specs.Steps.{marks_of, held_at}
+use Rattle.er_order.specs.Order.{acts_of}
+use Rattle.er_order.specs.Clocks.{Epoch, OfThread, clocks_at}
+use Rattle.er_order.specs.Races.{Order, order_answer, latest_from}
+use Rattle.er_order.specs.Following.{Kept, Reported, Seen, kept_at, kept_after, access_answered, is_unordered, kept_by, reports_at, Shadow, Numbers, Told, epoch_numbered, kept_of, numbers_race, numbers_by, shadow_by}
+use Rattle.er_order.proofs.Order.{next-cases}
+use Rattle.er_order.proofs.StepLemmas.{some-at, held-front, clocks-front}
+use Rattle.er_order.proofs.RaceLemmas.{latest-in}
+use Rattle.er_order.proofs.Following.{kept-none, kept-step, answer-access, any-mapped, filter-mapped}
+
+module _ (steps more : List OrderStep) where
+  pub kept-front : (w n : ℕ) → n ≤ length steps → kept_at (steps ++ more) w n ≡ kept_at steps w n
+  kept-front w zero below = kept-none (acts_of (steps ++ more)) (marks_of (steps ++ more)) w ∙ sym (kept-none (acts_of steps) (marks_of steps) w)
+  kept-front w (suc n) below =
+      let at = some-at steps n (omega arith) in
+      kept-step (steps ++ more) n at.0 (get_front steps more n (omega arith) ∙ at.1) w
+      ∙ rw (held-front steps more at.0.thread n (omega arith), clocks-front steps more n (omega arith), kept-front w n (omega arith))
+      (sym (kept-step steps n at.0 at.1 w))
+
+module _ (steps : List OrderStep) (s : OrderStep) where
+  pub kept-grow : (w : ℕ) → kept_at (steps ++ s ∷ []) w (suc (length steps)) ≡
+      kept_after (held_at steps s.thread (length steps)) (clocks_at (acts_of steps) (length steps) (OfThread s.thread)) (kept_at steps w (length steps)) w s
+  kept-grow w =
+      kept-step (steps ++ s ∷ []) (length steps) s (get_last steps s) w
+      ∙ rw (clocks-front steps (s ∷ []) (length steps) (omega arith), held-front steps (s ∷ []) s.thread (length steps) (omega arith), kept-front steps (s ∷ []) w (length steps) (omega arith)) refl
+
+  pub answer-grow : (w site : ℕ) (kind : Kind) → s.event ≡ Plain (Access kind w site) → order_answer (steps ++ s ∷ []) (length steps) ≡
+      access_answered (held_at steps s.thread (length steps)) (clocks_at (acts_of steps) (length steps) (OfThread s.thread)) (kept_at steps w (length steps)) kind s
+  answer-grow w site kind event =
+      answer-access (steps ++ s ∷ []) (length steps) s (get_last steps s) w site kind event
+      ∙ rw (clocks-front steps (s ∷ []) (length steps) (omega arith), held-front steps (s ∷ []) s.thread (length steps) (omega arith), kept-front steps (s ∷ []) w (length steps) (omega arith)) refl
+
+-- numbers of epochs
+module _ (epochs : ℕ → Epoch) (clock : ℕ → ℕ) (y t : ℕ) (is : epochs y ≡ (t, clock t)) where
+  race-numbered : (write : Option ℕ) (reads : List ℕ) (kind : Kind) →
+      numbers_race epochs clock write reads kind ≡ Rattle.er_order.specs.Following.races_with clock (epoch_numbered epochs write) (map epochs reads) kind
+  race-numbered write reads kind = rw (any-mapped (λ x. is_unordered clock (epochs x)) (is_unordered clock) epochs reads (λ j member. refl)) refl
+
+  by_numbered : (write : Option ℕ) (reads : List ℕ) (kind : Kind) →
+      kept_of epochs (numbers_by epochs clock write reads y kind) ≡ Rattle.er_order.specs.Following.seen_by clock (epoch_numbered epochs write) (map epochs reads) t kind
+  by_numbered write reads reading = rw (is, filter-mapped (λ x. is_unordered clock (epochs x)) (is_unordered clock) epochs reads (λ j member. refl)) refl
+  by_numbered write reads writing = rw is refl
+
+  kept_cond : (b : Bool) (s : Shadow) → kept_of epochs (cond b Told s) ≡ cond b Reported (kept_of epochs s)
+  kept_cond true s = refl
+  kept_cond false s = refl
+
+  pub shadow-kept : (s : Shadow) (kind : Kind) → kept_of epochs (shadow_by epochs clock s y kind) ≡ kept_by clock (kept_of epochs s) t kind
+  shadow-kept Told kind = refl
+  shadow-kept (Numbers write reads) kind =
+      kept_cond (numbers_race epochs clock write reads kind) (numbers_by epochs clock write reads y kind)
+      ∙ rw (race-numbered write reads kind, by_numbered write reads kind) refl
+
+-- two of the latest reads aren't in order
+module _ (order : Order) (r : Reading) (w start : ℕ) where
+  apart_cases : (n i : ℕ) → has (latest_from order r w start (suc n)) i ≡ true → ((n ≡ i) ⊎ (order i n ≡ false)) ⊎ ((counted_from r w start n && not (writes (r n))) ≡ false)
+  unfolding latest_from
+  apart_cases n i e = by (counted_from r w start n && not (writes (r n))) refl e
+    where
+      by : (b : Bool) → (counted_from r w start n && not (writes (r n))) ≡ b →
+          has (cond b (n ∷ filter (λ j. not (order j n)) (latest_from order r w start n)) (latest_from order r w start n)) i ≡ true →
+          ((n ≡ i) ⊎ (order i n ≡ false)) ⊎ ((counted_from r w start n && not (writes (r n))) ≡ false)
+      by true is member =
+          ⊎_elim
+          (λ here. inl (inl here.0))
+          (λ there. inl (inr (not-true (order i n) (and_parts (not (order i n)) (has (latest_from order r w start n) i) (sym (has-filtered (λ j. not (order j n)) (latest_from order r w start n) i) ∙ there)).0)))
+          (next-cases true n i (filter (λ j. not (order j n)) (latest_from order r w start n)) member)
+      by false is member = inr is
+
+  pub latest-apart : (n i j : ℕ) → i < j → has (latest_from order r w start n) i ≡ true → has (latest_from order r w start n) j ≡ true → order i j ≡ false
+  unfolding latest_from
+  latest-apart zero i j below one two = cc
+  latest-apart (suc n) i j below one two =
+      ⊎_elim
+      (λ here.
+      ⊎_elim
+      (λ either. ⊎_elim (λ same. absurd (omega (arith, here.0))) (λ apart. rw (← here.0) apart) either)
+      (λ other. absurd (both_ways (counted_from r w start n && not (writes (r n))) other here.1))
+      (apart_cases n i one))
+      (λ there.
+      ⊎_elim
+      (λ last. absurd (let low = (latest-in order r w start n j there).0 in omega (arith, last.0)))
+      (λ first. latest-apart n i j below first there)
+      (Rattle.er_order.proofs.RaceLemmas.latest_cases order r w start n i one))
+      (Rattle.er_order.proofs.RaceLemmas.latest_cases order r w start n j two)

@@ -1,0 +1,12 @@
+pub mod Searches
+pub mod Order
+pub mod Keepers
+pub mod Clocks
+pub mod ClockLists
+pub mod RaceLemmas
+pub mod RaceFacts
+pub mod StepLemmas
+pub mod Following
+pub mod Growing
+pub mod Locality
+pub mod ClockSteps

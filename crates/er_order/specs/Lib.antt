@@ -1,0 +1,8 @@
+pub mod Steps
+pub mod Order
+pub mod Clocks
+pub mod ClockLists
+pub mod Races
+pub mod Following
+pub mod Locality
+pub mod Examples

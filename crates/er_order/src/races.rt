@@ -1,0 +1,110 @@
+//! The laws of races by happens-before: each function does nothing, and its contract is proved of the definitions in `specs/`.
+ghost use Rattle.std.specs.Prelude.{◌≡◌, ◌<◌, ◌≤◌, ◌++◌, ◌⊎◌, length, ◌||◌, ◌&&◌, not, slice_get, Option, Ok, [], ◌∷◌, ℕ, suc, List, false, IsTrue};
+ghost use Rattle.std.specs.List.{list_any};
+ghost use Rattle.er_model.specs.Answers.{answer};
+ghost use Rattle.er_model.specs.Words.{Reading, counts, thread_of, writes, era, counted_from};
+ghost use Rattle.er_event.specs.Lockset.{has};
+ghost use Rattle.er_event.specs.declared.steps.Event.{Event};
+ghost use Rattle.er_event.specs.declared.steps.Event.TheVariants.{Access};
+ghost use Rattle.er_order.specs.declared.steps.OrderEvent.TheVariants.{Plain};
+ghost use Rattle.er_order.specs.declared.steps.OrderStep.{OrderStep};
+ghost use Rattle.er_order.specs.Steps.{plain_steps, marks_of, held_at};
+ghost use Rattle.er_order.specs.Order.{Act, Sync, sync_of, acts_of, happens_before};
+ghost use Rattle.er_order.specs.Clocks.{Epoch, OfThread, clocks_at};
+ghost use Rattle.er_order.specs.Races.{Order, is_apart, latest_from, last_write, latest_reads, is_race, had_race, is_reported, order_answer};
+ghost use Rattle.er_order.specs.Following.{Shadow, shadow_by, kept_by, kept_of, fresh, kept_at, kept_after, access_answered};
+ghost use Rattle.er_order.specs.Locality.{clocked_on};
+
+use er_event::{Kind, Reply};
+
+/// While an era had no race, one more access is a race exactly where the last write doesn't come before it in order, or it is a write
+/// and one of the latest reads since doesn't.
+pub fn races_are_found()
+    ensures found { (order : Order) (r : Reading) (w k : ℕ)
+        → ((i j k : ℕ) → IsTrue (order i j) → IsTrue (order j k) → IsTrue (order i k)) → IsTrue (counts (r k) w) → had_race order r w k ≡ false
+        → is_race order r w k ≡ (is_apart order (last_write r w k) k
+        || (writes (r k) && list_any (λ j. not (order j k)) (latest_reads order r w k))) }
+{}
+
+/// The answer to an access, and what is kept of each word, follow from what was kept of it, the kind of the access, and its thread's
+/// holdings and clock. Each other event of locks, words, brackets and levels has the lockset rule's answer, and a start, join, signal
+/// or await is done.
+pub fn an_access_follows_its_word()
+    ensures answer { (steps : List OrderStep) (k w site : ℕ) (kind : Kind) (step : OrderStep) → slice_get steps k ≡ Option.Some step
+        → step.event ≡ Plain (Access kind w site) → order_answer steps k
+        ≡ access_answered (held_at steps step.thread k) (clocks_at (acts_of steps) k (OfThread step.thread)) (kept_at steps w k) kind step }
+    ensures plain { (steps : List OrderStep) (k : ℕ) (step : OrderStep) (event : Event) → slice_get steps k ≡ Option.Some step
+        → step.event ≡ Plain event → ((w site : ℕ) (kind : Kind) → event ≡ Access kind w site → ⊥)
+        → order_answer steps k ≡ answer (plain_steps steps) k }
+    ensures done { (steps : List OrderStep) (k : ℕ) (step : OrderStep) → slice_get steps k ≡ Option.Some step
+        → ((event : Event) → step.event ≡ Plain event → ⊥) → order_answer steps k ≡ Ok Reply.Done }
+    ensures kept { (steps : List OrderStep) (k w : ℕ) (step : OrderStep) → slice_get steps k ≡ Option.Some step → kept_at steps w (suc k)
+        ≡ kept_after (held_at steps step.thread k) (clocks_at (acts_of steps) k (OfThread step.thread)) (kept_at steps w k) w step }
+    ensures begins { (steps : List OrderStep) (w : ℕ) → kept_at steps w 0 ≡ fresh }
+{}
+
+/// Where more comes in order, no more accesses are races.
+pub fn more_order_fewer_races()
+    ensures race { (less more : Order) (r : Reading) (w k : ℕ) → ((j k : ℕ) → IsTrue (less j k) → IsTrue (more j k))
+        → IsTrue (is_race more r w k) → IsTrue (is_race less r w k) }
+{}
+
+/// An era that has a race has exactly one report.
+pub fn an_era_is_reported_once()
+    ensures reported { (order : Order) (r : Reading) (w n : ℕ) → IsTrue (had_race order r w n)
+        → (i : ℕ) × (i < n) × (era r w (suc i) ≡ era r w n) × IsTrue (counts (r i) w) × IsTrue (is_reported order r w i) }
+    ensures once { (order : Order) (r : Reading) (w i k : ℕ) → i < k → era r w (suc i) ≡ era r w (suc k) → IsTrue (is_reported order r w i)
+        → IsTrue (is_reported order r w k) → ⊥ }
+{}
+
+/// Two conflicting accesses of an era of which the earlier one doesn't come before the later one in order make a race in that era. So
+/// a counted write and another thread's access of the word make one if no step of either thread happens before a step of the other,
+/// and in a list with no acquire, release, start, join, signal or await.
+pub fn with_no_order_each_shared_write_races()
+    ensures pair { (order : Order) (r : Reading) (w n j k : ℕ) → j < k → k < n → IsTrue (counted_from r w (era r w n) j)
+        → IsTrue (counted_from r w (era r w n) k) → IsTrue (writes (r j) || writes (r k)) → order j k ≡ false → IsTrue (had_race order r w n) }
+    ensures threads { (steps : List OrderStep) (w n i k : ℕ)
+        → ((a b : Act) (x y : ℕ) → acts_of steps x ≡ Option.Some a → acts_of steps y ≡ Option.Some b
+        → ((a.thread ≡ thread_of (marks_of steps i)) × (b.thread ≡ thread_of (marks_of steps k)))
+        ⊎ ((a.thread ≡ thread_of (marks_of steps k)) × (b.thread ≡ thread_of (marks_of steps i))) → happens_before (acts_of steps) x y ≡ false)
+        → i < n → k < n → IsTrue (counted_from (marks_of steps) w (era (marks_of steps) w n) i)
+        → IsTrue (counted_from (marks_of steps) w (era (marks_of steps) w n) k) → IsTrue (writes (marks_of steps i))
+        → (thread_of (marks_of steps i) ≡ thread_of (marks_of steps k) → ⊥)
+        → IsTrue (had_race (happens_before (acts_of steps)) (marks_of steps) w n) }
+    ensures none { (steps : List OrderStep)
+        → ((k : ℕ) (step : OrderStep) → slice_get steps k ≡ Option.Some step → sync_of step.event ≡ Sync.Local)
+        → (w n i k : ℕ) → i < n → k < n → IsTrue (counted_from (marks_of steps) w (era (marks_of steps) w n) i)
+        → IsTrue (counted_from (marks_of steps) w (era (marks_of steps) w n) k) → IsTrue (writes (marks_of steps i))
+        → (thread_of (marks_of steps i) ≡ thread_of (marks_of steps k) → ⊥)
+        → IsTrue (had_race (happens_before (acts_of steps)) (marks_of steps) w n) }
+{}
+
+/// One more step at the end of a list: the answer to an access, and what the step makes of each word. What came before stays.
+pub fn an_ordered_list_grows_by_a_step()
+    ensures answer { (steps : List OrderStep) (step : OrderStep) (w site : ℕ) (kind : Kind) → step.event ≡ Plain (Access kind w site)
+        → order_answer (steps ++ step ∷ []) (length steps) ≡ access_answered (held_at steps step.thread (length steps))
+        (clocks_at (acts_of steps) (length steps) (OfThread step.thread)) (kept_at steps w (length steps)) kind step }
+    ensures kept { (steps : List OrderStep) (step : OrderStep) (w : ℕ) → kept_at (steps ++ step ∷ []) w (suc (length steps))
+        ≡ kept_after (held_at steps step.thread (length steps)) (clocks_at (acts_of steps) (length steps) (OfThread step.thread))
+        (kept_at steps w (length steps)) w step }
+    ensures earlier { (steps more : List OrderStep) (w n : ℕ) → n ≤ length steps → kept_at (steps ++ more) w n ≡ kept_at steps w n }
+{}
+
+/// A shadow word may have numbers of epochs in the epochs' place.
+pub fn a_shadow_word_has_numbers()
+    ensures access { (epochs : ℕ → Epoch) (clock : ℕ → ℕ) (s : Shadow) (y t : ℕ) (kind : Kind) → epochs y ≡ (t, clock t)
+        → kept_of epochs (shadow_by epochs clock s y kind) ≡ kept_by clock (kept_of epochs s) t kind }
+{}
+
+/// Of two of the latest reads neither comes before the other in order, so they are of two threads.
+pub fn the_latest_reads_are_apart()
+    ensures apart { (order : Order) (r : Reading) (w start n i j : ℕ) → i < j → IsTrue (has (latest_from order r w start n) i)
+        → IsTrue (has (latest_from order r w start n) j) → order i j ≡ false }
+{}
+
+/// What is kept of a word depends on the marks that touch it and on the clocks of their threads alone.
+pub fn a_word_is_local()
+    ensures kept { (steps others : List OrderStep) (w m n : ℕ)
+        → clocked_on (acts_of steps) (marks_of steps) w m ≡ clocked_on (acts_of others) (marks_of others) w n
+        → kept_at steps w m ≡ kept_at others w n }
+{}

@@ -1,0 +1,37 @@
+//! Worked cases: what happens-before answers to short lists.
+ghost use Rattle.std.specs.Prelude.{◌≡◌, [], ◌∷◌};
+ghost use Rattle.er_model.specs.Examples.{done, quiet, race, not_counted, refused_for};
+ghost use Rattle.er_model.specs.Answers.{answers};
+ghost use Rattle.er_order.specs.Steps.{plain_steps};
+ghost use Rattle.er_order.specs.Races.{order_answers};
+ghost use Rattle.er_order.specs.Examples.{queue, no_lock, too_early, chain, readers_joined, one_reader_joined, only_read, rounds, joined_late, semaphore, awaited_early, read_locks, read_and_write_locks, double_checked, double_checked_in_order, reuse_between, refused_release, two_holders, levels, bracket, locked_later};
+
+use er_event::Refusal;
+
+/// What happens-before answers to short lists, and what the lockset rule answers to two of them.
+pub fn worked_races()
+    ensures queue { order_answers queue ≡ quiet ∷ done ∷ done ∷ done ∷ done ∷ quiet ∷ [] }
+    ensures queue_by_locks { answers (plain_steps queue) ≡ quiet ∷ done ∷ done ∷ done ∷ done ∷ race ∷ [] }
+    ensures locked_later { order_answers locked_later ≡ quiet ∷ done ∷ race ∷ done ∷ [] }
+    ensures locked_later_by_locks { answers (plain_steps locked_later) ≡ quiet ∷ done ∷ quiet ∷ done ∷ [] }
+    ensures no_lock { order_answers no_lock ≡ quiet ∷ race ∷ [] }
+    ensures too_early { order_answers too_early ≡ quiet ∷ done ∷ done ∷ done ∷ done ∷ race ∷ [] }
+    ensures chain { order_answers chain ≡ quiet ∷ done ∷ done ∷ done ∷ done ∷ done ∷ done ∷ quiet ∷ race ∷ [] }
+    ensures readers_joined { order_answers readers_joined ≡ quiet ∷ done ∷ done ∷ quiet ∷ quiet ∷ done ∷ done ∷ quiet ∷ [] }
+    ensures one_reader_joined { order_answers one_reader_joined ≡ quiet ∷ done ∷ done ∷ quiet ∷ quiet ∷ done ∷ race ∷ [] }
+    ensures only_read { order_answers only_read ≡ quiet ∷ quiet ∷ quiet ∷ [] }
+    ensures rounds { order_answers rounds ≡ quiet ∷ done ∷ quiet ∷ done ∷ quiet ∷ done ∷ quiet ∷ done ∷ quiet ∷ [] }
+    ensures joined_late { order_answers joined_late ≡ quiet ∷ done ∷ quiet ∷ race ∷ done ∷ [] }
+    ensures semaphore { order_answers semaphore ≡ quiet ∷ done ∷ done ∷ quiet ∷ [] }
+    ensures awaited_early { order_answers awaited_early ≡ quiet ∷ done ∷ done ∷ race ∷ [] }
+    ensures read_locks { order_answers read_locks ≡ done ∷ quiet ∷ done ∷ done ∷ race ∷ [] }
+    ensures read_and_write_locks { order_answers read_and_write_locks
+        ≡ done ∷ quiet ∷ done ∷ done ∷ quiet ∷ done ∷ done ∷ quiet ∷ [] }
+    ensures double_checked { order_answers double_checked ≡ done ∷ quiet ∷ quiet ∷ done ∷ race ∷ race ∷ [] }
+    ensures double_checked_in_order { order_answers double_checked_in_order ≡ done ∷ quiet ∷ done ∷ done ∷ done ∷ quiet ∷ [] }
+    ensures reuse_between { order_answers reuse_between ≡ quiet ∷ done ∷ quiet ∷ race ∷ quiet ∷ [] }
+    ensures refused_release { order_answers refused_release ≡ quiet ∷ refused_for Refusal.NotHeld ∷ done ∷ race ∷ [] }
+    ensures two_holders { order_answers two_holders ≡ done ∷ done ∷ quiet ∷ done ∷ done ∷ done ∷ quiet ∷ [] }
+    ensures levels { order_answers levels ≡ done ∷ quiet ∷ done ∷ done ∷ race ∷ [] }
+    ensures bracket { order_answers bracket ≡ quiet ∷ done ∷ not_counted ∷ done ∷ quiet ∷ [] }
+{}
