@@ -11,7 +11,7 @@ use Rattle.er_model.proofs.Search.{least_below-none}
 use Rattle.er_model.proofs.Words.{first-reused, first-step, first-kept, era-kept, era-below, join-below, counted-join-None}
 use Rattle.er_explain.specs.declared.book.Pair.{Pair}
 use Rattle.er_explain.specs.declared.book.Book.TheVariants.{Untouched, Joined}
-use Rattle.er_explain.specs.Books.{pair_after, book_accessed, book_after, book_at}
+use Rattle.er_explain.specs.Books.{or_this, pair_after, book_accessed, book_after, book_at}
 
 -- the searches from a joining go on by one position
 module _ (r : Reading) (w n j : ℕ) (below : j < n) where
@@ -34,11 +34,11 @@ unfolding first_uncovered
 uncovered-start r w n l =
     least_below-none (suc n) (λ i. counted_from r w (suc n) i && not (has (cover_of (r i)) l)) (λ k b. rw (lt-leb (suc n) k b) refl)
 
-map-same : (f g : ℕ → Pair) (xs : List ℕ) → ((x : ℕ) → f x ≡ g x) → map f xs ≡ map g xs
+map-same : (f g : ℕ → Pair ℕ) (xs : List ℕ) → ((x : ℕ) → f x ≡ g x) → map f xs ≡ map g xs
 map-same f g [] h = refl
 map-same f g (x ∷ xs) h = rw (h x, map-same f g xs h) refl
 
-map-twice : (f : ℕ → Pair) (g : Pair → Pair) (xs : List ℕ) → map g (map f xs) ≡ map (λ x. g (f x)) xs
+map-twice : (f : ℕ → Pair ℕ) (g : Pair ℕ → Pair ℕ) (xs : List ℕ) → map g (map f xs) ≡ map (λ x. g (f x)) xs
 map-twice f g [] = refl
 map-twice f g (x ∷ xs) = rw (map-twice f g xs) refl
 
@@ -46,8 +46,12 @@ or_next-false : (o : Option ℕ) (n : ℕ) → or_next o false n ≡ o
 or_next-false None n = refl
 or_next-false (Some k) n = refl
 
+or-same : (o : Option ℕ) (test : Bool) (n : ℕ) → or_next o test n ≡ or_this o test n
+or-same None test n = refl
+or-same (Some k) test n = refl
+
 -- the lock's pair at a point
-abbrev pair_at : Reading → ℕ → ℕ → ℕ → ℕ → Pair
+abbrev pair_at : Reading → ℕ → ℕ → ℕ → ℕ → Pair ℕ
 pair_at r w n j l = record { lock = l; at = first_uncovered r w n j l }
 
 -- where the word isn't reused, a second thread joins by an access that isn't the first one's thread's
@@ -124,7 +128,7 @@ module _ (r : Reading) (w n t : ℕ) (kind : Kind) (cover : List ℕ) (own : r n
       rw (first-kept r w n kept f is, still, is, none, same) refl
   from-owner f false other is none =
       let now : join r w (suc n) ≡ Some n = join-step r w n kept f is ∙ rw (none, counted, thread, other) refl in
-      let same_write : first_write r w (suc n) n ≡ or_next None (is_writing kind) n = write-start r w n ∙ rw (counted, wrote) refl in
+      let same_write : first_write r w (suc n) n ≡ or_this None (is_writing kind) n = write-start r w n ∙ rw (counted, wrote) refl in
       let same_pairs : map (pair_at r w (suc n) n) (cover_of (r n)) ≡ map (λ l. record { lock = l; at = None }) cover =
       map-same (pair_at r w (suc n) n) (λ l. record { lock = l; at = None }) (cover_of (r n)) (λ l i. record { lock = l; at = uncovered-start r w n l i })
       ∙ ap (λ (ls : List ℕ). map (λ l. record { lock = l; at = None }) ls) covers in
@@ -136,10 +140,10 @@ module _ (r : Reading) (w n t : ℕ) (kind : Kind) (cover : List ℕ) (own : r n
   from-joined f j is here =
       let below : j < n = join-below r w n f j is here in
       let still : join r w (suc n) ≡ Some j = join-step r w n kept f is ∙ rw here refl in
-      let same_write : first_write r w (suc n) j ≡ or_next (first_write r w n j) (is_writing kind) n = write-step r w n j below ∙ rw (counted, wrote) refl in
+      let same_write : first_write r w (suc n) j ≡ or_this (first_write r w n j) (is_writing kind) n = write-step r w n j below ∙ rw (counted, wrote) (or-same (first_write r w n j) (is_writing kind) n) in
       let same_pairs : map (pair_at r w (suc n) j) (cover_of (r j)) ≡ map (pair_after n cover) (map (pair_at r w n j) (cover_of (r j))) =
       map-same (pair_at r w (suc n) j) (λ l. pair_after n cover (pair_at r w n j l)) (cover_of (r j))
-      (λ l. ap (λ (o : Option ℕ). record { lock = l; at = o }) (uncovered-step r w n j below l ∙ rw (counted, covers) refl))
+      (λ l. ap (λ (o : Option ℕ). record { lock = l; at = o }) (uncovered-step r w n j below l ∙ rw (counted, covers) (or-same (first_uncovered r w n j l) (not (has cover l)) n)))
       ∙ sym (map-twice (pair_at r w n j) (pair_after n cover) (cover_of (r j))) in
       rw (first-kept r w n kept f is, still, is, here)
       (λ i. Joined (record { first = f; join = j; write = same_write i; pairs = same_pairs i }))

@@ -19,7 +19,7 @@ use Rattle.er_explain.specs.declared.racy_words.Part.{Part}
 use Rattle.er_explain.proofs.RacyLemmas.{at-read}
 
 -- the books of a range are emptied
-pub reuse-after : (words : List ℕ) (before after : List Book) (range : PageRange) (part : Part) (at : ℕ) → IsPartOf words range part → AreEmptied part before after
+pub reuse-after : (words : List ℕ) (before after : List (Book ℕ)) (range : PageRange) (part : Part) (at : ℕ) → IsPartOf words range part → AreEmptied part before after
     → AreAfter words before after at (Reused range)
 reuse-after words before after range part at is emptied =
     record {
@@ -31,42 +31,42 @@ reuse-after words before after range part at is emptied =
     }
 
 -- one book goes on, by an access of its word that counts or doesn't
-pub other-word : (h : Holdings) (t word w site at : ℕ) (kind : Kind) (b : Book) (ignoring : Bool) → (word == w) ≡ false
+pub other-word : (h : Holdings) (t word w site at : ℕ) (kind : Kind) (b : Book ℕ) (ignoring : Bool) → (word == w) ≡ false
     → book_after b w at (cond ignoring Nothing (Counted t kind word (locks_for h kind))) ≡ b
 other-word h t word w site at kind b true other = refl
 other-word h t word w site at kind b false other = rw other refl
 
-pub set-here : (xs : List Book) (i : ℕ) (y : Book) → i < length xs → slice_get (slice_set xs i y) i ≡ Some y
+pub set-here : (xs : List (Book ℕ)) (i : ℕ) (y : Book ℕ) → i < length xs → slice_get (slice_set xs i y) i ≡ Some y
 set-here [] i y within = absurd (omega arith)
 set-here (x ∷ xs) zero y within = refl
 set-here (x ∷ xs) (suc i) y within = set-here xs i y (omega arith)
 
-pub set-there : (xs : List Book) (i j : ℕ) (y : Book) → (i ≡ j → ⊥) → slice_get (slice_set xs i y) j ≡ slice_get xs j
+pub set-there : (xs : List (Book ℕ)) (i j : ℕ) (y : Book ℕ) → (i ≡ j → ⊥) → slice_get (slice_set xs i y) j ≡ slice_get xs j
 set-there [] i j y apart = refl
 set-there (x ∷ xs) zero zero y apart = absurd (apart refl)
 set-there (x ∷ xs) zero (suc j) y apart = refl
 set-there (x ∷ xs) (suc i) zero y apart = refl
 set-there (x ∷ xs) (suc i) (suc j) y apart = set-there xs i j y (λ e. apart (ap suc e))
 
-pub length-set : (xs : List Book) (i : ℕ) (y : Book) → length (slice_set xs i y) ≡ length xs
+pub length-set : (xs : List (Book ℕ)) (i : ℕ) (y : Book ℕ) → length (slice_set xs i y) ≡ length xs
 length-set [] i y = refl
 length-set (x ∷ xs) zero y = refl
 length-set (x ∷ xs) (suc i) y = ap suc (length-set xs i y)
 
-some-book : (a b : Book) → Some a ≡ Some b → a ≡ b
+some-book : (a b : Book ℕ) → Some a ≡ Some b → a ≡ b
 some-book a b e = cc
 
 some-number : (a b : ℕ) → Some a ≡ Some b → a ≡ b
 some-number a b e = cc
 
-module _ (words : List ℕ) (before : List Book) (place word site at t : ℕ) (kind : Kind) (h : Holdings) (mine later : Book)
+module _ (words : List ℕ) (before : List (Book ℕ)) (place word site at t : ℕ) (kind : Kind) (h : Holdings) (mine later : Book ℕ)
     (here : slice_get words place ≡ Some word) (alone : (i : ℕ) → slice_get words i ≡ Some word → Some place ≡ Some i)
     (each : length before ≡ length words) (read : mine ≡ get_or before place mine)
     (goes : later ≡ book_after mine word at (marked h t (Access kind word site))) where
   kept-here : slice_get before place ≡ Some mine
   kept-here = slice_get_read before (length before) place mine refl (let within = slice_get_within words place word here in omega (arith, within, each)) read
 
-  gone-at : (i w : ℕ) (b : Book) (same : Bool) → nat_eq place i ≡ same → slice_get words i ≡ Some w → slice_get before i ≡ Some b
+  gone-at : (i w : ℕ) (b : Book ℕ) (same : Bool) → nat_eq place i ≡ same → slice_get words i ≡ Some w → slice_get before i ≡ Some b
       → slice_get (slice_set before place later) i ≡ Some (book_after b w at (marked h t (Access kind word site)))
   gone-at i w b true same has keeps =
       let place_is : place ≡ i = eqb-true place i same in
@@ -87,8 +87,8 @@ module _ (words : List ℕ) (before : List Book) (place word site at t : ℕ) (k
   access-after = record { each = length-set before place later; gone = λ i w b has keeps. gone-at i w b (nat_eq place i) refl has keeps }
 
 -- the emptying of books goes on by one
-module _ (from n : ℕ) (before now : List Book) (low : from ≤ n) (within : n < length before) (so_far : AreEmptied (record { from = from; to = n }) before now) where
-  emptied-at : (i : ℕ) (b : Book) (same : Bool) → nat_eq n i ≡ same → slice_get before i ≡ Some b
+module _ (from n : ℕ) (before now : List (Book ℕ)) (low : from ≤ n) (within : n < length before) (so_far : AreEmptied (record { from = from; to = n }) before now) where
+  emptied-at : (i : ℕ) (b : Book ℕ) (same : Bool) → nat_eq n i ≡ same → slice_get before i ≡ Some b
       → slice_get (slice_set now n Untouched) i ≡ Some (cond (nat_le from i && nat_lt i (n + 1)) Untouched b)
   emptied-at i b true same keeps =
       let here : n ≡ i = eqb-true n i same in
@@ -104,7 +104,7 @@ module _ (from n : ℕ) (before now : List Book) (low : from ≤ n) (within : n 
   emptied-next = record { each = length-set now n Untouched ∙ so_far.each; books = λ i b keeps. emptied-at i b (nat_eq n i) refl keeps }
 
 -- one more empty book
-pub untouched-more : (xs : List Book) → ((i : ℕ) → i < length xs → slice_get xs i ≡ Some Untouched)
+pub untouched-more : (xs : List (Book ℕ)) → ((i : ℕ) → i < length xs → slice_get xs i ≡ Some Untouched)
     → (i : ℕ) → i < length (xs ++ Untouched ∷ []) → slice_get (xs ++ Untouched ∷ []) i ≡ Some Untouched
 untouched-more [] all zero within = refl
 untouched-more [] all (suc i) within = absurd (omega arith)

@@ -20,7 +20,7 @@ use Rattle.er_explain.specs.declared.book.Book.TheVariants.{Joined}
 use Rattle.er_explain.specs.declared.book.Pair.{Pair}
 
 -- a lock with what a search found for it
-abbrev searched : (ℕ → Option ℕ) → ℕ → Pair
+abbrev searched : (ℕ → Option ℕ) → ℕ → Pair ℕ
 searched f l = record { lock = l; at = f l }
 
 -- pairs that the searches of a joining's locks found
@@ -29,12 +29,12 @@ pairs-all f [] [] e = (All-nil (λ x. f x.0 ≡ Some x.1), refl)
 pairs-all f [] (x ∷ xs) e = cc
 pairs-all f (l ∷ ls) [] e = cc
 pairs-all f (l ∷ ls) (x ∷ xs) e =
-    let lock : l ≡ x.0 = ap (λ (ps : List Pair). first_lock ps) e in
+    let lock : l ≡ x.0 = ap (λ (ps : List (Pair ℕ)). first_lock ps) e in
     let at : f l ≡ Some x.1 = first-searched (searched f l) (placed x) (map (searched f) ls) (map placed xs) e in
-    let rest = pairs-all f ls xs (ap (λ (ps : List Pair). drop 1 ps) e) in
+    let rest = pairs-all f ls xs (ap (λ (ps : List (Pair ℕ)). drop 1 ps) e) in
     (All-cons (λ y. f y.0 ≡ Some y.1) x xs (rw lock at at) rest.0, λ i. sym lock i ∷ rest.1 i)
   where
-    first-searched : (p q : Pair) (ps qs : List Pair) → p ∷ ps ≡ q ∷ qs → p.at ≡ q.at
+    first-searched : (p q : Pair ℕ) (ps qs : List (Pair ℕ)) → p ∷ ps ≡ q ∷ qs → p.at ≡ q.at
     first-searched p q ps qs same = cc
 
 all-pairs : (f : ℕ → Option ℕ) (xs : List (ℕ × ℕ)) → All (λ x. f x.0 ≡ Some x.1) xs → map (searched f) (locks_listed xs) ≡ map placed xs
@@ -44,7 +44,7 @@ all-pairs f (x ∷ xs) all =
     let rest = all-pairs f xs (All-tail (λ y. f y.0 ≡ Some y.1) x xs all) in
     λ i. record { lock = x.0; at = here i } ∷ rest i
 
-joined-same : (j k : Joining) → Joined j ≡ Joined k → j ≡ k
+joined-same : (j k : Joining ℕ) → Joined j ≡ Joined k → j ≡ k
 joined-same j k e = cc
 
 -- the searches of a book that tells an explanation
@@ -58,8 +58,8 @@ searched-by r w n e None j is here told = cc
 searched-by r w n e (Some f) None is here told = cc
 searched-by r w n e (Some f) (Some j) is here told =
     let all : joining_at r w n f j ≡ joining_of e = joined-same (joining_at r w n f j) (joining_of e) told in
-    let same_first : f ≡ e.first = ap (λ (k : Joining). k.first) all in
-    let same_join : j ≡ e.join = ap (λ (k : Joining). k.join) all in
+    let same_first : f ≡ e.first = ap (λ (k : Joining ℕ). k.first) all in
+    let same_join : j ≡ e.join = ap (λ (k : Joining ℕ). k.join) all in
     record {
       is_first = is ∙ ap Some same_first;
       is_join = here ∙ ap Some same_join;
@@ -74,12 +74,12 @@ module _ (r : Reading) (w k : ℕ) (e : Explanation) where
   pub told-access : ((i : ℕ) → IsRising (cover_of (r i))) → book_at r w (suc k) ≡ Joined (joining_of e) → latest e.write e.uncovered ≡ k → ExplainsAccess r w e k × IsRising (locks_listed e.uncovered)
   told-access rises told ends =
       let at = searched-at r w (suc k) e told in
-      let pairs = pairs-all (first_uncovered r w (suc k) e.join) (cover_of (r e.join)) e.uncovered (ap (λ (j : Joining). j.pairs) at.joining) in
+      let pairs = pairs-all (first_uncovered r w (suc k) e.join) (cover_of (r e.join)) e.uncovered (ap (λ (j : Joining ℕ). j.pairs) at.joining) in
       let up : IsRising (locks_listed e.uncovered) = rw pairs.1 (rises e.join) in (
         record {
           is_first = at.is_first;
           is_join = at.is_join;
-          is_write = ap (λ (j : Joining). j.write) at.joining;
+          is_write = ap (λ (j : Joining ℕ). j.write) at.joining;
           each_once = λ l. rw pairs.1 at (listed-rising e.uncovered l up);
           uncovers = pairs.0;
           ends_at = ends;
@@ -135,7 +135,7 @@ unfolding explanation_at
 unraced-at steps k other = unraced steps k (answer steps k) other
 
 -- what is found so is the step's explanation
-module _ (steps : List Step) (k w : ℕ) (accesses : word_of (slice_get steps k) ≡ Some w) (b : Book) (known : b ≡ book_at (reading_of steps) w (k + 1)) where
+module _ (steps : List Step) (k w : ℕ) (accesses : word_of (slice_get steps k) ≡ Some w) (b : Book ℕ) (known : b ≡ book_at (reading_of steps) w (k + 1)) where
   at-next : b ≡ book_at (reading_of steps) w (suc k)
   at-next = known ∙ ap (book_at (reading_of steps) w) (add-one k)
 

@@ -32,20 +32,20 @@ pub mark-held : (steps : List Step) (k : ℕ) (step : Step) (threads : List Hold
     → marked (held_by threads step.thread) step.thread step.event ≡ reading_of steps k
 mark-held steps k step threads is held = rw (held step.thread) (sym (reading-step steps k step is))
 
-pub book-next : (steps : List Step) (w k : ℕ) (step : Step) (threads : List Holdings) (before after : Book) → slice_get steps k ≡ Some step → AreHeldAt steps threads k
+pub book-next : (steps : List Step) (w k : ℕ) (step : Step) (threads : List Holdings) (before after : Book ℕ) → slice_get steps k ≡ Some step → AreHeldAt steps threads k
     → before ≡ book_at (reading_of steps) w k → after ≡ book_after before w k (marked (held_by threads step.thread) step.thread step.event)
     → after ≡ book_at (reading_of steps) w (k + 1)
 book-next steps w k step threads before after is held known follows =
     follows
     ∙ ap (book_after before w k) (mark-held steps k step threads is held)
-    ∙ ap (λ (b : Book). book_after b w k (reading_of steps k)) known
+    ∙ ap (λ (b : Book ℕ). book_after b w k (reading_of steps k)) known
     ∙ sym (book-step (reading_of steps) w k)
     ∙ ap (book_at (reading_of steps) w) (sym (add-one k))
 
 pub followed-start : (steps : List Step) (w : ℕ) (threads : List Holdings) → threads ≡ [] → HasFollowed steps w threads Untouched 0
 followed-start steps w threads none = record { held = held-start steps threads none; book = sym (book-start (reading_of steps) w) }
 
-pub followed-next : (steps : List Step) (w k : ℕ) (step : Step) (threads later : List Holdings) (before after : Book) → slice_get steps k ≡ Some step
+pub followed-next : (steps : List Step) (w k : ℕ) (step : Step) (threads later : List Holdings) (before after : Book ℕ) → slice_get steps k ≡ Some step
     → HasFollowed steps w threads before k → after ≡ book_after before w k (marked (held_by threads step.thread) step.thread step.event)
     → ((t : ℕ) → held_by later t ≡ after_step (held_by threads t) t step) → HasFollowed steps w later after (k + 1)
 followed-next steps w k step threads later before after is so_far follows held =

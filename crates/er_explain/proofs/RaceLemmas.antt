@@ -28,7 +28,7 @@ use Rattle.er_explain.proofs.Passes.{held-start, held-next, book-next}
 use Rattle.er_explain.proofs.FoundLemmas.{race-told, unraced-at}
 
 -- books before any step
-pub books-start : (steps : List Step) (words : List ℕ) (threads : List Holdings) (books : List Book) → threads ≡ [] → AreBegun words books → HaveFollowed steps words threads books 0
+pub books-start : (steps : List Step) (words : List ℕ) (threads : List Holdings) (books : List (Book ℕ)) → threads ≡ [] → AreBegun words books → HaveFollowed steps words threads books 0
 books-start steps words threads books none begun =
     record {
       held = held-start steps threads none;
@@ -38,7 +38,7 @@ books-start steps words threads books none begun =
     }
 
 -- and after one more
-pub books-next : (steps : List Step) (words same : List ℕ) (k : ℕ) (step : Step) (threads later : List Holdings) (before after : List Book) → slice_get steps k ≡ Some step
+pub books-next : (steps : List Step) (words same : List ℕ) (k : ℕ) (step : Step) (threads later : List Holdings) (before after : List (Book ℕ)) → slice_get steps k ≡ Some step
     → HaveFollowed steps words threads before k → same ≡ words → AreAfter words before after k (marked (held_by threads step.thread) step.thread step.event)
     → ((t : ℕ) → held_by later t ≡ after_step (held_by threads t) t step) → HaveFollowed steps same later after (k + 1)
 books-next steps words same k step threads later before after is so_far kept goes held =
@@ -63,7 +63,7 @@ race-within steps k race = within (slice_get steps k) refl
     within (Some step) is = slice_get_within steps k step is
 
 -- what the book of a race's word says is the race's explanation
-module _ (steps : List Step) (words : List ℕ) (threads : List Holdings) (books : List Book) (k : ℕ) (race : answer steps k ≡ Ok Race)
+module _ (steps : List Step) (words : List ℕ) (threads : List Holdings) (books : List (Book ℕ)) (k : ℕ) (race : answer steps k ≡ Ok Race)
     (tracked : (w : ℕ) → word_of (slice_get steps k) ≡ Some w → Contains words w) (followed : HaveFollowed steps words threads books (k + 1)) (found : Option Explanation)
     (some : (w i : ℕ) (e : Explanation) → word_of (slice_get steps k) ≡ Some w → slice_get words i ≡ Some w → slice_get books i ≡ Some (Joined (joining_of e)) → found ≡ Some e) where
   pub race-found : found ≡ explanation_at steps k

@@ -13,48 +13,50 @@ use std::marker::Model;
 
 /// A lock of the joining, and the first later access that it doesn't cover, if there is one.
 #[derive(Clone, Copy)]
-pub(crate) struct Pair {
-    pub(crate) lock: LockId,
-    pub(crate) at: Option<u64>,
+pub struct Pair<A> {
+    /// The lock.
+    pub lock: LockId,
+    /// The access, as it is named.
+    pub at: Option<A>,
 }
 
-/// A word that a second thread has joined.
+/// A word that a second thread has joined: its first access, the joining, the first write since, and the locks of the joining.
 #[derive(Drop)]
-pub(crate) struct Joint {
-    first: u64,
-    join: u64,
-    write: Option<u64>,
-    pairs: Vec<Pair>,
+pub struct Joint<A> {
+    first: A,
+    join: A,
+    write: Option<A>,
+    pairs: Vec<Pair<A>>,
 }
 
-impl Model for Joint {
+impl<A> Model for Joint<A> {
     ghost use Rattle.er_explain.specs.Joined.{Joining};
 
-    ghost Value = { Joining };
+    ghost Value = { Joining A };
 
     ghost view = { λ j. record { first = j.first; join = j.join; write = j.write; pairs = j.pairs.items } };
 }
 
 /// What is kept of a word since it was last reused.
 #[derive(Drop)]
-pub(crate) enum Book {
+pub(crate) enum Book<A> {
     /// No access counts yet.
     Untouched,
     /// The place of the first access, and the thread that alone has accessed the word.
-    Owned(u64, ThreadId),
+    Owned(A, ThreadId),
     /// A second thread has joined.
-    Joined(Joint),
+    Joined(Joint<A>),
 }
 
-impl Joint {
+impl<A: Copy> Joint<A> {
     // A second thread has joined, under these locks.
     fn begin(
         alloc: Global,
-        first: u64,
-        join: u64,
+        first: A,
+        join: A,
         kind: Kind,
         cover: &Lockset,
-    ) -> Result<Joint, AllocError>
+    ) -> Result<Joint<A>, AllocError>
         ensures { IfOk result (λ joint. joint ≡ begun first join kind cover.now) }
     {
         let mut pairs = Vec::with_capacity(alloc, cover.len())?;
@@ -73,8 +75,36 @@ impl Joint {
         })
     }
 
+    /// The first access since the word's last reuse.
+    pub fn first(&self) -> A
+        ensures { result ≡ self.now.first }
+    {
+        self.first
+    }
+
+    /// The access by which a second thread joined.
+    pub fn join(&self) -> A
+        ensures { result ≡ self.now.join }
+    {
+        self.join
+    }
+
+    /// The first write from the joining on, if there is one.
+    pub fn write(&self) -> Option<A>
+        ensures { result ≡ self.now.write }
+    {
+        self.write
+    }
+
+    /// The locks of the joining, each with the first access since then that it doesn't cover.
+    pub fn pairs(&self) -> &[Pair<A>]
+        ensures { result.now ≡ self.now.pairs }
+    {
+        &self.pairs
+    }
+
     // A later access.
-    fn go_on(&mut self, locks: &ThreadLocks, at: u64, thread: ThreadId, kind: Kind)
+    fn go_on(&mut self, locks: &ThreadLocks, at: A, thread: ThreadId, kind: Kind)
         ensures { self.new ≡ gone_on self.old at kind (locks_for (held_by locks.now thread) kind) }
     {
         if let (None, Kind::Write) = (self.write, kind) {
@@ -82,7 +112,94 @@ impl Joint {
         }
         look_for_uncovered(&mut self.pairs, locks, at, thread, kind);
     }
+}
 
+// The pairs after a later access.
+fn look_for_uncovered<A: Copy>(
+    pairs: &mut [Pair<A>],
+    locks: &ThreadLocks,
+    at: A,
+    thread: ThreadId,
+    kind: Kind,
+)
+    ensures { pairs.new ≡ map (pair_after at (locks_for (held_by locks.now thread) kind)) pairs.old }
+{
+    for i in 0..pairs.len() {
+        pairs[i] = pair_after(pairs[i], locks, at, thread, kind);
+    }
+}
+
+// The pair after a later access. What was found stays.
+fn pair_after<A: Copy>(
+    pair: Pair<A>,
+    locks: &ThreadLocks,
+    at: A,
+    thread: ThreadId,
+    kind: Kind,
+) -> Pair<A>
+    ensures { result ≡ pair_after at (locks_for (held_by locks.now thread) kind) pair }
+{
+    let Pair { lock, at: found } = pair;
+    if found.is_some() || locks.covers(thread, kind, lock) {
+        return pair;
+    }
+    Pair { lock, at: Some(at) }
+}
+
+impl<A: Copy> Book<A> {
+    /// Goes on by a counted access of the word.
+    pub(crate) fn access(
+        &mut self,
+        alloc: Global,
+        locks: &ThreadLocks,
+        at: A,
+        thread: ThreadId,
+        kind: Kind,
+    ) -> Result<(), AllocError>
+        ensures { OnOk result (self.new ≡ book_accessed self.old at thread kind (locks_for (held_by locks.now thread) kind)) }
+    {
+        match self {
+            Book::Untouched => *self = Book::Owned(at, thread),
+            Book::Owned(first, owner) => {
+                if *owner != thread {
+                    let cover = locks.cover_of(alloc, thread, kind)?;
+                    *self = Book::Joined(Joint::begin(alloc, *first, at, kind, &cover)?);
+                }
+            }
+            Book::Joined(joint) => joint.go_on(locks, at, thread, kind),
+        }
+        Ok(())
+    }
+
+    /// Goes on by a step, where this is the word that the book is kept of.
+    pub(crate) fn follow(
+        &mut self,
+        alloc: Global,
+        locks: &ThreadLocks,
+        word: Word,
+        at: A,
+        step: &Step,
+    ) -> Result<(), AllocError>
+        ensures { OnOk result (self.new ≡ book_after self.old word at (marked (held_by locks.now step.now.thread) step.now.thread step.now.event)) }
+    {
+        match step.event {
+            Event::Access(kind, accessed, _) => {
+                if accessed == word && !locks.is_ignoring(step.thread) {
+                    self.access(alloc, locks, at, step.thread, kind)?;
+                }
+            }
+            Event::Reuse(range) => {
+                if range.contains(word) {
+                    *self = Book::Untouched;
+                }
+            }
+            _ => {}
+        }
+        Ok(())
+    }
+}
+
+impl Joint<u64> {
     // What it says of a race, if it has found all that an explanation needs.
     fn explanation(&self, alloc: Global) -> Result<Option<Explanation>, AllocError>
         ensures { IfOk result (λ found. (e : Explained) → (found ≡ Some e) ↔ (self.now ≡ joining_of e)) }
@@ -109,84 +226,7 @@ impl Joint {
     }
 }
 
-// The pairs after a later access.
-fn look_for_uncovered(
-    pairs: &mut [Pair],
-    locks: &ThreadLocks,
-    at: u64,
-    thread: ThreadId,
-    kind: Kind,
-)
-    ensures { pairs.new ≡ map (pair_after at (locks_for (held_by locks.now thread) kind)) pairs.old }
-{
-    for i in 0..pairs.len() {
-        pairs[i] = pair_after(pairs[i], locks, at, thread, kind);
-    }
-}
-
-// The pair after a later access. A place that was found stays.
-fn pair_after(pair: Pair, locks: &ThreadLocks, at: u64, thread: ThreadId, kind: Kind) -> Pair
-    ensures { result ≡ pair_after at (locks_for (held_by locks.now thread) kind) pair }
-{
-    let Pair { lock, at: found } = pair;
-    if found.is_some() || locks.covers(thread, kind, lock) {
-        return pair;
-    }
-    Pair { lock, at: Some(at) }
-}
-
-impl Book {
-    /// Goes on by a counted access of the word.
-    pub(crate) fn access(
-        &mut self,
-        alloc: Global,
-        locks: &ThreadLocks,
-        at: u64,
-        thread: ThreadId,
-        kind: Kind,
-    ) -> Result<(), AllocError>
-        ensures { OnOk result (self.new ≡ book_accessed self.old at thread kind (locks_for (held_by locks.now thread) kind)) }
-    {
-        match self {
-            Book::Untouched => *self = Book::Owned(at, thread),
-            Book::Owned(first, owner) => {
-                if *owner != thread {
-                    let cover = locks.cover_of(alloc, thread, kind)?;
-                    *self = Book::Joined(Joint::begin(alloc, *first, at, kind, &cover)?);
-                }
-            }
-            Book::Joined(joint) => joint.go_on(locks, at, thread, kind),
-        }
-        Ok(())
-    }
-
-    /// Goes on by a step, where this is the word that the book is kept of.
-    pub(crate) fn follow(
-        &mut self,
-        alloc: Global,
-        locks: &ThreadLocks,
-        word: Word,
-        at: u64,
-        step: &Step,
-    ) -> Result<(), AllocError>
-        ensures { OnOk result (self.new ≡ book_after self.old word at (marked (held_by locks.now step.now.thread) step.now.thread step.now.event)) }
-    {
-        match step.event {
-            Event::Access(kind, accessed, _) => {
-                if accessed == word && !locks.is_ignoring(step.thread) {
-                    self.access(alloc, locks, at, step.thread, kind)?;
-                }
-            }
-            Event::Reuse(range) => {
-                if range.contains(word) {
-                    *self = Book::Untouched;
-                }
-            }
-            _ => {}
-        }
-        Ok(())
-    }
-
+impl Book<u64> {
     /// What explains a race, if the book has found all that it takes.
     pub(crate) fn explanation(&self, alloc: Global) -> Result<Option<Explanation>, AllocError>
         ensures { IfOk result (λ found. (e : Explained) → (found ≡ Some e) ↔ (self.now ≡ Book.Joined (joining_of e))) }

@@ -17,7 +17,7 @@ use std::alloc::{AllocError, Global};
 #[derive(Drop)]
 pub(crate) struct Books {
     pub(crate) words: RacyWords,
-    pub(crate) books: Vec<Book>,
+    pub(crate) books: Vec<Book<u64>>,
 }
 
 impl Books {

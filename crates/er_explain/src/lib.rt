@@ -15,6 +15,10 @@
 //! have such words; only a step on such a page goes on to a search in halves among the page's words. A reuse goes over the books
 //! of its words alone. So both take time in proportion to the steps, and memory by the words that race.
 //!
+//! [`WordBooks`] keeps the books of all words while the steps are answered, and no step. An access is named there as the caller likes,
+//! by its place or by what is to be said of it. It promises that each word's book goes on as the definitions say (`follow`), and what
+//! a book says of the joining (`joining`).
+//!
 //! ```
 //! // The steps are `t1 write 0x1000` and `t2 write 0x1000`, and their answers.
 //! for explanation in &explain_races(alloc, &steps, &outcome.answers)? {
@@ -25,13 +29,17 @@
 #![tactic(auto)]
 
 pub use all_races::{explain_races, explain_races_at};
+pub use book::{Joint, Pair};
 pub use er_journal::{Explanation, Uncovered};
 pub use laws::an_explanation_explains;
 pub use one_access::explain;
+pub use word_books::WordBooks;
 
 mod all_races;
+mod block;
 mod book;
 mod books;
 mod laws;
 mod one_access;
 mod racy_words;
+mod word_books;

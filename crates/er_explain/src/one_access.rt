@@ -61,7 +61,7 @@ fn ending_at(found: Option<Explanation>, place: u64) -> Option<Explanation>
 }
 
 // The book of a word after the first `end` steps.
-fn book_of(alloc: Global, steps: &[Step], end: usize, word: Word) -> Result<Book, AllocError>
+fn book_of(alloc: Global, steps: &[Step], end: usize, word: Word) -> Result<Book<u64>, AllocError>
     requires { end ≤ length steps.now }
     ensures { IfOk result (λ book. book ≡ book_at (reading_of steps.now) word end) }
 {

@@ -1,5 +1,5 @@
 -- A report that grows by each step is the one that the definitions give of the steps so far.
-use Rattle.std.proofs.Common.{◌≡◌, ◌<◌, ◌≤◌, ◌^◌, ◌+◌, ℕ, zero, suc, Bool, true, false, cond, List, [], ◌∷◌, ◌++◌, ◌&&◌, length, map, take, drop, replicate, slice_get, slice_index, Option, Some, None, is_some, is_none, Result, Ok, Err, IsTrue, refl, sym, ap, subst, ◌∙◌, arith, below_more, add-one}
+use Rattle.std.proofs.Common.{◌≡◌, ◌<◌, ◌≤◌, ◌^◌, ◌+◌, ℕ, zero, suc, Bool, true, false, cond, List, [], ◌∷◌, ◌++◌, ◌&&◌, length, map, take, drop, replicate, slice_get, slice_index, Option, Some, None, is_some, is_none, Result, Ok, Err, IfSome, IsTrue, refl, sym, ap, subst, ◌∙◌, arith, below_more, add-one}
 use Rattle.std.proofs.lemmas.Option.{slice_get_within, get_or_from_slice_get}
 use Rattle.std.proofs.lemmas.List.{take-append-drop, length-take, append-nil, length-replicate}
 use Rattle.std.proofs.Math.Bool.{and-true}
@@ -27,11 +27,12 @@ use Rattle.er_held.specs.ThreadLocks.{held_by}
 use Rattle.er_report.specs.Names.{HasNames, HasViewNames}
 use Rattle.er_report.specs.declared.report.Line.{Line}
 use Rattle.er_report.proofs.NamedLemmas.{named_lines}
-use Rattle.er_report.specs.Builder.{Built, report_below, IsBuilt, IsStepAt}
+use Rattle.er_report.specs.Builder.{Built, report_below, IsBuilt, IsExplained, IsReported, IsStepAt}
 use Rattle.er_explain.specs.Explaining.{explanations_at}
-use Rattle.er_report.proofs.ReasonLemmas.{lines-explained}
-use Rattle.er_report.specs.Inner.Explained.{with_reasons}
+use Rattle.er_report.proofs.KeptLemmas.{told-by}
+use Rattle.er_report.specs.Inner.Explained.{lines_kept}
 use Rattle.er_report.specs.Inner.Adding.{empty_report, with_answer, one_more, IsCounted, HasRoom}
+use Rattle.er_report.specs.Kept.{Kept, Follows}
 use Rattle.er_report.specs.Report.{Summary, answer_line, reply_line, line_of, line_at, lines_below, is_refused, is_printed, is_rule, rule_count, count_below, answer_matching_rule, matching_rule_at, answered_steps, stop_line, report_of}
 use Rattle.er_report.proofs.CountLemmas.{no_counts, same_counts, counts_more, one_more-most, length-one_more}
 use Rattle.er_rules.specs.Rules.{Target}
@@ -264,25 +265,20 @@ unfolding report_below
 built-lines builder r n built = ap (λ (s : Summary). s.lines) built.report
 
 -- the lines with reasons, if they are asked for
-pub explained-lines : (builder : Built) (r : Recording) (n : ℕ) (explain : Bool) (lines : List LineView) → IsBuilt builder r n
-    → lines ≡ cond explain (with_reasons r (explanations_at r.steps builder.races) builder.report.lines) builder.report.lines → lines ≡ lines_below r builder.rules explain n
-explained-lines builder r n false lines built are = are ∙ built-lines builder r n built
-explained-lines builder r n true lines built are =
-    are
-    ∙ ap (λ (races : List ℕ). with_reasons r (explanations_at r.steps races) builder.report.lines) built.races
-    ∙ ap (with_reasons r (explanations_at r.steps (places_below (is_printed r builder.rules) n))) (built-lines builder r n built)
-    ∙ lines-explained r builder.rules n
+pub explained-lines : (builder : Built) (r : Recording) (n : ℕ) (lines : List LineView) → IsReported builder r n
+    → lines ≡ lines_kept builder.kept builder.report.lines → lines ≡ lines_below r builder.rules (is_some builder.kept) n
+explained-lines builder r n lines reported are = told-by r builder.rules n builder.kept lines builder.report.lines (built-lines builder r n reported.built) reported.explained are
 
-pub explained-end : (builder : Built) (r : Recording) (stop : Option Stopped) (explain : Bool) (lines : List LineView) (o : Option (ℕ × NoRoom))
-    → IsBuilt builder r (length (answered_steps r.steps stop)) → o ≡ stop_line r stop
-    → lines ≡ cond explain (with_reasons r (explanations_at r.steps builder.races) builder.report.lines) builder.report.lines
-    → record builder.report { lines = lines; stop = o } ≡ report_of r builder.rules explain stop
+pub explained-end : (builder : Built) (r : Recording) (stop : Option Stopped) (lines : List LineView) (o : Option (ℕ × NoRoom))
+    → IsReported builder r (length (answered_steps r.steps stop)) → o ≡ stop_line r stop
+    → lines ≡ lines_kept builder.kept builder.report.lines
+    → record builder.report { lines = lines; stop = o } ≡ report_of r builder.rules (is_some builder.kept) stop
 unfolding report_below
-explained-end builder r stop explain lines o built stopped are =
+explained-end builder r stop lines o reported stopped are =
     let n : ℕ = length (answered_steps r.steps stop) in
-    ap (λ (t : Summary). record t { lines = lines; stop = o }) built.report
-    ∙ ap (λ (all : List LineView). record (report_below r builder.rules n) { lines = all; stop = o }) (explained-lines builder r n explain lines built are)
-    ∙ ap (λ (p : Option (ℕ × NoRoom)). record (report_below r builder.rules n) { lines = lines_below r builder.rules explain n; stop = p }) stopped
+    ap (λ (t : Summary). record t { lines = lines; stop = o }) reported.built.report
+    ∙ ap (λ (all : List LineView). record (report_below r builder.rules n) { lines = all; stop = o }) (explained-lines builder r n lines reported are)
+    ∙ ap (λ (p : Option (ℕ × NoRoom)). record (report_below r builder.rules n) { lines = lines_below r builder.rules (is_some builder.kept) n; stop = p }) stopped
 
 -- the names of what the lines tell are the names of the lines
 lines_named : (names : NameTable) (lines : List Line) → All (HasViewNames names) (map line_view lines) → All (HasNames names) lines
@@ -320,3 +316,9 @@ pub answers_are : (r : Recording) (stop : Option Stopped) (known : List (Result 
     → length known ≡ length (answered_steps r.steps stop)
 answers_are r stop known e =
     ap (λ (all : List (Result Reply Refusal)). length all) e ∙ length_answers (answered_steps r.steps stop) (length (answered_steps r.steps stop))
+
+-- what is kept stays that of the steps so far, if the builder keeps it
+pub still-explained : (before after : Built) (r : Recording) (k : ℕ) → after.rules ≡ before.rules → after.kept ≡ before.kept → IsExplained before r k → IsExplained after r k
+still-explained before after r k rules kept explained =
+    subst (λ (o : Option Kept). IfSome o (λ held. Follows held r after.rules k)) (sym kept)
+    (subst (λ (known : List Target). IfSome before.kept (λ held. Follows held r known k)) (sym rules) explained)

@@ -1,5 +1,5 @@
 -- The report of the first steps doesn't change if more steps and names come behind them.
-use Rattle.std.proofs.Common.{◌≡◌, ◌<◌, ◌≤◌, ◌+◌, ℕ, zero, suc, Bool, true, false, cond, List, [], ◌++◌, ◌&&◌, length, slice_get, slice_index, Option, Some, None, is_some, is_none, Result, refl, sym, ap, subst, ◌∙◌, arith}
+use Rattle.std.proofs.Common.{◌≡◌, ◌<◌, ◌≤◌, ◌+◌, ℕ, zero, suc, Bool, true, false, cond, List, [], ◌∷◌, ◌++◌, ◌&&◌, IfSome, length, slice_get, slice_index, Option, Some, None, is_some, is_none, Result, refl, sym, ap, subst, ◌∙◌, arith}
 use Rattle.std.specs.List.{All, range_with_len}
 use Rattle.std.proofs.lemmas.List.{get_or_append_left}
 use Rattle.std.proofs.lemmas.Option.{slice_get-get_or}
@@ -13,7 +13,12 @@ use Rattle.er_explain.specs.Racing.{is_race, places_below}
 use Rattle.er_model.specs.Answers.{answer}
 use Rattle.er_model.specs.Threads.{accepted, held}
 use Rattle.er_model.proofs.Prefixes.{accepted-front, answer-front}
-use Rattle.er_report.specs.Builder.{Built, IsBuilt, GoesOn, report_below}
+use Rattle.er_explain.proofs.NamingLemmas.{named-agree}
+use Rattle.er_model.specs.Answers.{mark_of, reading_of}
+use Rattle.er_model.specs.Explanations.{word_of}
+use Rattle.er_model.specs.Holdings.{holdings}
+use Rattle.er_report.specs.Builder.{Built, IsBuilt, IsExplained, IsReported, GoesOn, report_below}
+use Rattle.er_report.specs.Kept.{Kept, Follows, access_at, line_access, line_book, told_below, word_reasons}
 use Rattle.er_report.specs.Lines.{LineView}
 use Rattle.er_report.specs.Report.{Summary, answer_matching_rule, answer_line, event_matching_rule, site_name, matching_rule_of, matching_rule_at, line_of, line_at, lines_below, count_below, rule_count, rule_counts, is_printed, is_refused, is_rule}
 use Rattle.er_report.proofs.BuilderLemmas.{same_summary}
@@ -115,4 +120,49 @@ goes-on builder before after n on within built =
     record {
       report = built.report ∙ report-same before after builder.rules on n within;
       races = built.races ∙ places-agree _ _ n (λ k below. printed-same before after builder.rules on k (omega arith));
+    }
+
+-- what is kept for reasons
+module _ (before after : Recording) (rules : List Target) (on : GoesOn before after) where
+  access-same : (k : ℕ) → k < length before.steps → access_at before k ≡ access_at after k
+  unfolding access_at
+  access-same k below = λ i. line_access (sym (number-there before after rules on k below) i) (sym (step-there before after rules on k below) i)
+
+  reading-same : (k : ℕ) → k < length before.steps → reading_of before.steps k ≡ reading_of after.steps k
+  unfolding reading_of
+  reading-same k below = λ i. mark_of (sym (accepted-there before after rules on k (omega arith)) i) (sym (step-there before after rules on k below) i)
+
+  book-same : (n w : ℕ) → n ≤ length before.steps → line_book before n w ≡ line_book after n w
+  book-same n w within =
+      named-agree (access_at before) (access_at after) (reading_of before.steps) (reading_of after.steps) w n
+      (λ k below. access-same k (omega arith)) (λ k below. reading-same k (omega arith))
+
+  told-same : (n : ℕ) → n ≤ length before.steps → told_below before rules n ≡ told_below after rules n
+  unfolding told_below
+  told-same zero within = refl
+  told-same (suc n) within =
+      let so_far = told-same n (omega arith) in
+      let printed = printed-same before after rules on n (omega arith) in
+      let step = step-there before after rules on n (omega arith) in
+      λ i. so_far i ++ cond (printed i) (word_reasons (λ w. book-same (suc n) w within i) (word_of (sym step i)) ∷ []) []
+
+  follows-on : (kept : Kept) (n : ℕ) → n ≤ length before.steps → Follows kept before rules n → Follows kept after rules n
+  unfolding holdings
+  follows-on kept n within follows =
+      record {
+        held = λ t. follows.held t ∙ ap (λ (past : List Step). holdings past t) (sym (accepted-there before after rules on n within));
+        books = λ w. follows.books w ∙ book-same n w within;
+        told = follows.told ∙ told-same n within;
+      }
+
+explained-by : (o : Option Kept) (before after : Recording) (rules : List Target) (n : ℕ) → GoesOn before after → n ≤ length before.steps
+    → IfSome o (λ kept. Follows kept before rules n) → IfSome o (λ kept. Follows kept after rules n)
+explained-by None before after rules n on within explained = tt
+explained-by (Some kept) before after rules n on within explained = follows-on before after rules on kept n within explained
+
+pub reported-on : (builder : Built) (before after : Recording) (n : ℕ) → GoesOn before after → n ≤ length before.steps → IsReported builder before n → IsReported builder after n
+reported-on builder before after n on within reported =
+    record {
+      built = goes-on builder before after n on within reported.built;
+      explained = explained-by builder.kept before after builder.rules n on within reported.explained;
     }

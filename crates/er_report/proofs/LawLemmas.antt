@@ -150,7 +150,7 @@ counted-event past t w (Reuse range) counted = absurd (cc)
 counted-event past t w (Show word) counted = absurd (cc)
 counted-event past t w e counted = absurd (cc)
 
-counted-step : (steps : List Step) (w i : ℕ) (o : Option Step) → counts (mark_of (accepted steps i) o) w ≡ true
+pub counted-step : (steps : List Step) (w i : ℕ) (o : Option Step) → counts (mark_of (accepted steps i) o) w ≡ true
     → (step : Step) × (kind : Kind) × (site : ℕ) × (o ≡ Some step) × (step.event ≡ Access kind w site)
 unfolding counts
 counted-step steps w i None counted = absurd (cc)
@@ -175,12 +175,12 @@ labels-there r w (pair ∷ pairs) all =
     ) refl
 
 -- what the searches find is counted
-least-counted : (r : Reading) (w n start i : ℕ) (test : ℕ → Bool) → least_below n (λ k. counted_from r w start k && test k) ≡ Some i → counts (r i) w ≡ true
+pub least-counted : (r : Reading) (w n start i : ℕ) (test : ℕ → Bool) → least_below n (λ k. counted_from r w start k && test k) ≡ Some i → counts (r i) w ≡ true
 least-counted r w n start i test is =
     let found = least_below-Some n (λ k. counted_from r w start k && test k) i is in
     (and_parts (nat_le start i) (counts (r i) w) (and_parts (counted_from r w start i) (test i) found.1).0).1
 
-uncovered-counted : (r : Reading) (w k j : ℕ) (pairs : List (ℕ × ℕ)) → All (λ pair. first_uncovered r w (suc k) j pair.0 ≡ Some pair.1) pairs
+pub uncovered-counted : (r : Reading) (w k j : ℕ) (pairs : List (ℕ × ℕ)) → All (λ pair. first_uncovered r w (suc k) j pair.0 ≡ Some pair.1) pairs
     → All (λ pair. counts (r pair.1) w ≡ true) pairs
 unfolding first_uncovered
 uncovered-counted r w k j [] all = All-nil (λ pair. counts (r pair.1) w ≡ true)

@@ -1,3 +1,4 @@
+pub mod KeptLemmas
 pub mod CountLemmas
 pub mod BuilderLemmas
 pub mod GrowthLemmas

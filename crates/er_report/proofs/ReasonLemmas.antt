@@ -22,7 +22,7 @@ use Rattle.er_journal.specs.declared.explanations.Uncovered.{Uncovered}
 use Rattle.er_model.specs.Answers.{answer}
 use Rattle.er_model.specs.Explanations.{Explanation, word_in, word_of}
 use Rattle.er_model.specs.Threads.{accepted, held}
-use Rattle.er_report.specs.Inner.Explained.{line_with, left_after, with_reasons, left_by}
+use Rattle.er_report.specs.Inner.Explained.{line_with, left_after, with_reasons, left_by, line_told, told_left, with_told}
 use Rattle.er_report.specs.Lines.{LineView}
 use Rattle.er_report.specs.Reasons.{access_reason, step_reason, reason_at, reasons_of, reasons_by, reasons_at}
 use Rattle.er_report.specs.Report.{answer_line, reply_line, line_at, lines_below, is_printed, matching_rule_at}
@@ -112,7 +112,7 @@ line-gains : (r : Recording) (k : ℕ) → Gains r (option_to_list (explanation_
 line-gains r k = line-gains-by r k (slice_get r.steps k) refl
 
 -- the lines of the first n steps
-abbrev found_below : Recording → List Target → ℕ → List Explanation
+abbrev pub found_below : Recording → List Target → ℕ → List Explanation
 found_below r rules n = explanations_at r.steps (places_below (is_printed r rules) n)
 
 last-gains : (r : Recording) (rules : List Target) (n : ℕ) (o : Option ℕ) → matching_rule_at r rules n ≡ o
@@ -135,46 +135,15 @@ lines-explained r rules n =
     ∙ (lines-gain r rules n).lines []
 
 -- one line after another gets its reasons
-pub explained-next : (r : Recording) (lines : List LineView) (i : ℕ) (line : LineView) (es : List Explanation) → i < length lines → line ≡ get_or lines i line
-    → take i lines ++ with_reasons r es (drop i lines)
-    ≡ take (i + 1) (set lines i (line_with r es line)) ++ with_reasons r (left_after es line) (drop (i + 1) (set lines i (line_with r es line)))
-unfolding with_reasons
-explained-next r lines i line es within is =
+pub explained-next : (lines : List LineView) (i : ℕ) (line : LineView) (told : List (List Because)) → i < length lines → line ≡ get_or lines i line
+    → take i lines ++ with_told told (drop i lines)
+    ≡ take (i + 1) (set lines i (line_told told line)) ++ with_told (told_left told line) (drop (i + 1) (set lines i (line_told told line)))
+unfolding with_told
+explained-next lines i line told within is =
     let rest : drop i lines ≡ line ∷ drop (i + 1) lines = drop-cons lines i line within ∙ rw (← is, add-one i) refl in
-    let same : drop (i + 1) (set lines i (line_with r es line)) ≡ drop (i + 1) lines = drop-set-lt (i + 1) lines i (line_with r es line) (omega arith) in
-    rw (rest, take_more_set lines i (line_with r es line) within, same, append_assoc (take i lines) (line_with r es line ∷ []) (with_reasons r (left_after es line) (drop (i + 1) lines))) refl
+    let same : drop (i + 1) (set lines i (line_told told line)) ≡ drop (i + 1) lines = drop-set-lt (i + 1) lines i (line_told told line) (omega arith) in
+    rw (rest, take_more_set lines i (line_told told line) within, same, append_assoc (take i lines) (line_told told line ∷ []) (with_told (told_left told line) (drop (i + 1) lines))) refl
 
-pub explained-end : (r : Recording) (lines : List LineView) (i : ℕ) (es : List Explanation) → length lines ≤ i → take i lines ++ with_reasons r es (drop i lines) ≡ lines
-unfolding with_reasons
-explained-end r lines i es past = rw (drop_all i lines past, take_all i lines past, append-nil lines) refl
-
-pub explained-start : (r : Recording) (lines : List LineView) (es : List Explanation) → with_reasons r es lines ≡ take 0 lines ++ with_reasons r es (drop 0 lines)
-explained-start r lines es = refl
-
--- what has no reason: a place past the end, and an event that is no access
-pub past-reason : (r : Recording) (name : Label) (i : ℕ) → length r.steps ≤ i → reason_at r name i ≡ []
-past-reason r name i past = ap (step_reason name (slice_index r.lines i)) (slice_get_past r.steps i past)
-
-other-reason : (name : Label) (number t : ℕ) (e : Event) → ((kind : Kind) (w site : ℕ) → e ≡ Access kind w site → ⊥) → access_reason name number t e ≡ []
-other-reason name number t (Access kind w site) other = absurd (other kind w site refl)
-other-reason name number t e other = refl
-
-pub no-reason : (r : Recording) (name : Label) (i : ℕ) (step : Step) → slice_get r.steps i ≡ Some step
-    → ((kind : Kind) (w site : ℕ) → step.event ≡ Access kind w site → ⊥) → reason_at r name i ≡ []
-no-reason r name i step is other = ap (step_reason name (slice_index r.lines i)) is ∙ other-reason name (slice_index r.lines i) step.thread step.event other
-
--- the reasons of an explanation, put one after another
-locks-reasons : (r : Recording) (us : List Uncovered)
-    → flat_map (λ (u : Uncovered). reason_at r (label.Uncovered u.lock) u.at) us
-    ≡ flat_map (λ (pair : ℕ × ℕ). reason_at r (label.Uncovered pair.0) pair.1) (map {B = ℕ × ℕ} (λ u. (u.lock, u.at)) us)
-locks-reasons r [] = refl
-locks-reasons r (u ∷ us) = ap (λ (rest : List Because). reason_at r (label.Uncovered u.lock) u.at ++ rest) (locks-reasons r us)
-
-pub all-reasons : (r : Recording) (e x : Explanation) (us : List Uncovered) (none one two three all : List Because) → x ≡ e
-    → x.uncovered ≡ map (λ u. (u.lock, u.at)) us → none ≡ [] → one ≡ none ++ reason_at r label.First x.first → two ≡ one ++ reason_at r label.Joined x.join
-    → three ≡ two ++ reason_at r label.Write x.write → all ≡ three ++ flat_map (λ (u : Uncovered). reason_at r (label.Uncovered u.lock) u.at) us
-    → all ≡ reasons_of r e
-unfolding reasons_of
-all-reasons r e x us none one two three all is pairs empty first joined wrote locks =
-    let whole : all ≡ reasons_of r x = rw (locks, wrote, joined, first, empty, pairs, locks-reasons r us) refl in
-    whole ∙ ap (reasons_of r) is
+pub explained-end : (lines : List LineView) (i : ℕ) (told : List (List Because)) → length lines ≤ i → take i lines ++ with_told told (drop i lines) ≡ lines
+unfolding with_told
+explained-end lines i told past = rw (drop_all i lines past, take_all i lines past, append-nil lines) refl

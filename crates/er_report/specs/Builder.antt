@@ -1,5 +1,5 @@
 -- A report that grows by one step after another.
-use Rattle.std.specs.Prelude.{◌≡◌, ◌++◌, ℕ, All, false, is_some, List, length, slice_get, slice_index, IsTrue, Some, None, Result}
+use Rattle.std.specs.Prelude.{◌≡◌, ◌++◌, ℕ, All, false, is_some, List, length, slice_get, slice_index, IsTrue, Option, IfSome, Some, None, Result}
 use Rattle.er_trace.specs.Names.{NameTable}
 use Rattle.er_trace.specs.Trace.{Recording, IsNamed}
 use Rattle.er_event.specs.declared.refusals.Refusal.{Refusal}
@@ -8,14 +8,17 @@ use Rattle.er_event.specs.declared.steps.Step.{Step}
 use Rattle.er_explain.specs.Racing.{is_race, places_below}
 use Rattle.er_model.specs.Answers.{answer}
 use Rattle.er_model.specs.Threads.{accepted, held}
+use Rattle.er_report.specs.Kept.{Kept, Follows}
 use Rattle.er_report.specs.Report.{Summary, matching_rule_at, lines_below, count_below, rule_counts, is_printed, is_refused}
 use Rattle.er_rules.specs.Rules.{Target}
 
--- what a builder holds: a report without reasons, the positions of the races that have lines, and the rules
+-- what a builder holds: a report without reasons, the positions of the races that have lines, the rules, and what is kept for reasons, if
+-- they are wanted
 pub record Built : Type 0 where
   pub report : Summary
   pub races : List ℕ
   pub rules : List Target
+  pub kept : Option Kept
 
 -- the report of a recording's first n steps, without reasons
 unfoldable pub report_below : Recording → List Target → ℕ → Summary
@@ -34,6 +37,15 @@ report_below r rules n =
 pub record IsBuilt (builder : Built) (r : Recording) (n : ℕ) : Type 0 where
   pub report : builder.report ≡ report_below r builder.rules n
   pub races : builder.races ≡ places_below (is_printed r builder.rules) n
+
+-- what is kept for reasons is that of the recording's first n steps
+abbrev pub IsExplained : Built → Recording → ℕ → Type 0
+IsExplained builder r n = IfSome builder.kept (λ kept. Follows kept r builder.rules n)
+
+-- both
+pub record IsReported (builder : Built) (r : Recording) (n : ℕ) : Type 0 where
+  pub built : IsBuilt builder r n
+  pub explained : IsExplained builder r n
 
 -- this is the recording's step at position k, with its line, its names and its answer, and with the locks that its thread holds, if it
 -- is a race

@@ -1,5 +1,6 @@
 pub mod Builder
 pub mod Inner
+pub mod Kept
 pub mod Lines
 pub mod Names
 pub mod Reasons

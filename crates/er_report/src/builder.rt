@@ -1,17 +1,19 @@
 //! `ReportBuilder`, a report that grows by one step after another.
-ghost use Rattle.std.specs.Prelude.{◌≡◌, ◌<◌, ◌+◌, ◌^◌, ◌++◌, ◌∷◌, ◌&&◌, ℕ, [], All, Option, cond, false, is_none, length, map, OnOk, OnErr, IfOk, IfSome};
+ghost use Rattle.std.specs.Prelude.{◌≡◌, ◌<◌, ◌+◌, ◌^◌, ◌++◌, ◌∷◌, ◌&&◌, ℕ, [], All, List, Option, None, Some, cond, false, is_none, is_some, length, map, slice_get, slice_index, OnOk, OnErr, IfOk, IfSome};
 ghost use Rattle.std.specs.Option.{option_to_list};
 ghost use Rattle.er_trace.specs.Trace.{Recording, IsNamed};
 ghost use Rattle.er_explain.specs.Racing.{is_race};
 ghost use Rattle.er_journal.specs.AnswerList.{shown};
 ghost use Rattle.er_journal.specs.declared.answers.Stopped.{Stopped as Stop};
-ghost use Rattle.er_report.specs.Builder.{IsBuilt, IsStepAt};
+ghost use Rattle.er_report.specs.Builder.{IsBuilt, IsExplained, IsReported, IsStepAt};
 ghost use Rattle.er_report.specs.Inner.Adding.{empty_report, with_answer, HasRoom};
+ghost use Rattle.er_report.specs.Kept.{Follows};
 ghost use Rattle.er_report.specs.Lines.{line_view};
 ghost use Rattle.er_report.specs.Names.{HasNames, HasSiteName};
 ghost use Rattle.er_report.specs.Report.{told, answer_line, answered_steps, report_of, stop_line};
-ghost use Rattle.er_rules.specs.Rules.{targets_of};
+ghost use Rattle.er_rules.specs.Rules.{Target, targets_of};
 
+use crate::explainer::Explainer;
 use crate::reasons::explain_lines;
 use crate::rules::first_rule;
 use crate::{Line, Report};
@@ -24,13 +26,15 @@ use std::marker::Model;
 
 /// The report of the steps so far, under some rules. It keeps no step: a line has what a report says of its step.
 ///
-/// Contracts see the report without reasons, the positions of the races that have lines, and the rules. A call that finds no memory
-/// leaves the builder as it was.
+/// If reasons are wanted, each step is to be explained right after it was added, and the builder keeps the books of all words.
+/// Contracts see the report without reasons, the positions of the races that have lines, the rules, and what is kept for reasons. A
+/// call of `add` that finds no memory leaves the builder as it was.
 #[derive(Drop)]
 pub struct ReportBuilder<'r> {
     rules: &'r Suppressions,
     report: Report,
     races: Vec<u64>,
+    explainer: Option<Explainer>,
     alloc: Global,
 }
 
@@ -43,7 +47,7 @@ impl<'r> Model for ReportBuilder<'r> {
 
     ghost Value = { Built };
 
-    ghost view = { λ b. record { report = told b.report; races = b.races.items; rules = targets_of b.rules.now } };
+    ghost view = { λ b. record { report = told b.report; races = b.races.items; rules = targets_of b.rules.now; kept = b.explainer } };
 
     ghost invariant = { λ b. IsCounted (told b.report) (length (targets_of b.rules.now)) };
 }
@@ -53,12 +57,34 @@ impl<'r> ReportBuilder<'r> {
     pub fn new(alloc: Global, rules: &'r Suppressions) -> Result<ReportBuilder<'r>, AllocError>
         ensures rules { IfOk result (λ builder. builder.rules ≡ targets_of rules.now) }
         ensures built { IfOk result (λ builder. (r : Recording) → IsBuilt builder r 0) }
+        ensures kept { IfOk result (λ builder. builder.kept ≡ None) }
     {
         let report = empty_report(alloc, rules.len())?;
         Ok(ReportBuilder {
             rules,
             report,
             races: Vec::new(alloc),
+            explainer: None,
+            alloc,
+        })
+    }
+
+    /// The same, for races that get reasons if `explain` is set.
+    pub fn explaining(
+        alloc: Global,
+        rules: &'r Suppressions,
+        explain: bool,
+    ) -> Result<ReportBuilder<'r>, AllocError>
+        ensures rules { IfOk result (λ builder. builder.rules ≡ targets_of rules.now) }
+        ensures explains { IfOk result (λ builder. is_some builder.kept ≡ explain) }
+        ensures built { IfOk result (λ builder. (r : Recording) → IsReported builder r 0) }
+    {
+        let report = empty_report(alloc, rules.len())?;
+        Ok(ReportBuilder {
+            rules,
+            report,
+            races: Vec::new(alloc),
+            explainer: explainer_if(alloc, explain),
             alloc,
         })
     }
@@ -92,6 +118,7 @@ impl<'r> ReportBuilder<'r> {
         ensures rules { OnOk result (self.new.rules ≡ self.old.rules) }
         ensures steps { OnOk result (self.new.report.steps ≡ self.old.report.steps + 1) }
         ensures built { (r : Recording) (k : ℕ) → IsBuilt self.old r k → IsStepAt r k names.now line step.now answer.now held.now → OnOk result (IsBuilt self.new r (k + 1)) }
+        ensures kept { OnOk result (self.new.kept ≡ self.old.kept) }
         ensures err { OnErr result (self.new ≡ self.old) }
     {
         self.add_answer(names, line, step, view_of(answer), held)?;
@@ -112,6 +139,7 @@ impl<'r> ReportBuilder<'r> {
         ensures rules { OnOk result (self.new.rules ≡ self.old.rules) }
         ensures steps { OnOk result (self.new.report.steps ≡ self.old.report.steps + 1) }
         ensures built { (r : Recording) (k : ℕ) → IsBuilt self.old r k → IsStepAt r k names.now line step.now (shown answer.entry) held.now → OnOk result (IsBuilt self.new r (k + 1)) }
+        ensures kept { OnOk result (self.new.kept ≡ self.old.kept) }
         ensures err { OnErr result (self.new ≡ self.old) }
     {
         let rule = first_rule(self.rules, names, step.event, answer);
@@ -126,6 +154,22 @@ impl<'r> ReportBuilder<'r> {
         Ok(())
     }
 
+    /// Finds the reasons of the step that was added last, if reasons are wanted and it is a race that has a line. Each step is to be
+    /// explained so. `AllocError`: memory was refused, and the builder is of no more use.
+    pub fn explain(&mut self, line: u64, step: &Step) -> Result<(), AllocError>
+        ensures rules { OnOk result (self.new.rules ≡ self.old.rules) }
+        ensures steps { OnOk result (self.new.report.steps ≡ self.old.report.steps) }
+        ensures explains { OnOk result (is_some self.new.kept ≡ is_some self.old.kept) }
+        ensures explained { (r : Recording) (k : ℕ) → IsBuilt self.old r (k + 1) → IsExplained self.old r k → slice_get r.steps k ≡ Some step.now → line ≡ slice_index r.lines k → OnOk result (IsReported self.new r (k + 1)) }
+    {
+        let races = count(&self.races);
+        if let Some(explainer) = &mut self.explainer {
+            let printed = explainer.told() < races;
+            explainer.follow(line, step, printed)?;
+        }
+        Ok(())
+    }
+
     /// The report, without reasons, of a run that stopped so or not at all.
     pub fn finish(self, stop: Option<(u64, NoRoom)>) -> Report
         ensures report { (r : Recording) (stopped : Option Stop) → IsBuilt self.entry r (length (answered_steps r.steps stopped)) → stop ≡ stop_line r stopped → told result ≡ report_of r self.entry.rules false stopped }
@@ -135,35 +179,59 @@ impl<'r> ReportBuilder<'r> {
             rules: _,
             mut report,
             races: _,
+            explainer: _,
             alloc: _,
         } = self;
         report.stop = stop;
         report
     }
 
-    /// The report of a run of a trace, whose answered steps were added. With `explain` each race that has a line has its reasons,
-    /// for which the steps are gone over once more.
-    pub fn finish_for(
-        self,
-        trace: &Trace,
-        stopped: Option<Stopped>,
-        explain: bool,
-    ) -> Result<Report, AllocError>
-        requires stop { IfSome stopped (λ stop. stop.at < length trace.now.steps) }
-        requires built { IsBuilt self trace.now (length (answered_steps trace.now.steps stopped)) }
-        ensures report { IfOk result (λ report. told report ≡ report_of trace.now self.entry.rules explain stopped) }
-        ensures named { IfOk result (λ report. All (HasNames trace.now.names) report.lines.items) }
+    /// The report of a run that stopped so or not at all, with reasons if they are wanted.
+    pub fn finish_explained(self, stop: Option<(u64, NoRoom)>) -> Report
+        ensures report { (r : Recording) (stopped : Option Stop) → IsReported self.entry r (length (answered_steps r.steps stopped)) → stop ≡ stop_line r stopped → told result ≡ report_of r self.entry.rules (is_some self.entry.kept) stopped }
+        ensures named { (r : Recording) (n : ℕ) → IsReported self.entry r n → All (IsNamed r.names) r.steps → All (HasNames r.names) result.lines.items }
     {
         let ReportBuilder {
             rules: _,
             mut report,
-            races,
-            alloc,
+            races: _,
+            explainer,
+            alloc: _,
         } = self;
+        report.stop = stop;
+        explain_lines(explainer, &mut report.lines);
+        report
+    }
+
+    /// The report of a run of a trace, whose answered steps were added and explained.
+    pub fn finish_for(self, trace: &Trace, stopped: Option<Stopped>) -> Report
+        requires stop { IfSome stopped (λ stop. stop.at < length trace.now.steps) }
+        requires built { IsReported self trace.now (length (answered_steps trace.now.steps stopped)) }
+        ensures report { told result ≡ report_of trace.now self.entry.rules (is_some self.entry.kept) stopped }
+        ensures named { All (HasNames trace.now.names) result.lines.items }
+    {
         prove!(trace.lines().len() == trace.steps().len());
-        report.stop = stop_line(trace, stopped);
-        explain_lines(alloc, trace, &races, explain, &mut report.lines)?;
-        Ok(report)
+        let stop = stop_line(trace, stopped);
+        self.finish_explained(stop)
+    }
+}
+
+// How many there are.
+fn count(races: &[u64]) -> usize
+    ensures { result ≡ length races.now }
+{
+    races.len()
+}
+
+// What finds reasons, if they are wanted.
+fn explainer_if(alloc: Global, explain: bool) -> Option<Explainer>
+    ensures some { is_some result ≡ explain }
+    ensures start { (r : Recording) (rules : List Target) → IfSome result (λ kept. Follows kept r rules 0) }
+{
+    if explain {
+        Some(Explainer::new(alloc))
+    } else {
+        None
     }
 }
 

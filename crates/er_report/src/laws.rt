@@ -6,7 +6,7 @@ ghost use Rattle.er_explain.specs.Racing.{is_race};
 ghost use Rattle.er_model.specs.Answers.{answer};
 ghost use Rattle.er_model.specs.Explanations.{Explanation};
 ghost use Rattle.er_journal.specs.declared.answers.Stopped.{Stopped};
-ghost use Rattle.er_report.specs.Builder.{Built, GoesOn, IsBuilt};
+ghost use Rattle.er_report.specs.Builder.{Built, GoesOn, IsBuilt, IsReported};
 ghost use Rattle.er_report.specs.Reasons.{reasons_at};
 ghost use Rattle.er_report.specs.Report.{report_of, count_below};
 ghost use Rattle.er_rules.specs.Rules.{Target};
@@ -27,5 +27,6 @@ pub fn each_reason_is_told()
 /// What was built of a recording's first steps is also built of every recording that goes on from it: later steps and new names
 /// change nothing of a report so far.
 pub fn a_report_goes_on()
-    ensures { (builder : Built) (before after : Recording) (n : ℕ) → GoesOn before after → n ≤ length before.steps → IsBuilt builder before n → IsBuilt builder after n }
+    ensures built { (builder : Built) (before after : Recording) (n : ℕ) → GoesOn before after → n ≤ length before.steps → IsBuilt builder before n → IsBuilt builder after n }
+    ensures reported { (builder : Built) (before after : Recording) (n : ℕ) → GoesOn before after → n ≤ length before.steps → IsReported builder before n → IsReported builder after n }
 {}

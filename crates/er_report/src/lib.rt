@@ -12,8 +12,8 @@
 //! [`the_counts_add_up`] and [`each_reason_is_told`] say more of such a report.
 //!
 //! The builder keeps no step and no answer. A set of locks is copied for a line alone, so memory goes by the number of lines and rules,
-//! and not of steps. Rules are looked at for a race alone. If reasons are asked for, `er_explain` goes over the steps once more,
-//! and memory also goes by the number of the words that race.
+//! and not of steps. Rules are looked at for a race alone. If reasons are asked for, each step is also explained once it was added:
+//! the builder then keeps a book of each word that is accessed, and memory also goes by their number.
 //!
 //! ```
 //! // The trace is `t1 write 0x1000` and `t2 write 0x1000`, on lines 2 and 3.
@@ -33,6 +33,7 @@ pub use report::{Because, Label, Line, Report};
 pub use summary::summarise;
 
 mod builder;
+mod explainer;
 mod laws;
 mod reasons;
 mod report;

@@ -17,7 +17,7 @@ use er_trace::Trace;
 use std::alloc::{AllocError, Global};
 
 /// The report of a run of a trace's steps, which may have stopped at one of them. A race that a rule takes has no line and counts
-/// for the first such rule. With `explain` each race that has a line has its reasons, for which the steps are gone over again.
+/// for the first such rule. With `explain` each race that has a line has its reasons.
 pub fn summarise(
     alloc: Global,
     trace: &Trace,
@@ -30,7 +30,7 @@ pub fn summarise(
     ensures report { IfOk result (λ report. told report ≡ report_of trace.now (targets_of suppressions.now) explain outcome.now.stopped) }
     ensures named { IfOk result (λ report. All (HasNames trace.now.names) report.lines.items) }
 {
-    let mut builder = ReportBuilder::new(alloc, suppressions)?;
+    let mut builder = ReportBuilder::explaining(alloc, suppressions, explain)?;
     let mut locks = ThreadLocks::new(alloc);
     for (k, step) in trace.steps().iter().enumerate() {
         let Some(answer) = outcome.answers.get(k) else {
@@ -38,9 +38,10 @@ pub fn summarise(
         };
         let held = race_locks(alloc, &locks, step.thread, answer)?;
         builder.add_answer(trace.names(), trace.lines()[k], step, answer, &held)?;
+        builder.explain(trace.lines()[k], step)?;
         locks.follow(alloc, step)?;
     }
-    builder.finish_for(trace, outcome.stopped, explain)
+    Ok(builder.finish_for(trace, outcome.stopped))
 }
 
 // The locks that the thread holds, if this answers a race; a report needs no others.

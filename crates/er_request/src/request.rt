@@ -1,5 +1,5 @@
 //! What a command line asks for.
-ghost use Rattle.std.specs.Prelude.{◌≡◌, ◌<◌, ◌≤◌};
+ghost use Rattle.std.specs.Prelude.{◌≡◌, ◌<◌, ◌≤◌, ◌^◌};
 
 use clap::error::ErrorKind;
 use clap::{Arg, ArgAction, ArgMatches, Command, Error, value_parser};
@@ -29,10 +29,13 @@ pub struct Replay<'a> {
     pub shards: u32,
     /// How many workers replay them, from 1 to 16.
     pub workers: u32,
+    /// How many bytes the trace may have, and the suppressions, at most 2^62.
+    pub byte_limit: u64,
     pub ghost some_shards: { 1 ≤ shards },
     pub ghost few_shards: { shards ≤ 64 },
     pub ghost some_workers: { 1 ≤ workers },
     pub ghost few_workers: { workers ≤ 16 },
+    pub ghost few_bytes: { byte_limit ≤ 2 ^ 62 },
 }
 
 /// Which of the six workloads to run.
@@ -46,6 +49,8 @@ pub struct Demo {
 const MOST_SHARDS: u32 = 64;
 
 const MOST_WORKERS: u32 = 16;
+
+const MOST_BYTES: u64 = 4_611_686_018_427_387_904;
 
 // A number from 1 to a greatest one.
 fn count<'a>(alloc: Global, name: &'a str, most: i64, default: &'a str, help: &'a str) -> Arg<'a> {
@@ -86,6 +91,12 @@ fn replay_command<'a>(alloc: Global) -> Result<Command<'a>, AllocError> {
         "8",
         "Into how many parts several workers cut the words, 1 to 64",
     );
+    let byte_limit = Arg::new(alloc, "byte-limit")
+        .long("byte-limit")
+        .value_name("BYTES")
+        .value_parser(value_parser!(u64).range(1..=MOST_BYTES as i64))
+        .default_value("268435456")
+        .help("The most bytes that a text may have, 1 to 4611686018427387904");
     let trace = Arg::new(alloc, "trace")
         .value_name("TRACE")
         .required(true)
@@ -97,6 +108,7 @@ fn replay_command<'a>(alloc: Global) -> Result<Command<'a>, AllocError> {
         .arg(by_site)?
         .arg(workers)?
         .arg(shards)?
+        .arg(byte_limit)?
         .arg(trace)
 }
 
@@ -170,7 +182,11 @@ fn demo_of(name: &str) -> Option<Demo> {
 fn replay_of<'a>(found: &ArgMatches<'a>) -> Option<Replay<'a>> {
     let shards = found.get_one::<u32>("shards")?;
     let workers = found.get_one::<u32>("workers")?;
+    let byte_limit = found.get_one::<u64>("byte-limit")?;
     if shards < 1 || shards > MOST_SHARDS || workers < 1 || workers > MOST_WORKERS {
+        return None;
+    }
+    if byte_limit > MOST_BYTES {
         return None;
     }
     let by_site = found.get_flag("by-site");
@@ -181,6 +197,7 @@ fn replay_of<'a>(found: &ArgMatches<'a>) -> Option<Replay<'a>> {
         explain: by_site || found.get_flag("explain"),
         shards,
         workers,
+        byte_limit,
     })
 }
 

@@ -13,9 +13,9 @@ use Rattle.er_event.specs.declared.steps.Step.{Step}
 use Rattle.er_journal.specs.declared.answers.Stopped.{Stopped}
 use Rattle.er_replay.specs.Standing.{Replayed, Stands}
 use Rattle.er_replay.specs.Stops.{MayLack, MayStop}
-use Rattle.er_report.proofs.GrowthLemmas.{goes-on}
-use Rattle.er_report.specs.Builder.{Built, IsBuilt, GoesOn}
-use Rattle.er_report.specs.Report.{answered_steps, stop_line}
+use Rattle.er_report.proofs.GrowthLemmas.{reported-on}
+use Rattle.er_report.specs.Builder.{Built, IsReported, GoesOn}
+use Rattle.er_report.specs.Report.{stop_line}
 use Rattle.er_run.specs.Inner.Passes.{HasAnswered, Answers, HasRun, HasCome, recorded}
 use Rattle.er_text.proofs.BatchLaws.{forgotten}
 use Rattle.er_text.specs.Batches.{joined, HasRead, GivesBatch}
@@ -93,8 +93,8 @@ module _ (past : List Step) (lines : List ℕ) (names : NameTable) (trace : Reco
             ∙ ap (λ (n : ℕ). Some (n, s.cause)) (sym (get_or_append_left lines trace.lines 0 s.at (omega arith)));
         within = omega (arith, length-append past trace.steps);
         cause = stop-front past trace.steps s within (rw is at run.cause);
-        built = subst (λ (steps : List Step). IsBuilt oldest after (length steps)) (sym front)
-            (goes-on oldest _ after (length (take s.at past)) on most (rw is at run.built));
+        reported = subst (λ (steps : List Step). IsReported oldest after (length steps)) (sym front)
+            (reported-on oldest _ after (length (take s.at past)) on most (rw is at run.reported));
         stands = λ none. absurd (cc);
         named = named;
         long = long;
@@ -108,7 +108,7 @@ module _ (past : List Step) (lines : List ℕ) (names : NameTable) (trace : Reco
   goes-by None is none =
       record {
         stands = subst (Stands old) (sym (take-append_seam past trace.steps)) (run.stands is);
-        built = goes-on oldest _ after (length past) on (omega arith) (rw is at run.built);
+        reported = reported-on oldest _ after (length past) on (omega arith) (rw is at run.reported);
       }
   goes-by (Some s) is none = absurd (let clash = sym none ∙ run.line ∙ ap (stop_line (recorded past lines names)) is in cc)
 
@@ -126,7 +126,7 @@ module _ (past : List Step) (lines : List ℕ) (names : NameTable) (trace : Reco
         line = refl;
         within = tt;
         cause = tt;
-        built = answered.built;
+        reported = answered.reported;
         stands = λ none. subst (Stands machine) (take-length (past ++ trace.steps)) answered.stands;
         named = named;
         long = long;
@@ -140,7 +140,7 @@ module _ (past : List Step) (lines : List ℕ) (names : NameTable) (trace : Reco
         line = ap (λ (n : ℕ). Some (n, s.cause)) (is ∙ number-behind lines trace.lines (length past) s.at run.long);
         within = answered.1;
         cause = answered.2;
-        built = subst (IsBuilt builder after) (sym (length-take-le (length past + s.at) (past ++ trace.steps) (omega (arith, answered.1)))) answered.0;
+        reported = subst (IsReported builder after) (sym (length-take-le (length past + s.at) (past ++ trace.steps) (omega (arith, answered.1)))) answered.0;
         stands = λ none. absurd (cc);
         named = named;
         long = long;
@@ -176,7 +176,7 @@ module _ (told : Option (List ℕ)) (past : List Step) (lines : List ℕ) (old n
 
 -- before the first batch
 pub begun : (reader : Reached) (trace : Recording) (machine : Replayed) (builder : Built) → trace ≡ no_steps → ((text : List ℕ) → HasRead text [] [] reader (Some text) no_steps)
-    → Stands machine [] → ((r : Recording) → IsBuilt builder r 0) → (told : Option (List ℕ)) → HasCome told told reader trace machine builder None
+    → Stands machine [] → ((r : Recording) → IsReported builder r 0) → (told : Option (List ℕ)) → HasCome told told reader trace machine builder None
 begun reader trace machine builder empty starts stands built told =
     subst (λ (t : Recording). HasCome told told reader t machine builder None) (sym empty) (record {
       past = [];
@@ -189,7 +189,7 @@ begun reader trace machine builder empty starts stands built told =
         line = refl;
         within = tt;
         cause = tt;
-        built = built (recorded [] [] no_names);
+        reported = built (recorded [] [] no_names);
         stands = λ none. stands;
         named = All-nil (IsNamed no_names);
         long = refl;
@@ -199,18 +199,3 @@ begun reader trace machine builder empty starts stands built told =
     read-by : (o : Option (List ℕ)) → IfSome o (λ text. HasRead text [] [] reader o no_steps)
     read-by None = tt
     read-by (Some text) = starts text
-
--- a run over a trace that is kept
-pub alone-built : (machine : Replayed) (builder : Built) (trace : Recording) (stopped : Option Stopped) → IfSome stopped (λ s. s.at < length trace.steps) → Answers machine builder trace 0 stopped
-    → IsBuilt builder trace (length (answered_steps trace.steps stopped))
-alone-built machine builder trace None within answered = answered.built
-alone-built machine builder trace (Some s) within answered =
-    let same : 0 + s.at ≡ length (take s.at trace.steps) = omega (arith, length-take-le s.at trace.steps (omega (arith, within))) in
-    subst (IsBuilt builder trace) same answered.0
-
-pub alone-cause : (machine : Replayed) (builder : Built) (trace : Recording) (stopped : Option Stopped) → Answers machine builder trace 0 stopped
-    → IfSome stopped (λ s. MayStop [] trace.steps s)
-alone-cause machine builder trace None answered = tt
-alone-cause machine builder trace (Some s) answered =
-    let same : 0 + s.at ≡ s.at = omega arith in
-    subst (λ (n : ℕ). MayStop [] trace.steps (record { at = n; cause = s.cause })) same answered.2

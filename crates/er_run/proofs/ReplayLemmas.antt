@@ -3,7 +3,11 @@ use Rattle.std.proofs.Common.{◌≡◌, ℕ, nat_lt, Bool, true, false, cond, L
 use Rattle.std.specs.Io.KnownBytes.{Appends, Keeps}
 use Rattle.er_trace.specs.Trace.{Recording}
 use Rattle.er_event.specs.declared.refusals.NoRoom.{NoRoom}
+use Rattle.er_event.specs.declared.steps.Step.{Step}
 use Rattle.er_journal.specs.declared.answers.Stopped.{Stopped}
+use Rattle.er_parallel.specs.Faults.{MayFail}
+use Rattle.er_parallel.specs.declared.faults.ReplayFault.{ReplayFault}
+use Rattle.er_parallel.specs.declared.faults.ReplayFault.TheVariants as replaying
 use Rattle.er_print.specs.Printed.{report_text}
 use Rattle.er_trace.specs.Names.{NameTable}
 use Rattle.er_text.specs.Trace.{Tells}
@@ -11,8 +15,9 @@ use Rattle.er_print.specs.declared.fault.WriteFault.TheVariants as writing
 use Rattle.er_report.specs.Report.{report_of, told as summary, Summary}
 use Rattle.er_report.specs.declared.report.Report.{Report}
 use Rattle.er_rules.specs.Rules.{Target}
+use Rattle.er_run.specs.Faults.{fault_of}
 use Rattle.er_run.specs.Inner.Reports.{IsReportOfText, IsFaultOfText, WritesFound}
-use Rattle.er_run.specs.Replays.{IsReplayed, IsFailed, FailsBy, WritesNothing, IsReportOfRun, verdict_of, verdict_by, is_stopped, is_verdict_of}
+use Rattle.er_run.specs.Replays.{IsReplayed, IsFailed, IsFailedBy, FailsBy, WritesNothing, IsReportOfRun, verdict_of, verdict_by, is_stopped, is_verdict_of}
 use Rattle.er_run.specs.declared.fault.RunFault.{RunFault}
 use Rattle.er_run.specs.declared.fault.RunFault.TheVariants.{Read, Write, Replay, Memory}
 use Rattle.er_run.specs.declared.fault.Verdict.{Verdict}
@@ -86,14 +91,13 @@ nothing old new text (Err (Write writing.Memory)) written = written
 nothing old new text (Err (Write writing.Write)) written = tt
 
 -- a fault before a byte was written
-pub unwritten : (told : Option (List ℕ)) (limit : ℕ) (rules : List Target) (explain : Bool) (old new : Option (List ℕ)) (why : RunFault) → IsFaultOfText told limit why
-    → IsFailed told limit rules explain old new (Err why)
-unwritten told limit rules explain old new (Read (reading.Text fault)) is = is
-unwritten told limit rules explain old new (Read reading.Memory) is = tt
-unwritten told limit rules explain old new (Read reading.Read) is = tt
-unwritten told limit rules explain old new (Write fault) is = absurd is
-unwritten told limit rules explain old new (Replay fault) is = tt
-unwritten told limit rules explain old new Memory is = tt
+pub unwritten : (Begins : List ℕ → Type 0) (told : Option (List ℕ)) (limit : ℕ) (why : RunFault) → IsFaultOfText told limit why → IsFailedBy Begins told limit (Err why)
+unwritten Begins told limit (Read (reading.Text fault)) is = is
+unwritten Begins told limit (Read reading.Memory) is = tt
+unwritten Begins told limit (Read reading.Read) is = tt
+unwritten Begins told limit (Write fault) is = absurd is
+unwritten Begins told limit (Replay fault) is = is
+unwritten Begins told limit Memory is = tt
 
 keeps : (old : Option (List ℕ)) → Keeps old old
 keeps None = tt
@@ -127,3 +131,12 @@ pub whole-verdict : (report : Report) (result : Result Verdict RunFault) → rep
     → IfOk result (λ verdict. IsFalse (is_stopped verdict))
 whole-verdict report (Ok verdict) none says = rw says (not_stopped report.stop report.races none)
 whole-verdict report (Err why) none says = tt
+
+-- a fault of the workers who replayed the text's trace
+pub of-workers : (told : Option (List ℕ)) (limit : ℕ) (recording : Recording) (why : ReplayFault) → IfSome told (λ text. Tells text limit (Ok recording)) → MayFail recording.steps why
+    → IsFaultOfText told limit (fault_of why)
+of-workers told limit recording replaying.Memory read may = tt
+of-workers None limit recording replaying.TableFull read may = tt
+of-workers (Some text) limit recording replaying.TableFull read may = record { recording = recording; trace = read; asks = may }
+of-workers told limit recording replaying.WorkerNotStarted read may = tt
+of-workers told limit recording replaying.WorkerLost read may = absurd may

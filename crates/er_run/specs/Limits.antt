@@ -1,11 +1,14 @@
 -- The limits of a replay.
-use Rattle.std.specs.Prelude.{ℕ, ◌≤◌}
+use Rattle.std.specs.Prelude.{ℕ, ◌^◌, ◌≤◌}
 pub use Rattle.er_table.specs.Sets.{most_sets}
 pub use Rattle.er_text.specs.Lines.{bytes_past_limit}
 
--- the most bytes of a text
+-- the most bytes of a text, and how many it may have unless something else is asked for
 abbrev pub most_bytes : ℕ
-most_bytes = 268435456
+most_bytes = 2 ^ 62
+
+abbrev pub usual_bytes : ℕ
+usual_bytes = 268435456
 
 -- the most shards, and in how many the words are unless something else is asked for
 abbrev pub most_shards : ℕ

@@ -4,6 +4,9 @@ use Rattle.std.specs.Io.KnownBytes.{Appends, Keeps}
 use Rattle.er_event.specs.declared.refusals.NoRoom.{NoRoom}
 use Rattle.er_trace.specs.Trace.{Recording}
 use Rattle.er_journal.specs.declared.answers.Stopped.{Stopped}
+use Rattle.er_parallel.specs.Faults.{AsksForSet}
+use Rattle.er_parallel.specs.declared.faults.ReplayFault.{ReplayFault}
+use Rattle.er_parallel.specs.declared.faults.ReplayFault.TheVariants as replaying
 use Rattle.er_print.specs.Printed.{output_of}
 use Rattle.er_print.specs.declared.fault.WriteFault.TheVariants as writing
 use Rattle.er_replay.specs.Stops.{MayStop}
@@ -44,16 +47,33 @@ pub record IsBegun (text : List ℕ) (limit : ℕ) (rules : List Target) (explai
   pub run : IsRunOf text limit recording stop
   pub written : Appends old new (take count (output_of recording rules explain stop))
 
--- where there is a fault: one of the text is its first, and a failed write left a beginning of the report
+-- the text is a trace, and some step of it asks the table for a set of locks
+pub record HasStepForSet (text : List ℕ) (limit : ℕ) : Type 0 where
+  pub recording : Recording
+  pub trace : IsTrace text limit recording
+  pub asks : AsksForSet recording.steps
+
+-- a fault of the workers: the table is full only if a step asks it for a set; a want of memory has a fault of its own, and no worker is lost
+abbrev pub IsReplayFault : Option (List ℕ) → ℕ → ReplayFault → Type 0
+IsReplayFault told limit replaying.Memory = ⊥
+IsReplayFault told limit replaying.TableFull = IfSome told (λ text. HasStepForSet text limit)
+IsReplayFault told limit replaying.WorkerNotStarted = Unit {0}
+IsReplayFault told limit replaying.WorkerLost = ⊥
+
+-- where there is a fault: one of the text is its first, one of the workers is theirs, and a failed write left a beginning that may be
+abbrev pub IsFailedBy : (List ℕ → Type 0) → Option (List ℕ) → ℕ → Result Verdict RunFault → Type 0
+IsFailedBy Begins told limit (Ok verdict) = Unit {0}
+IsFailedBy Begins told limit (Err (Read (reading.Text fault))) = IfSome told (λ text. IsFault text limit fault)
+IsFailedBy Begins told limit (Err (Read reading.Memory)) = Unit {0}
+IsFailedBy Begins told limit (Err (Read reading.Read)) = Unit {0}
+IsFailedBy Begins told limit (Err (Write writing.Memory)) = Unit {0}
+IsFailedBy Begins told limit (Err (Write writing.Write)) = IfSome told Begins
+IsFailedBy Begins told limit (Err (Replay fault)) = IsReplayFault told limit fault
+IsFailedBy Begins told limit (Err Memory) = Unit {0}
+
+-- the same, where a failed write left a beginning of the report
 abbrev pub IsFailed : Option (List ℕ) → ℕ → List Target → Bool → Option (List ℕ) → Option (List ℕ) → Result Verdict RunFault → Type 0
-IsFailed told limit rules explain old new (Ok verdict) = Unit {0}
-IsFailed told limit rules explain old new (Err (Read (reading.Text fault))) = IfSome told (λ text. IsFault text limit fault)
-IsFailed told limit rules explain old new (Err (Read reading.Memory)) = Unit {0}
-IsFailed told limit rules explain old new (Err (Read reading.Read)) = Unit {0}
-IsFailed told limit rules explain old new (Err (Write writing.Memory)) = Unit {0}
-IsFailed told limit rules explain old new (Err (Write writing.Write)) = IfSome told (λ text. IsBegun text limit rules explain old new)
-IsFailed told limit rules explain old new (Err (Replay fault)) = Unit {0}
-IsFailed told limit rules explain old new (Err Memory) = Unit {0}
+IsFailed told limit rules explain old new result = IsFailedBy (λ text. IsBegun text limit rules explain old new) told limit result
 
 -- nothing was written, unless a write failed
 abbrev pub WritesNothing : Option (List ℕ) → Option (List ℕ) → RunFault → Type 0

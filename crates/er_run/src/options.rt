@@ -1,13 +1,13 @@
 //! How a replay is run.
 ghost use Rattle.std.specs.Prelude.{◌≡◌, ◌≤◌, ◌<◌, ◌⊎◌, false, IsSome, IsNone, IfSome};
-ghost use Rattle.er_run.specs.Limits.{AreInLimits, most_bytes, most_sets, most_shards, most_workers, usual_shards};
+ghost use Rattle.er_run.specs.Limits.{AreInLimits, most_bytes, most_sets, most_shards, most_workers, usual_bytes, usual_shards};
 
 /// How a replay is run. Each number is in its limits.
 #[derive(Clone, Copy, Debug, PartialEq, Eq)]
 pub struct Options {
     /// How many different sets of locks may be kept, from 1 to 1,048,576.
     pub max_sets: u32,
-    /// How many bytes a text may have, at most 268,435,456.
+    /// How many bytes a text may have, at most 2^62.
     pub byte_limit: u64,
     /// Whether each race that is printed is explained.
     pub explain: bool,
@@ -28,8 +28,11 @@ impl Options {
     /// The most sets of locks that a table keeps.
     pub const MOST_SETS: u32 = 1_048_576;
 
-    /// The most bytes that a text may have.
-    pub const MOST_BYTES: u64 = 268_435_456;
+    /// The most bytes that a text may have, 2^62.
+    pub const MOST_BYTES: u64 = 4_611_686_018_427_387_904;
+
+    /// How many bytes a text may have unless something else is asked for, 256 MiB.
+    pub const USUAL_BYTES: u64 = 268_435_456;
 
     /// The most shards.
     pub const MOST_SHARDS: u32 = 64;
@@ -62,16 +65,16 @@ impl Options {
         }
     }
 
-    /// The greatest limits, which the program uses, without explanations and with one worker.
-    pub fn greatest() -> Options
+    /// The most sets of locks, texts of 256 MiB, no explanations and one worker: what the program uses unless something else is asked for.
+    pub fn usual() -> Options
         ensures sets { result.max_sets ≡ most_sets }
-        ensures bytes { result.byte_limit ≡ most_bytes }
+        ensures bytes { result.byte_limit ≡ usual_bytes }
         ensures plain { result.explain ≡ false }
         ensures alone { (result.shards ≡ usual_shards) × (result.workers ≡ 1) }
     {
         Options {
             max_sets: Options::MOST_SETS,
-            byte_limit: Options::MOST_BYTES,
+            byte_limit: Options::USUAL_BYTES,
             explain: false,
             shards: Options::USUAL_SHARDS,
             workers: 1,
@@ -92,6 +95,25 @@ impl Options {
             shards: self.shards,
             workers: self.workers,
         }
+    }
+
+    /// The same options, with texts of at most this many bytes; None if it is out of its limits.
+    pub fn with_byte_limit(self, byte_limit: u64) -> Option<Options>
+        ensures kept { IfSome result (λ options. (options.max_sets ≡ self.max_sets) × ((options.byte_limit ≡ byte_limit) × (options.explain ≡ self.explain))) }
+        ensures crew { IfSome result (λ options. (options.shards ≡ self.shards) × (options.workers ≡ self.workers)) }
+        ensures some { byte_limit ≤ most_bytes → IsSome result }
+        ensures none { most_bytes < byte_limit → IsNone result }
+    {
+        if byte_limit > Options::MOST_BYTES {
+            return None;
+        }
+        Some(Options {
+            max_sets: self.max_sets,
+            byte_limit,
+            explain: self.explain,
+            shards: self.shards,
+            workers: self.workers,
+        })
     }
 
     /// The same options, with this many shards and workers; None if one of them is out of its limits.

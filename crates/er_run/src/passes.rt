@@ -1,5 +1,5 @@
 //! A replay in one pass: each batch of lines is read, run and forgotten.
-ghost use Rattle.std.specs.Prelude.{◌≡◌, ◌+◌, ◌<◌, ◌≤◌, ℕ, List, Option, All, false, true, length, IfSome, IfOk, IfErr, OnOk};
+ghost use Rattle.std.specs.Prelude.{◌≡◌, ◌+◌, ◌<◌, ◌≤◌, ℕ, List, Option, All, false, true, length, is_some, IfSome, IfOk, IfErr, OnOk};
 ghost use Rattle.er_device.specs.Device.{inner_of, has_failed, taken_of};
 ghost use Rattle.er_event.specs.declared.steps.Step.{Step};
 ghost use Rattle.er_report.specs.Names.{HasNames};
@@ -54,16 +54,18 @@ impl<'t, 'r> Pass<'t, 'r> {
         table: &'t LocksetTable,
         suppressions: &'r Suppressions,
         byte_limit: u64,
+        explain: bool,
     ) -> Result<Pass<'t, 'r>, AllocError>
         requires { byte_limit ≤ most_bytes }
         ensures come { IfOk result (λ pass. (told : Option (List ℕ)) → HasCome told told pass.lines pass.trace pass.machine pass.builder pass.stop) }
         ensures rules { IfOk result (λ pass. pass.builder.rules ≡ targets_of suppressions.now) }
+        ensures explains { IfOk result (λ pass. is_some pass.builder.kept ≡ explain) }
         ensures limit { IfOk result (λ pass. pass.lines.place.limit ≡ byte_limit) }
         ensures taken { IfOk result (λ pass. taken_by pass.lines.place ≡ 0) }
     {
         let lines = TraceReader::new(alloc, byte_limit)?;
         let machine = Machine::new(alloc, table)?;
-        let builder = ReportBuilder::new(alloc, suppressions)?;
+        let builder = ReportBuilder::explaining(alloc, suppressions, explain)?;
         Ok(Pass {
             lines,
             trace: Trace::new(alloc),
@@ -83,6 +85,7 @@ impl<'t, 'r> Pass<'t, 'r> {
         ensures fault { (told : Option (List ℕ)) → HasCome told (D.remaining (inner_of reader.old)) self.old.lines self.old.trace self.old.machine self.old.builder self.old.stop
             → IfErr result (λ why. IsFaultOfText told self.old.lines.place.limit why) }
         ensures rules { OnOk result (self.new.builder.rules ≡ self.old.builder.rules) }
+        ensures explains { OnOk result (is_some self.new.builder.kept ≡ is_some self.old.builder.kept) }
         ensures limit { self.new.lines.place.limit ≡ self.old.lines.place.limit }
         ensures more { IfOk result (λ more. more ≡ true → self.old.lines.place.start < self.new.lines.place.start) }
         ensures within { self.new.lines.place.start ≤ self.new.lines.place.limit }
@@ -115,6 +118,7 @@ impl<'t, 'r> Pass<'t, 'r> {
         ensures fault { (told : Option (List ℕ)) → HasCome told (D.remaining (inner_of reader.old)) self.old.lines self.old.trace self.old.machine self.old.builder self.old.stop
             → IfErr result (λ why. IsFaultOfText told self.old.lines.place.limit why) }
         ensures rules { OnOk result (self.new.builder.rules ≡ self.old.builder.rules) }
+        ensures explains { OnOk result (is_some self.new.builder.kept ≡ is_some self.old.builder.kept) }
         ensures failed { FailsBy (has_failed reader.new) false result }
         ensures taken { taken_of reader.new + taken_by self.old.lines.place ≤ taken_of reader.old + self.old.lines.place.limit + bytes_past_limit }
     {
@@ -125,7 +129,7 @@ impl<'t, 'r> Pass<'t, 'r> {
     /// The report of the text that was read, and its names.
     fn finish(self) -> Reported
         ensures report { (told : Option (List ℕ)) (limit : ℕ) → HasEnded told limit self.entry.trace self.entry.machine self.entry.builder self.entry.stop
-            → IfSome told (λ text. IsReportOfText text limit self.entry.builder.rules false result.trace.names result.report) }
+            → IfSome told (λ text. IsReportOfText text limit self.entry.builder.rules (is_some self.entry.builder.kept) result.trace.names result.report) }
         ensures named { (told : Option (List ℕ)) (limit : ℕ) → HasEnded told limit self.entry.trace self.entry.machine self.entry.builder self.entry.stop
             → All (HasNames result.trace.names) result.report.lines.items }
     {
@@ -138,7 +142,7 @@ impl<'t, 'r> Pass<'t, 'r> {
         } = self;
         close(lines, machine);
         Reported {
-            report: builder.finish(stop),
+            report: builder.finish_explained(stop),
             trace,
         }
     }
@@ -147,7 +151,7 @@ impl<'t, 'r> Pass<'t, 'r> {
 // Lets go of what has read and answered the steps. Split for the prover.
 fn close(_lines: TraceReader, _machine: Machine<'_>) {}
 
-/// The report of a replay by one worker that forgets the steps, without reasons.
+/// The report of a replay by one worker that forgets the steps, with reasons if they are asked for.
 pub(crate) fn report_in_batches<R: Wait, D: Read>(
     rt: &R,
     alloc: Global,
@@ -156,14 +160,20 @@ pub(crate) fn report_in_batches<R: Wait, D: Read>(
     options: &Options,
 ) -> Result<Reported, RunFault>
     requires reader { has_failed reader.old ≡ false }
-    ensures report { IfOk result (λ found. IfSome (D.remaining (inner_of reader.old)) (λ text. IsReportOfText text options.now.byte_limit (targets_of suppressions.now) false found.trace.names found.report)) }
+    ensures report { IfOk result (λ found. IfSome (D.remaining (inner_of reader.old)) (λ text. IsReportOfText text options.now.byte_limit (targets_of suppressions.now) options.now.explain found.trace.names found.report)) }
     ensures named { IfOk result (λ found. All (HasNames found.trace.names) found.report.lines.items) }
     ensures fault { IfErr result (λ why. IsFaultOfText (D.remaining (inner_of reader.old)) options.now.byte_limit why) }
     ensures failed { FailsBy (has_failed reader.new) false result }
     ensures taken { taken_of reader.new ≤ taken_of reader.old + options.now.byte_limit + bytes_past_limit }
 {
     let table = LocksetTable::new(alloc, options.max_sets)?;
-    let mut pass = Pass::new(alloc, &table, suppressions, options.byte_limit)?;
+    let mut pass = Pass::new(
+        alloc,
+        &table,
+        suppressions,
+        options.byte_limit,
+        options.explain,
+    )?;
     match pass.run(rt, reader) {
         Ok(()) => Ok(pass.finish()),
         Err(why) => Err(why),
@@ -179,6 +189,7 @@ fn answer_batch<R: Wait>(
     stop: Option<(u64, NoRoom)>,
 ) -> Result<Option<(u64, NoRoom)>, AllocError>
     ensures rules { OnOk result (builder.new.rules ≡ builder.old.rules) }
+    ensures explains { OnOk result (is_some builder.new.kept ≡ is_some builder.old.kept) }
     ensures run { (past : List Step) (lines : List ℕ) (names : NameTable) → KeepsNames names trace.now.names → HasRun machine.old builder.old stop (recorded past lines names)
         → IfOk result (λ stop. HasRun machine.new builder.new stop (joined past lines trace.now)) }
 {
@@ -194,15 +205,16 @@ fn answer_batch<R: Wait>(
     })
 }
 
-/// Answers each step and adds it to the report, up to the first that finds no room. So many steps that they can't be counted any more
-/// are reported as a want of memory.
-pub(crate) fn answer_steps<R: Wait>(
+// Answers each step, adds it to the report and explains it, up to the first that finds no room. So many steps that they can't be counted
+// any more are reported as a want of memory.
+fn answer_steps<R: Wait>(
     rt: &R,
     machine: &mut Machine<'_>,
     trace: &Trace,
     builder: &mut ReportBuilder<'_>,
 ) -> Result<Option<Stopped>, AllocError>
     ensures rules { OnOk result (builder.new.rules ≡ builder.old.rules) }
+    ensures explains { OnOk result (is_some builder.new.kept ≡ is_some builder.old.kept) }
     ensures within { IfOk result (λ stopped. IfSome stopped (λ stop. stop.at < length trace.now.steps)) }
     ensures run { (past : List Step) (lines : List ℕ) → length lines ≡ length past → HasAnswered machine.old builder.old (joined past lines trace.now) (length past)
         → IfOk result (λ stopped. Answers machine.new builder.new (joined past lines trace.now) (length past) stopped) }
@@ -212,6 +224,7 @@ pub(crate) fn answer_steps<R: Wait>(
         return Err(AllocError);
     }
     for (k, step) in steps.iter().enumerate() {
+        machine.look_ahead(steps, k);
         let answer = machine.step(rt, *step);
         if let Some(cause) = no_room(&answer) {
             return Ok(Some(Stopped {
@@ -220,7 +233,9 @@ pub(crate) fn answer_steps<R: Wait>(
             }));
         }
         let held = machine.held(step.thread).held();
-        builder.add(trace.names(), trace.lines()[k], step, &answer, held)?;
+        let line = trace.lines()[k];
+        builder.add(trace.names(), line, step, &answer, held)?;
+        builder.explain(line, step)?;
     }
     Ok(None)
 }

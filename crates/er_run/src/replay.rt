@@ -1,6 +1,7 @@
 //! Bytes in, report out.
 ghost use Rattle.std.specs.Prelude.{◌≡◌, ◌+◌, ◌≤◌, ◌<◌, false, All, IfSome, IfOk, IfErr, IsFalse, None};
 ghost use Rattle.er_device.specs.Device.{inner_of, has_failed, taken_of};
+ghost use Rattle.er_parallel.specs.Faults.{MayFail};
 ghost use Rattle.er_print.specs.Printed.{report_text};
 ghost use Rattle.er_report.specs.Names.{HasNames};
 ghost use Rattle.er_report.specs.Report.{told};
@@ -9,18 +10,16 @@ ghost use Rattle.er_run.specs.Inner.Reports.{IsReportOfText, IsFaultOfText, Writ
 ghost use Rattle.er_run.specs.Limits.{bytes_past_limit};
 ghost use Rattle.er_run.specs.Replays.{IsReplayed, IsFailed, WritesNothing, FailsBy, IsReportOfRun, is_stopped, is_verdict_of};
 
-use crate::passes::{Reported, answer_steps, report_in_batches};
+use crate::passes::{Reported, report_in_batches};
 use crate::{Options, RunFault, Verdict};
 use er_device::Device;
 use er_parallel::{OpenGate, ReplayConfig, ReplayFault, replay_parallel};
 use er_print::write_report;
-use er_replay::Machine;
-use er_report::{Report, ReportBuilder, summarise};
+use er_report::{Report, summarise};
 use er_rules::Suppressions;
-use er_table::LocksetTable;
 use er_text::read_trace;
 use er_trace::Trace;
-use std::alloc::{AllocError, Global};
+use std::alloc::Global;
 use std::io::{Read, Write};
 use std::sync::Wait;
 use std::thread::Threads;
@@ -29,8 +28,9 @@ use std::thread::Threads;
 ///
 /// The text is read to its end and the report built whole before the first byte is written. One worker forgets the steps of each batch
 /// of lines once they are answered, so that memory goes by the words, the names and the lines of the report. Several workers keep the
-/// whole trace, and so does a replay with `explain`, by which each race that is printed has its reasons. One worker stops at a step that is refused for want of room, and the report says so. Several
-/// workers write what one worker writes, and never such a report: they return a fault instead.
+/// whole trace. With `explain` each race that is printed has its reasons, and each word has a book of the accesses that a reason may
+/// name. One worker stops at a step that is refused for want of room, and the report says so. Several workers write what one worker
+/// writes, and never such a report: they return a fault instead.
 pub fn replay_text<R, D, W>(
     rt: &R,
     reader: &mut Device<D>,
@@ -82,24 +82,6 @@ fn config_of(options: &Options) -> ReplayConfig {
     }
 }
 
-// The report of a replay by one worker of a trace that is kept: each step is added as it is answered, up to a stop.
-fn report_alone<R: Wait>(
-    rt: &R,
-    alloc: Global,
-    trace: &Trace,
-    suppressions: &Suppressions,
-    options: &Options,
-) -> Result<Report, AllocError>
-    ensures report { IfOk result (λ report. IsReportOfRun trace.now (targets_of suppressions.now) options.now.explain report) }
-    ensures named { IfOk result (λ report. All (HasNames trace.now.names) report.lines.items) }
-{
-    let table = LocksetTable::new(alloc, options.max_sets)?;
-    let mut machine = Machine::new(alloc, &table)?;
-    let mut builder = ReportBuilder::new(alloc, suppressions)?;
-    let stopped = answer_steps(rt, &mut machine, trace, &mut builder)?;
-    builder.finish_for(trace, stopped, options.explain)
-}
-
 // The report of a replay by several workers, which all have ended before it is begun.
 fn report_by_several<R: Threads + Wait + Sync>(
     rt: &R,
@@ -110,6 +92,7 @@ fn report_by_several<R: Threads + Wait + Sync>(
 ) -> Result<Report, ReplayFault>
     ensures report { IfOk result (λ report. IsReportOfRun trace.now (targets_of suppressions.now) options.now.explain report) }
     ensures named { IfOk result (λ report. All (HasNames trace.now.names) report.lines.items) }
+    ensures fault { IfErr result (λ why. MayFail trace.now.steps why) }
     ensures whole { IfOk result (λ report. report.stop ≡ None) }
 {
     let config = config_of(options);
@@ -117,25 +100,7 @@ fn report_by_several<R: Threads + Wait + Sync>(
     Ok(summarise(alloc, trace, &outcome, suppressions, options.explain)?)
 }
 
-// The report of a trace that is kept whole.
-pub(crate) fn report_whole<R: Threads + Wait + Sync>(
-    rt: &R,
-    alloc: Global,
-    trace: &Trace,
-    suppressions: &Suppressions,
-    options: &Options,
-) -> Result<Report, ReplayFault>
-    ensures report { IfOk result (λ report. IsReportOfRun trace.now (targets_of suppressions.now) options.now.explain report) }
-    ensures named { IfOk result (λ report. All (HasNames trace.now.names) report.lines.items) }
-    ensures whole { 1 < options.now.workers → IfOk result (λ report. report.stop ≡ None) }
-{
-    if options.workers > 1 {
-        return report_by_several(rt, alloc, trace, suppressions, options);
-    }
-    Ok(report_alone(rt, alloc, trace, suppressions, options)?)
-}
-
-// Reads a trace to its end and keeps it for its replay.
+// Reads a trace to its end and keeps it for several workers.
 fn report_kept<R, D>(
     rt: &R,
     alloc: Global,
@@ -152,15 +117,15 @@ where
     ensures fault { IfErr result (λ why. IsFaultOfText (D.remaining (inner_of reader.old)) options.now.byte_limit why) }
     ensures failed { FailsBy (has_failed reader.new) false result }
     ensures taken { taken_of reader.new ≤ taken_of reader.old + options.now.byte_limit + bytes_past_limit }
-    ensures whole { 1 < options.now.workers → IfOk result (λ found. found.report.stop ≡ None) }
+    ensures whole { IfOk result (λ found. found.report.stop ≡ None) }
 {
     let trace = read_trace(alloc, reader, options.byte_limit)?;
-    let report = report_whole(rt, alloc, &trace, suppressions, options)?;
+    let report = report_by_several(rt, alloc, &trace, suppressions, options)?;
     Ok(Reported { report, trace })
 }
 
-// Reads and replays a text, and keeps its steps for several workers and for explanations alone.
-fn report_on<R, D>(
+/// Reads and replays a text, and keeps its steps for several workers alone.
+pub(crate) fn report_on<R, D>(
     rt: &R,
     alloc: Global,
     reader: &mut Device<D>,
@@ -178,7 +143,7 @@ where
     ensures taken { taken_of reader.new ≤ taken_of reader.old + options.now.byte_limit + bytes_past_limit }
     ensures whole { 1 < options.now.workers → IfOk result (λ found. found.report.stop ≡ None) }
 {
-    if options.explain || options.workers > 1 {
+    if options.workers > 1 {
         return report_kept(rt, alloc, reader, suppressions, options);
     }
     report_in_batches(rt, alloc, reader, suppressions, options)

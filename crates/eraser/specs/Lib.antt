@@ -1,5 +1,2 @@
-pub mod Demos
 pub mod Faults
-pub mod Lines
-pub mod Statuses
-pub mod Writes
+pub mod Replays

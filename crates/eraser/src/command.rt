@@ -3,18 +3,15 @@ ghost use Rattle.std.specs.Prelude.{◌≡◌, ◌≢◌, ◌≤◌, [], false, 
 ghost use Rattle.std.specs.Io.KnownBytes.{Keeps};
 ghost use Rattle.er_device.specs.Device.{inner_of, has_failed};
 ghost use Rattle.er_rules.specs.Rules.{targets_of};
-ghost use Rattle.er_run.specs.Limits.{most_bytes};
+ghost use Rattle.er_exit.specs.Writes.{LeavesOutput};
 ghost use Rattle.er_run.specs.Replays.{IsReplayed};
-ghost use Rattle.eraser.specs.Demos.{IsDemo};
-ghost use Rattle.eraser.specs.Statuses.{verdict_status};
-ghost use Rattle.eraser.specs.Writes.{LeavesOutput, ReplaysTo};
+ghost use Rattle.eraser.specs.Replays.{ReplaysTo, verdict_status};
 
-use crate::faults::Fault;
-use crate::lines::{put, tell, tell_demo};
+use crate::faults::fault_of;
 use clap::error::ErrorKind;
-use er_detector::OpenGate;
 use er_device::Device;
-use er_load::{Workload, run_workload};
+use er_exit::{Fault, put, report_fault, run_demo};
+use er_load::Workload;
 use er_request::{Replay, Request, read_request};
 use er_rules::Suppressions;
 use er_run::{Options, Verdict, replay_by_site, replay_text};
@@ -81,7 +78,7 @@ where
     };
     match outcome {
         Ok(status) => status,
-        Err(fault) => tell(rt.alloc(), fault, errors),
+        Err(fault) => report_fault(rt.alloc(), fault, errors),
     }
 }
 
@@ -95,12 +92,13 @@ fn status_of(verdict: Verdict) -> u8
     }
 }
 
-// The greatest limits, and what was asked for.
+// What was asked for.
 fn options_of(replay: &Replay<'_>) -> Options
     ensures explain { result.explain ≡ replay.now.explain }
-    ensures bytes { result.byte_limit ≡ most_bytes }
+    ensures bytes { result.byte_limit ≡ replay.now.byte_limit }
 {
-    let options = Options::greatest().with_explain(replay.explain);
+    let options = Options::usual().with_explain(replay.explain);
+    let options = options.with_byte_limit(replay.byte_limit).unwrap();
     options.with_workers(replay.shards, replay.workers).unwrap()
 }
 
@@ -118,7 +116,7 @@ where
     requires input { has_failed input.old ≡ false }
     requires output { has_failed output.old ≡ false }
     ensures status { IfOk result (λ status. (status ≤ 4) × (status ≢ 2)) }
-    ensures report { replay.entry.by_site ≡ false → replay.entry.suppressions ≡ None → replay.entry.trace.now ≡ codes "-" → IfOk result (λ status. IfSome (I.remaining (inner_of input.old)) (λ text. ReplaysTo text replay.entry.explain (O.contents (inner_of output.old)) (O.contents (inner_of output.new)) status)) }
+    ensures report { replay.entry.by_site ≡ false → replay.entry.suppressions ≡ None → replay.entry.trace.now ≡ codes "-" → IfOk result (λ status. IfSome (I.remaining (inner_of input.old)) (λ text. ReplaysTo text replay.entry.byte_limit replay.entry.explain (O.contents (inner_of output.old)) (O.contents (inner_of output.new)) status)) }
     ensures nothing { IfErr result (LeavesOutput (O.contents (inner_of output.old)) (O.contents (inner_of output.new))) }
 {
     let options = options_of(&replay);
@@ -134,24 +132,6 @@ where
         output,
     )?;
     Ok(status_of(verdict))
-}
-
-fn run_demo<R, O>(
-    rt: &R,
-    alloc: Global,
-    workload: Workload,
-    output: &mut Device<O>,
-) -> Result<u8, Fault>
-where
-    R: Threads + Wait + Sync,
-    O: Write,
-    ensures demo { IfOk result (IsDemo workload (O.contents (inner_of output.old)) (O.contents (inner_of output.new))) }
-    ensures nothing { IfErr result (LeavesOutput (O.contents (inner_of output.old)) (O.contents (inner_of output.new))) }
-{
-    let run = run_workload(rt, alloc, workload, &OpenGate)?;
-    let races = run.races();
-    tell_demo(alloc, workload.name(), run.steps.len(), races, output)?;
-    Ok(u8::from(races > 0))
 }
 
 fn suppressions_at<R>(rt: &R, path: Option<&str>, options: &Options) -> Result<Suppressions, Fault>
@@ -218,10 +198,15 @@ where
     ensures report { by_site ≡ false → IfOk result (λ verdict. IfSome (D.remaining (inner_of source.old)) (λ text. IsReplayed text options.now.byte_limit (targets_of suppressions.now) options.now.explain (O.contents (inner_of output.old)) (O.contents (inner_of output.new)) verdict)) }
     ensures nothing { IfErr result (LeavesOutput (O.contents (inner_of output.old)) (O.contents (inner_of output.new))) }
 {
-    if by_site {
-        return Ok(replay_by_site(rt, source, output, suppressions, options)?);
+    let replayed = if by_site {
+        replay_by_site(rt, source, output, suppressions, options)
+    } else {
+        replay_text(rt, source, output, suppressions, options)
+    };
+    match replayed {
+        Ok(verdict) => Ok(verdict),
+        Err(why) => Err(fault_of(why)),
     }
-    Ok(replay_text(rt, source, output, suppressions, options)?)
 }
 
 // Help goes to the output and every other text of the parser to the errors.
@@ -239,14 +224,14 @@ fn refused<O: Write, E: Write>(
     ensures refused { result ≡ 2 → Keeps (O.contents (inner_of output.old)) (O.contents (inner_of output.new)) }
 {
     let Ok(text) = error.to_string(alloc) else {
-        return tell(alloc, Fault::Memory, errors);
+        return report_fault(alloc, Fault::Memory, errors);
     };
     match error.kind() {
-        ErrorKind::OutOfMemory => tell(alloc, Fault::Memory, errors),
+        ErrorKind::OutOfMemory => report_fault(alloc, Fault::Memory, errors),
         ErrorKind::DisplayHelp | ErrorKind::DisplayVersion => {
             match output.write_all(text.as_bytes()) {
                 Ok(()) => 0,
-                Err(_) => tell(alloc, Fault::Write, errors),
+                Err(_) => report_fault(alloc, Fault::Write, errors),
             }
         }
         _ => {

@@ -1,134 +1,24 @@
-//! Why a command line ends without its result.
+//! The faults of a replay as those of the program.
 ghost use Rattle.std.specs.Prelude.{◌≡◌};
-ghost use Rattle.eraser.specs.Faults.{demo_fault, replay_fault, rules_fault, trace_fault};
-ghost use Rattle.eraser.specs.Lines.{text_of};
-ghost use Rattle.eraser.specs.Statuses.{fault_status};
+ghost use Rattle.eraser.specs.Faults.{replay_fault};
 
-use er_event::Refusal;
-use er_load::LoadFault;
+use er_exit::Fault;
 use er_parallel::ReplayFault;
 use er_print::WriteFault;
 use er_run::RunFault;
-use er_settle::Unsettled;
-use er_text::{ReadFault, TextFault};
 
-/// Why a command line ended without its result.
-#[derive(Clone, Copy, Debug, PartialEq, Eq)]
-pub enum Fault {
-    /// An argument isn't UTF-8.
-    Arguments,
-    /// The trace's text has this fault.
-    Text(TextFault),
-    /// The suppressions' text has this fault.
-    Suppressions(TextFault),
-    /// There was no memory.
-    Memory,
-    /// Several workers wanted more sets of locks than the table takes.
-    TableFull,
-    /// The trace can't be opened.
-    OpenTrace,
-    /// The suppressions can't be opened.
-    OpenSuppressions,
-    /// A read failed.
-    Read,
-    /// A write to the standard output failed.
-    Write,
-    /// A call of a demo was refused.
-    Refused(Refusal),
-    /// A worker, or a thread of a demo, couldn't be started.
-    WorkerNotStarted,
-    /// A worker, or a thread of a demo, gave nothing back.
-    WorkerLost,
-    /// The seats and shards of a demo don't settle.
-    Unsettled(Unsettled),
-}
-
-impl Fault {
-    /// The exit status, from 2 to 4.
-    pub fn status(self) -> u8
-        ensures { result ≡ fault_status self }
-    {
-        match self {
-            Fault::Arguments | Fault::Text(_) | Fault::Suppressions(_) => 2,
-            Fault::Memory
-            | Fault::TableFull
-            | Fault::Refused(_)
-            | Fault::WorkerNotStarted
-            | Fault::WorkerLost
-            | Fault::Unsettled(_) => 3,
-            Fault::OpenTrace | Fault::OpenSuppressions | Fault::Read | Fault::Write => 4,
-        }
-    }
-
-    /// The fault in words.
-    pub fn text(self) -> &'static str
-        ensures { result.now ≡ text_of self }
-    {
-        match self {
-            Fault::Arguments => "the arguments are not text",
-            Fault::Text(fault) | Fault::Suppressions(fault) => fault.kind.text(),
-            Fault::Memory => "out of memory",
-            Fault::TableFull => "table full",
-            Fault::OpenTrace => "cannot open trace",
-            Fault::OpenSuppressions => "cannot open suppressions",
-            Fault::Read => "read fault",
-            Fault::Write => "write fault",
-            Fault::Refused(refusal) => refusal.text(),
-            Fault::WorkerNotStarted => "worker not started",
-            Fault::WorkerLost => "worker lost",
-            Fault::Unsettled(unsettled) => unsettled.text(),
-        }
-    }
-
-    /// A fault in reading the trace.
-    pub fn of_trace(fault: ReadFault) -> Fault
-        ensures { result ≡ trace_fault fault }
-    {
-        match fault {
-            ReadFault::Text(fault) => Fault::Text(fault),
-            ReadFault::Memory => Fault::Memory,
-            ReadFault::Read => Fault::Read,
-        }
-    }
-
-    /// A fault in reading the suppressions.
-    pub fn of_suppressions(fault: ReadFault) -> Fault
-        ensures { result ≡ rules_fault fault }
-    {
-        match fault {
-            ReadFault::Text(fault) => Fault::Suppressions(fault),
-            ReadFault::Memory => Fault::Memory,
-            ReadFault::Read => Fault::Read,
-        }
-    }
-}
-
-impl From<RunFault> for Fault {
-    ghost from_gives = { λ cause fault. fault ≡ replay_fault cause };
-
-    fn from(fault: RunFault) -> Fault {
-        match fault {
-            RunFault::Read(fault) => Fault::of_trace(fault),
-            RunFault::Write(WriteFault::Memory)
-            | RunFault::Replay(ReplayFault::Memory)
-            | RunFault::Memory => Fault::Memory,
-            RunFault::Write(WriteFault::Write) => Fault::Write,
-            RunFault::Replay(ReplayFault::TableFull) => Fault::TableFull,
-            RunFault::Replay(ReplayFault::WorkerNotStarted) => Fault::WorkerNotStarted,
-            RunFault::Replay(ReplayFault::WorkerLost) => Fault::WorkerLost,
-        }
-    }
-}
-
-impl From<LoadFault> for Fault {
-    ghost from_gives = { λ cause fault. fault ≡ demo_fault cause };
-
-    fn from(fault: LoadFault) -> Fault {
-        match fault {
-            LoadFault::Refused(refusal) => Fault::Refused(refusal),
-            LoadFault::WorkerNotStarted => Fault::WorkerNotStarted,
-            LoadFault::WorkerLost => Fault::WorkerLost,
-            LoadFault::Unsettled(unsettled) => Fault::Unsettled(unsettled),
-        }
+/// What stands for a fault of a replay.
+pub fn fault_of(fault: RunFault) -> Fault
+    ensures { result ≡ replay_fault fault }
+{
+    match fault {
+        RunFault::Read(fault) => Fault::of_trace(fault),
+        RunFault::Write(WriteFault::Memory)
+        | RunFault::Replay(ReplayFault::Memory)
+        | RunFault::Memory => Fault::Memory,
+        RunFault::Write(WriteFault::Write) => Fault::Write,
+        RunFault::Replay(ReplayFault::TableFull) => Fault::TableFull,
+        RunFault::Replay(ReplayFault::WorkerNotStarted) => Fault::WorkerNotStarted,
+        RunFault::Replay(ReplayFault::WorkerLost) => Fault::WorkerLost,
     }
 }

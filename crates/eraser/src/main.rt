@@ -6,12 +6,10 @@
 
 mod command;
 mod faults;
-mod lines;
 
 pub use command::command;
 use er_device::Device;
-use faults::Fault;
-use lines::tell;
+use er_exit::{Fault, report_fault};
 use std::env;
 use std::io::ErrorKind;
 use std::process::ExitCode;
@@ -38,7 +36,7 @@ fn main(rt: HostRuntime) -> ExitCode {
             &mut Device::new(rt.stdout()),
             &mut errors,
         ),
-        Err(fault) => tell(rt.alloc(), fault, &mut errors),
+        Err(fault) => report_fault(rt.alloc(), fault, &mut errors),
     };
     ExitCode::from(status)
 }

@@ -5,7 +5,7 @@ use Rattle.er_event.specs.declared.steps.Step.{Step}
 use Rattle.er_journal.specs.declared.answers.Stopped.{Stopped}
 use Rattle.er_replay.specs.Standing.{Replayed, Stands}
 use Rattle.er_replay.specs.Stops.{MayStop}
-use Rattle.er_report.specs.Builder.{Built, IsBuilt}
+use Rattle.er_report.specs.Builder.{Built, IsReported}
 use Rattle.er_report.specs.Report.{answered_steps, stop_line}
 use Rattle.er_text.specs.Batches.{HasRead}
 use Rattle.er_text.specs.Places.{Reached}
@@ -17,16 +17,16 @@ use Rattle.er_trace.specs.Trace.{Recording, IsNamed}
 abbrev pub recorded : List Step → List ℕ → NameTable → Recording
 recorded steps lines names = record { steps = steps; lines = lines; names = names }
 
--- the machine stands for the recording's first n steps, and the report is theirs
+-- the machine stands for the recording's first n steps, and the report is theirs, with their reasons if these are wanted
 pub record HasAnswered (machine : Replayed) (builder : Built) (r : Recording) (n : ℕ) : Type 0 where
   pub stands : Stands machine (take n r.steps)
-  pub built : IsBuilt builder r n
+  pub reported : IsReported builder r n
 
 -- from the recording's step n on all were answered, or those up to one that found no room
 abbrev pub Answers : Replayed → Built → Recording → ℕ → Option Stopped → Type 0
 Answers machine builder r n None = HasAnswered machine builder r (length r.steps)
 Answers machine builder r n (Some stop) =
-    IsBuilt builder r (n + stop.at) × (n + stop.at < length r.steps) × MayStop [] r.steps (record { at = n + stop.at; cause = stop.cause })
+    IsReported builder r (n + stop.at) × (n + stop.at < length r.steps) × MayStop [] r.steps (record { at = n + stop.at; cause = stop.cause })
 
 -- a run over a recording's steps, which has answered all of them or stopped at one that found no room
 pub record HasRun (machine : Replayed) (builder : Built) (stop : Option (ℕ × NoRoom)) (r : Recording) : Type 0 where
@@ -34,7 +34,7 @@ pub record HasRun (machine : Replayed) (builder : Built) (stop : Option (ℕ × 
   pub line : stop ≡ stop_line r stopped
   pub within : IfSome stopped (λ s. s.at < length r.steps)
   pub cause : IfSome stopped (λ s. MayStop [] r.steps s)
-  pub built : IsBuilt builder r (length (answered_steps r.steps stopped))
+  pub reported : IsReported builder r (length (answered_steps r.steps stopped))
   pub stands : stopped ≡ None → Stands machine r.steps
   pub named : All (IsNamed r.names) r.steps
   pub long : length r.lines ≡ length r.steps

@@ -6,7 +6,7 @@ use Rattle.er_model.specs.Following.{locks_for}
 use Rattle.er_explain.proofs.book.look_for_uncovered.Goals as goal
 
 pub loop-i-preserved : goal.loop-i-preserved
-loop-i-preserved c =
+loop-i-preserved g c =
     rw c.pair_after.ensures
     (map_over_more (pair_after c.args.at (locks_for (held_by c.args.locks.now c.args.thread) c.args.kind)) c.args.pairs.now c.loop-i.pairs c.loop-i.i c.index-pairs-i.result
     (omega arith) c.loop-i.invariant c.index-pairs-i.is)

@@ -5,5 +5,5 @@ use Rattle.er_model.specs.Following.{locks_for}
 use Rattle.er_explain.proofs.book.look_for_uncovered.Given as goal
 
 abbrev pub invariant-loop-i : goal.invariant-loop-i
-invariant-loop-i l =
+invariant-loop-i g l =
     l.pairs ≡ map (pair_after l.at (locks_for (held_by l.locks l.thread) l.kind)) (take l.i l.fn.pairs) ++ drop l.i l.fn.pairs

@@ -1,5 +1,8 @@
-use Rattle.er_report.proofs.GrowthLemmas.{goes-on}
+use Rattle.er_report.proofs.GrowthLemmas.{goes-on, reported-on}
 use Rattle.er_report.proofs.laws.a_report_goes_on.Goals as goal
 
-pub returns : goal.returns
-returns c = goes-on
+pub returns-clause-built : goal.returns-clause-built
+returns-clause-built c = goes-on
+
+pub returns-clause-reported : goal.returns-clause-reported
+returns-clause-reported c = reported-on

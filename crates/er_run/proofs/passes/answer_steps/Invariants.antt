@@ -1,4 +1,4 @@
-use Rattle.std.proofs.Common.{◌≡◌, ◌+◌, ℕ, List, length}
+use Rattle.std.proofs.Common.{◌≡◌, ◌+◌, ℕ, List, length, is_some}
 use Rattle.er_event.specs.declared.steps.Step.{Step}
 use Rattle.er_run.specs.Inner.Passes.{HasAnswered}
 use Rattle.er_text.specs.Batches.{joined}
@@ -9,6 +9,7 @@ abbrev pub invariant-loop-k : goal.invariant-loop-k
 invariant-loop-k g l = record {
   steps : l.builder.report.steps ≡ l.fn.builder.report.steps + l.k;
   rules : l.builder.rules ≡ l.fn.builder.rules;
+  explains : is_some l.builder.kept ≡ is_some l.fn.builder.kept;
   run : (past : List Step) (lines : List ℕ) → length lines ≡ length past → HasAnswered l.fn.machine l.fn.builder (joined past lines l.trace) (length past)
       → HasAnswered l.machine l.builder (joined past lines l.trace) (length past + l.k);
 }

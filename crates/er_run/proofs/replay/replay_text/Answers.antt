@@ -1,5 +1,4 @@
 -- What was built of the text is written, and a fault before that leaves the writer alone.
-use Rattle.std.proofs.Common.{sym, subst, ap}
 use Rattle.er_device.specs.Device.{inner_of}
 use Rattle.er_rules.specs.Rules.{targets_of}
 use Rattle.er_run.proofs.ReplayLemmas.{whole-of, part, nothing, unwritten, untouched, whole-verdict}
@@ -23,7 +22,7 @@ returns-in-Ok-clause-whole g c = λ several. whole-verdict c.in-Ok.found.report 
 
 pub returns-in-Err-clause-fault : goal.returns-in-Err-clause-fault
 returns-in-Err-clause-fault g c =
-    unwritten (g.D.Read.remaining (inner_of c.args.reader.now)) c.args.options.now.byte_limit (targets_of c.args.suppressions.now) c.args.options.now.explain _ _ c.in-Err.why c.in-Err.ensures.fault
+    unwritten _ (g.D.Read.remaining (inner_of c.args.reader.now)) c.args.options.now.byte_limit c.in-Err.why c.in-Err.ensures.fault
 
 pub returns-in-Err-clause-nothing : goal.returns-in-Err-clause-nothing
 returns-in-Err-clause-nothing g c = untouched (g.D.Read.remaining (inner_of c.args.reader.now)) _ c.args.options.now.byte_limit c.in-Err.why c.in-Err.ensures.fault

@@ -1,8 +1,28 @@
+-- The table of what was built of the text is written, and a fault before that leaves the writer alone.
+use Rattle.er_device.specs.Device.{inner_of}
 use Rattle.er_rules.specs.Rules.{targets_of}
-use Rattle.er_run.proofs.SiteLemmas.{whole}
+use Rattle.er_run.proofs.ReplayLemmas.{unwritten, untouched}
+use Rattle.er_run.proofs.SiteLemmas.{whole, part, nothing, unstopped}
 use Rattle.er_run.proofs.sites.replay_by_site.Goals as goal
 
 pub returns-in-Ok-clause-sites : goal.returns-in-Ok-clause-sites
 returns-in-Ok-clause-sites g c =
-    rw c.verdict_of-verdict.ensures
-    (whole _ c.args.options.now.byte_limit (targets_of c.args.suppressions.now) c.args.options.now.explain _ _ c.in_ok-trace.trace c.names.result.now c.in_ok-report.report c.names.ensures c.in_ok-trace.ensures.told c.in_ok-report.ensures.report c.in-Ok.ensures.bytes)
+    whole (g.D.Read.remaining (inner_of c.args.reader.now)) c.args.options.now.byte_limit (targets_of c.args.suppressions.now) c.args.options.now.explain _ _ c.in-Ok.found.trace.names c.in-Ok.found.report c.write_table.result
+    c.in-Ok.ensures.report c.write_table.ensures.table
+
+pub returns-in-Ok-clause-fault : goal.returns-in-Ok-clause-fault
+returns-in-Ok-clause-fault g c =
+    part (g.D.Read.remaining (inner_of c.args.reader.now)) c.args.options.now.byte_limit (targets_of c.args.suppressions.now) c.args.options.now.explain _ _ c.in-Ok.found.trace.names c.in-Ok.found.report c.write_table.result
+    c.in-Ok.ensures.report c.write_table.ensures.table
+
+pub returns-in-Ok-clause-nothing : goal.returns-in-Ok-clause-nothing
+returns-in-Ok-clause-nothing g c = nothing _ _ c.in-Ok.found.trace.names c.in-Ok.found.report c.write_table.result c.write_table.ensures.table
+
+pub returns-in-Ok-clause-whole : goal.returns-in-Ok-clause-whole
+returns-in-Ok-clause-whole g c = λ several. unstopped _ _ c.in-Ok.found.trace.names c.in-Ok.found.report c.write_table.result (c.in-Ok.ensures.whole several) c.write_table.ensures.table
+
+pub returns-in-Err-clause-fault : goal.returns-in-Err-clause-fault
+returns-in-Err-clause-fault g c = unwritten _ (g.D.Read.remaining (inner_of c.args.reader.now)) c.args.options.now.byte_limit c.in-Err.why c.in-Err.ensures.fault
+
+pub returns-in-Err-clause-nothing : goal.returns-in-Err-clause-nothing
+returns-in-Err-clause-nothing g c = untouched (g.D.Read.remaining (inner_of c.args.reader.now)) _ c.args.options.now.byte_limit c.in-Err.why c.in-Err.ensures.fault

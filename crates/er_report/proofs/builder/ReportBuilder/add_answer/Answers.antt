@@ -16,7 +16,7 @@ returns-then-is_printed-clause-built c = λ r k built at.
     let given : Result Reply Refusal = shown c.args.answer in
     let races : List ℕ = c.self.inside.races.items in
     let place : ℕ = c.self.inside.report.steps in
-    let before : Built = record { report = told c.self.inside.report; races = races; rules = targets_of c.self.inside.rules.now } in
+    let before : Built = record { report = told c.self.inside.report; races = races; rules = targets_of c.self.inside.rules.now; kept = c.self.inside.explainer } in
     let printed : (is_race given && is_none c.first_rule-rule.result) ≡ true = sym c.is_printed.ensures ∙ c.if-is_printed.true in
     built-next before _ r k c.args.names.now c.args.line c.args.step.now given c.args.held.now
     (subst (λ (builder : Built). IsBuilt builder r k) (sym c.self.view_is) built) at refl
@@ -31,7 +31,7 @@ returns-clause-built c = λ r k built at.
     let given : Result Reply Refusal = shown c.args.answer in
     let races : List ℕ = c.self.inside.races.items in
     let place : ℕ = c.self.inside.report.steps in
-    let before : Built = record { report = told c.self.inside.report; races = races; rules = targets_of c.self.inside.rules.now } in
+    let before : Built = record { report = told c.self.inside.report; races = races; rules = targets_of c.self.inside.rules.now; kept = c.self.inside.explainer } in
     let printed : (is_race given && is_none c.first_rule-rule.result) ≡ false = sym c.is_printed.ensures ∙ c.if-is_printed.false in
     built-next before _ r k c.args.names.now c.args.line c.args.step.now given c.args.held.now
     (subst (λ (builder : Built). IsBuilt builder r k) (sym c.self.view_is) built) at refl

@@ -2,4 +2,4 @@ use Rattle.er_run.proofs.PassLemmas.{begun}
 use Rattle.er_run.proofs.passes.Pass.new.Goals as goal
 
 pub returns-clause-come : goal.returns-clause-come
-returns-clause-come c = begun c.in_ok-lines.lines c.new-4.result c.in_ok-machine.machine c.in_ok-builder.builder c.new-4.ensures c.in_ok-lines.ensures.starts c.in_ok-machine.ensures c.in_ok-builder.ensures.built
+returns-clause-come c = begun c.in_ok-lines.lines c.new-3.result c.in_ok-machine.machine c.in_ok-builder.builder c.new-3.ensures c.in_ok-lines.ensures.starts c.in_ok-machine.ensures c.in_ok-builder.ensures.built

@@ -1,0 +1,26 @@
+-- Which fault of the program stands for a fault of a text or of a demo.
+use Rattle.er_load.specs.declared.faults.LoadFault.{LoadFault}
+use Rattle.er_load.specs.declared.faults.LoadFault.TheVariants as load
+use Rattle.er_text.specs.declared.faults.ReadFault.{ReadFault}
+use Rattle.er_text.specs.declared.faults.ReadFault.TheVariants as reading
+use Rattle.er_exit.specs.declared.faults.Fault.{Fault}
+use Rattle.er_exit.specs.declared.faults.Fault.TheVariants.{Text, Suppressions, Memory, Read, Refused, WorkerNotStarted, WorkerLost, Unsettled}
+
+-- a fault in reading the trace
+abbrev pub trace_fault : ReadFault → Fault
+trace_fault (reading.Text fault) = Text fault
+trace_fault reading.Memory = Memory
+trace_fault reading.Read = Read
+
+-- a fault in reading the suppressions
+abbrev pub rules_fault : ReadFault → Fault
+rules_fault (reading.Text fault) = Suppressions fault
+rules_fault reading.Memory = Memory
+rules_fault reading.Read = Read
+
+-- a fault of a demo
+abbrev pub demo_fault : LoadFault → Fault
+demo_fault (load.Refused why) = Refused why
+demo_fault load.WorkerNotStarted = WorkerNotStarted
+demo_fault load.WorkerLost = WorkerLost
+demo_fault (load.Unsettled why) = Unsettled why

@@ -1,0 +1,5 @@
+pub mod Demos
+pub mod Faults
+pub mod Lines
+pub mod Statuses
+pub mod Writes

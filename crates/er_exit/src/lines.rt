@@ -1,0 +1,67 @@
+//! The lines that the program writes by itself: that of a fault, and that of a demo.
+ghost use Rattle.std.specs.Prelude.{◌≡◌, IfOk, false, string_bytes};
+ghost use Rattle.er_device.specs.Device.{inner_of, has_failed};
+ghost use Rattle.er_exit.specs.Lines.{demo_line, fault_line};
+ghost use Rattle.er_exit.specs.Statuses.{fault_status};
+ghost use Rattle.er_exit.specs.Writes.{GetsLine, WritesBytes, WritesLine};
+
+use crate::faults::Fault;
+use er_device::Device;
+use er_text::TextFault;
+use std::alloc::{AllocError, Global};
+use std::io::Write;
+
+fn line_of(alloc: Global, fault: Fault) -> Result<String, AllocError>
+    ensures { IfOk result (λ line. string_bytes line ≡ fault_line fault) }
+{
+    let text = fault.text();
+    match fault {
+        Fault::Text(TextFault { line, .. }) => format!(in alloc; "line {line}: {text}\n"),
+        Fault::Suppressions(TextFault { line, .. }) => {
+            format!(in alloc; "suppressions line {line}: {text}\n")
+        }
+        Fault::Refused(_) => format!(in alloc; "refused: {text}\n"),
+        Fault::Unsettled(_) => format!(in alloc; "unsettled: {text}\n"),
+        _ => format!(in alloc; "{text}\n"),
+    }
+}
+
+/// Writes these bytes to the errors. If a write fails they stay cut off: there is nowhere left to report that.
+pub fn put<E: Write>(errors: &mut Device<E>, bytes: &[u8])
+    requires { has_failed errors.old ≡ false }
+    ensures { WritesBytes (E.contents (inner_of errors.old)) (E.contents (inner_of errors.new)) bytes.now (has_failed errors.new) }
+{
+    let _ = errors.write_all(bytes);
+}
+
+/// Writes the fault's line to the errors, and returns its status. Without memory for the line it writes `out of memory`.
+pub fn report_fault<E: Write>(alloc: Global, fault: Fault, errors: &mut Device<E>) -> u8
+    requires { has_failed errors.old ≡ false }
+    ensures status { result ≡ fault_status fault }
+    ensures line { GetsLine (E.contents (inner_of errors.old)) (E.contents (inner_of errors.new)) (fault_line fault) (has_failed errors.new) }
+{
+    match line_of(alloc, fault) {
+        Ok(line) => put(errors, line.as_bytes()),
+        Err(_) => put(errors, b"out of memory\n"),
+    }
+    fault.status()
+}
+
+/// Writes the line of a demo to the output.
+pub fn write_demo<O: Write>(
+    alloc: Global,
+    name: &str,
+    steps: usize,
+    races: usize,
+    output: &mut Device<O>,
+) -> Result<(), Fault>
+    ensures { WritesLine (O.contents (inner_of output.old)) (O.contents (inner_of output.new)) (demo_line name.now steps races) result }
+{
+    let Ok(line) = format!(in alloc; "{name}: steps {steps}, races {races}\n") else {
+        return Err(Fault::Memory);
+    };
+    match output.write_all(line.as_bytes()) {
+        Ok(()) => Ok(()),
+        Err(_) => Err(Fault::Write),
+    }
+}

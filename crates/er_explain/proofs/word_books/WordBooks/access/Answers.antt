@@ -1,0 +1,27 @@
+use Rattle.std.proofs.Common.{rules, ◌≡◌, ◌∙◌, ◌==◌, ◌<◌, ◌≤◌, ◌/◌, ◌%◌, ℕ, nat_eq, nat_le, cond, slice_get, Some, None, refl, sym, ap, subst, arith}
+use Rattle.er_explain.specs.Books.{book_accessed, book_after}
+use Rattle.er_explain.specs.WordBooks.{book_in, book_in_block, is_place_in, joining_in}
+use Rattle.er_held.specs.ThreadLocks.{held_by}
+use Rattle.er_model.specs.Following.{locks_for, marked}
+use Rattle.indexmap.specs.IndexMap.{with_value_at}
+use Rattle.er_explain.proofs.BlockLemmas.{number_at, block_found, block_put, one_book, first_book, found_book, emptied_block, absent_block, emptied-start, emptied-next, emptied-end, accessed-word}
+use Rattle.er_explain.proofs.word_books.WordBooks.access.Goals as goal
+
+pub returns-in_ok-access-in-Some : goal.returns-in_ok-access-in-Some
+returns-in_ok-access-in-Some g c =
+    subst (λ old. (w : ℕ) → book_in (with_value_at c.self.inside.blocks c.in-Some.index c.access.new.self).entries w
+    ≡ cond (c.args.word == w) (book_accessed (book_in old c.args.word) c.args.at c.args.thread c.args.kind (locks_for (held_by c.args.locks.now c.args.thread) c.args.kind)) (book_in old w)) c.self.view_is
+    (one_book c.self.inside.blocks.entries (with_value_at c.self.inside.blocks c.in-Some.index c.access.new.self).entries c.args.word c.block_of-number.result c.place_of-place.result (Some c.index_mut.result.now) c.access.new.self
+    (λ b. book_accessed b c.args.at c.args.thread c.args.kind (locks_for (held_by c.args.locks.now c.args.thread) c.args.kind))
+    c.block_of-number.ensures c.place_of-place.ensures.value
+    (block_found c.self.inside.blocks c.in-Some.index c.block_of-number.result c.index_mut.result.now c.in-Some.ensures.unique c.in-Some.ensures.key c.index_mut.ensures.value)
+    (block_put c.self.inside.blocks c.in-Some.index c.block_of-number.result c.index_mut.result.now c.in-Some.ensures.unique c.in-Some.ensures.key c.index_mut.ensures.value c.access.new.self)
+    c.in_ok-access-in-Some.ensures)
+
+pub returns-in_ok-insert-in-None : goal.returns-in_ok-insert-in-None
+returns-in_ok-insert-in-None g c =
+    subst (λ old. (w : ℕ) → book_in c.insert.new.self.entries w
+    ≡ cond (c.args.word == w) (book_accessed (book_in old c.args.word) c.args.at c.args.thread c.args.kind (locks_for (held_by c.args.locks.now c.args.thread) c.args.kind)) (book_in old w)) c.self.view_is
+    (first_book c.self.inside.blocks.entries c.insert.new.self.entries c.args.word c.block_of-number.result c.place_of-place.result c.new-block.result c.access-in-None.new.self
+    (λ b. book_accessed b c.args.at c.args.thread c.args.kind (locks_for (held_by c.args.locks.now c.args.thread) c.args.kind))
+    c.block_of-number.ensures c.place_of-place.ensures.value c.in-None.ensures.none c.in_ok-insert-in-None.ensures.updates.0 c.new-block.ensures c.in_ok-access-in-None.ensures)

@@ -1,0 +1,21 @@
+use Rattle.std.proofs.Common.{rules, ◌≡◌, ◌∙◌, ◌==◌, ◌<◌, ◌≤◌, ◌/◌, ◌%◌, ℕ, nat_eq, nat_le, cond, slice_get, Some, None, refl, sym, ap, subst, arith}
+use Rattle.er_explain.specs.Books.{book_accessed, book_after}
+use Rattle.er_explain.specs.WordBooks.{book_in, book_in_block, is_place_in, joining_in}
+use Rattle.er_held.specs.ThreadLocks.{held_by}
+use Rattle.er_model.specs.Following.{locks_for, marked}
+use Rattle.indexmap.specs.IndexMap.{with_value_at}
+use Rattle.er_explain.proofs.BlockLemmas.{number_at, block_found, block_put, one_book, first_book, found_book, emptied_block, absent_block, emptied-start, emptied-next, emptied-end, accessed-word}
+use Rattle.er_explain.proofs.word_books.WordBooks.reuse.Goals as goal
+
+pub loop-number-init : goal.loop-number-init
+loop-number-init g c = emptied-start c.args.self.now c.args.range c.block_of-first.result c.block_of-first.ensures
+
+pub loop-number-preserved : goal.loop-number-preserved
+loop-number-preserved g c =
+    emptied-next c.args.self.now c.loop-number.self c.empty.new.self c.args.range c.loop-number.number c.from_in.result c.to_in.result c.from_in.ensures c.to_in.ensures.place
+    c.loop-number.invariant c.empty.ensures
+
+pub returns : goal.returns
+returns g c =
+    emptied-end c.args.self.now c.loop-number.self c.args.range c.loop-number.number
+    (let end = c.block_of-last.ensures in omega (arith, end, c.loop-number-test.false)) c.loop-number.invariant

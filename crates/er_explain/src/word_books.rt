@@ -1,0 +1,186 @@
+//! `WordBooks`, the books of all words.
+ghost use Rattle.std.specs.Prelude.{◌≡◌, ◌==◌, ◌<◌, ◌≤◌, ◌/◌, ◌%◌, ℕ, nat_eq, nat_le, cond, slice_get, option_copied, Some, None, IfSome, IfNone, OnOk};
+ghost use Rattle.indexmap.specs.IndexMap.{get, keys, index_map_len, IsUnique};
+ghost use Rattle.er_explain.specs.Books.{book_accessed, book_after};
+ghost use Rattle.er_explain.specs.WordBooks.{book_in, is_place_in, joining_in};
+ghost use Rattle.er_held.specs.ThreadLocks.{held_by};
+ghost use Rattle.er_model.specs.Following.{locks_for, marked};
+ghost use Rattle.er_model.specs.Words.{is_within, Reused};
+
+use crate::block::Block;
+use crate::book::{Book, Joint};
+use er_event::{Event, Kind, PageRange, Step, ThreadId, Word};
+use er_held::ThreadLocks;
+use indexmap::IndexMap;
+use std::alloc::{AllocError, Global};
+use std::marker::Model;
+
+/// How many words a block has.
+const WORDS: u64 = 32;
+
+/// A book for each word, as steps go by. An access is named as the caller likes: by its place in a list, or by what is to be said of
+/// it. Contracts see the books by `book_in`.
+///
+/// The books of 32 words that lie side by side are kept together, and made at the first access of one of them. A step takes one look
+/// at them, and a reuse one look for each block of its range.
+#[derive(Drop)]
+pub struct WordBooks<A> {
+    blocks: IndexMap<u64, Block<A>>,
+    // Where the block stands that was accessed last.
+    last: usize,
+    alloc: Global,
+}
+
+impl<A> Model for WordBooks<A> {
+    ghost use Rattle.er_explain.specs.WordBooks.{Blocks};
+
+    ghost Value = { Blocks A };
+
+    ghost view = { λ b. b.blocks.entries };
+}
+
+impl<A: Copy> WordBooks<A> {
+    /// Empty books of all words.
+    pub fn new(alloc: Global) -> WordBooks<A>
+        ensures { (w : ℕ) → book_in result w ≡ Book.Untouched }
+    {
+        WordBooks {
+            blocks: IndexMap::new(alloc),
+            last: 0,
+            alloc,
+        }
+    }
+
+    /// Goes on by a step, if these are the locks that each thread holds before it. Its access is named so.
+    pub fn follow(&mut self, locks: &ThreadLocks, at: A, step: &Step) -> Result<(), AllocError>
+        ensures { OnOk result ((w : ℕ) → book_in self.new w ≡ book_after (book_in self.old w) w at (marked (held_by locks.now step.now.thread) step.now.thread step.now.event)) }
+    {
+        match step.event {
+            Event::Access(kind, word, _) => {
+                if !locks.is_ignoring(step.thread) {
+                    self.access(locks, at, word, step.thread, kind)?;
+                }
+            }
+            Event::Reuse(range) => self.reuse(range),
+            _ => {}
+        }
+        Ok(())
+    }
+
+    // A counted access of a word.
+    fn access(
+        &mut self,
+        locks: &ThreadLocks,
+        at: A,
+        word: Word,
+        thread: ThreadId,
+        kind: Kind,
+    ) -> Result<(), AllocError>
+        ensures { OnOk result ((w : ℕ) → book_in self.new w ≡ cond (word == w) (book_accessed (book_in self.old word) at thread kind (locks_for (held_by locks.now thread) kind)) (book_in self.old w)) }
+    {
+        let number = block_of(word);
+        let place = place_of(word);
+        match index_of_block(&self.blocks, self.last, number) {
+            Some(index) => {
+                self.last = index;
+                self.blocks[index].access(self.alloc, locks, place, at, thread, kind)?;
+                Ok(())
+            }
+            None => {
+                let mut block = Block::new(self.alloc);
+                block.access(self.alloc, locks, place, at, thread, kind)?;
+                self.last = self.blocks.len();
+                self.blocks.insert(number, block)?;
+                Ok(())
+            }
+        }
+    }
+
+    // Empties the books of a range.
+    fn reuse(&mut self, range: PageRange)
+        ensures { (w : ℕ) → book_in self.new w ≡ cond (is_within w range) Book.Untouched (book_in self.old w) }
+    {
+        let PageRange { lo, hi } = range;
+        let first = block_of(lo);
+        let last = block_of(hi);
+        for number in first..last + 1 {
+            self.empty(number, from_in(number, lo), to_in(number, hi));
+        }
+    }
+
+    // Empties books of a block, both ends included.
+    fn empty(&mut self, number: u64, from: usize, to: usize)
+        requires { to < 32 }
+        ensures { (w : ℕ) → book_in self.new w ≡ cond (is_place_in number from to w) Book.Untouched (book_in self.old w) }
+    {
+        if let Some(index) = index_of_block(&self.blocks, self.last, number) {
+            self.blocks[index].empty(from, to);
+        }
+    }
+
+    /// The joining of a word, if a second thread has joined since its last reuse.
+    pub fn joining(&self, word: Word) -> Option<&Joint<A>>
+        ensures { option_copied result ≡ joining_in (book_in self.now word) }
+    {
+        match self.blocks.get(&block_of(word)) {
+            Some(block) => block.joining(place_of(word)),
+            None => None,
+        }
+    }
+}
+
+// Where the block of this number stands. It looks at the one at `last` first.
+#[inline]
+fn index_of_block<A>(blocks: &IndexMap<u64, Block<A>>, last: usize, number: u64) -> Option<usize>
+    ensures key { IfSome result (λ index. slice_get (keys blocks.now) index ≡ Some number) }
+    ensures within { IfSome result (λ index. index < index_map_len blocks.now) }
+    ensures none { IfNone result (get nat_eq blocks.now number ≡ None) }
+    ensures unique { IsUnique nat_eq blocks.now }
+{
+    match blocks.as_slice().get_index(last) {
+        Some((key, _)) if *key == number => Some(last),
+        _ => blocks.get_index_of(&number),
+    }
+}
+
+// The number of a word's block.
+#[inline]
+fn block_of(word: Word) -> u64
+    ensures { result ≡ word / 32 }
+{
+    word.number() / WORDS
+}
+
+// Where the words from `lo` on begin in the block of this number.
+fn from_in(number: u64, lo: Word) -> usize
+    requires { lo / 32 ≤ number }
+    ensures { (w : ℕ) → number ≡ w / 32 → nat_le result (w % 32) ≡ nat_le lo w }
+{
+    if number == block_of(lo) {
+        place_of(lo)
+    } else {
+        0
+    }
+}
+
+// Where the words up to `hi` end in the block of this number.
+fn to_in(number: u64, hi: Word) -> usize
+    requires { number ≤ hi / 32 }
+    ensures place { (w : ℕ) → number ≡ w / 32 → nat_le (w % 32) result ≡ nat_le w hi }
+    ensures within { result < 32 }
+{
+    if number == block_of(hi) {
+        place_of(hi)
+    } else {
+        31
+    }
+}
+
+// Where a word stands in its block.
+#[inline]
+fn place_of(word: Word) -> usize
+    ensures value { result ≡ word % 32 }
+    ensures within { result < 32 }
+{
+    (word.number() % WORDS) as usize
+}

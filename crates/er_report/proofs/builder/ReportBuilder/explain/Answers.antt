@@ -1,0 +1,39 @@
+-- The race that was added last gets its reasons, if it has a line and reasons are wanted.
+use Rattle.std.proofs.Common.{◌≡◌, ◌∙◌, ◌+◌, ◌<◌, ℕ, suc, List, Option, Some, None, length, IfSome, refl, sym, ap, subst, arith}
+use Rattle.er_report.specs.Builder.{Built, IsBuilt, IsExplained, IsReported}
+use Rattle.er_report.specs.Kept.{Kept, Follows}
+use Rattle.er_report.specs.Report.{told}
+use Rattle.er_report.specs.declared.builder.ReportBuilder.TheInside.{Inside}
+use Rattle.er_report.specs.declared.report.Because.{Because}
+use Rattle.er_rules.specs.Rules.{targets_of}
+use Rattle.er_report.proofs.KeptLemmas.{is-printed}
+use Rattle.er_report.proofs.builder.ReportBuilder.explain.Goals as goal
+use Rattle.er_report.proofs.builder.ReportBuilder.explain.Goals.{in-Some+in_ok-follow, in_default}
+
+-- what contracts see of the fields
+abbrev seen : Inside → Built
+seen inside = record { report = told inside.report; races = inside.races.items; rules = targets_of inside.rules.now; kept = inside.explainer }
+
+pub returns-clause-explained : goal.returns-clause-explained
+returns-clause-explained c = λ r k built explained here number.
+    let before : Built = seen c.self.inside in
+    let was_built : IsBuilt before r (k + 1) = subst (λ (builder : Built). IsBuilt builder r (k + 1)) (sym c.self.view_is) built in
+    let was_explained : IsExplained before r k = subst (λ (builder : Built). IsExplained builder r k) (sym c.self.view_is) explained in
+    elim c.match-self.branch [
+      | in-Some+in_ok-follow w ↦
+          let follows : Follows w.in-Some.explainer r before.rules k = subst (λ (o : Option Kept). IfSome o (λ kept. Follows kept r before.rules k)) w.in-Some.is was_explained in
+          let printed = is-printed r before.rules k w.told.result c.count-races.result
+          (w.told.ensures ∙ ap (λ (all : List (List Because)). length all) follows.told)
+          (c.count-races.ensures ∙ ap (λ (all : List ℕ). length all) (c.deref.ensures.value ∙ was_built.races)) in
+          subst (λ inside. IsReported (seen inside) r (k + 1)) (sym w.self-inside-is)
+          (record {
+            built = record { report = was_built.report; races = was_built.races };
+            explained = w.in_ok-follow.ensures r before.rules k follows here number printed;
+          })
+      | in_default w ↦
+          subst (λ inside. IsReported (seen inside) r (k + 1)) (sym w.self-inside-is)
+          (record {
+            built = record { report = was_built.report; races = was_built.races };
+            explained = subst (λ (o : Option Kept). IfSome o (λ kept. Follows kept r before.rules (k + 1))) (sym w.in_default.is) tt;
+          })
+    ]

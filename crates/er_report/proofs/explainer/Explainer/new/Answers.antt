@@ -1,0 +1,6 @@
+use Rattle.std.proofs.Common.{refl}
+use Rattle.er_report.proofs.KeptLemmas.{follows-start}
+use Rattle.er_report.proofs.explainer.Explainer.new.Goals as goal
+
+pub returns : goal.returns
+returns c = follows-start _ _ _ c.new.ensures c.new-2.ensures (rw c.new-3.ensures.items refl)

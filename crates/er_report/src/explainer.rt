@@ -1,0 +1,184 @@
+//! `Explainer`, which finds the reasons of races while steps go by.
+ghost use Rattle.std.specs.Prelude.{◌≡◌, ◌++◌, ◌∷◌, ◌+◌, ℕ, [], List, cond, length, map, slice_get, slice_index, IfOk, OnOk, Some};
+ghost use Rattle.er_explain.specs.Books.{book_after};
+ghost use Rattle.er_explain.specs.WordBooks.{book_in};
+ghost use Rattle.er_held.specs.ThreadLocks.{held_by};
+ghost use Rattle.er_model.specs.Explanations.{word_in};
+ghost use Rattle.er_model.specs.Following.{marked};
+ghost use Rattle.er_model.specs.Holdings.{after_step};
+ghost use Rattle.er_report.specs.Kept.{Follows, event_kind, joining_reasons, line_access, told_found, word_reasons};
+ghost use Rattle.er_report.specs.Report.{is_printed};
+ghost use Rattle.er_rules.specs.Rules.{Target};
+ghost use Rattle.er_trace.specs.Trace.{Recording};
+
+use crate::{Because, Label};
+use er_event::{Event, Kind, Step, ThreadId, Word};
+use er_explain::{Joint, WordBooks};
+use er_held::ThreadLocks;
+use std::alloc::{AllocError, Global};
+use std::marker::Model;
+
+/// An access, as a report tells it.
+#[derive(Clone, Copy)]
+pub(crate) struct LineAccess {
+    pub(crate) line: u64,
+    pub(crate) thread: ThreadId,
+    pub(crate) kind: Kind,
+}
+
+/// The reasons of the printed races so far, and the books that later ones will need. It keeps no step.
+#[derive(Drop)]
+pub(crate) struct Explainer {
+    locks: ThreadLocks,
+    books: WordBooks<LineAccess>,
+    told: Vec<Vec<Because>>,
+    alloc: Global,
+}
+
+impl Model for Explainer {
+    ghost use Rattle.std.specs.Prelude.{map};
+    ghost use Rattle.er_report.specs.Kept.{Kept};
+
+    ghost Value = { Kept };
+
+    ghost view = { λ e. record { threads = e.locks; books = e.books; told = map (λ reasons. reasons.items) e.told.items } };
+}
+
+impl Explainer {
+    /// Nothing is kept before any step.
+    pub(crate) fn new(alloc: Global) -> Explainer
+        ensures { (r : Recording) (rules : List Target) → Follows result r rules 0 }
+    {
+        Explainer {
+            locks: ThreadLocks::new(alloc),
+            books: WordBooks::new(alloc),
+            told: Vec::new(alloc),
+            alloc,
+        }
+    }
+
+    /// How many races have reasons.
+    pub(crate) fn told(&self) -> usize
+        ensures { result ≡ length self.now.told }
+    {
+        self.told.len()
+    }
+
+    /// Goes on by a step on this line, which may be a race that is printed.
+    pub(crate) fn follow(&mut self, line: u64, step: &Step, printed: bool) -> Result<(), AllocError>
+        ensures { (r : Recording) (rules : List Target) (k : ℕ) → Follows self.old r rules k → slice_get r.steps k ≡ Some step.now → line ≡ slice_index r.lines k → printed ≡ is_printed r rules k → OnOk result (Follows self.new r rules (k + 1)) }
+    {
+        self.go_on(line, step)?;
+        self.tell(step.event, printed)?;
+        Ok(())
+    }
+
+    // The books and the locks go on by a step.
+    fn go_on(&mut self, line: u64, step: &Step) -> Result<(), AllocError>
+        ensures books { OnOk result ((w : ℕ) → book_in self.new.books w ≡ book_after (book_in self.old.books w) w (line_access line (Some step.now)) (marked (held_by self.old.threads step.now.thread) step.now.thread step.now.event)) }
+        ensures held { OnOk result ((t : ℕ) → held_by self.new.threads t ≡ after_step (held_by self.old.threads t) t step.now) }
+        ensures told { OnOk result (self.new.told ≡ self.old.told) }
+    {
+        let access = LineAccess {
+            line,
+            thread: step.thread,
+            kind: kind_of(step.event),
+        };
+        self.books.follow(&self.locks, access, step)?;
+        self.locks.follow(self.alloc, step)?;
+        Ok(())
+    }
+
+    // Keeps the reasons of a race that is printed.
+    fn tell(&mut self, event: Event, printed: bool) -> Result<(), AllocError>
+        ensures books { OnOk result (self.new.books ≡ self.old.books) }
+        ensures held { OnOk result (self.new.threads ≡ self.old.threads) }
+        ensures told { OnOk result (self.new.told ≡ self.old.told ++ cond printed (word_reasons (book_in self.old.books) (word_in event) ∷ []) []) }
+    {
+        if printed {
+            let reasons = self.reasons_for(word_in(event))?;
+            self.told.push(reasons)?;
+            return Ok(());
+        }
+        Ok(())
+    }
+
+    // The reasons that the book of a word tells, if there is a word.
+    fn reasons_for(&self, racing: Option<Word>) -> Result<Vec<Because>, AllocError>
+        ensures { IfOk result (λ reasons. reasons.items ≡ word_reasons (book_in self.now.books) racing) }
+    {
+        let Some(word) = racing else {
+            return Ok(Vec::new(self.alloc));
+        };
+        match self.books.joining(word) {
+            Some(joint) => reasons_of(self.alloc, joint),
+            None => Ok(Vec::new(self.alloc)),
+        }
+    }
+
+    /// The reasons of the printed races, in their order.
+    pub(crate) fn into_told(self) -> Vec<Vec<Because>>
+        ensures { map (λ reasons. reasons.items) result.items ≡ self.told }
+    {
+        let Explainer {
+            locks: _,
+            books: _,
+            told,
+            alloc: _,
+        } = self;
+        told
+    }
+}
+
+// The kind of an access; of another event it says nothing.
+fn kind_of(event: Event) -> Kind
+    ensures { result ≡ event_kind event }
+{
+    match event {
+        Event::Access(kind, _, _) => kind,
+        _ => Kind::Read,
+    }
+}
+
+// The word that an event accesses, if it is an access.
+fn word_in(event: Event) -> Option<Word>
+    ensures { result ≡ word_in event }
+{
+    match event {
+        Event::Access(_, word, _) => Some(word),
+        _ => None,
+    }
+}
+
+// The accesses that a joining names, in the order of a report.
+fn reasons_of(alloc: Global, joint: &Joint<LineAccess>) -> Result<Vec<Because>, AllocError>
+    ensures { IfOk result (λ reasons. reasons.items ≡ joining_reasons joint.now) }
+{
+    let mut reasons = Vec::with_capacity(alloc, joint.pairs().len() + 3)?;
+    put_found(&mut reasons, Label::First, Some(joint.first()))?;
+    put_found(&mut reasons, Label::Joined, Some(joint.join()))?;
+    put_found(&mut reasons, Label::Write, joint.write())?;
+    for pair in joint.pairs() {
+        put_found(&mut reasons, Label::Uncovered(pair.lock), pair.at)?;
+    }
+    Ok(reasons)
+}
+
+// Puts an access that was found, with its label.
+fn put_found(
+    reasons: &mut Vec<Because>,
+    label: Label,
+    found: Option<LineAccess>,
+) -> Result<(), AllocError>
+    ensures { OnOk result (reasons.new.items ≡ reasons.old.items ++ told_found label found) }
+{
+    if let Some(LineAccess { line, thread, kind }) = found {
+        reasons.push(Because {
+            label,
+            line,
+            thread,
+            kind,
+        })?;
+    }
+    Ok(())
+}
