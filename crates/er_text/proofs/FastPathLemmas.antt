@@ -1,14 +1,13 @@
 -- Lines in their usual form: the words of what is put together with single spaces.
-use Rattle.std.proofs.Common.{◌≡◌, ℕ, suc, ◌+◌, ◌*◌, ◌^◌, ◌<◌, ◌≤◌, Bool, true, false, not, cond, List, [], ◌∷◌, length, take, get_or, refl, ◌∙◌, arith}
+use Rattle.std.proofs.Common.{◌≡◌, ℕ, suc, ◌+◌, ◌*◌, ◌^◌, ◌<◌, ◌≤◌, Bool, true, false, not, cond, List, [], ◌∷◌, length, take, get_or, bit_or, refl, ◌∙◌, subst, arith}
 use Rattle.std.specs.List.{list_all, position_or_len}
 use Rattle.std.specs.Char.{digit_value, is_digit}
-use Rattle.std.specs.Str.Parse.{digits_value}
 use Rattle.std.proofs.lemmas.Bool.Decides.{nat_tests}
 use Rattle.std.proofs.lemmas.Int.Digits.{digits_value_more}
 use Rattle.std.proofs.lemmas.List.Folds.{list_all_more}
-use Rattle.std.proofs.lemmas.Nat.{pow-add}
+use Rattle.std.proofs.lemmas.Nat.{pow-add, le_or_l, le_or_r}
 use Rattle.std.proofs.Math.Pow.{pow_mono}
-use Rattle.er_text.specs.Inner.FastPath.{AreLeadingDigits}
+use Rattle.er_text.specs.Inner.FastPath.{HexSoFar, AreLeadingDigits}
 
 -- the elements in front of the first that fails all pass
 front_step : (p : ℕ → Bool) (x : ℕ) (xs : List ℕ) (b : Bool) → p x ≡ b → list_all p (take (position_or_len (λ y. not (p y)) xs) xs) ≡ true
@@ -21,12 +20,6 @@ front_step p x xs false e more = refl
 pub front_passes : (p : ℕ → Bool) (xs : List ℕ) → list_all p (take (position_or_len (λ y. not (p y)) xs) xs) ≡ true
 front_passes p [] = refl
 front_passes p (x ∷ xs) = front_step p x xs (p x) refl (front_passes p xs)
-
--- so many hexadecimal digits, as far as they were read
-pub record HexSoFar (bytes : List ℕ) (value i : ℕ) : Type 0 where
-  pub digits : list_all (λ digit. is_digit digit 16) (take i bytes) ≡ true
-  pub value_is : digits_value 16 (take i bytes) ≡ value
-  pub small : value < 2 ^ (4 * i)
 
 pub no_digit : (bytes : List ℕ) → HexSoFar bytes 0 0
 no_digit bytes = record { digits = refl; value_is = refl; small = omega arith }
@@ -46,6 +39,40 @@ digit_more bytes value digit i so within is low =
       value_is = digits_value_more 16 bytes i within ∙ (rw (so.value_is, ← is) refl);
       small = bound_more value digit i so.small low;
     }
+
+-- four digits more
+at_place : (bytes : List ℕ) (value i j : ℕ) → i ≡ j → HexSoFar bytes value i → HexSoFar bytes value j
+at_place bytes value i j same so = subst (λ (k : ℕ). HexSoFar bytes value k) same so
+
+of_value : (bytes : List ℕ) (value other i : ℕ) → value ≡ other → HexSoFar bytes value i → HexSoFar bytes other i
+of_value bytes value other i same so = subst (λ (v : ℕ). HexSoFar bytes v i) same so
+
+pub four_digits_more : (bytes : List ℕ) (value i a b c d : ℕ) → HexSoFar bytes value i → i + 4 ≤ length bytes
+    → a ≡ digit_value (get_or bytes i 0) → b ≡ digit_value (get_or bytes (i + 1) 0) → c ≡ digit_value (get_or bytes (i + 2) 0) → d ≡ digit_value (get_or bytes (i + 3) 0)
+    → a < 16 → b < 16 → c < 16 → d < 16 → HexSoFar bytes (value * 65536 + ((a * 16 + b) * 256 + (c * 16 + d))) (i + 4)
+four_digits_more bytes value i a b c d so within a_is b_is c_is d_is a_low b_low c_low d_low =
+    let one = digit_more bytes value a i so (omega (arith, within)) a_is a_low in
+    let two = at_place bytes _ (i + 1 + 1) (i + 2) (omega arith) (digit_more bytes (value * 16 + a) b (i + 1) one (omega (arith, within)) b_is b_low) in
+    let three = at_place bytes _ (i + 2 + 1) (i + 3) (omega arith) (digit_more bytes ((value * 16 + a) * 16 + b) c (i + 2) two (omega (arith, within)) c_is c_low) in
+    let four = at_place bytes _ (i + 3 + 1) (i + 4) (omega arith) (digit_more bytes (((value * 16 + a) * 16 + b) * 16 + c) d (i + 3) three (omega (arith, within)) d_is d_low) in
+    of_value bytes _ _ (i + 4) (omega arith) four
+
+-- at most 8 digits write a number below 2 ^ 32
+pub below_nine : (value i : ℕ) → value < 2 ^ (4 * i) → i ≤ 8 → value < 2 ^ 32
+below_nine value i small few =
+    let most : 2 ^ (4 * i) ≤ 2 ^ 32 = pow_mono {i = 4 * i} {j = 32} (omega arith) in
+    omega (arith, small, most)
+
+-- numbers whose bits are put together are at most what comes out
+pub low_parts : (a b c d all : ℕ) → all ≡ bit_or (bit_or (bit_or a b) c) d → all < 16 → (a < 16) × (b < 16) × (c < 16) × (d < 16)
+low_parts a b c d all is low =
+    let p = le_or_l a b in
+    let q = le_or_r a b in
+    let r = le_or_l (bit_or a b) c in
+    let s = le_or_r (bit_or a b) c in
+    let t = le_or_l (bit_or (bit_or a b) c) d in
+    let u = le_or_r (bit_or (bit_or a b) c) d in
+    (omega (arith, is, low, p, r, t), omega (arith, is, low, q, r, t), omega (arith, is, low, s, t), omega (arith, is, low, u))
 
 -- at most 12 digits write a number below 2 ^ 48
 pub few_small : (value i : ℕ) → value < 2 ^ (4 * i) → i ≤ 12 → value < 2 ^ 48

@@ -22,4 +22,5 @@ pub mod RuleLaws
 pub mod RuleTexts
 pub mod PlaceLemmas
 pub mod BatchLaws
+pub mod BlockLemmas
 pub mod GrowthLemmas

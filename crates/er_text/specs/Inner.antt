@@ -5,4 +5,5 @@ pub mod Lending
 pub mod Traces
 pub mod RuleLines
 pub mod Windows
+pub mod Blocks
 pub mod FastPath

@@ -8,6 +8,7 @@ use er_event::{Event, Site, Step, ThreadId, WordRange};
 use er_trace::Trace;
 use std::alloc::AllocError;
 
+#[inline(always)]
 fn site_number(trace: &mut Trace, site: Option<&str>) -> Result<Site, AllocError>
     ensures number { IfOk result (λ number. number ≡ site_number trace.old (seen_name site.entry)) }
     ensures trace { OnOk result (trace.new ≡ with_site_of trace.old (seen_name site.entry)) }
@@ -39,6 +40,7 @@ fn add_reuse(
 }
 
 /// Adds the steps of a line to a trace. The thread is numbered first.
+#[inline(always)]
 pub(crate) fn add_steps(
     trace: &mut Trace,
     line: u64,

@@ -2,12 +2,12 @@
 //! at most 12 hexadecimal digits and perhaps a site, or a lock, with one space between any two of them.
 //!
 //! The answer is that of `parsing`, in less than half the time. A line of any other form is left to `parsing`.
-ghost use Rattle.std.specs.Prelude.{◌≡◌, ◌<◌, ◌≤◌, ◌++◌, not, position, length, IfSome};
+ghost use Rattle.std.specs.Prelude.{◌≡◌, ◌+◌, ◌<◌, ◌≤◌, ◌∷◌, ◌++◌, not, position, length, codes, IfSome};
 ghost use Rattle.std.specs.List.{list_all, position_or_len};
 ghost use Rattle.std.specs.Char.{digit_value};
 ghost use Rattle.er_text.specs.Naming.{is_name_byte};
 ghost use Rattle.er_text.specs.Inner.Parsing.{action_view, event_line};
-ghost use Rattle.er_text.specs.Inner.FastPath.{IsLeadingName, AreLeadingDigits, IsFastAccess, IsFastOperation, IsFastLine};
+ghost use Rattle.er_text.specs.Inner.FastPath.{IsLeadingName, HexSoFar, AreLeadingDigits, IsFastAccess, IsFastOperation, IsFastLine};
 
 use crate::classes::{class_of, is_name_byte};
 use crate::naming::{lock_name_of, name_of, text};
@@ -28,16 +28,70 @@ fn name_len(bytes: &[u8]) -> usize
     find_name_end(bytes).unwrap_or(bytes.len())
 }
 
-/// What follows this prefix, if the bytes begin with it.
+/// What follows a space in front.
 #[inline(always)]
-fn strip_prefix<'a>(front: &[u8], bytes: &'a [u8]) -> Option<&'a [u8]>
-    ensures { IfSome result (λ rest. bytes.now ≡ front.now ++ rest.now) }
+fn after_space(bytes: &[u8]) -> Option<&[u8]>
+    ensures { IfSome result (λ rest. bytes.now ≡ 32 ∷ rest.now) }
 {
-    if bytes.len() < front.len() {
-        return None;
+    match bytes {
+        [b' ', rest @ ..] => Some(rest),
+        _ => None,
     }
-    let (head, rest) = bytes.split_at(front.len());
-    if head == front { Some(rest) } else { None }
+}
+
+/// What follows `0x` in front.
+#[inline(always)]
+fn after_hex(bytes: &[u8]) -> Option<&[u8]>
+    ensures { IfSome result (λ rest. bytes.now ≡ codes "0x" ++ rest.now) }
+{
+    match bytes {
+        [b'0', b'x', rest @ ..] => Some(rest),
+        _ => None,
+    }
+}
+
+/// What follows `read ` in front.
+#[inline(always)]
+fn after_read(bytes: &[u8]) -> Option<&[u8]>
+    ensures { IfSome result (λ rest. bytes.now ≡ codes "read " ++ rest.now) }
+{
+    match bytes {
+        [b'r', b'e', b'a', b'd', b' ', rest @ ..] => Some(rest),
+        _ => None,
+    }
+}
+
+/// What follows `write ` in front.
+#[inline(always)]
+fn after_write(bytes: &[u8]) -> Option<&[u8]>
+    ensures { IfSome result (λ rest. bytes.now ≡ codes "write " ++ rest.now) }
+{
+    match bytes {
+        [b'w', b'r', b'i', b't', b'e', b' ', rest @ ..] => Some(rest),
+        _ => None,
+    }
+}
+
+/// What follows `lock ` in front.
+#[inline(always)]
+fn after_lock(bytes: &[u8]) -> Option<&[u8]>
+    ensures { IfSome result (λ rest. bytes.now ≡ codes "lock " ++ rest.now) }
+{
+    match bytes {
+        [b'l', b'o', b'c', b'k', b' ', rest @ ..] => Some(rest),
+        _ => None,
+    }
+}
+
+/// What follows `unlock ` in front.
+#[inline(always)]
+fn after_unlock(bytes: &[u8]) -> Option<&[u8]>
+    ensures { IfSome result (λ rest. bytes.now ≡ codes "unlock " ++ rest.now) }
+{
+    match bytes {
+        [b'u', b'n', b'l', b'o', b'c', b'k', b' ', rest @ ..] => Some(rest),
+        _ => None,
+    }
 }
 
 /// The name in front of one space, and what follows that.
@@ -50,13 +104,12 @@ fn leading_name(bytes: &[u8]) -> Option<(&str, &[u8])>
         return None;
     }
     let (name, rest) = bytes.split_at(len);
-    let rest = strip_prefix(b" ", rest)?;
+    let rest = after_space(rest)?;
     Some((text(name), rest))
 }
 
-/// The value of the hexadecimal digits in front, of which at most 12 are read, and how many these are.
-#[inline(always)]
-fn leading_digits(bytes: &[u8]) -> (u64, usize)
+/// The value of the hexadecimal digits in front, of which at most 12 are read one by one, and how many these are.
+fn digits_by_one(bytes: &[u8]) -> (u64, usize)
     ensures { AreLeadingDigits bytes.now result.0 result.1 }
 {
     let most = bytes.len().min(12);
@@ -71,10 +124,56 @@ fn leading_digits(bytes: &[u8]) -> (u64, usize)
     (value, most)
 }
 
+/// The value with the four digits from a place on, if there are four.
+#[inline(always)]
+fn four_more(bytes: &[u8], at: usize, value: u64) -> Option<u64>
+    requires room { at + 4 ≤ length bytes.now }
+    requires few { at ≤ 8 }
+    requires front { HexSoFar bytes.now value at }
+    ensures { IfSome result (λ more. HexSoFar bytes.now more (at + 4)) }
+{
+    let first = class_of(bytes[at]);
+    let second = class_of(bytes[at + 1]);
+    let third = class_of(bytes[at + 2]);
+    let fourth = class_of(bytes[at + 3]);
+    let all = first | second | third | fourth;
+    if all >= 16 {
+        return None;
+    }
+    let high = u64::from(first) * 16 + u64::from(second);
+    let low = u64::from(third) * 16 + u64::from(fourth);
+    Some(value * 65536 + (high * 256 + low))
+}
+
+/// The value of the twelve digits in front, if there are twelve: most addresses have as many.
+#[inline(always)]
+fn twelve_digits(bytes: &[u8]) -> Option<u64>
+    requires { 12 ≤ length bytes.now }
+    ensures { IfSome result (λ value. HexSoFar bytes.now value 12) }
+{
+    let value = four_more(bytes, 0, 0)?;
+    let value = four_more(bytes, 4, value)?;
+    four_more(bytes, 8, value)
+}
+
+/// The value of the hexadecimal digits in front, of which at most 12 are read, and how many these are.
+#[inline(always)]
+fn leading_digits(bytes: &[u8]) -> (u64, usize)
+    ensures { AreLeadingDigits bytes.now result.0 result.1 }
+{
+    if bytes.len() >= 12
+        && let Some(value) = twelve_digits(bytes)
+    {
+        return (value, 12);
+    }
+    digits_by_one(bytes)
+}
+
+#[inline(always)]
 fn access(kind: Kind, bytes: &[u8]) -> Option<Action<'_>>
     ensures { IfSome result (λ action. IsFastAccess kind bytes.now (action_view action)) }
 {
-    let digits = strip_prefix(b"0x", bytes)?;
+    let digits = after_hex(bytes)?;
     let (address, len) = leading_digits(digits);
     if len == 0 {
         return None;
@@ -84,7 +183,7 @@ fn access(kind: Kind, bytes: &[u8]) -> Option<Action<'_>>
     if rest.is_empty() {
         return Some(Action::Access(kind, word, None));
     }
-    let site = strip_prefix(b" ", rest)?;
+    let site = after_space(rest)?;
     let name = name_of(site)?;
     if site == b"-".as_slice() {
         return Some(Action::Access(kind, word, None));
@@ -92,25 +191,27 @@ fn access(kind: Kind, bytes: &[u8]) -> Option<Action<'_>>
     Some(Action::Access(kind, word, Some(name)))
 }
 
+#[inline(always)]
 fn action(bytes: &[u8]) -> Option<Action<'_>>
     ensures { IfSome result (λ action. IsFastOperation bytes.now (action_view action)) }
 {
-    if let Some(rest) = strip_prefix(b"read ", bytes) {
+    if let Some(rest) = after_read(bytes) {
         return access(Kind::Read, rest);
     }
-    if let Some(rest) = strip_prefix(b"write ", bytes) {
+    if let Some(rest) = after_write(bytes) {
         return access(Kind::Write, rest);
     }
-    if let Some(rest) = strip_prefix(b"lock ", bytes) {
+    if let Some(rest) = after_lock(bytes) {
         return Some(Action::Acquire(lock_name_of(rest)?, Mode::Write));
     }
-    if let Some(rest) = strip_prefix(b"unlock ", bytes) {
+    if let Some(rest) = after_unlock(bytes) {
         return Some(Action::Release(lock_name_of(rest)?, Mode::Write));
     }
     None
 }
 
 /// What a line in its usual form says.
+#[inline(always)]
 pub(crate) fn parse_usual(line: &[u8]) -> Option<ParsedLine<'_>>
     ensures { IfSome result (λ parsed. IsFastLine line.now (event_line parsed)) }
 {

@@ -4,11 +4,14 @@ ghost use Rattle.std.specs.List.{list_all};
 ghost use Rattle.er_text.specs.Naming.{is_name, is_name_byte, name_of, lock_name_of};
 ghost use Rattle.er_text.specs.Inner.Parsing.{seen_name};
 
-use crate::classes::is_name_byte;
+use crate::classes::{are_name_blocks, is_name_byte};
 
 fn has_name_bytes(word: &[u8]) -> bool
     ensures { result ≡ list_all is_name_byte word.now }
 {
+    if word.len() >= 16 && are_name_blocks(word) {
+        return true;
+    }
     word.iter().all(|byte| is_name_byte(*byte))
 }
 

@@ -1,4 +1,3 @@
 pub mod NamesLemmas
 pub mod NumberLemmas
-pub mod PackedLemmas
 pub mod RecentLemmas

@@ -115,6 +115,7 @@ impl CachedNames {
     }
 
     /// The same, by a look into the whole list.
+    #[inline(never)]
     fn number_in_list(&mut self, name: &str) -> Result<usize, AllocError>
         ensures number { IfOk result (λ n. n ≡ number_of self.old name.now) }
         ensures ok { OnOk result (self.new ≡ with_name self.old name.now) }
@@ -127,6 +128,7 @@ impl CachedNames {
     }
 
     /// The same, after which the name is among the recent ones.
+    #[inline(never)]
     fn number_and_remember(&mut self, name: &str, short: ShortName) -> Result<usize, AllocError>
         requires { bytes_of short ≡ name.now }
         ensures number { IfOk result (λ n. n ≡ number_of self.old name.now) }
@@ -179,6 +181,7 @@ impl Names {
 
     /// The thread of this name, which is a new one if the name is new. `AllocError`: memory was refused, or the name is new and there are
     /// 2^30 others. The names are then as they were.
+    #[inline(always)]
     pub fn thread(&mut self, name: &str) -> Result<ThreadId, AllocError>
         ensures number { IfOk result (λ thread. thread ≡ number_of self.old.threads name.now) }
         ensures ok { OnOk result (self.new ≡ record self.old { threads = with_name self.old.threads name.now }) }
@@ -192,6 +195,7 @@ impl Names {
 
     /// The lock of this name, which is a new one if the name is new. `AllocError`: memory was refused, or the name is new and there are
     /// 2^30 others. The names are then as they were.
+    #[inline(always)]
     pub fn lock(&mut self, name: &str) -> Result<LockId, AllocError>
         ensures number { IfOk result (λ lock. lock ≡ number_of self.old.locks name.now) }
         ensures ok { OnOk result (self.new ≡ record self.old { locks = with_name self.old.locks name.now }) }
@@ -205,6 +209,7 @@ impl Names {
 
     /// The site of this name, which is a new one if the name is new. `AllocError`: memory was refused, or the name is new and there are
     /// 2^30 others. The names are then as they were.
+    #[inline(always)]
     pub fn site(&mut self, name: &str) -> Result<Site, AllocError>
         ensures number { IfOk result (λ site. site ≡ number_of self.old.sites name.now + 1) }
         ensures ok { OnOk result (self.new ≡ record self.old { sites = with_name self.old.sites name.now }) }

@@ -1,23 +1,44 @@
 //! Short names that appeared lately: they are compared as numbers, and found without a hash.
-ghost use Rattle.std.specs.Prelude.{◌≡◌, ◌<◌, ◌≤◌, ℕ, List, length, IfSome};
+ghost use Rattle.std.specs.Prelude.{◌≡◌, ◌+◌, ◌*◌, ◌^◌, ◌<◌, ◌≤◌, ℕ, List, length, IfSome};
 ghost use Rattle.er_trace.specs.Names.{number_of};
 ghost use Rattle.er_trace.specs.Inner.Recent.{unpacked, bytes_of, Knows, AreRight};
 
 use std::alloc::Global;
 
-/// The number with these bytes as its digits, the first of them the lowest.
+/// The number with this byte as its lowest digit, and the others above it.
+#[inline(always)]
+fn onto(byte: u8, others: u64) -> u64
+    requires { others < 2 ^ 56 }
+    ensures { result ≡ others * 256 + byte }
+{
+    others * 256 + u64::from(byte)
+}
+
+/// The number with these bytes as its digits, the first of them the lowest. Each length has a form of its own, without a loop, so that
+/// bytes that lie side by side are loaded together.
 #[inline(always)]
 fn packed(bytes: &[u8]) -> u64
     requires { length bytes.now ≤ 8 }
     ensures { unpacked (length bytes.now) result ≡ bytes.now }
 {
-    let mut value = 0;
-    let mut at = bytes.len();
-    while at > 0 {
-        at -= 1;
-        value = value * 256 + u64::from(bytes[at]);
+    match *bytes {
+        [a] => onto(a, 0),
+        [a, b] => onto(a, onto(b, 0)),
+        [a, b, c] => onto(a, onto(b, onto(c, 0))),
+        [a, b, c, d] => onto(a, onto(b, onto(c, onto(d, 0)))),
+        [a, b, c, d, e] => onto(a, onto(b, onto(c, onto(d, onto(e, 0))))),
+        [a, b, c, d, e, f] => onto(a, onto(b, onto(c, onto(d, onto(e, onto(f, 0)))))),
+        [a, b, c, d, e, f, g] => {
+            onto(a, onto(b, onto(c, onto(d, onto(e, onto(f, onto(g, 0)))))))
+        }
+        [a, b, c, d, e, f, g, h] => {
+            onto(
+                a,
+                onto(b, onto(c, onto(d, onto(e, onto(f, onto(g, onto(h, 0))))))),
+            )
+        }
+        _ => 0,
     }
-    value
 }
 
 /// A name of 1 to 16 bytes: how many there are, the first eight as a number, and the others.
@@ -40,7 +61,14 @@ impl ShortName {
         if len == 0 || len > 16 {
             return None;
         }
-        let (first, rest) = bytes.split_at(len.min(8));
+        if len <= 8 {
+            return Some(ShortName {
+                len,
+                first: packed(bytes),
+                rest: 0,
+            });
+        }
+        let (first, rest) = bytes.split_at(8);
         Some(ShortName {
             len,
             first: packed(first),

@@ -63,6 +63,7 @@ impl Trace {
     }
 
     /// Adds a step, whose numbers have names already, and its line. `AllocError`: memory was refused, and the trace is as it was.
+    #[inline(always)]
     pub fn push(&mut self, step: Step, line: u64) -> Result<(), AllocError>
         requires { IsNamed self.old.names step }
         ensures ok { OnOk result (self.new ≡ with_step self.old step line) }
@@ -85,6 +86,7 @@ impl Trace {
 
     /// The thread of this name, which is a new one if the name is new. `AllocError`: memory was refused, or the name is new and there are
     /// 2^30 others. The trace is then as it was.
+    #[inline(always)]
     pub fn thread(&mut self, name: &str) -> Result<ThreadId, AllocError>
         ensures number { IfOk result (λ thread. thread ≡ number_of self.old.names.threads name.now) }
         ensures ok { OnOk result (self.new ≡ with_thread_name self.old name.now) }
@@ -97,6 +99,7 @@ impl Trace {
 
     /// The lock of this name, which is a new one if the name is new. `AllocError`: memory was refused, or the name is new and there are
     /// 2^30 others. The trace is then as it was.
+    #[inline(always)]
     pub fn lock(&mut self, name: &str) -> Result<LockId, AllocError>
         ensures number { IfOk result (λ lock. lock ≡ number_of self.old.names.locks name.now) }
         ensures ok { OnOk result (self.new ≡ with_lock_name self.old name.now) }
@@ -109,6 +112,7 @@ impl Trace {
 
     /// The site of this name, which is a new one if the name is new. `AllocError`: memory was refused, or the name is new and there are
     /// 2^30 others. The trace is then as it was.
+    #[inline(always)]
     pub fn site(&mut self, name: &str) -> Result<Site, AllocError>
         ensures number { IfOk result (λ site. site ≡ number_of self.old.names.sites name.now + 1) }
         ensures ok { OnOk result (self.new ≡ with_site_name self.old name.now) }

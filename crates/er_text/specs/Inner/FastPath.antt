@@ -1,5 +1,5 @@
 -- What is known of an event line in its usual form. No public clause cites this module.
-use Rattle.std.specs.Prelude.{◌≡◌, ℕ, ◌/◌, ◌^◌, ◌<◌, ◌≤◌, true, false, List, ◌∷◌, ◌++◌, Option, Some, length, take}
+use Rattle.std.specs.Prelude.{◌≡◌, ℕ, ◌*◌, ◌/◌, ◌^◌, ◌<◌, ◌≤◌, true, false, List, ◌∷◌, ◌++◌, Option, Some, length, take}
 use Rattle.std.specs.List.{list_all}
 use Rattle.std.specs.Char.{is_digit}
 use Rattle.std.specs.Str.Parse.{digits_value}
@@ -15,7 +15,13 @@ use Rattle.er_text.specs.Trace.{IsSite, IsOperation, Says}
 abbrev pub IsLeadingName : List ℕ → List ℕ → List ℕ → Type 0
 IsLeadingName bytes name rest = (bytes ≡ name ++ 32 ∷ rest) × (is_name name ≡ true)
 
--- the first so many bytes are hexadecimal digits of this value
+-- so many hexadecimal digits, as far as they were read
+pub record HexSoFar (bytes : List ℕ) (value i : ℕ) : Type 0 where
+  pub digits : list_all (λ digit. is_digit digit 16) (take i bytes) ≡ true
+  pub value_is : digits_value 16 (take i bytes) ≡ value
+  pub small : value < 2 ^ (4 * i)
+
+-- the same, of at most 12 digits
 pub record AreLeadingDigits (bytes : List ℕ) (value len : ℕ) : Type 0 where
   pub most : len ≤ 12
   pub within : len ≤ length bytes

@@ -2,10 +2,10 @@
 use Rattle.er_text.proofs.FastPathLaws.{lock_tells, unlock_tells}
 use Rattle.er_text.proofs.fast_path.action.Goals as goal
 
-pub returns-in-Some-strip_prefix-2 : goal.returns-in-Some-strip_prefix-2
-returns-in-Some-strip_prefix-2 c =
-    lock_tells c.args.bytes.now c.in-Some-strip_prefix-2.rest.now c.in_ok-lock_name_of.field-0.now c.in-Some-strip_prefix-2.ensures c.in_ok-lock_name_of.ensures
+pub returns-in-Some-after_lock : goal.returns-in-Some-after_lock
+returns-in-Some-after_lock c =
+    lock_tells c.args.bytes.now c.in-Some-after_lock.rest.now c.in_ok-lock_name_of.field-0.now c.in-Some-after_lock.ensures c.in_ok-lock_name_of.ensures
 
-pub returns-in-Some-strip_prefix-3 : goal.returns-in-Some-strip_prefix-3
-returns-in-Some-strip_prefix-3 c =
-    unlock_tells c.args.bytes.now c.in-Some-strip_prefix-3.rest.now c.in_ok-lock_name_of-2.field-0.now c.in-Some-strip_prefix-3.ensures c.in_ok-lock_name_of-2.ensures
+pub returns-in-Some-after_unlock : goal.returns-in-Some-after_unlock
+returns-in-Some-after_unlock c =
+    unlock_tells c.args.bytes.now c.in-Some-after_unlock.rest.now c.in_ok-lock_name_of-2.field-0.now c.in-Some-after_unlock.ensures c.in_ok-lock_name_of-2.ensures

@@ -1,7 +1,7 @@
 -- Each step reads one digit more, and 12 of them stay below 2 ^ 48.
 use Rattle.std.proofs.Common.{◌≡◌, ◌<◌, ◌^◌, arith}
 use Rattle.er_text.proofs.FastPathLemmas.{no_digit, digit_more, few_small, hex_found}
-use Rattle.er_text.proofs.fast_path.leading_digits.Goals as goal
+use Rattle.er_text.proofs.fast_path.digits_by_one.Goals as goal
 
 pub loop-i-init : goal.loop-i-init
 loop-i-init c = no_digit c.args.bytes.now
