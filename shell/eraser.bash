@@ -24,11 +24,12 @@ _eraser() {
         _eraser_words "1 2 4 8 16 32 64"
         return
         ;;
+    replay:--byte-limit) return ;;
     esac
     case $command:$word in
     :-*) _eraser_words "--help --version -h -V" ;;
     :*) _eraser_words "replay demo help" ;;
-    replay:-?*) _eraser_words "--suppress --explain --by-site --workers --shards --help -h" ;;
+    replay:-?*) _eraser_words "--suppress --explain --by-site --workers --shards --byte-limit --help -h" ;;
     replay:*) _eraser_files ;;
     demo:-*) _eraser_words "--help -h" ;;
     demo:*) _eraser_words "locked-counter racy-counter init-then-read rw-table reuse-pool ignored-stats" ;;

@@ -13,6 +13,7 @@ complete -c eraser -n '__fish_seen_subcommand_from replay' -l explain -d 'Name t
 complete -c eraser -n '__fish_seen_subcommand_from replay' -l by-site -d 'Write a table of the sites with races, most words first, and explain a race of each'
 complete -c eraser -n '__fish_seen_subcommand_from replay' -l workers -x -a '(seq 16)' -d 'How many threads replay the trace, 1 to 16'
 complete -c eraser -n '__fish_seen_subcommand_from replay' -l shards -x -a '1 2 4 8 16 32 64' -d 'Into how many parts several workers cut the words, 1 to 64'
+complete -c eraser -n '__fish_seen_subcommand_from replay' -l byte-limit -x -d 'The most bytes that a text may have, 1 to 4611686018427387904'
 complete -c eraser -n '__fish_seen_subcommand_from replay' -s h -l help -d 'Print help'
 complete -c eraser -n '__fish_seen_subcommand_from replay' -F
 

@@ -116,7 +116,7 @@ def zsh_options(text):
             if both:
                 options[both[2]] = (both[1], None, both[3])
             elif alone:
-                value = None if not alone[3] else "FILE" if alone[3].endswith("_files") else "MODE" if alone[3].startswith(":form") else "N"
+                value = None if not alone[3] else "FILE" if alone[3].endswith("_files") else "MODE" if alone[3].startswith(":form") else "BYTES" if alone[3] == ":bytes" else "N"
                 options[alone[1]] = (None, value, alone[2].replace("’", "'"))
     return found
 
@@ -132,7 +132,7 @@ def fish_options(text):
         name = "" if where == "__fish_use_subcommand" else where.split()[-1]
         if "-l" in words:
             after = {word: words[place + 1] for place, word in enumerate(words[:-1]) if word in ("-s", "-l", "-d", "-a")}
-            value = "FILE" if "-r" in words else None if "-x" not in words else "MODE" if after["-l"] == "format" else "N"
+            value = "FILE" if "-r" in words else None if "-x" not in words else "MODE" if after["-l"] == "format" else "N" if "-a" in words else "BYTES"
             found[name]["--" + after["-l"]] = ("-" + after["-s"] if "-s" in after else None, value, after["-d"].replace("’", "'"))
     return found
 

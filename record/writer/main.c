@@ -20,8 +20,8 @@
 #define STATUS_FAILED 125
 #define STATUS_NOT_EXECUTABLE 126
 #define STATUS_NOT_FOUND 127
-/* A replay takes at most so many bytes of text. */
-#define REPLAY_LIMIT 268435456u
+/* How many bytes of text are recorded if nothing else is said: what a replay takes if nothing else is said. */
+#define USUAL_LIMIT 268435456u
 
 struct options {
     const char *trace;
@@ -29,6 +29,7 @@ struct options {
     const char *rules;
     bool replays;
     bool explains;
+    bool by_site;
     bool ends_as_report;
     bool is_quiet;
 };
@@ -51,8 +52,9 @@ static const char usage[] =
     "      --report FILE       write the report to FILE instead of standard output\n"
     "      --suppress RULES    leave out the races that these rules take (docs/FORMATS.md)\n"
     "      --explain           name the accesses that make each race\n"
+    "      --by-site           report the races by their sites, most words first\n"
     "      --exit-status WHOSE end with the status of the `program` (the default) or of the `report`\n"
-    "      --limit BYTES       record at most so much text; 0: no limit. The default is what a replay takes, 268435456\n"
+    "      --limit BYTES       record at most so much text; 0: no limit. The default is 268435456\n"
     "      --paths             name sites by their whole path\n"
     "  -q, --quiet             say nothing on standard error, unless something went wrong\n"
     "  -h, --help              print this\n"
@@ -91,13 +93,13 @@ static bool is_report(const char *text)
 
 static void read_options(int count, char **words)
 {
-    enum { REPLAY = 256, REPORT, SUPPRESS, EXPLAIN, EXIT_STATUS, LIMIT, PATHS };
+    enum { REPLAY = 256, REPORT, SUPPRESS, EXPLAIN, BY_SITE, EXIT_STATUS, LIMIT, PATHS };
     static const struct option names[] = {
         {"output", 1, NULL, 'o'},         {"replay", 0, NULL, REPLAY}, {"report", 1, NULL, REPORT}, {"suppress", 1, NULL, SUPPRESS},
         {"exit-status", 1, NULL, EXIT_STATUS}, {"limit", 1, NULL, LIMIT},   {"paths", 0, NULL, PATHS},   {"quiet", 0, NULL, 'q'},
-        {"explain", 0, NULL, EXPLAIN},    {"help", 0, NULL, 'h'},      {NULL, 0, NULL, 0},
+        {"explain", 0, NULL, EXPLAIN},    {"by-site", 0, NULL, BY_SITE}, {"help", 0, NULL, 'h'},      {NULL, 0, NULL, 0},
     };
-    output.limit = REPLAY_LIMIT;
+    output.limit = USUAL_LIMIT;
     for (int got; (got = getopt_long(count, words, "+o:qh", names, NULL)) != -1;)
         switch (got) {
         case 'o': options.trace = optarg; break;
@@ -105,6 +107,7 @@ static void read_options(int count, char **words)
         case REPORT: options.report = optarg; break;
         case SUPPRESS: options.rules = optarg; break;
         case EXPLAIN: options.explains = true; break;
+        case BY_SITE: options.by_site = true; break;
         case EXIT_STATUS: options.ends_as_report = is_report(optarg); break;
         case LIMIT: output.limit = read_bytes(optarg); break;
         case PATHS: sites_have_paths = true; break;
@@ -116,7 +119,7 @@ static void read_options(int count, char **words)
         fputs(usage, stderr);
         exit(STATUS_FAILED);
     }
-    options.replays |= !options.trace || options.report || options.rules || options.explains || options.ends_as_report;
+    options.replays |= !options.trace || options.report || options.rules || options.explains || options.by_site || options.ends_as_report;
 }
 
 /* ---- Processes ---- */
@@ -186,14 +189,17 @@ static void start_replay(void)
 {
     int ends[2];
     const char *command = getenv("ERASER");
-    char *words[7] = {(char *)(command ? command : "eraser"), "replay", NULL};
-    int count = 2;
+    /* The writer ends the trace at its limit, so the replay needs none. This is the greatest that it knows. */
+    char *words[10] = {(char *)(command ? command : "eraser"), "replay", "--byte-limit", "4611686018427387904", NULL};
+    int count = 4;
     if (options.rules) {
         words[count++] = "--suppress";
         words[count++] = (char *)options.rules;
     }
     if (options.explains)
         words[count++] = "--explain";
+    if (options.by_site)
+        words[count++] = "--by-site";
     words[count] = "-";
     int report = options.report ? open(options.report, O_WRONLY | O_CREAT | O_TRUNC | O_CLOEXEC, 0666) : -1;
     if (options.report && report < 0)

@@ -128,10 +128,10 @@ fn put_calls(out: &mut String, calls: &[Call]) -> Result<bool, AllocError> {
 }
 
 fn put_call(out: &mut String, call: &Call) -> Result<(), AllocError> {
-    put_event(out, call.event)?;
+    put_event(out, call.event())?;
     out.push_str(" ")?;
-    put_reply(out, &call.reply.reply())?;
-    match call.ticket {
+    put_reply(out, &call.reply().reply())?;
+    match call.ticket() {
         Some(ticket) => write!(out, " ticket {ticket}"),
         None => Ok(()),
     }
@@ -202,13 +202,13 @@ fn put_stamp(out: &mut String, stamp: &Stamp) -> Result<(), AllocError> {
     write!(
         out,
         "by {} {} {:#x} holding ",
-        stamp.thread.number(),
-        kind_text(stamp.kind),
-        stamp.word.address()
+        stamp.thread().number(),
+        kind_text(stamp.kind()),
+        stamp.word().address()
     )?;
-    put_locks(out, &stamp.held)?;
+    put_locks(out, stamp.held())?;
     out.push_str(" to write ")?;
-    put_locks(out, &stamp.write_held)
+    put_locks(out, stamp.write_held())
 }
 
 fn put_word<R: Wait>(

@@ -3,7 +3,7 @@ use crate::answered::Answered;
 use crate::rows::{count_of, kind_of, number_of, thread_of};
 use er_detector::Detector;
 use er_event::{Kind, LockId, Lockset, Refusal, Reply, Site, ThreadId, Word, WordRange};
-use er_journal::Stamp;
+use er_journal::{HeldLocks, Stamp};
 use er_shard::Shard;
 use std::alloc::{AllocError, Global};
 use std::mem::swap;
@@ -144,14 +144,10 @@ fn stamp_of(
     let Ok(word) = Word::of_address(address) else {
         return Ok(None);
     };
-    Ok(Some(Stamp {
-        thread,
-        word,
-        kind,
-        site: Site::MISSING,
-        held: set_of(alloc, locks.held)?,
-        write_held: set_of(alloc, locks.write_held)?,
-    }))
+    let held = set_of(alloc, locks.held)?;
+    let write_held = set_of(alloc, locks.write_held)?;
+    let locks = HeldLocks::new(alloc, &held, &write_held)?;
+    Ok(Some(Stamp::new(thread, word, kind, Site::MISSING, locks)))
 }
 
 fn reset(shard: &mut Shard<'_>, raw: Raw, address: u64, size: u64) -> Answered {
