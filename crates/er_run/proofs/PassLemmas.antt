@@ -50,7 +50,7 @@ step-named : (old new : NameTable) → KeepsNames old new → (step : Step) → 
 step-named old new kept step named =
     record { thread = still old.threads new.threads step.thread kept.threads named.thread; event = event-named old new kept step.event named.event }
 
-all-named : (old new : NameTable) → KeepsNames old new → (steps : List Step) → All (IsNamed old) steps → All (IsNamed new) steps
+pub all-named : (old new : NameTable) → KeepsNames old new → (steps : List Step) → All (IsNamed old) steps → All (IsNamed new) steps
 all-named old new kept steps all = λ k x within. step-named old new kept _ (all k x within)
 
 -- the line of a step in a batch

@@ -16,8 +16,9 @@ use Rattle.er_report.specs.Report.{report_of, told as summary, Summary}
 use Rattle.er_report.specs.declared.report.Report.{Report}
 use Rattle.er_rules.specs.Rules.{Target}
 use Rattle.er_run.specs.Faults.{fault_of}
-use Rattle.er_run.specs.Inner.Reports.{IsReportOfText, IsFaultOfText, WritesFound}
+use Rattle.er_run.specs.Inner.Reports.{WritesFound}
 use Rattle.er_run.specs.Replays.{IsReplayed, IsFailed, IsFailedBy, FailsBy, WritesNothing, IsReportOfRun, verdict_of, verdict_by, is_stopped, is_verdict_of}
+use Rattle.er_run.specs.Reports.{IsReportOfText, IsFaultOfText}
 use Rattle.er_run.specs.declared.fault.RunFault.{RunFault}
 use Rattle.er_run.specs.declared.fault.RunFault.TheVariants.{Read, Write, Replay, Memory}
 use Rattle.er_run.specs.declared.fault.Verdict.{Verdict}
@@ -29,19 +30,6 @@ verdict_from : (recording : Recording) (rules : List Target) (explain : Bool) (s
     → verdict_by s.stop s.races ≡ verdict_of recording rules explain stop
 verdict_from recording rules explain None s says = ap (λ (t : Summary). verdict_by t.stop t.races) says
 verdict_from recording rules explain (Some stop) s says = ap (λ (t : Summary). verdict_by t.stop t.races) says
-
--- the report of a trace that was kept is that of its text
-pub kept : (told : Option (List ℕ)) (limit : ℕ) (rules : List Target) (explain : Bool) (recording : Recording) (report : Report)
-    → IfSome told (λ text. Tells text limit (Ok recording)) → IsReportOfRun recording rules explain report
-    → IfSome told (λ text. IsReportOfText text limit rules explain recording.names report)
-kept None limit rules explain recording report read run = tt
-kept (Some text) limit rules explain recording report read run = record {
-  recording = recording;
-  stop = run.stop;
-  run = record { trace = read; within = run.within; cause = run.cause };
-  says = run.says;
-  names = refl;
-}
 
 -- the whole report was written
 pub whole : (told : Option (List ℕ)) (limit : ℕ) (rules : List Target) (explain : Bool) (old new : Option (List ℕ)) (names : NameTable) (report : Report) (verdict : Verdict)
@@ -131,12 +119,3 @@ pub whole-verdict : (report : Report) (result : Result Verdict RunFault) → rep
     → IfOk result (λ verdict. IsFalse (is_stopped verdict))
 whole-verdict report (Ok verdict) none says = rw says (not_stopped report.stop report.races none)
 whole-verdict report (Err why) none says = tt
-
--- a fault of the workers who replayed the text's trace
-pub of-workers : (told : Option (List ℕ)) (limit : ℕ) (recording : Recording) (why : ReplayFault) → IfSome told (λ text. Tells text limit (Ok recording)) → MayFail recording.steps why
-    → IsFaultOfText told limit (fault_of why)
-of-workers told limit recording replaying.Memory read may = tt
-of-workers None limit recording replaying.TableFull read may = tt
-of-workers (Some text) limit recording replaying.TableFull read may = record { recording = recording; trace = read; asks = may }
-of-workers told limit recording replaying.WorkerNotStarted read may = tt
-of-workers told limit recording replaying.WorkerLost read may = absurd may

@@ -1,5 +1,5 @@
 pub mod Faults
 pub mod Limits
 pub mod Replays
+pub mod Reports
 pub mod Inner
-pub mod Sites

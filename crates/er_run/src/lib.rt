@@ -1,7 +1,8 @@
 //! A whole replay: from the bytes of a trace to the bytes of its report.
 //!
 //! Begin with [`replay_text`]. It reads a trace text to its end, replays it on a new machine, and writes the report, without the
-//! races that the rules of `er_rules` take. [`replay_by_site`] does the same and writes the races by their sites, for people.
+//! races that the rules of `er_rules` take. [`replay_report`] stops before the writing and returns the report, from which `er_formats`
+//! makes its other forms.
 //!
 //! What it promises, by the names of clauses, if the reader and the writer tell their bytes, as a slice and a `Vec` do: what was
 //! written is exactly the report that the text and the rules define (`report`), a fault of the text is the text's first fault
@@ -23,11 +24,12 @@
 
 pub use fault::{RunFault, Verdict};
 pub use options::Options;
-pub use replay::replay_text;
-pub use sites::replay_by_site;
+pub use replay::{ReplayedTrace, replay_report, replay_text, verdict_of};
 
+mod adding;
 mod fault;
 mod options;
 mod passes;
 mod replay;
-mod sites;
+mod rest;
+mod several;

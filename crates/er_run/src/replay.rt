@@ -1,36 +1,44 @@
 //! Bytes in, report out.
 ghost use Rattle.std.specs.Prelude.{◌≡◌, ◌+◌, ◌≤◌, ◌<◌, false, All, IfSome, IfOk, IfErr, IsFalse, None};
 ghost use Rattle.er_device.specs.Device.{inner_of, has_failed, taken_of};
-ghost use Rattle.er_parallel.specs.Faults.{MayFail};
 ghost use Rattle.er_print.specs.Printed.{report_text};
 ghost use Rattle.er_report.specs.Names.{HasNames};
 ghost use Rattle.er_report.specs.Report.{told};
 ghost use Rattle.er_rules.specs.Rules.{targets_of};
-ghost use Rattle.er_run.specs.Inner.Reports.{IsReportOfText, IsFaultOfText, WritesFound};
+ghost use Rattle.er_run.specs.Inner.Reports.{WritesFound};
 ghost use Rattle.er_run.specs.Limits.{bytes_past_limit};
-ghost use Rattle.er_run.specs.Replays.{IsReplayed, IsFailed, WritesNothing, FailsBy, IsReportOfRun, is_stopped, is_verdict_of};
+ghost use Rattle.er_run.specs.Replays.{IsReplayed, IsFailed, WritesNothing, FailsBy, is_stopped, is_verdict_of};
+ghost use Rattle.er_run.specs.Reports.{IsReportOfText, IsFaultOfText};
 
 use crate::passes::{Reported, report_in_batches};
+use crate::several::report_by_crew;
 use crate::{Options, RunFault, Verdict};
 use er_device::Device;
-use er_parallel::{OpenGate, ReplayConfig, ReplayFault, replay_parallel};
 use er_print::write_report;
-use er_report::{Report, summarise};
+use er_report::Report;
 use er_rules::Suppressions;
-use er_text::read_trace;
 use er_trace::Trace;
 use std::alloc::Global;
 use std::io::{Read, Write};
 use std::sync::Wait;
 use std::thread::Threads;
 
+/// What a replay of a text came to, before a byte of it is written.
+#[derive(Drop)]
+pub struct ReplayedTrace {
+    /// The report, without the races that the rules take.
+    pub report: Report,
+    /// It has the names of the numbers in the report. Most of its steps were forgotten.
+    pub trace: Trace,
+}
+
 /// Reads a trace text, replays it, and writes its report, without the races that the rules take.
 ///
-/// The text is read to its end and the report built whole before the first byte is written. One worker forgets the steps of each batch
-/// of lines once they are answered, so that memory goes by the words, the names and the lines of the report. Several workers keep the
-/// whole trace. With `explain` each race that is printed has its reasons, and each word has a book of the accesses that a reason may
-/// name. One worker stops at a step that is refused for want of room, and the report says so. Several workers write what one worker
-/// writes, and never such a report: they return a fault instead.
+/// The text is read to its end and the report built whole before the first byte is written. The steps of each batch of lines are
+/// forgotten once they are answered, so that memory goes by the words, the names and the lines of the report. Several workers answer
+/// one batch while the next is read. With `explain` each race that is printed has its reasons, and each word has a book of the
+/// accesses that a reason may name. One worker stops at a step that is refused for want of room, and the report says so. Several
+/// workers write what one worker writes, and never such a report: they return a fault instead.
 pub fn replay_text<R, D, W>(
     rt: &R,
     reader: &mut Device<D>,
@@ -75,39 +83,14 @@ fn write_found<W: Write>(
     }
 }
 
-fn config_of(options: &Options) -> ReplayConfig {
-    ReplayConfig {
-        shards: options.shards,
-        max_sets: options.max_sets,
-    }
-}
-
-// The report of a replay by several workers, which all have ended before it is begun.
-fn report_by_several<R: Threads + Wait + Sync>(
-    rt: &R,
-    alloc: Global,
-    trace: &Trace,
-    suppressions: &Suppressions,
-    options: &Options,
-) -> Result<Report, ReplayFault>
-    ensures report { IfOk result (λ report. IsReportOfRun trace.now (targets_of suppressions.now) options.now.explain report) }
-    ensures named { IfOk result (λ report. All (HasNames trace.now.names) report.lines.items) }
-    ensures fault { IfErr result (λ why. MayFail trace.now.steps why) }
-    ensures whole { IfOk result (λ report. report.stop ≡ None) }
-{
-    let config = config_of(options);
-    let outcome = replay_parallel(rt, alloc, config, trace.steps(), options.workers, &OpenGate)?;
-    Ok(summarise(alloc, trace, &outcome, suppressions, options.explain)?)
-}
-
-// Reads a trace to its end and keeps it for several workers.
-fn report_kept<R, D>(
+/// Reads a trace text and replays it as `replay_text` does, and writes nothing: the report in any other form starts here.
+pub fn replay_report<R, D>(
     rt: &R,
     alloc: Global,
     reader: &mut Device<D>,
     suppressions: &Suppressions,
     options: &Options,
-) -> Result<Reported, RunFault>
+) -> Result<ReplayedTrace, RunFault>
 where
     R: Threads + Wait + Sync,
     D: Read,
@@ -117,15 +100,17 @@ where
     ensures fault { IfErr result (λ why. IsFaultOfText (D.remaining (inner_of reader.old)) options.now.byte_limit why) }
     ensures failed { FailsBy (has_failed reader.new) false result }
     ensures taken { taken_of reader.new ≤ taken_of reader.old + options.now.byte_limit + bytes_past_limit }
-    ensures whole { IfOk result (λ found. found.report.stop ≡ None) }
+    ensures whole { 1 < options.now.workers → IfOk result (λ found. found.report.stop ≡ None) }
 {
-    let trace = read_trace(alloc, reader, options.byte_limit)?;
-    let report = report_by_several(rt, alloc, &trace, suppressions, options)?;
-    Ok(Reported { report, trace })
+    let Reported { report, trace } = match report_on(rt, alloc, reader, suppressions, options) {
+        Ok(found) => found,
+        Err(why) => return Err(why),
+    };
+    Ok(ReplayedTrace { report, trace })
 }
 
-/// Reads and replays a text, and keeps its steps for several workers alone.
-pub(crate) fn report_on<R, D>(
+// Reads and replays a text, by one worker or by several.
+fn report_on<R, D>(
     rt: &R,
     alloc: Global,
     reader: &mut Device<D>,
@@ -144,12 +129,13 @@ where
     ensures whole { 1 < options.now.workers → IfOk result (λ found. found.report.stop ≡ None) }
 {
     if options.workers > 1 {
-        return report_kept(rt, alloc, reader, suppressions, options);
+        return report_by_crew(rt, alloc, reader, suppressions, options);
     }
     report_in_batches(rt, alloc, reader, suppressions, options)
 }
 
-pub(crate) fn verdict_of(report: &Report) -> Verdict
+/// What a report comes to: a stop, or else whether it has a race.
+pub fn verdict_of(report: &Report) -> Verdict
     ensures { result ≡ is_verdict_of report.now }
 {
     if report.stop.is_some() {

@@ -1,0 +1,428 @@
+-- A batch that workers have answered goes on behind the steps that are past.
+use Rattle.std.proofs.Common.{◌≡◌, ◌⊎◌, ◌<◌, ◌≤◌, ◌+◌, ℕ, true, false, List, [], ◌∷◌, ◌++◌, length, length-append, slice_get, slice_index, Option, Some, None, IfSome, is_some, Result, Ok, Err, refl, sym, ap, subst, ◌∙◌, inl, inr, arith}
+use Rattle.std.specs.List.{All}
+use Rattle.std.proofs.lemmas.List.{append_assoc, append-nil}
+use Rattle.std.proofs.lemmas.List.Elements.{All-append, All-nil}
+use Rattle.std.proofs.lemmas.Bool.{cases_lt}
+use Rattle.std.proofs.lemmas.Option.{slice_get_within}
+use Rattle.er_event.proofs.Lists.{get_behind, get_still}
+use Rattle.er_event.specs.declared.refusals.Refusal.{Refusal}
+use Rattle.er_event.specs.declared.steps.Event.{Event}
+use Rattle.er_event.specs.declared.steps.Event.TheVariants.{Acquire, Release, Access, Reuse, IgnoreOn, IgnoreOff, Show, Level}
+use Rattle.er_event.specs.declared.steps.Reply.{Reply}
+use Rattle.er_event.specs.declared.steps.Reply.TheVariants.{Race}
+use Rattle.er_event.specs.declared.steps.Step.{Step}
+use Rattle.er_event.specs.declared.steps.WordState.{WordState}
+use Rattle.er_explain.proofs.RaceLemmas.{race-is}
+use Rattle.er_explain.specs.Racing.{is_race}
+use Rattle.er_journal.specs.declared.answers.Stopped.{Stopped}
+use Rattle.er_model.proofs.Prefixes.{holdings-front, state-front}
+use Rattle.er_model.specs.Answers.{answer, state_at}
+use Rattle.er_model.specs.Holdings.{Holdings, holdings_at}
+use Rattle.er_model.specs.Threads.{accepted, held}
+use Rattle.er_parallel.specs.Crews.{Crewed, AreUnusual, HaveAnswered, IsAmong, IsAnswered, Rise}
+use Rattle.er_parallel.specs.Faults.{AsksForSet, MayFail}
+use Rattle.er_parallel.specs.Found.{usual}
+use Rattle.er_parallel.specs.declared.faults.ReplayFault.{ReplayFault}
+use Rattle.er_parallel.specs.declared.faults.ReplayFault.TheVariants as replaying
+use Rattle.er_parallel.specs.declared.unusual.Unusual.{Unusual}
+use Rattle.er_replay.specs.Wants.{asks_by}
+use Rattle.er_report.proofs.GrowthLemmas.{reported-on}
+use Rattle.er_report.specs.Builder.{Built, GoesOn, IsReported, IsStepAt}
+use Rattle.er_report.specs.Report.{answered_steps, report_of, stop_line, told as summary}
+use Rattle.er_report.specs.declared.report.Report.{Report}
+use Rattle.er_run.proofs.PassLemmas.{all-named, read-part, read-whole}
+use Rattle.er_run.specs.Faults.{fault_of}
+use Rattle.er_run.specs.Inner.Passes.{recorded}
+use Rattle.er_run.specs.Inner.Reports.{IsFaultOfText, IsReportOfText}
+use Rattle.er_run.specs.Inner.Several.{BeginsWith, HasMore, HasReadAll, HasReadOn, HasReportedAll, IsNext, IsReadFault, Pending}
+use Rattle.er_run.specs.declared.fault.RunFault.TheVariants.{Read}
+use Rattle.er_text.proofs.BatchLaws.{forgotten}
+use Rattle.er_text.specs.Batches.{HasRead, GivesBatch, joined}
+use Rattle.er_text.specs.Named.{KeepsNames}
+use Rattle.er_text.specs.Places.{Reached}
+use Rattle.er_text.specs.Trace.{IsTrace}
+use Rattle.er_text.specs.declared.faults.ReadFault.{ReadFault}
+use Rattle.er_text.specs.declared.faults.ReadFault.TheVariants as reading
+use Rattle.er_text.specs.declared.reading.Batch.{Batch}
+use Rattle.er_text.specs.declared.reading.Batch.TheVariants.{More, End}
+use Rattle.er_trace.specs.Names.{NameTable}
+use Rattle.er_trace.specs.Trace.{Recording, IsNamed, no_steps, without_steps}
+
+-- the usual answer is no race
+usual-quiet : (event : Event) → is_race (usual event) ≡ false
+usual-quiet (Access kind w site) = refl
+usual-quiet (Acquire l m) = refl
+usual-quiet (Release l m) = refl
+usual-quiet (Reuse range) = refl
+usual-quiet IgnoreOn = refl
+usual-quiet IgnoreOff = refl
+usual-quiet (Show w) = refl
+usual-quiet (Level n) = refl
+
+same-step : (one other : Step) → Some one ≡ Some other → one ≡ other
+same-step one other is = cc
+
+-- the step at position k of a batch
+module _ (past batch : List Step) (lines : List ℕ) (names : NameTable) (items : List Unusual) (unusual : AreUnusual past batch items) (k number : ℕ) (step : Step)
+    (here : slice_get batch k ≡ Some step) (is : number ≡ slice_index lines (length past + k)) where
+  there : slice_get (past ++ batch) (length past + k) ≡ Some step
+  there = get_behind past batch k (length past + k) refl ∙ here
+
+  -- its unusual answer
+  pub with-item : (next : ℕ) (item : Unusual) → slice_get items next ≡ Some item → item.at ≡ k
+      → IsStepAt (recorded (past ++ batch) lines names) (length past + k) names number step item.answer item.held
+  with-item next item found at =
+      let known : IsAnswered past batch item = unusual.right next item found in
+      let same : known.step ≡ step = same-step known.step step (sym known.there ∙ ap (slice_get batch) at ∙ here) in
+      record {
+        here = there;
+        line = is;
+        named = refl;
+        answered = known.answered ∙ ap (λ (n : ℕ). answer (past ++ batch) (length past + n)) at;
+        locked = λ race.
+            known.locked (race-is item.answer race)
+            ∙ ap (λ (n : ℕ). held (accepted (past ++ batch) (length past + n)) known.step.thread) at
+            ∙ ap (λ (s : Step). held (accepted (past ++ batch) (length past + k)) s.thread) same;
+      }
+
+  among-none : (next : ℕ) → IsNext items next k → IsNext items next (k + 1) → IsAmong items k → ⊥
+  among-none next before after among =
+      by (cases_lt among.index next)
+    where
+      by : (among.index < next) ⊎ (next ≤ among.index) → ⊥
+      by (inl low) = (let small : among.item.at < k = before.below among.index among.item among.there low in let at : among.item.at ≡ k = among.at in omega arith)
+      by (inr high) = (let great : k + 1 ≤ among.item.at = after.above among.index among.item among.there high in let at : among.item.at ≡ k = among.at in omega arith)
+
+  -- or its usual one
+  pub as-usual : (next : ℕ) → IsNext items next k → IsNext items next (k + 1)
+      → (locks : List ℕ) → IsStepAt (recorded (past ++ batch) lines names) (length past + k) names number step (usual step.event) locks
+  as-usual next before after locks =
+      record {
+        here = there;
+        line = is;
+        named = refl;
+        answered = by (unusual.others k step here);
+        locked = λ race. absurd (let none = usual-quiet step.event in cc);
+      }
+    where
+      by : (answer (past ++ batch) (length past + k) ≡ usual step.event) ⊎ IsAmong items k → usual step.event ≡ answer (past ++ batch) (length past + k)
+      by (inl same) = sym same
+      by (inr among) = absurd (among-none next before after among)
+
+-- a step that asks for a set does so in every list that goes on from its own
+asks-still : (h other : Holdings) (states others : ℕ → WordState) (t : ℕ) (event : Event) → other ≡ h → ((w : ℕ) → others w ≡ states w)
+    → asks_by other others t event ≡ asks_by h states t event
+asks-still h other states others t (Access kind w site) same words = rw (same, words w) refl
+asks-still h other states others t (Acquire l m) same words = refl
+asks-still h other states others t (Release l m) same words = refl
+asks-still h other states others t (Reuse range) same words = refl
+asks-still h other states others t IgnoreOn same words = refl
+asks-still h other states others t IgnoreOff same words = refl
+asks-still h other states others t (Show w) same words = refl
+asks-still h other states others t (Level n) same words = refl
+
+asks-front : (steps more : List Step) → AsksForSet steps → AsksForSet (steps ++ more)
+asks-front steps more asks =
+    let within : asks.at < length steps = slice_get_within steps asks.at asks.step asks.there in
+    record {
+      at = asks.at;
+      step = asks.step;
+      there = get_still steps more asks.at asks.step asks.there;
+      asks = asks-still (holdings_at steps asks.step.thread asks.at) (holdings_at (steps ++ more) asks.step.thread asks.at)
+          (λ w. state_at steps w asks.at) (λ w. state_at (steps ++ more) w asks.at) asks.step.thread asks.step.event
+          (holdings-front steps more asks.step.thread asks.at (omega (arith, within))) (λ w. state-front steps more w asks.at (omega (arith, within)))
+          ∙ asks.asks;
+    }
+
+may-front : (steps more : List Step) (why : ReplayFault) → MayFail steps why → MayFail (steps ++ more) why
+may-front steps more replaying.Memory may = tt
+may-front steps more replaying.TableFull may = asks-front steps more may
+may-front steps more replaying.WorkerNotStarted may = tt
+may-front steps more replaying.WorkerLost may = may
+
+-- a fault of workers who have answered the first steps of the text
+pub begun-fault : (text : List ℕ) (limit : ℕ) (past : List Step) (why : ReplayFault) → BeginsWith text limit past → MayFail past why → IsFaultOfText (Some text) limit (fault_of why)
+begun-fault text limit past replaying.Memory begins may = tt
+begun-fault text limit past replaying.TableFull begins may =
+    record { recording = begins.recording; trace = begins.trace; asks = subst AsksForSet (sym begins.steps) (asks-front past begins.more may) }
+begun-fault text limit past replaying.WorkerNotStarted begins may = tt
+begun-fault text limit past replaying.WorkerLost begins may = absurd may
+
+unknown-fault : (limit : ℕ) (past : List Step) (why : ReplayFault) → MayFail past why → IsFaultOfText None limit (fault_of why)
+unknown-fault limit past replaying.Memory may = tt
+unknown-fault limit past replaying.TableFull may = tt
+unknown-fault limit past replaying.WorkerNotStarted may = tt
+unknown-fault limit past replaying.WorkerLost may = absurd may
+
+pub of-crew : (told : Option (List ℕ)) (limit : ℕ) (past : List Step) (why : ReplayFault) → IfSome told (λ text. BeginsWith text limit past) → MayFail past why
+    → IsFaultOfText told limit (fault_of why)
+of-crew None limit past why begins may = unknown-fault limit past why may
+of-crew (Some text) limit past why begins may = begun-fault text limit past why begins may
+
+-- a fault of the reader
+pub of-reader : (told : Option (List ℕ)) (limit : ℕ) (why : ReadFault) → IfSome told (λ text. IsReadFault text limit why) → IsFaultOfText told limit (Read why)
+of-reader None limit (reading.Text f) is = tt
+of-reader (Some text) limit (reading.Text f) is = is
+of-reader told limit reading.Memory is = tt
+of-reader told limit reading.Read is = tt
+
+-- what a batch gives says so of its fault
+pub fault-given : (text : List ℕ) (past : List Step) (lines : List ℕ) (reader : Reached) (known : Option (List ℕ)) (trace : Recording) (limit : ℕ) (why : ReadFault)
+    → reader.place.limit ≡ limit → GivesBatch text past lines reader known trace (Err why) → IsReadFault text limit why
+fault-given text past lines reader known trace limit (reading.Text f) same gives = rw same at gives
+fault-given text past lines reader known trace limit reading.Memory same gives = tt
+fault-given text past lines reader known trace limit reading.Read same gives = tt
+
+-- reading on
+module _ (text : List ℕ) (past : List Step) (lines : List ℕ) (old new : Reached) (known rest : Option (List ℕ)) (t cleared u : Recording) (empty : cleared ≡ without_steps t)
+    (limit : new.place.limit ≡ old.place.limit) (read : HasRead text past lines old known t) where
+  before : HasRead text (past ++ t.steps) (lines ++ t.lines) old known cleared
+  before = subst (HasRead text (past ++ t.steps) (lines ++ t.lines) old known) (sym empty) (forgotten text past lines old known t read)
+
+  abbrev Gives : Batch → Type 0
+  Gives batch = (steps : List Step) (numbers : List ℕ) → HasRead text steps numbers old known cleared → GivesBatch text steps numbers new rest u (Ok batch)
+
+  pub more-read : (batch : Batch) → batch ≡ More → Gives batch → HasMore text past new rest u
+  more-read batch is gives =
+      record {
+        more = t.steps;
+        lines = lines ++ t.lines;
+        read = subst (λ (b : Batch). GivesBatch text (past ++ t.steps) (lines ++ t.lines) new rest u (Ok b)) is (gives (past ++ t.steps) (lines ++ t.lines) before);
+      }
+
+  pub all-read : (batch : Batch) → batch ≡ End → Gives batch → BeginsWith text old.place.limit past
+  all-read batch is gives =
+      record {
+        recording = joined (past ++ t.steps) (lines ++ t.lines) u;
+        trace = subst (λ (n : ℕ). IsTrace text n (joined (past ++ t.steps) (lines ++ t.lines) u)) limit
+            (subst (λ (b : Batch). GivesBatch text (past ++ t.steps) (lines ++ t.lines) new rest u (Ok b)) is (gives (past ++ t.steps) (lines ++ t.lines) before));
+        more = t.steps ++ u.steps;
+        steps = append_assoc past t.steps u.steps;
+      }
+
+  pub fault-read : (why : ReadFault) → ((steps : List Step) (numbers : List ℕ) → HasRead text steps numbers old known cleared → GivesBatch text steps numbers new rest u (Err why))
+      → IsReadFault text old.place.limit why
+  fault-read why gives =
+      fault-given text (past ++ t.steps) (lines ++ t.lines) new rest u old.place.limit why limit (gives (past ++ t.steps) (lines ++ t.lines) before)
+
+pub more-again : (text : List ℕ) (past more : List Step) (reader : Reached) (known : Option (List ℕ)) (trace : Recording) → HasMore text (past ++ more) reader known trace
+    → HasMore text past reader known trace
+more-again text past more reader known trace has =
+    record {
+      more = more ++ has.more;
+      lines = has.lines;
+      read = subst (λ (steps : List Step). HasRead text steps has.lines reader known trace) (append_assoc past more has.more) has.read;
+    }
+
+pub begins-again : (text : List ℕ) (limit : ℕ) (past more : List Step) → BeginsWith text limit (past ++ more) → BeginsWith text limit past
+begins-again text limit past more begins =
+    record { recording = begins.recording; trace = begins.trace; more = more ++ begins.more; steps = begins.steps ∙ append_assoc past more begins.more }
+
+-- a batch that was answered and a batch that was read
+module _ (past batch : List Step) (lines numbers : List ℕ) (names : NameTable) (trace : Recording) (kept : KeepsNames names trace.names) (crew after : Crewed) (builder : Built)
+    (pending : Pending crew builder names past lines batch numbers) where
+  all-known : All (IsNamed trace.names) (past ++ batch)
+  all-known = all-named names trace.names kept (past ++ batch) pending.named
+
+  -- new names change nothing of the report
+  renamed : GoesOn (recorded (past ++ batch) (lines ++ numbers) names) (recorded (past ++ batch) (lines ++ numbers) trace.names)
+  renamed =
+      record {
+        named = pending.named;
+        long = length-append lines numbers ∙ rw (pending.even, pending.level) (sym (length-append past batch));
+        more = [];
+        others = [];
+        steps = sym (append-nil (past ++ batch));
+        lines = sym (append-nil (lines ++ numbers));
+        sites = kept.sites;
+      }
+
+  pub reported-renamed : IsReported builder (recorded (past ++ batch) (lines ++ numbers) trace.names) (length past)
+  reported-renamed =
+      reported-on builder _ _ (length past) renamed (omega (arith, length-append past batch)) pending.reported
+
+  -- the steps that were read are the next batch
+  longer : GoesOn (recorded (past ++ batch) (lines ++ numbers) trace.names) (joined (past ++ batch) (lines ++ numbers) trace)
+  longer =
+      record {
+        named = all-known;
+        long = length-append lines numbers ∙ rw (pending.even, pending.level) (sym (length-append past batch));
+        more = trace.steps;
+        others = trace.lines;
+        steps = refl;
+        lines = refl;
+        sites = λ n name is. is;
+      }
+
+  pub next-pending : (added : Built) → All (IsNamed trace.names) trace.steps → length trace.lines ≡ length trace.steps → HaveAnswered after (past ++ batch)
+      → IsReported added (recorded (past ++ batch) (lines ++ numbers) trace.names) (length past + length batch)
+      → Pending after added trace.names (past ++ batch) (lines ++ numbers) trace.steps trace.lines
+  next-pending added named even answered reported =
+      record {
+        answered = answered;
+        reported = reported-on added _ _ (length (past ++ batch)) longer (omega arith)
+            (subst (IsReported added (recorded (past ++ batch) (lines ++ numbers) trace.names)) (sym (length-append past batch)) reported);
+        named = All-append (IsNamed trace.names) (past ++ batch) trace.steps all-known named;
+        even = length-append lines numbers ∙ rw (pending.even, pending.level) (sym (length-append past batch));
+        level = even;
+      }
+
+-- before the first batch
+pub several-begun : (reader : Reached) (trace : Recording) (crew : Crewed) (builder : Built) → trace ≡ no_steps → ((text : List ℕ) → HasRead text [] [] reader (Some text) no_steps)
+    → HaveAnswered crew [] → ((r : Recording) → IsReported builder r 0) → (told : Option (List ℕ)) → HasReadOn told told reader trace crew builder [] []
+several-begun reader trace crew builder empty starts answered built told =
+    subst (λ (t : Recording). HasReadOn told told reader t crew builder [] []) (sym empty) (record {
+      past = [];
+      lines = [];
+      read = read-by told;
+      no_steps = refl;
+      no_lines = refl;
+      pending = record {
+        answered = answered;
+        reported = built (recorded [] [] no_steps.names);
+        named = All-nil (IsNamed no_steps.names);
+        even = refl;
+        level = refl;
+      };
+    })
+  where
+    read-by : (o : Option (List ℕ)) → IfSome o (λ text. HasRead text [] [] reader o no_steps)
+    read-by None = tt
+    read-by (Some text) = starts text
+
+-- one turn
+module _ (told known rest : Option (List ℕ)) (old new : Reached) (t u : Recording) (batch : List Step) (numbers : List ℕ) (crew after : Crewed) (builder added : Built) (items : List Unusual)
+    (given : Batch) (kept : KeepsNames t.names u.names) (named : All (IsNamed u.names) u.steps) (even : length u.lines ≡ length u.steps)
+    (gives : (text : List ℕ) (steps : List Step) (lines : List ℕ) → HasRead text steps lines old known t → GivesBatch text steps lines new rest u (Ok given))
+    (goes : (past : List Step) → HaveAnswered crew past → HaveAnswered after (past ++ batch)) (answers : (past : List Step) → HaveAnswered crew past → AreUnusual past batch items)
+    (adds : (past : List Step) (lines : List ℕ) → length lines ≡ length past → AreUnusual past batch items → IsReported builder (recorded (past ++ batch) (lines ++ numbers) u.names) (length past)
+    → IsReported added (recorded (past ++ batch) (lines ++ numbers) u.names) (length past + length batch))
+    (state : HasReadOn told known old t crew builder batch numbers) where
+  pending : Pending after added u.names (state.past ++ batch) (state.lines ++ numbers) u.steps u.lines
+  pending =
+      next-pending state.past batch state.lines numbers t.names u kept crew after builder state.pending added named even (goes state.past state.pending.answered)
+      (adds state.past state.lines state.pending.even (answers state.past state.pending.answered)
+      (reported-renamed state.past batch state.lines numbers t.names u kept crew after builder state.pending))
+
+  -- after which lines may follow
+  pub reads-on : given ≡ More → (trace : Recording) → trace ≡ without_steps u → (next : List Step) → next ≡ u.steps → (lines : List ℕ) → lines ≡ u.lines
+      → HasReadOn told rest new trace after added next lines
+  reads-on is trace empty next steps lines numbered =
+      rw (empty, steps, numbered) (record {
+        past = state.past ++ batch;
+        lines = state.lines ++ numbers;
+        read = read-part told (state.past ++ batch) (state.lines ++ numbers) old new known rest t u given is gives state.read;
+        no_steps = refl;
+        no_lines = refl;
+        pending = pending;
+      })
+
+  -- or the text has ended
+  pub reads-all : given ≡ End → new.place.limit ≡ old.place.limit → (used : NameTable) → used ≡ u.names → (next : List Step) → next ≡ u.steps → (lines : List ℕ) → lines ≡ u.lines
+      → HasReadAll told old.place.limit used after added next lines
+  reads-all is limit used same next steps lines numbered =
+      rw (same, steps, numbered) (record {
+        past = state.past ++ batch;
+        lines = state.lines ++ numbers;
+        read = read-whole told (state.past ++ batch) (state.lines ++ numbers) old new known rest t u given is limit gives state.read;
+        pending = pending;
+      })
+
+-- a fault in the text that is being read
+pub turn-fault : (told known rest : Option (List ℕ)) (old new : Reached) (t u : Recording) (past : List Step) (lines : List ℕ) (why : ReadFault) → new.place.limit ≡ old.place.limit
+    → ((text : List ℕ) (steps : List Step) (numbers : List ℕ) → HasRead text steps numbers old known t → GivesBatch text steps numbers new rest u (Err why))
+    → IfSome told (λ text. HasRead text past lines old known t) → IsFaultOfText told old.place.limit (Read why)
+turn-fault told known rest old new t u past lines why limit gives read = of-reader told old.place.limit why (by told read)
+  where
+    by : (o : Option (List ℕ)) → IfSome o (λ text. HasRead text past lines old known t) → IfSome o (λ text. IsReadFault text old.place.limit why)
+    by None read = tt
+    by (Some text) read = fault-given text past lines new rest u old.place.limit why limit (gives text past lines read)
+
+-- what a batch gives of a text, if the text is known
+pub given-of : (told known rest : Option (List ℕ)) (old new : Reached) (t u : Recording) (past : List Step) (lines : List ℕ) (given : Batch)
+    → ((text : List ℕ) (steps : List Step) (numbers : List ℕ) → HasRead text steps numbers old known t → GivesBatch text steps numbers new rest u (Ok given))
+    → IfSome told (λ text. HasRead text past lines old known t) → IfSome told (λ text. GivesBatch text past lines new rest u (Ok given))
+given-of None known rest old new t u past lines given gives read = tt
+given-of (Some text) known rest old new t u past lines given gives read = gives text past lines read
+
+-- after the last turn
+module _ (told : Option (List ℕ)) (limit : ℕ) (names : NameTable) (batch : List Step) (numbers : List ℕ) (crew : Crewed) (builder : Built) (all : HasReadAll told limit names crew builder batch numbers) where
+  pub reports-all : (added : Built) (items : List Unusual) → ((past : List Step) → HaveAnswered crew past → AreUnusual past batch items)
+      → ((past : List Step) (lines : List ℕ) → length lines ≡ length past → AreUnusual past batch items → IsReported builder (recorded (past ++ batch) (lines ++ numbers) names) (length past)
+      → IsReported added (recorded (past ++ batch) (lines ++ numbers) names) (length past + length batch))
+      → HasReportedAll told limit names added
+  reports-all added items answers adds =
+      record {
+        recording = recorded (all.past ++ batch) (all.lines ++ numbers) names;
+        read = all.read;
+        names = refl;
+        reported = subst (IsReported added (recorded (all.past ++ batch) (all.lines ++ numbers) names)) (sym (length-append all.past batch))
+            (adds all.past all.lines all.pending.even (answers all.past all.pending.answered) all.pending.reported);
+        named = all.pending.named;
+      }
+
+  begins : IfSome told (λ text. BeginsWith text limit (all.past ++ batch))
+  begins = by told all.read
+    where
+      by : (o : Option (List ℕ)) → IfSome o (λ text. IsTrace text limit (recorded (all.past ++ batch) (all.lines ++ numbers) names)) → IfSome o (λ text. BeginsWith text limit (all.past ++ batch))
+      by None read = tt
+      by (Some text) read = record { recording = recorded (all.past ++ batch) (all.lines ++ numbers) names; trace = read; more = []; steps = sym (append-nil (all.past ++ batch)) }
+
+  pub all-fault : (why : ReplayFault) → ((past : List Step) → HaveAnswered crew past → MayFail (past ++ batch) why) → IsFaultOfText told limit (fault_of why)
+  all-fault why fails = of-crew told limit (all.past ++ batch) why begins (fails all.past all.pending.answered)
+
+-- the report of all steps is that of the text
+pub finished : (told : Option (List ℕ)) (limit : ℕ) (used : NameTable) (builder : Built) (report : Report) → HasReportedAll told limit used builder
+    → ((r : Recording) (stopped : Option Stopped) → IsReported builder r (length (answered_steps r.steps stopped)) → None ≡ stop_line r stopped
+    → summary report ≡ report_of r builder.rules (is_some builder.kept) stopped)
+    → IfSome told (λ text. IsReportOfText text limit builder.rules (is_some builder.kept) used report)
+finished told limit used builder report all says = by told all.read
+  where
+    by : (o : Option (List ℕ)) → IfSome o (λ text. IsTrace text limit all.recording) → IfSome o (λ text. IsReportOfText text limit builder.rules (is_some builder.kept) used report)
+    by None read = tt
+    by (Some text) read =
+        record {
+          recording = all.recording;
+          stop = None;
+          run = record { trace = read; within = tt; cause = tt };
+          says = says all.recording None all.reported refl;
+          names = all.names;
+        }
+
+-- workers that can't be started
+pub start-may : (why : ReplayFault) → (why ≡ replaying.Memory) ⊎ (why ≡ replaying.WorkerNotStarted) → MayFail [] why
+start-may why (inl is) = rw is tt
+start-may why (inr is) = rw is tt
+
+pub start-read : (told : Option (List ℕ)) (reader : Reached) (trace : Recording) → trace ≡ no_steps → ((text : List ℕ) → HasRead text [] [] reader (Some text) no_steps)
+    → IfSome told (λ text. GivesBatch text [] [] reader told trace (Ok More))
+start-read None reader trace empty starts = tt
+start-read (Some text) reader trace empty starts = rw empty (starts text)
+
+-- nothing more was read yet
+pub none-more : (text : List ℕ) (past : List Step) (lines : List ℕ) (reader : Reached) (known : Option (List ℕ)) (trace : Recording) → HasRead text past lines reader known trace
+    → HasMore text past reader known trace
+none-more text past lines reader known trace read =
+    record { more = []; lines = lines; read = subst (λ (steps : List Step). HasRead text steps lines reader known trace) (sym (append-nil past)) read }
+
+-- what a batch in front of the workers' fault says of the whole text
+pub ended-begins : (told known : Option (List ℕ)) (reader : Reached) (trace : Recording) (past : List Step) (lines : List ℕ) (given : Batch) → given ≡ End
+    → IfSome told (λ text. GivesBatch text past lines reader known trace (Ok given)) → IfSome told (λ text. BeginsWith text reader.place.limit past)
+ended-begins None known reader trace past lines given is gives = tt
+ended-begins (Some text) known reader trace past lines given is gives =
+    record {
+      recording = joined past lines trace;
+      trace = subst (λ (b : Batch). GivesBatch text past lines reader known trace (Ok b)) is gives;
+      more = trace.steps;
+      steps = refl;
+    }
+
+pub read-of : (told known : Option (List ℕ)) (reader : Reached) (trace : Recording) (past : List Step) (lines : List ℕ) (given : Batch) → given ≡ More
+    → IfSome told (λ text. GivesBatch text past lines reader known trace (Ok given)) → IfSome told (λ text. HasRead text past lines reader known trace)
+read-of None known reader trace past lines given is gives = tt
+read-of (Some text) known reader trace past lines given is gives = subst (λ (b : Batch). GivesBatch text past lines reader known trace (Ok b)) is gives
+
+pub known-of : (P Q : List ℕ → Type 0) (told : Option (List ℕ)) → ((text : List ℕ) → P text → Q text) → IfSome told P → IfSome told Q
+known-of P Q None gives read = tt
+known-of P Q (Some text) gives read = gives text read

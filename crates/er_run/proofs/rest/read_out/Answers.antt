@@ -1,0 +1,12 @@
+use Rattle.std.proofs.Common.{refl, arith}
+use Rattle.er_device.specs.Device.{inner_of}
+use Rattle.er_run.proofs.SeveralLemmas.{more-again, none-more}
+use Rattle.er_run.proofs.rest.read_out.Goals as goal
+
+pub loop-init : goal.loop-init
+loop-init g c = record {
+  unfailed = c.requires.open;
+  limit = refl;
+  taken = omega arith;
+  more = λ text past numbers read. none-more text past numbers c.args.lines.now (g.D.Read.remaining (inner_of c.args.reader.now)) c.args.trace.now read;
+}

@@ -1,0 +1,23 @@
+use Rattle.std.proofs.Common.{◌≡◌, ◌+◌, ◌-◌, ◌≤◌, ℕ, List, Option, All, is_some, false, length}
+use Rattle.er_device.specs.Device.{inner_of, has_failed, taken_of}
+use Rattle.er_run.specs.Inner.Several.{HasReadOn}
+use Rattle.er_text.specs.Inner.Lending.{taken_by}
+use Rattle.er_trace.specs.Trace.{IsNamed}
+use Rattle.er_run.proofs.several.Shared.run.Given as goal
+
+-- what a turn wants, and that it goes on from where the replay began
+abbrev pub invariant-loop : goal.invariant-loop
+invariant-loop g l = record {
+  unfailed : has_failed l.reader ≡ false;
+  level : length l.self.numbers.items ≡ length l.self.steps.items;
+  named : All (IsNamed l.self.trace.names) l.self.steps.items;
+  limit : l.self.lines.place.limit ≡ l.fn.self.lines.place.limit;
+  rules : l.self.builder.rules ≡ l.fn.self.builder.rules;
+  explains : is_some l.self.builder.kept ≡ is_some l.fn.self.builder.kept;
+  taken : taken_of l.reader + taken_by l.fn.self.lines.place ≤ taken_of l.fn.reader + taken_by l.self.lines.place;
+  come : (told : Option (List ℕ)) → HasReadOn told (g.D.Read.remaining (inner_of l.fn.reader)) l.fn.self.lines l.fn.self.trace l.fn.self.crew l.fn.self.builder l.fn.self.steps.items l.fn.self.numbers.items
+      → HasReadOn told (g.D.Read.remaining (inner_of l.reader)) l.self.lines l.self.trace l.self.crew l.self.builder l.self.steps.items l.self.numbers.items;
+}
+
+abbrev pub decreases-loop : goal.decreases-loop
+decreases-loop g l = l.self.lines.place.limit - l.self.lines.place.start

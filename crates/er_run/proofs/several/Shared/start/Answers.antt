@@ -1,0 +1,13 @@
+-- A fault of the text comes before that of workers who can't be started.
+use Rattle.std.proofs.Common.{[], ℕ, List, Option, subst}
+use Rattle.er_device.specs.Device.{inner_of}
+use Rattle.er_run.specs.Inner.Reports.{IsFaultOfText}
+use Rattle.er_run.proofs.SeveralLemmas.{start-may, start-read}
+use Rattle.er_run.proofs.several.Shared.start.Goals as goal
+
+pub returns-in-Err-clause-fault : goal.returns-in-Err-clause-fault
+returns-in-Err-clause-fault g c =
+    let told : Option (List ℕ) = g.D.Read.remaining (inner_of c.args.reader.now) in
+    subst (λ (n : ℕ). IsFaultOfText told n c.fault_behind-fault.result) c.in_ok-lines.ensures.limit
+    (c.fault_behind-fault.ensures.fault told [] [] (start-may c.in-Err.why c.in-Err.ensures.fault)
+    (start-read told c.in_ok-lines.lines c.new-trace.result c.new-trace.ensures c.in_ok-lines.ensures.starts))

@@ -1,0 +1,82 @@
+-- A batch that the workers have answered goes into the report, and the one that was read takes its place.
+use Rattle.std.proofs.Common.{◌≡◌, ◌+◌, ◌++◌, ℕ, List, Option, Result, IfErr, IfOk, OnOk, length, refl, subst}
+use Rattle.er_device.specs.Device.{inner_of}
+use Rattle.er_event.specs.declared.steps.Step.{Step}
+use Rattle.er_parallel.specs.Crews.{AreUnusual, HaveAnswered}
+use Rattle.er_parallel.specs.Faults.{MayFail}
+use Rattle.er_parallel.specs.declared.faults.ReplayFault.{ReplayFault}
+use Rattle.er_report.specs.Builder.{IsReported}
+use Rattle.er_run.proofs.PassLemmas.{all-named}
+use Rattle.er_run.proofs.SeveralLemmas.{given-of, reads-all, reads-on}
+use Rattle.er_run.specs.Inner.Passes.{recorded}
+use Rattle.er_run.specs.Inner.Reports.{IsFaultOfText}
+use Rattle.er_text.specs.Batches.{GivesBatch, HasRead}
+use Rattle.er_text.specs.Named.{Grows}
+use Rattle.er_text.specs.declared.faults.ReadFault.{ReadFault}
+use Rattle.er_text.specs.declared.reading.Batch.{Batch}
+use Rattle.er_trace.specs.Trace.{Recording}
+use Rattle.er_run.proofs.several.Shared.turn.Goals as goal
+
+pub returns-in-Err-answers-clause-fault : goal.returns-in-Err-answers-clause-fault
+returns-in-Err-answers-clause-fault g c = λ told state.
+    let known : Option (List ℕ) = g.D.Read.remaining (inner_of c.args.reader.now) in
+    let rest : Option (List ℕ) = g.D.Read.remaining (inner_of c.answer_and_read-answers.new.reader) in
+    let u : Recording = c.answer_and_read-answers.new.trace in
+    let steps : List Step = c.args.self.now.steps.items in
+    let may : MayFail (state.past ++ c.as_slice.result.now) c.in-Err-answers.why =
+    subst (λ (r : Result _ ReplayFault). IfErr r (λ why. MayFail (state.past ++ c.as_slice.result.now) why)) c.in-Err-answers.is
+    (c.answer_and_read-answers.ensures.workers_fault state.past state.pending.answered) in
+    subst (λ (n : ℕ). IsFaultOfText told n c.fault_behind.result) c.answer_and_read-answers.ensures.limit
+    (c.fault_behind.ensures.fault told (state.past ++ steps) (state.lines ++ c.args.self.now.numbers.items)
+    (subst (λ (batch : List Step). MayFail (state.past ++ batch) c.in-Err-answers.why) c.as_slice.ensures.value may)
+    (given-of told known rest c.args.self.now.lines c.answer_and_read-answers.new.lines c.args.self.now.trace u _ _ c.in-Ok.batch
+    (λ text past lines read. subst (λ (r : Result Batch ReadFault). GivesBatch text past lines c.answer_and_read-answers.new.lines rest u r) c.in-Ok.is
+    (c.answer_and_read-answers.ensures.told text past lines read))
+    state.read))
+
+pub add_batch-requires-clause-named : goal.add_batch-requires-clause-named
+add_batch-requires-clause-named g c =
+    let t : Recording = c.args.self.now.trace in
+    let u : Recording = c.answer_and_read-answers.new.trace in
+    let grows : Grows t u = subst (λ (r : Result Batch ReadFault). OnOk r (Grows t u)) c.in-Ok.is c.answer_and_read-answers.ensures.grows in
+    rw (c.as_slice-2.ensures.value, c.names.ensures) (all-named t.names u.names grows.names c.args.self.now.steps.items c.requires.named)
+
+pub returns-in-More-clause-come : goal.returns-in-More-clause-come
+returns-in-More-clause-come g c = λ told state more.
+    let known : Option (List ℕ) = g.D.Read.remaining (inner_of c.args.reader.now) in
+    let rest : Option (List ℕ) = g.D.Read.remaining (inner_of c.answer_and_read-answers.new.reader) in
+    let t : Recording = c.args.self.now.trace in
+    let u : Recording = c.answer_and_read-answers.new.trace in
+    let grows : Grows t u = subst (λ (r : Result Batch ReadFault). OnOk r (Grows t u)) c.in-Ok.is c.answer_and_read-answers.ensures.grows in
+    reads-on told known rest c.args.self.now.lines c.answer_and_read-answers.new.lines t u c.args.self.now.steps.items c.args.self.now.numbers.items c.args.self.now.crew
+    c.answer_and_read-answers.new.crew c.args.self.now.builder c.add_batch.new.builder c.in-Ok-answers.unusual.items c.in-Ok.batch grows.names c.in_ok-move_batch.ensures.named
+    c.in_ok-move_batch.ensures.level
+    (λ text past lines read. subst (λ (r : Result Batch ReadFault). GivesBatch text past lines c.answer_and_read-answers.new.lines rest u r) c.in-Ok.is
+    (c.answer_and_read-answers.ensures.told text past lines read))
+    (λ past answered. rw c.as_slice.ensures.value at (subst (λ (r : Result _ ReplayFault). OnOk r (HaveAnswered c.answer_and_read-answers.new.crew (past ++ c.as_slice.result.now))) c.in-Ok-answers.is
+    (c.answer_and_read-answers.ensures.goes_on past answered)))
+    (λ past answered. rw c.as_slice.ensures.value at (subst (λ (r : Result _ ReplayFault). IfOk r (λ unusual. AreUnusual past c.as_slice.result.now unusual.items)) c.in-Ok-answers.is
+    (c.answer_and_read-answers.ensures.answers past answered)))
+    (rw (c.as_slice-2.ensures.value, c.as_slice-3.ensures.value, c.as_slice-4.ensures.value, c.names.ensures) at c.in_ok-add_batch.ensures.reported)
+    state c.in-More.is c.move_batch.new.trace c.in_ok-move_batch.ensures.trace c.move_batch.new.steps.items c.in_ok-move_batch.ensures.steps c.move_batch.new.numbers.items
+    c.in_ok-move_batch.ensures.numbers
+
+pub returns-clause-ended : goal.returns-clause-ended
+returns-clause-ended g c = λ told state ended.
+    let known : Option (List ℕ) = g.D.Read.remaining (inner_of c.args.reader.now) in
+    let rest : Option (List ℕ) = g.D.Read.remaining (inner_of c.answer_and_read-answers.new.reader) in
+    let t : Recording = c.args.self.now.trace in
+    let u : Recording = c.answer_and_read-answers.new.trace in
+    let grows : Grows t u = subst (λ (r : Result Batch ReadFault). OnOk r (Grows t u)) c.in-Ok.is c.answer_and_read-answers.ensures.grows in
+    reads-all told known rest c.args.self.now.lines c.answer_and_read-answers.new.lines t u c.args.self.now.steps.items c.args.self.now.numbers.items c.args.self.now.crew
+    c.answer_and_read-answers.new.crew c.args.self.now.builder c.add_batch.new.builder c.in-Ok-answers.unusual.items c.in-Ok.batch grows.names c.in_ok-move_batch.ensures.named
+    c.in_ok-move_batch.ensures.level
+    (λ text past lines read. subst (λ (r : Result Batch ReadFault). GivesBatch text past lines c.answer_and_read-answers.new.lines rest u r) c.in-Ok.is
+    (c.answer_and_read-answers.ensures.told text past lines read))
+    (λ past answered. rw c.as_slice.ensures.value at (subst (λ (r : Result _ ReplayFault). OnOk r (HaveAnswered c.answer_and_read-answers.new.crew (past ++ c.as_slice.result.now))) c.in-Ok-answers.is
+    (c.answer_and_read-answers.ensures.goes_on past answered)))
+    (λ past answered. rw c.as_slice.ensures.value at (subst (λ (r : Result _ ReplayFault). IfOk r (λ unusual. AreUnusual past c.as_slice.result.now unusual.items)) c.in-Ok-answers.is
+    (c.answer_and_read-answers.ensures.answers past answered)))
+    (rw (c.as_slice-2.ensures.value, c.as_slice-3.ensures.value, c.as_slice-4.ensures.value, c.names.ensures) at c.in_ok-add_batch.ensures.reported)
+    state c.in-End.is c.answer_and_read-answers.ensures.limit c.move_batch.new.trace.names (rw c.in_ok-move_batch.ensures.trace refl) c.move_batch.new.steps.items
+    c.in_ok-move_batch.ensures.steps c.move_batch.new.numbers.items c.in_ok-move_batch.ensures.numbers

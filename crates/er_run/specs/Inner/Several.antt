@@ -1,0 +1,77 @@
+-- How far a replay by several workers has come.
+use Rattle.std.specs.Prelude.{◌≡◌, ◌<◌, ◌≤◌, ◌++◌, ℕ, Bool, false, List, [], All, length, slice_get, Option, Some, IfSome, Err}
+use Rattle.er_event.specs.declared.steps.Step.{Step}
+use Rattle.er_parallel.specs.Crews.{Crewed, HaveAnswered}
+use Rattle.er_parallel.specs.declared.unusual.Unusual.{Unusual}
+use Rattle.er_report.specs.Builder.{Built, IsReported}
+use Rattle.er_run.specs.Inner.Passes.{recorded}
+use Rattle.er_run.specs.Replays.{FailsBy}
+use Rattle.er_run.specs.declared.fault.RunFault.{RunFault}
+use Rattle.er_run.specs.declared.fault.Verdict.{Verdict}
+use Rattle.er_text.specs.Batches.{HasRead}
+use Rattle.er_text.specs.Places.{Reached}
+use Rattle.er_text.specs.Trace.{IsTrace, IsFault}
+use Rattle.er_text.specs.declared.faults.ReadFault.{ReadFault}
+use Rattle.er_text.specs.declared.faults.ReadFault.TheVariants as fault
+use Rattle.er_trace.specs.Names.{NameTable}
+use Rattle.er_trace.specs.Trace.{Recording, IsNamed}
+
+-- the items below index `next` are those of the positions below k
+pub record IsNext (items : List Unusual) (next k : ℕ) : Type 0 where
+  pub below : (j : ℕ) (item : Unusual) → slice_get items j ≡ Some item → j < next → item.at < k
+  pub above : (j : ℕ) (item : Unusual) → slice_get items j ≡ Some item → next ≤ j → k ≤ item.at
+
+-- the workers have answered these past steps, which are in the report, and none of the batch behind them
+pub record Pending (crew : Crewed) (builder : Built) (names : NameTable) (past : List Step) (lines : List ℕ) (batch : List Step) (numbers : List ℕ) : Type 0 where
+  pub answered : HaveAnswered crew past
+  pub reported : IsReported builder (recorded (past ++ batch) (lines ++ numbers) names) (length past)
+  pub named : All (IsNamed names) (past ++ batch)
+  pub even : length lines ≡ length past
+  pub level : length numbers ≡ length batch
+
+-- between two turns: what was read of the text is some past steps and then the batch
+pub record HasReadOn (told known : Option (List ℕ)) (reader : Reached) (trace : Recording) (crew : Crewed) (builder : Built) (batch : List Step) (numbers : List ℕ) : Type 0 where
+  pub past : List Step
+  pub lines : List ℕ
+  pub read : IfSome told (λ text. HasRead text (past ++ batch) (lines ++ numbers) reader known trace)
+  pub no_steps : trace.steps ≡ []
+  pub no_lines : trace.lines ≡ []
+  pub pending : Pending crew builder trace.names past lines batch numbers
+
+-- behind the last turn: the text is these past steps and then the batch
+pub record HasReadAll (told : Option (List ℕ)) (limit : ℕ) (names : NameTable) (crew : Crewed) (builder : Built) (batch : List Step) (numbers : List ℕ) : Type 0 where
+  pub past : List Step
+  pub lines : List ℕ
+  pub read : IfSome told (λ text. IsTrace text limit (recorded (past ++ batch) (lines ++ numbers) names))
+  pub pending : Pending crew builder names past lines batch numbers
+
+-- all steps of the text are in the report
+pub record HasReportedAll (told : Option (List ℕ)) (limit : ℕ) (used : NameTable) (builder : Built) : Type 0 where
+  pub recording : Recording
+  pub read : IfSome told (λ text. IsTrace text limit recording)
+  pub names : used ≡ recording.names
+  pub reported : IsReported builder recording (length recording.steps)
+  pub named : All (IsNamed recording.names) recording.steps
+
+-- the text is a trace that begins with these steps
+pub record BeginsWith (text : List ℕ) (limit : ℕ) (past : List Step) : Type 0 where
+  pub recording : Recording
+  pub trace : IsTrace text limit recording
+  pub more : List Step
+  pub steps : recording.steps ≡ past ++ more
+
+-- more steps were read behind these
+pub record HasMore (text : List ℕ) (past : List Step) (reader : Reached) (known : Option (List ℕ)) (trace : Recording) : Type 0 where
+  pub more : List Step
+  pub lines : List ℕ
+  pub read : HasRead text (past ++ more) lines reader known trace
+
+-- a fault of the text is its first
+abbrev pub IsReadFault : List ℕ → ℕ → ReadFault → Type 0
+IsReadFault text limit (fault.Text why) = IsFault text limit why
+IsReadFault text limit fault.Memory = Unit {0}
+IsReadFault text limit fault.Read = Unit {0}
+
+-- a replay with this fault has a reader that failed exactly if the fault says so
+abbrev pub FailsReader : Bool → RunFault → Type 0
+FailsReader failed why = FailsBy {X = Verdict} failed false (Err why)

@@ -1,0 +1,322 @@
+//! A replay by several workers, who answer one batch of lines while the next is read.
+ghost use Rattle.std.specs.Prelude.{◌≡◌, ◌+◌, ◌++◌, ◌<◌, ◌≤◌, ℕ, List, Option, All, None, [], false, true, length, is_some, IfSome, IfOk, IfErr, OnOk};
+ghost use Rattle.er_device.specs.Device.{inner_of, has_failed, taken_of};
+ghost use Rattle.er_event.specs.declared.steps.Step.{Step as Steps};
+ghost use Rattle.er_parallel.specs.Crews.{AreUnusual, HaveAnswered};
+ghost use Rattle.er_parallel.specs.Faults.{MayFail};
+ghost use Rattle.er_report.specs.Builder.{IsReported};
+ghost use Rattle.er_report.specs.Names.{HasNames};
+ghost use Rattle.er_rules.specs.Rules.{targets_of};
+ghost use Rattle.er_run.specs.Inner.Passes.{recorded};
+ghost use Rattle.er_run.specs.Inner.Reports.{IsReportOfText, IsFaultOfText};
+ghost use Rattle.er_run.specs.Inner.Several.{HasReadAll, HasReadOn, HasReportedAll, Pending};
+ghost use Rattle.er_run.specs.Limits.{bytes_past_limit, most_bytes};
+ghost use Rattle.er_run.specs.Replays.{FailsBy};
+ghost use Rattle.er_text.specs.Batches.{HasRead, GivesBatch};
+ghost use Rattle.er_text.specs.Inner.Lending.{taken_by};
+ghost use Rattle.er_text.specs.Named.{Grows};
+ghost use Rattle.er_text.specs.Trace.{HasFailedBy};
+ghost use Rattle.er_trace.specs.Trace.{IsNamed, without_steps};
+
+use crate::adding::add_batch;
+use crate::passes::Reported;
+use crate::rest::fault_behind;
+use crate::{Options, RunFault};
+use er_device::Device;
+use er_event::Step;
+use er_parallel::{Crew, ReplayConfig, ReplayFault, Unusual};
+use er_report::ReportBuilder;
+use er_rules::Suppressions;
+use er_table::LocksetTable;
+use er_text::{Batch, ReadFault, TraceReader};
+use er_trace::Trace;
+use std::alloc::{AllocError, Global};
+use std::io::Read;
+use std::sync::Wait;
+use std::thread;
+use std::thread::Threads;
+
+/// How many lines a batch has.
+const BATCH_LINES: u32 = 32_768;
+
+/// A replay by several workers: what reads the lines, the workers, the report so far, and the steps that were read and aren't
+/// answered, with their lines. Between two batches the trace has names alone.
+#[derive(Drop)]
+struct Shared<'t, 'r> {
+    alloc: Global,
+    lines: TraceReader,
+    trace: Trace,
+    crew: Crew<'t>,
+    builder: ReportBuilder<'r>,
+    steps: Vec<Step>,
+    numbers: Vec<u64>,
+}
+
+// The workers answer the steps while the next batch is read.
+fn answer_and_read<R: Threads + Wait + Sync, D: Read>(
+    rt: &R,
+    crew: &mut Crew<'_>,
+    steps: &[Step],
+    lines: &mut TraceReader,
+    reader: &mut Device<D>,
+    trace: &mut Trace,
+) -> (Result<Vec<Unusual>, ReplayFault>, Result<Batch, ReadFault>)
+    requires open { has_failed reader.old ≡ false }
+    ensures goes_on { (past : List Steps) → HaveAnswered crew.old past → OnOk result.0 (HaveAnswered crew.new (past ++ steps.now)) }
+    ensures answers { (past : List Steps) → HaveAnswered crew.old past → IfOk result.0 (λ unusual. AreUnusual past steps.now unusual.items) }
+    ensures workers_fault { (past : List Steps) → HaveAnswered crew.old past → IfErr result.0 (λ why. MayFail (past ++ steps.now) why) }
+    ensures told { (text : List ℕ) (past : List Steps) (numbers : List ℕ)
+        → HasRead text past numbers lines.old (D.remaining (inner_of reader.old)) trace.old
+        → GivesBatch text past numbers lines.new (D.remaining (inner_of reader.new)) trace.new result.1 }
+    ensures grows { OnOk result.1 (Grows trace.old trace.new) }
+    ensures limit { lines.new.place.limit ≡ lines.old.place.limit }
+    ensures more { IfOk result.1 (λ batch. batch ≡ Batch.More → lines.old.place.start < lines.new.place.start) }
+    ensures within { lines.new.place.start ≤ lines.new.place.limit }
+    ensures failed { HasFailedBy (has_failed reader.new) result.1 }
+    ensures taken { taken_of reader.new + taken_by lines.old.place ≤ taken_of reader.old + taken_by lines.new.place }
+    ensures most { taken_by lines.new.place ≤ lines.new.place.limit + bytes_past_limit }
+{
+    thread::join_mut(
+        rt,
+        &mut || crew.take(rt, steps),
+        &mut || { lines.next_batch(reader, trace, BATCH_LINES) },
+    )
+}
+
+// Takes the steps that were read and their lines out of the trace, in place of those that were answered.
+fn move_batch(
+    trace: &mut Trace,
+    steps: &mut Vec<Step>,
+    numbers: &mut Vec<u64>,
+) -> Result<(), AllocError>
+    ensures trace { OnOk result (trace.new ≡ without_steps trace.old) }
+    ensures steps { OnOk result (steps.new.items ≡ trace.old.steps) }
+    ensures numbers { OnOk result (numbers.new.items ≡ trace.old.lines) }
+    ensures named { OnOk result (All (IsNamed trace.old.names) trace.old.steps) }
+    ensures level { OnOk result (length trace.old.lines ≡ length trace.old.steps) }
+{
+    steps.clear();
+    steps.extend_from_slice(trace.steps())?;
+    numbers.clear();
+    numbers.extend_from_slice(trace.lines())?;
+    trace.clear();
+    Ok(())
+}
+
+impl<'t, 'r> Shared<'t, 'r> {
+    /// In front of a text, with workers that have answered no step. If they can't be started the text is read to its end, since a fault
+    /// of the text comes first.
+    fn start<R: Threads + Wait + Sync, D: Read>(
+        rt: &R,
+        alloc: Global,
+        table: &'t LocksetTable,
+        reader: &mut Device<D>,
+        suppressions: &'r Suppressions,
+        options: &Options,
+    ) -> Result<Shared<'t, 'r>, RunFault>
+        requires open { has_failed reader.old ≡ false }
+        ensures come { IfOk result (λ shared. (told : Option (List ℕ)) → HasReadOn told told shared.lines shared.trace shared.crew shared.builder shared.steps.items shared.numbers.items) }
+        ensures level { IfOk result (λ shared. length shared.numbers.items ≡ length shared.steps.items) }
+        ensures named { IfOk result (λ shared. All (IsNamed shared.trace.names) shared.steps.items) }
+        ensures same { OnOk result ((D.remaining (inner_of reader.new) ≡ D.remaining (inner_of reader.old)) × (taken_of reader.new ≡ taken_of reader.old)) }
+        ensures rules { IfOk result (λ shared. shared.builder.rules ≡ targets_of suppressions.now) }
+        ensures explains { IfOk result (λ shared. is_some shared.builder.kept ≡ options.now.explain) }
+        ensures limit { IfOk result (λ shared. shared.lines.place.limit ≡ options.now.byte_limit) }
+        ensures none { IfOk result (λ shared. taken_by shared.lines.place ≡ 0) }
+        ensures fault { IfErr result (λ why. IsFaultOfText (D.remaining (inner_of reader.old)) options.now.byte_limit why) }
+        ensures failed { FailsBy (has_failed reader.new) false result }
+        ensures taken { taken_of reader.new ≤ taken_of reader.old + options.now.byte_limit + bytes_past_limit }
+    {
+        let mut lines = TraceReader::new(alloc, options.byte_limit)?;
+        let builder = ReportBuilder::explaining(alloc, suppressions, options.explain)?;
+        let mut trace = Trace::new(alloc);
+        let config = ReplayConfig {
+            shards: options.shards,
+            max_sets: options.max_sets,
+        };
+        match Crew::new(rt, alloc, table, config, options.workers) {
+            Ok(crew) => Ok(Shared {
+                alloc,
+                lines,
+                trace,
+                crew,
+                builder,
+                steps: Vec::new(alloc),
+                numbers: Vec::new(alloc),
+            }),
+            Err(why) => {
+                let fault = fault_behind(&mut lines, reader, &mut trace, Batch::More, why);
+                abandon(lines, trace, builder);
+                Err(fault)
+            }
+        }
+    }
+
+    /// The workers answer the batch that was read before, and the next one is read. Says whether lines may follow.
+    fn turn<R: Threads + Wait + Sync, D: Read>(
+        &mut self,
+        rt: &R,
+        reader: &mut Device<D>,
+    ) -> Result<bool, RunFault>
+        requires open { has_failed reader.old ≡ false }
+        requires level { length self.old.numbers.items ≡ length self.old.steps.items }
+        requires named { All (IsNamed self.old.trace.names) self.old.steps.items }
+        ensures come { (told : Option (List ℕ)) → HasReadOn told (D.remaining (inner_of reader.old)) self.old.lines self.old.trace self.old.crew self.old.builder self.old.steps.items self.old.numbers.items
+            → IfOk result (λ more. more ≡ true → HasReadOn told (D.remaining (inner_of reader.new)) self.new.lines self.new.trace self.new.crew self.new.builder self.new.steps.items self.new.numbers.items) }
+        ensures ended { (told : Option (List ℕ)) → HasReadOn told (D.remaining (inner_of reader.old)) self.old.lines self.old.trace self.old.crew self.old.builder self.old.steps.items self.old.numbers.items
+            → IfOk result (λ more. more ≡ false → HasReadAll told self.old.lines.place.limit self.new.trace.names self.new.crew self.new.builder self.new.steps.items self.new.numbers.items) }
+        ensures fault { (told : Option (List ℕ)) → HasReadOn told (D.remaining (inner_of reader.old)) self.old.lines self.old.trace self.old.crew self.old.builder self.old.steps.items self.old.numbers.items
+            → IfErr result (λ why. IsFaultOfText told self.old.lines.place.limit why) }
+        ensures level { OnOk result (length self.new.numbers.items ≡ length self.new.steps.items) }
+        ensures named { OnOk result (All (IsNamed self.new.trace.names) self.new.steps.items) }
+        ensures rules { OnOk result (self.new.builder.rules ≡ self.old.builder.rules) }
+        ensures explains { OnOk result (is_some self.new.builder.kept ≡ is_some self.old.builder.kept) }
+        ensures limit { self.new.lines.place.limit ≡ self.old.lines.place.limit }
+        ensures more { IfOk result (λ more. more ≡ true → self.old.lines.place.start < self.new.lines.place.start) }
+        ensures within { self.new.lines.place.start ≤ self.new.lines.place.limit }
+        ensures failed { FailsBy (has_failed reader.new) false result }
+        ensures taken { taken_of reader.new + taken_by self.old.lines.place ≤ taken_of reader.old + taken_by self.new.lines.place }
+        ensures most { taken_by self.new.lines.place ≤ self.new.lines.place.limit + bytes_past_limit }
+    {
+        let (answers, batch) = answer_and_read(
+            rt,
+            &mut self.crew,
+            self.steps.as_slice(),
+            &mut self.lines,
+            reader,
+            &mut self.trace,
+        );
+        let batch = match batch {
+            Ok(batch) => batch,
+            Err(why) => return Err(RunFault::Read(why)),
+        };
+        let unusual = match answers {
+            Ok(unusual) => unusual,
+            Err(why) => {
+                return Err(fault_behind(&mut self.lines, reader, &mut self.trace, batch, why));
+            }
+        };
+        add_batch(
+            self.alloc,
+            &mut self.builder,
+            self.trace.names(),
+            self.steps.as_slice(),
+            self.numbers.as_slice(),
+            unusual.as_slice(),
+        )?;
+        move_batch(&mut self.trace, &mut self.steps, &mut self.numbers)?;
+        match batch {
+            Batch::More => Ok(true),
+            Batch::End => Ok(false),
+        }
+    }
+
+    /// The workers answer the batch that was read last.
+    fn last<R: Threads + Wait + Sync>(&mut self, rt: &R) -> Result<(), RunFault>
+        requires level { length self.old.numbers.items ≡ length self.old.steps.items }
+        requires named { All (IsNamed self.old.trace.names) self.old.steps.items }
+        ensures reported { (told : Option (List ℕ)) (limit : ℕ) → HasReadAll told limit self.old.trace.names self.old.crew self.old.builder self.old.steps.items self.old.numbers.items
+            → OnOk result (HasReportedAll told limit self.new.trace.names self.new.builder) }
+        ensures fault { (told : Option (List ℕ)) (limit : ℕ) → HasReadAll told limit self.old.trace.names self.old.crew self.old.builder self.old.steps.items self.old.numbers.items
+            → IfErr result (λ why. IsFaultOfText told limit why) }
+        ensures rules { OnOk result (self.new.builder.rules ≡ self.old.builder.rules) }
+        ensures explains { OnOk result (is_some self.new.builder.kept ≡ is_some self.old.builder.kept) }
+        ensures failed { FailsBy false false result }
+    {
+        let unusual = match self.crew.take(rt, self.steps.as_slice()) {
+            Ok(unusual) => unusual,
+            Err(why) => return Err(RunFault::from(why)),
+        };
+        add_batch(
+            self.alloc,
+            &mut self.builder,
+            self.trace.names(),
+            self.steps.as_slice(),
+            self.numbers.as_slice(),
+            unusual.as_slice(),
+        )?;
+        Ok(())
+    }
+
+    /// Reads and answers all batches.
+    fn run<R: Threads + Wait + Sync, D: Read>(
+        &mut self,
+        rt: &R,
+        reader: &mut Device<D>,
+    ) -> Result<(), RunFault>
+        requires open { has_failed reader.old ≡ false }
+        requires level { length self.old.numbers.items ≡ length self.old.steps.items }
+        requires named { All (IsNamed self.old.trace.names) self.old.steps.items }
+        ensures reported { (told : Option (List ℕ)) → HasReadOn told (D.remaining (inner_of reader.old)) self.old.lines self.old.trace self.old.crew self.old.builder self.old.steps.items self.old.numbers.items
+            → OnOk result (HasReportedAll told self.old.lines.place.limit self.new.trace.names self.new.builder) }
+        ensures fault { (told : Option (List ℕ)) → HasReadOn told (D.remaining (inner_of reader.old)) self.old.lines self.old.trace self.old.crew self.old.builder self.old.steps.items self.old.numbers.items
+            → IfErr result (λ why. IsFaultOfText told self.old.lines.place.limit why) }
+        ensures rules { OnOk result (self.new.builder.rules ≡ self.old.builder.rules) }
+        ensures explains { OnOk result (is_some self.new.builder.kept ≡ is_some self.old.builder.kept) }
+        ensures failed { FailsBy (has_failed reader.new) false result }
+        ensures taken { taken_of reader.new + taken_by self.old.lines.place ≤ taken_of reader.old + self.old.lines.place.limit + bytes_past_limit }
+    {
+        while self.turn(rt, reader)? {}
+        self.last(rt)
+    }
+
+    /// The report of the text that was read, and its names.
+    fn finish(self) -> Reported
+        ensures report { (told : Option (List ℕ)) (limit : ℕ) → HasReportedAll told limit self.entry.trace.names self.entry.builder
+            → IfSome told (λ text. IsReportOfText text limit self.entry.builder.rules (is_some self.entry.builder.kept) result.trace.names result.report) }
+        ensures named { (told : Option (List ℕ)) (limit : ℕ) → HasReportedAll told limit self.entry.trace.names self.entry.builder
+            → All (HasNames result.trace.names) result.report.lines.items }
+        ensures whole { result.report.stop ≡ None }
+    {
+        let Shared {
+            alloc: _,
+            lines,
+            trace,
+            crew,
+            builder,
+            steps,
+            numbers,
+        } = self;
+        close(lines, crew, steps, numbers);
+        Reported {
+            report: builder.finish_explained(None),
+            trace,
+        }
+    }
+}
+
+// Lets go of what was to read and to report. Split for the prover.
+fn abandon(_lines: TraceReader, _trace: Trace, _builder: ReportBuilder<'_>) {}
+
+// Lets go of what has read and answered the steps. Split for the prover.
+fn close(_lines: TraceReader, _crew: Crew<'_>, _steps: Vec<Step>, _numbers: Vec<u64>) {}
+
+/// The report of a replay by several workers, who answer one batch of lines while the next is read.
+pub(crate) fn report_by_crew<R, D>(
+    rt: &R,
+    alloc: Global,
+    reader: &mut Device<D>,
+    suppressions: &Suppressions,
+    options: &Options,
+) -> Result<Reported, RunFault>
+where
+    R: Threads + Wait + Sync,
+    D: Read,
+    requires reader { has_failed reader.old ≡ false }
+    ensures report { IfOk result (λ found. IfSome (D.remaining (inner_of reader.old)) (λ text. IsReportOfText text options.now.byte_limit (targets_of suppressions.now) options.now.explain found.trace.names found.report)) }
+    ensures named { IfOk result (λ found. All (HasNames found.trace.names) found.report.lines.items) }
+    ensures fault { IfErr result (λ why. IsFaultOfText (D.remaining (inner_of reader.old)) options.now.byte_limit why) }
+    ensures failed { FailsBy (has_failed reader.new) false result }
+    ensures taken { taken_of reader.new ≤ taken_of reader.old + options.now.byte_limit + bytes_past_limit }
+    ensures whole { IfOk result (λ found. found.report.stop ≡ None) }
+{
+    let table = LocksetTable::new(alloc, options.max_sets)?;
+    let mut shared = match Shared::start(rt, alloc, &table, reader, suppressions, options) {
+        Ok(shared) => shared,
+        Err(why) => return Err(why),
+    };
+    match shared.run(rt, reader) {
+        Ok(()) => Ok(shared.finish()),
+        Err(why) => Err(why),
+    }
+}
