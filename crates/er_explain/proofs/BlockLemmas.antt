@@ -1,9 +1,10 @@
 -- One book, or some that lie side by side, change in one block: what that makes of the books of all words.
-use Rattle.std.proofs.Common.{◌≡◌, ◌≢◌, ◌∙◌, ◌==◌, ℕ, zero, suc, ◌+◌, ◌<◌, ◌≤◌, ◌/◌, ◌%◌, ◌&&◌, nat_eq, nat_le, nat_lt, Bool, true, false, cond, List, [], ◌∷◌, length, get_or, position, slice_get, slice_index_or, Option, Some, None, refl, sym, ap, subst, arith}
+use Rattle.std.proofs.Common.{◌≡◌, ◌≢◌, ◌∙◌, ◌==◌, ℕ, zero, suc, ◌+◌, ◌<◌, ◌≤◌, ◌/◌, ◌%◌, ◌&&◌, nat_eq, nat_le, nat_lt, Bool, true, false, cond, List, [], ◌∷◌, length, get_or, position, slice_get, Option, Some, None, refl, sym, ap, arith}
 use Rattle.std.specs.Cmp.{nat_eq_equiv}
 use Rattle.std.specs.Map.{lookup, keys_of, values_of}
 use Rattle.std.proofs.lemmas.Bool.Decides.{nat_tests}
 use Rattle.std.proofs.lemmas.List.Quantifiers.{position-Some}
+use Rattle.std.proofs.lemmas.List.{get_or_past}
 use Rattle.std.proofs.lemmas.Map.Entries.{lookup_from_place}
 use Rattle.indexmap.specs.IndexMap.{IndexMap, keys, values, IsUnique, with_value_at}
 use Rattle.indexmap.proofs.CallerLemmas.{updates-with_value_at}
@@ -203,3 +204,37 @@ module _ {A : Type 0} where
   pub no_blocks : (blocks : Blocks A) → blocks ≡ [] → (w : ℕ) → book_in blocks w ≡ Untouched
   unfolding book_in
   no_blocks blocks none w = ap (λ (all : Blocks A). book_in_block (lookup (nat_eq (w / 32)) all) (w % 32)) none
+
+  -- one book more of a range
+  pub one-emptied : (start place i : ℕ) (x : Book A) → start ≤ place
+      → cond (nat_eq place i) Untouched (cond (nat_le start i && nat_lt i place) Untouched x) ≡ cond (nat_le start i && nat_lt i (place + 1)) Untouched x
+  one-emptied start place i x low = by (nat_eq place i) refl
+    where
+      first : place ≡ i → (nat_le start i && nat_lt i (place + 1)) ≡ true
+      first at = grind (arith, nat_tests)
+
+      other : place ≢ i → nat_lt i place ≡ nat_lt i (place + 1)
+      other apart = grind (arith, nat_tests)
+
+      by : (same : Bool) → nat_eq place i ≡ same
+          → cond same Untouched (cond (nat_le start i && nat_lt i place) Untouched x) ≡ cond (nat_le start i && nat_lt i (place + 1)) Untouched x
+      by true e = ap (λ b. cond b Untouched x) (sym (first (eqb-true place i e)))
+      by false e = ap (λ b. cond (nat_le start i && b) Untouched x) (other (eqb-false place i e))
+
+  -- past the end of a block its books are empty
+  pub short-block : (books : List (Book A)) (low high : Bool) (i n : ℕ) → n ≡ length books
+      → cond (low && (nat_lt i n && high)) Untouched (book_at_place books i) ≡ cond (low && high) Untouched (book_at_place books i)
+  short-block books low high i n long = by (nat_lt i n) refl
+    where
+      stays : (b c : Bool) (x : Book A) → x ≡ Untouched → cond (b && false) Untouched x ≡ cond (b && c) Untouched x
+      stays true true x empty = empty
+      stays true false x empty = refl
+      stays false c x empty = refl
+
+      past : nat_lt i n ≡ false → n ≤ i
+      past e = grind (arith, nat_tests)
+
+      by : (within : Bool) → nat_lt i n ≡ within
+          → cond (low && (within && high)) Untouched (book_at_place books i) ≡ cond (low && high) Untouched (book_at_place books i)
+      by true e = refl
+      by false e = stays low high (book_at_place books i) (get_or_past books i Untouched (let far : n ≤ i = past e in omega arith))

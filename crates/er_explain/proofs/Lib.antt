@@ -1,10 +1,8 @@
 pub mod BlockLemmas
 pub mod BookLemmas
 pub mod BookSteps
-pub mod BooksLemmas
 pub mod Explained
 pub mod NamingLemmas
 pub mod Passes
 pub mod RaceLemmas
-pub mod RacyLemmas
 pub mod FoundLemmas

@@ -1,6 +1,5 @@
--- The explanations of the races of a list of steps, by the searches of the model.
-use Rattle.std.specs.Prelude.{ℕ, zero, suc, List, [], ◌++◌, length, map, flat_map, slice_get, Option, Some, None, Result, Ok}
-use Rattle.std.specs.Option.{option_to_list}
+-- The explanation of a race of a list of steps, by the searches of the model.
+use Rattle.std.specs.Prelude.{ℕ, suc, List, map, slice_get, Option, Some, None, Result, Ok}
 use Rattle.er_event.specs.declared.refusals.Refusal.{Refusal}
 use Rattle.er_event.specs.declared.steps.Reply.{Reply}
 use Rattle.er_event.specs.declared.steps.Reply.TheVariants.{Race}
@@ -30,16 +29,3 @@ explanation_where steps k _ = None
 -- of the step at position k, where it is answered with a race
 unfoldable pub explanation_at : List Step → ℕ → Option Explanation
 explanation_at steps k = explanation_where steps k (answer steps k)
-
--- the explanations of the races among the first n steps, in order
-unfoldable pub explanations_below : List Step → ℕ → List Explanation
-explanations_below steps zero = []
-explanations_below steps (suc n) = explanations_below steps n ++ option_to_list (explanation_at steps n)
-
--- those of all steps
-abbrev pub race_explanations : List Step → List Explanation
-race_explanations steps = explanations_below steps (length steps)
-
--- the explanations of the races at these positions, in their order
-abbrev pub explanations_at : List Step → List ℕ → List Explanation
-explanations_at steps places = flat_map (λ k. option_to_list (explanation_at steps k)) places

@@ -1,5 +1,5 @@
 -- A word that a second thread has joined.
-use Rattle.std.specs.Prelude.{ℕ, List, Option}
+use Rattle.std.specs.Prelude.{List, Option}
 use Rattle.er_explain.specs.declared.book.Pair.{Pair}
 
 -- the first access, the joining, and the first write since, if there is one, each as it is named, and each lock of the joining

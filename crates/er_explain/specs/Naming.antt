@@ -1,5 +1,5 @@
 -- Books whose accesses are named otherwise than by their positions.
-use Rattle.std.specs.Prelude.{ℕ, map, Option, Some, None}
+use Rattle.std.specs.Prelude.{map, Option, Some, None}
 use Rattle.er_explain.specs.Joined.{Joining}
 use Rattle.er_explain.specs.declared.book.Pair.{Pair}
 use Rattle.er_explain.specs.declared.book.Book.{Book}

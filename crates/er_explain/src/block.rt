@@ -1,6 +1,7 @@
 //! `Block`, the books of words that lie side by side.
-ghost use Rattle.std.specs.Prelude.{◌≡◌, ◌<◌, ◌≤◌, ◌&&◌, ℕ, nat_eq, nat_le, nat_lt, cond, length, option_copied, OnOk};
+ghost use Rattle.std.specs.Prelude.{◌≡◌, ◌<◌, ◌≤◌, ◌&&◌, ◌+◌, ℕ, nat_eq, nat_le, nat_lt, cond, length, option_copied, OnOk};
 ghost use Rattle.er_explain.specs.Books.{book_accessed};
+ghost use Rattle.er_explain.specs.Inner.Begun.{BegunAlone};
 ghost use Rattle.er_explain.specs.WordBooks.{book_at_place, joining_in};
 ghost use Rattle.er_held.specs.ThreadLocks.{held_by};
 ghost use Rattle.er_model.specs.Following.{locks_for};
@@ -15,15 +16,20 @@ use std::marker::Model;
 #[derive(Drop)]
 pub(crate) struct Block<A> {
     books: Vec<Book<A>>,
+    // Which of the books may have something in them: a reuse looks at no other.
+    begun: [bool; 32],
 }
 
 impl<A> Model for Block<A> {
     ghost use Rattle.std.specs.Prelude.{List};
+    ghost use Rattle.er_explain.specs.Inner.Begun.{BegunAlone};
     ghost use Rattle.er_explain.specs.declared.book.Book.{Book};
 
     ghost Value = { List (Book A) };
 
     ghost view = { λ b. b.books.items };
+
+    ghost invariant = { λ b. BegunAlone b.books.items b.begun };
 }
 
 impl<A: Copy> Block<A> {
@@ -33,6 +39,7 @@ impl<A: Copy> Block<A> {
     {
         Block {
             books: Vec::new(alloc),
+            begun: [false; 32],
         }
     }
 
@@ -49,6 +56,7 @@ impl<A: Copy> Block<A> {
         requires { place < 32 }
         ensures { OnOk result ((i : ℕ) → book_at_place self.new i ≡ cond (nat_eq place i) (book_accessed (book_at_place self.old place) at thread kind (locks_for (held_by locks.now thread) kind)) (book_at_place self.old i)) }
     {
+        self.begun[place] = true;
         reach(&mut self.books, place)?;
         self.books[place].access(alloc, locks, at, thread, kind)
     }
@@ -60,9 +68,7 @@ impl<A: Copy> Block<A> {
     {
         let end = end_of(self.books.len(), hi);
         let start = start_of(lo, end);
-        for place in start..end {
-            self.books[place] = Book::Untouched;
-        }
+        empty_all(&mut self.books, &mut self.begun, start, end);
     }
 
     /// The joining of the word at a place, if a second thread has joined.
@@ -76,10 +82,40 @@ impl<A: Copy> Block<A> {
     }
 }
 
+// Empties a book, if it has begun.
+fn empty_one<A: Copy>(books: &mut Vec<Book<A>>, begun: &mut [bool; 32], place: usize)
+    requires within { place < 32 }
+    requires there { place < length books.old.items }
+    requires alone { BegunAlone books.old.items begun.old }
+    ensures len { length books.new.items ≡ length books.old.items }
+    ensures book { (i : ℕ) → book_at_place books.new.items i ≡ cond (nat_eq place i) Book.Untouched (book_at_place books.old.items i) }
+    ensures alone { BegunAlone books.new.items begun.new }
+{
+    if begun[place] {
+        books[place] = Book::Untouched;
+        begun[place] = false;
+    }
+}
+
+// Empties the books from `start` to `end`, without the one at `end`, that have begun.
+fn empty_all<A: Copy>(books: &mut Vec<Book<A>>, begun: &mut [bool; 32], start: usize, end: usize)
+    requires ordered { start ≤ end }
+    requires within { end ≤ 32 }
+    requires there { end ≤ length books.old.items }
+    requires alone { BegunAlone books.old.items begun.old }
+    ensures book { (i : ℕ) → book_at_place books.new.items i ≡ cond (nat_le start i && nat_lt i end) Book.Untouched (book_at_place books.old.items i) }
+    ensures alone { BegunAlone books.new.items begun.new }
+{
+    for place in start..end {
+        empty_one(books, begun, place);
+    }
+}
+
 // Where a pass over the first `len` places ends that goes to `hi` at most.
 fn end_of(len: usize, hi: usize) -> usize
     requires { hi < 32 }
     ensures within { result ≤ len }
+    ensures low { result ≤ hi + 1 }
     ensures same { (i : ℕ) → nat_lt i result ≡ (nat_lt i len && nat_le i hi) }
 {
     if len <= hi { len } else { hi + 1 }

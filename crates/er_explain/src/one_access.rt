@@ -29,8 +29,8 @@ pub fn explain(alloc: Global, steps: &[Step], k: u64) -> Result<Option<Explanati
     Ok(ending_at(found, k))
 }
 
-/// The word that the step at a place accesses, if it is an access.
-pub(crate) fn word_at(steps: &[Step], place: u64) -> Option<Word>
+// The word that the step at a place accesses, if it is an access.
+fn word_at(steps: &[Step], place: u64) -> Option<Word>
     ensures word { result ≡ word_of (slice_get steps.now place) }
     ensures within { IsSome result → place < length steps.now }
 {

@@ -7,13 +7,12 @@ ghost use Rattle.er_parallel.specs.Crews.{HasFollowed};
 ghost use Rattle.er_parallel.specs.Inner.Crewing.{AreFresh, IsLeastFault, NoFaultBelow};
 ghost use Rattle.er_parallel.specs.Inner.Merging.{machines_of};
 ghost use Rattle.er_parallel.specs.Inner.Taking.{HasTaken};
-ghost use Rattle.er_parallel.specs.Work.{IsLesser};
 ghost use Rattle.er_parallel.specs.declared.worker.Worker.{Worker as Workers};
 ghost use Rattle.er_replay.specs.Standing.{Stands};
 
 use crate::merging::merge;
 use crate::task::Share;
-use crate::worked::WorkFault;
+use crate::worked::{WorkFault, lesser};
 use crate::worker::{Fresh, Worker};
 use crate::{ReplayConfig, ReplayFault, Unusual};
 use er_event::Step;
@@ -247,14 +246,4 @@ fn least_fault(workers: &[Worker<'_>]) -> Option<WorkFault>
         }
     }
     least
-}
-
-// The fault of the lesser shard, and of two faults of one shard the other.
-fn lesser(known: Option<WorkFault>, other: WorkFault) -> WorkFault
-    ensures { IsLesser known other result }
-{
-    match known {
-        Some(known) if known.shard < other.shard => known,
-        _ => other,
-    }
 }

@@ -6,7 +6,7 @@ ghost use Rattle.er_parallel.specs.Found.{usual};
 ghost use Rattle.er_parallel.specs.Inner.Following.{AreFollowed, found_by};
 ghost use Rattle.er_parallel.specs.Putting.{ArePut};
 ghost use Rattle.er_parallel.specs.Tasks.{IsTask};
-ghost use Rattle.er_parallel.specs.Work.{IsWork, IsFault};
+ghost use Rattle.er_parallel.specs.Work.{IsWork, IsFault, IsLesser};
 ghost use Rattle.er_replay.specs.Standing.{holding, states};
 
 use crate::task::{Task, shard_for, worker_for};
@@ -42,6 +42,16 @@ impl<'s> Model for Worked<'s> {
 pub(crate) struct WorkFault {
     pub(crate) shard: u32,
     pub(crate) cause: NoRoom,
+}
+
+/// The fault of the lesser shard, and of two faults of one shard the other.
+pub(crate) fn lesser(known: Option<WorkFault>, other: WorkFault) -> WorkFault
+    ensures { IsLesser known other result }
+{
+    match known {
+        Some(known) if known.shard < other.shard => known,
+        _ => other,
+    }
 }
 
 // Takes the next step of a task's list, and puts its answer down unless it is another worker's step or the answer is the usual one.

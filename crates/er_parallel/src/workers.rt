@@ -4,11 +4,11 @@ ghost use Rattle.er_event.specs.declared.steps.Step.{Step as Steps};
 ghost use Rattle.er_parallel.specs.Faults.{MayFail};
 ghost use Rattle.er_parallel.specs.Putting.{usual_answers};
 ghost use Rattle.er_parallel.specs.Tasks.{IsTask};
-ghost use Rattle.er_parallel.specs.Work.{HasWorked, IsWork, IsFault, MayBeFull, AllWorked, AreOks, IsFaultOf, IsLeastFault, IsLesser, NoneFails};
+ghost use Rattle.er_parallel.specs.Work.{HasWorked, IsWork, IsFault, MayBeFull, AllWorked, AreOks, IsFaultOf, IsLeastFault, NoneFails};
 
 use crate::gathering::usual_answers;
 use crate::task::Task;
-use crate::worked::{WorkFault, Worked};
+use crate::worked::{WorkFault, Worked, lesser};
 use crate::{ReplayConfig, ReplayFault};
 use er_event::Step;
 use er_gate::Gate;
@@ -170,14 +170,4 @@ fn least_fault(results: &[Result<Worked<'_>, WorkFault>]) -> Option<WorkFault>
         }
     }
     least
-}
-
-// The fault of the lesser shard, and of two faults of one shard the other.
-fn lesser(known: Option<WorkFault>, other: WorkFault) -> WorkFault
-    ensures { IsLesser known other result }
-{
-    match known {
-        Some(known) if known.shard < other.shard => known,
-        _ => other,
-    }
 }

@@ -20,15 +20,13 @@ use Rattle.er_model.specs.Holdings.{Holdings, after_step, holdings, holdings_at}
 use Rattle.er_model.specs.Threads.{accepted, held}
 use Rattle.er_model.proofs.Prefixes.{answers-front, holdings-empty}
 use Rattle.er_model.proofs.Threads.{holdings-step}
-use Rattle.er_explain.specs.Racing.{is_race, places_below, AreRaces}
-use Rattle.er_explain.proofs.RaceLemmas.{are-races}
+use Rattle.er_explain.specs.Racing.{is_race, places_below}
 use Rattle.er_held.specs.Held.{nothing_held}
 use Rattle.er_held.specs.ThreadLocks.{held_by}
 use Rattle.er_report.specs.Names.{HasNames, HasViewNames}
 use Rattle.er_report.specs.declared.report.Line.{Line}
 use Rattle.er_report.proofs.NamedLemmas.{named_lines}
 use Rattle.er_report.specs.Builder.{Built, report_below, IsBuilt, IsExplained, IsReported, IsStepAt}
-use Rattle.er_explain.specs.Explaining.{explanations_at}
 use Rattle.er_report.proofs.KeptLemmas.{told-by}
 use Rattle.er_report.specs.Inner.Explained.{lines_kept}
 use Rattle.er_report.specs.Inner.Adding.{empty_report, with_answer, one_more, IsCounted, HasRoom}
@@ -199,16 +197,6 @@ built-next before after r k names number step given locks built at kept added pl
           ∙ race-here r before.rules k names number step given locks at
           ∙ ap (λ (rules : List Target). places_below (is_printed r rules) (k + 1)) (sym kept);
     }
-
--- where its races are
-pub built-races : (builder : Built) (r : Recording) (n : ℕ) → IsBuilt builder r n → AreRaces r.steps builder.races
-built-races builder r n built =
-    subst (AreRaces r.steps) (sym built.races)
-    (are-races r.steps (is_printed r builder.rules) n (λ k below printed. first-true (is_race (answer r.steps k)) (is_none (matching_rule_at r builder.rules k)) printed))
-  where
-    first-true : (a b : Bool) → (a && b) ≡ true → a ≡ true
-    first-true true b both = refl
-    first-true false b both = both
 
 -- counts stay within those of the steps
 pub counted-start : (n rules : ℕ) (s : Summary) → s ≡ empty_report n → n ≡ rules → IsCounted s rules

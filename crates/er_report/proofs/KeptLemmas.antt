@@ -13,9 +13,9 @@ use Rattle.er_explain.proofs.Explained.{explained-at}
 use Rattle.er_explain.proofs.FoundLemmas.{race-told}
 use Rattle.er_explain.proofs.NamingLemmas.{named-agree, named-follows, named-start}
 use Rattle.er_explain.proofs.Passes.{held-start, held-next}
-use Rattle.er_explain.proofs.RaceLemmas.{race-is}
+use Rattle.er_explain.proofs.RaceLemmas.{explanations_at, race-is}
 use Rattle.er_explain.specs.Books.{book_after, book_at, joining_of}
-use Rattle.er_explain.specs.Explaining.{explanation_at, explanations_at}
+use Rattle.er_explain.specs.Explaining.{explanation_at}
 use Rattle.er_explain.specs.Following.{AreHeldAt}
 use Rattle.er_explain.specs.Joined.{Joining}
 use Rattle.er_explain.specs.Naming.{named_pair, named_joining, named_book}

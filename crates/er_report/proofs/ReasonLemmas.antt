@@ -14,9 +14,9 @@ use Rattle.er_event.specs.declared.steps.Reply.{Reply}
 use Rattle.er_event.specs.declared.steps.Reply.TheVariants.{Race, Done, Quiet, Ignored, State}
 use Rattle.er_event.specs.declared.steps.Step.{Step}
 use Rattle.er_trace.specs.Trace.{Recording}
-use Rattle.er_explain.proofs.RaceLemmas.{explained-here}
+use Rattle.er_explain.proofs.RaceLemmas.{explained-here, explanations_at}
 use Rattle.er_explain.proofs.FoundLemmas.{no-word, unraced-at}
-use Rattle.er_explain.specs.Explaining.{explanation_of, explanation_where, explanation_at, explanations_at}
+use Rattle.er_explain.specs.Explaining.{explanation_of, explanation_where, explanation_at}
 use Rattle.er_explain.specs.Racing.{is_race, places_below}
 use Rattle.er_journal.specs.declared.explanations.Uncovered.{Uncovered}
 use Rattle.er_model.specs.Answers.{answer}

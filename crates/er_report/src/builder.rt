@@ -126,7 +126,7 @@ impl<'r> ReportBuilder<'r> {
     }
 
     /// The same, by a view of the answer.
-    pub(crate) fn add_answer(
+    pub fn add_answer(
         &mut self,
         names: &Names,
         line: u64,
@@ -190,6 +190,7 @@ impl<'r> ReportBuilder<'r> {
     pub fn finish_explained(self, stop: Option<(u64, NoRoom)>) -> Report
         ensures report { (r : Recording) (stopped : Option Stop) → IsReported self.entry r (length (answered_steps r.steps stopped)) → stop ≡ stop_line r stopped → told result ≡ report_of r self.entry.rules (is_some self.entry.kept) stopped }
         ensures named { (r : Recording) (n : ℕ) → IsReported self.entry r n → All (IsNamed r.names) r.steps → All (HasNames r.names) result.lines.items }
+        ensures stop { result.stop ≡ stop }
     {
         let ReportBuilder {
             rules: _,

@@ -27,7 +27,7 @@
 
 pub use builder::ReportBuilder;
 pub use er_check::check_explanation;
-pub use er_explain::{Explanation, Uncovered, an_explanation_explains, explain, explain_races};
+pub use er_explain::{Explanation, Uncovered, an_explanation_explains, explain};
 pub use laws::{a_report_goes_on, each_reason_is_told, the_counts_add_up};
 pub use report::{Because, Label, Line, Report};
 pub use summary::summarise;

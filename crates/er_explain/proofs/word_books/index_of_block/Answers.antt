@@ -1,4 +1,4 @@
-use Rattle.std.proofs.Common.{◌≡◌, ◌∙◌, ℕ, List, Option, Some, None, IfSome, nat_eq, position, slice_get, sym}
+use Rattle.std.proofs.Common.{◌≡◌, ℕ, List, Option, Some, None, IfSome, nat_eq, position, slice_get, sym}
 use Rattle.indexmap.specs.IndexMap.{keys}
 use Rattle.er_explain.proofs.BlockLemmas.{number_at}
 use Rattle.er_explain.proofs.word_books.index_of_block.Goals as goal

@@ -1,10 +1,5 @@
-use Rattle.std.proofs.Common.{rules, ◌≡◌, ◌∙◌, ◌==◌, ◌<◌, ◌≤◌, ◌/◌, ◌%◌, ℕ, nat_eq, nat_le, cond, slice_get, Some, None, refl, sym, ap, subst, arith}
-use Rattle.er_explain.specs.Books.{book_accessed, book_after}
-use Rattle.er_explain.specs.WordBooks.{book_in, book_in_block, is_place_in, joining_in}
-use Rattle.er_held.specs.ThreadLocks.{held_by}
-use Rattle.er_model.specs.Following.{locks_for, marked}
-use Rattle.indexmap.specs.IndexMap.{with_value_at}
-use Rattle.er_explain.proofs.BlockLemmas.{number_at, block_found, block_put, one_book, first_book, found_book, emptied_block, absent_block, emptied-start, emptied-next, emptied-end, accessed-word}
+use Rattle.std.proofs.Common.{arith}
+use Rattle.er_explain.proofs.BlockLemmas.{emptied-start, emptied-next, emptied-end}
 use Rattle.er_explain.proofs.word_books.WordBooks.reuse.Goals as goal
 
 pub loop-number-init : goal.loop-number-init
