@@ -9,15 +9,15 @@ use std::alloc::{AllocError, Global};
 
 /// The races at each site, by the number of the site.
 #[derive(Drop)]
-pub(crate) struct Counts {
+pub struct Counts {
     /// How many of them read.
-    pub(crate) reads: Vec<u64>,
+    pub reads: Vec<u64>,
     /// How many of them write.
-    pub(crate) writes: Vec<u64>,
+    pub writes: Vec<u64>,
 }
 
 /// The count of a site; 0 past the end of the list.
-pub(crate) fn count_at(counts: &[u64], site: usize) -> u64
+pub fn count_at(counts: &[u64], site: usize) -> u64
     ensures { result ≡ slice_index counts.now site }
 {
     match counts.get(site) {
@@ -27,7 +27,7 @@ pub(crate) fn count_at(counts: &[u64], site: usize) -> u64
 }
 
 /// The races of a report at each site.
-pub(crate) fn count_races(alloc: Global, lines: &[Line]) -> Result<Counts, AllocError>
+pub fn count_races(alloc: Global, lines: &[Line]) -> Result<Counts, AllocError>
     ensures { IfOk result (AreCounts lines.now) }
 {
     let mut reads = Vec::new(alloc);
@@ -38,8 +38,12 @@ pub(crate) fn count_races(alloc: Global, lines: &[Line]) -> Result<Counts, Alloc
     Ok(Counts { reads, writes })
 }
 
-// Counts a line at its site, if it is a race.
-fn count_line(reads: &mut Vec<u64>, writes: &mut Vec<u64>, line: &Line) -> Result<(), AllocError>
+/// Counts a line at its site, if it is a race.
+pub fn count_line(
+    reads: &mut Vec<u64>,
+    writes: &mut Vec<u64>,
+    line: &Line,
+) -> Result<(), AllocError>
     requires reads { (s : ℕ) → slice_index reads.old.items s + 1 < 2 ^ 64 }
     requires writes { (s : ℕ) → slice_index writes.old.items s + 1 < 2 ^ 64 }
     ensures reads { OnOk result ((s : ℕ) → slice_index reads.new.items s ≡ slice_index reads.old.items s + cond (reads_at s line.now) 1 0) }

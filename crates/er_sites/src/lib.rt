@@ -9,6 +9,7 @@
 //! is defined line by line in `specs/Text`, and the table in `specs/Table`.
 #![tactic(auto)]
 
+pub use counts::{Counts, count_at, count_line, count_races};
 pub use row::SiteRow;
 pub use sites::write_sites;
 pub use table::site_rows;

@@ -1,0 +1,105 @@
+-- From the parts of a replay in another form to the whole.
+use Rattle.std.proofs.Common.{◌≡◌, ℕ, Bool, List, Option, Some, None, Result, Ok, Err, IfSome, IfOk, IfErr, IsFalse, take, refl, subst}
+use Rattle.std.specs.Io.KnownBytes.{Appends}
+use Rattle.er_formats.specs.Forms.{IsForm, IsReplayedAs, IsFailedAs}
+use Rattle.er_formats.specs.Inner.Writes.{WritesForm, WritesFound}
+use Rattle.er_formats.specs.declared.forms.Form.{Form}
+use Rattle.er_formats.specs.declared.forms.Form.TheVariants.{BySite, Json, Sarif}
+use Rattle.er_json.specs.Document.{json_text}
+use Rattle.er_print.specs.Written.{WritesReport}
+use Rattle.er_print.specs.declared.fault.WriteFault.{WriteFault}
+use Rattle.er_print.specs.declared.fault.WriteFault.TheVariants as writing
+use Rattle.er_report.specs.Report.{told as summary}
+use Rattle.er_report.specs.declared.report.Report.{Report}
+use Rattle.er_rules.specs.Rules.{Target}
+use Rattle.er_run.proofs.ReplayLemmas.{not_stopped}
+use Rattle.er_run.specs.Replays.{IsReportOfRun, WritesNothing, is_stopped}
+use Rattle.er_run.specs.Reports.{IsReportOfText}
+use Rattle.er_run.specs.declared.fault.RunFault.{RunFault}
+use Rattle.er_run.specs.declared.fault.RunFault.TheVariants.{Read, Write, Replay, Memory}
+use Rattle.er_run.specs.declared.fault.Verdict.{Verdict}
+use Rattle.er_sarif.specs.Document.{sarif_text}
+use Rattle.er_sites.specs.Text.{sites_text}
+use Rattle.er_sites.specs.Written.{WritesSites}
+use Rattle.er_trace.specs.Names.{NameTable}
+
+-- the text for people is a form
+pub of-sites : {X : Type 0} (old new : Option (List ℕ)) (names : NameTable) (report : Report) (result : Result X WriteFault) → WritesSites old new names report result
+    → WritesForm BySite old new names report result
+of-sites old new names report (Ok x) written = (sites_text names report written.0, ((written.0, (written.1.0, refl)), written.1.1))
+of-sites old new names report (Err writing.Memory) written = written
+of-sites old new names report (Err writing.Write) written = (sites_text names report written.0, ((written.0, (written.1.0, refl)), written.1.1))
+
+-- and so is the document
+pub of-json : {X : Type 0} (old new : Option (List ℕ)) (names : NameTable) (report : Report) (result : Result X WriteFault)
+    → WritesReport old new (json_text names (summary report)) result → WritesForm Json old new names report result
+of-json old new names report (Ok x) written = (json_text names (summary report), (refl, written))
+of-json old new names report (Err writing.Memory) written = written
+of-json old new names report (Err writing.Write) written = (json_text names (summary report), (refl, written))
+
+pub of-sarif : {X : Type 0} (old new : Option (List ℕ)) (names : NameTable) (report : Report) (result : Result X WriteFault)
+    → WritesReport old new (sarif_text names report.lines.items) result → WritesForm Sarif old new names report result
+of-sarif old new names report (Ok x) written = (sarif_text names report.lines.items, (refl, written))
+of-sarif old new names report (Err writing.Memory) written = written
+of-sarif old new names report (Err writing.Write) written = (sarif_text names report.lines.items, (refl, written))
+
+module _ (form : Form) (told : Option (List ℕ)) (limit : ℕ) (rules : List Target) (explain : Bool) (old new : Option (List ℕ)) (names : NameTable) (report : Report) where
+  -- the report of a text is that of a run of its trace
+  run-of : (text : List ℕ) (built : IsReportOfText text limit rules explain names report) → IsReportOfRun built.recording rules explain report
+  run-of text built = record { stop = built.stop; within = built.run.within; cause = built.run.cause; says = built.says }
+
+  -- the whole form was written
+  pub whole : (result : Result Verdict RunFault) → IfSome told (λ text. IsReportOfText text limit rules explain names report) → WritesFound form old new names report result
+      → IfOk result (λ verdict. IfSome told (λ text. IsReplayedAs form text limit rules explain old new verdict))
+  whole (Err why) built written = tt
+  whole (Ok verdict) built written = by told built
+    where
+      by : (o : Option (List ℕ)) → IfSome o (λ text. IsReportOfText text limit rules explain names report) → IfSome o (λ text. IsReplayedAs form text limit rules explain old new verdict)
+      by None built = tt
+      by (Some text) built = record {
+        recording = built.recording;
+        report = report;
+        bytes = written.1.0;
+        trace = built.run.trace;
+        run = run-of text built;
+        whole = subst (λ (n : NameTable). IsForm form n report written.1.0) built.names written.1.1.0;
+        written = written.1.1.1;
+        verdict = written.0;
+      }
+
+  -- or a beginning of it, or nothing
+  pub part : (result : Result Verdict RunFault) → IfSome told (λ text. IsReportOfText text limit rules explain names report) → WritesFound form old new names report result
+      → IsFailedAs form told limit rules explain old new result
+  part (Ok verdict) built written = tt
+  part (Err (Read fault)) built written = absurd written
+  part (Err (Replay fault)) built written = absurd written
+  part (Err Memory) built written = absurd written
+  part (Err (Write writing.Memory)) built written = tt
+  part (Err (Write writing.Write)) built written = by told built
+    where
+      by : (o : Option (List ℕ)) → IfSome o (λ text. IsReportOfText text limit rules explain names report) → IsFailedAs form o limit rules explain old new (Err (Write writing.Write))
+      by None built = tt
+      by (Some text) built = record {
+        recording = built.recording;
+        report = report;
+        bytes = written.0;
+        count = written.1.1.0;
+        trace = built.run.trace;
+        run = run-of text built;
+        whole = subst (λ (n : NameTable). IsForm form n report written.0) built.names written.1.0;
+        written = written.1.1.1;
+      }
+
+pub nothing : (form : Form) (old new : Option (List ℕ)) (names : NameTable) (report : Report) (result : Result Verdict RunFault) → WritesFound form old new names report result
+    → IfErr result (WritesNothing old new)
+nothing form old new names report (Ok verdict) written = tt
+nothing form old new names report (Err (Read fault)) written = absurd written
+nothing form old new names report (Err (Replay fault)) written = absurd written
+nothing form old new names report (Err Memory) written = absurd written
+nothing form old new names report (Err (Write writing.Memory)) written = written
+nothing form old new names report (Err (Write writing.Write)) written = tt
+
+pub unstopped : (form : Form) (old new : Option (List ℕ)) (names : NameTable) (report : Report) (result : Result Verdict RunFault) → report.stop ≡ None
+    → WritesFound form old new names report result → IfOk result (λ verdict. IsFalse (is_stopped verdict))
+unstopped form old new names report (Ok verdict) none written = rw written.0 (not_stopped report.stop report.races none)
+unstopped form old new names report (Err why) none written = tt

@@ -1,0 +1,51 @@
+-- What a replay comes to whose report is written in another form.
+use Rattle.std.specs.Prelude.{◌≡◌, ℕ, Bool, List, take, Option, Result}
+use Rattle.std.specs.Io.KnownBytes.{Appends}
+use Rattle.er_formats.specs.declared.forms.Form.{Form}
+use Rattle.er_formats.specs.declared.forms.Form.TheVariants.{BySite, Json, Sarif}
+use Rattle.er_json.specs.Document.{json_text}
+use Rattle.er_report.specs.Report.{told as summary}
+use Rattle.er_report.specs.declared.report.Report.{Report}
+use Rattle.er_rules.specs.Rules.{Target}
+use Rattle.er_run.specs.Replays.{IsReportOfRun, IsFailedBy, is_verdict_of}
+use Rattle.er_run.specs.declared.fault.RunFault.{RunFault}
+use Rattle.er_run.specs.declared.fault.Verdict.{Verdict}
+use Rattle.er_sarif.specs.Document.{sarif_text}
+use Rattle.er_sites.specs.Table.{IsTable}
+use Rattle.er_sites.specs.Text.{sites_text}
+use Rattle.er_sites.specs.declared.row.SiteRow.{SiteRow}
+use Rattle.er_text.specs.Trace.{IsTrace}
+use Rattle.er_trace.specs.Names.{NameTable}
+use Rattle.er_trace.specs.Trace.{Recording}
+
+-- these bytes are the form of the report: by site those of a table of its races, as JSON and as SARIF its one document
+abbrev pub IsForm : Form → NameTable → Report → List ℕ → Type 0
+IsForm BySite names report bytes = (rows : List SiteRow) × (IsTable report.lines.items rows × (bytes ≡ sites_text names report rows))
+IsForm Json names report bytes = bytes ≡ json_text names (summary report)
+IsForm Sarif names report bytes = bytes ≡ sarif_text names report.lines.items
+
+-- the text is a trace, and what was written is the form of a report of a run of it under these rules
+pub record IsReplayedAs (form : Form) (text : List ℕ) (limit : ℕ) (rules : List Target) (explain : Bool) (old new : Option (List ℕ)) (told : Verdict) : Type 0 where
+  pub recording : Recording
+  pub report : Report
+  pub bytes : List ℕ
+  pub trace : IsTrace text limit recording
+  pub run : IsReportOfRun recording rules explain report
+  pub whole : IsForm form recording.names report bytes
+  pub written : Appends old new bytes
+  pub verdict : told ≡ is_verdict_of report
+
+-- the text is a trace, and what was written is the beginning of the form of a report of a run of it
+pub record IsBegunAs (form : Form) (text : List ℕ) (limit : ℕ) (rules : List Target) (explain : Bool) (old new : Option (List ℕ)) : Type 0 where
+  pub recording : Recording
+  pub report : Report
+  pub bytes : List ℕ
+  pub count : ℕ
+  pub trace : IsTrace text limit recording
+  pub run : IsReportOfRun recording rules explain report
+  pub whole : IsForm form recording.names report bytes
+  pub written : Appends old new (take count bytes)
+
+-- where there is a fault: one of the text is its first, one of the workers is theirs, and a failed write left a beginning of the form
+abbrev pub IsFailedAs : Form → Option (List ℕ) → ℕ → List Target → Bool → Option (List ℕ) → Option (List ℕ) → Result Verdict RunFault → Type 0
+IsFailedAs form told limit rules explain old new result = IsFailedBy (λ text. IsBegunAs form text limit rules explain old new) told limit result

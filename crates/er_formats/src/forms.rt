@@ -1,0 +1,101 @@
+//! Bytes in, a form of the report out.
+ghost use Rattle.std.specs.Prelude.{◌≡◌, ◌+◌, ◌≤◌, ◌<◌, All, false, IfSome, IfOk, IfErr, IsFalse};
+ghost use Rattle.er_device.specs.Device.{inner_of, has_failed, taken_of};
+ghost use Rattle.er_formats.specs.Forms.{IsForm, IsReplayedAs, IsFailedAs};
+ghost use Rattle.er_formats.specs.Inner.Writes.{WritesForm, WritesFound};
+ghost use Rattle.er_print.specs.Written.{FailsWriting};
+ghost use Rattle.er_report.specs.Names.{HasNames};
+ghost use Rattle.er_rules.specs.Rules.{targets_of};
+ghost use Rattle.er_run.specs.Limits.{bytes_past_limit};
+ghost use Rattle.er_run.specs.Replays.{WritesNothing, FailsBy, is_stopped};
+
+use er_device::Device;
+use er_json::write_json;
+use er_print::WriteFault;
+use er_report::Report;
+use er_rules::Suppressions;
+use er_run::{Options, ReplayedTrace, RunFault, Verdict, replay_report, verdict_of};
+use er_sarif::write_sarif;
+use er_sites::write_sites;
+use er_trace::Names;
+use std::alloc::Global;
+use std::io::{Read, Write};
+use std::sync::Wait;
+use std::thread::Threads;
+
+/// A form of a report that isn't the text of `er_print`.
+#[derive(Clone, Copy, Debug, PartialEq, Eq, Drop)]
+pub enum Form {
+    /// A table of the sites with races, and a race of each in sentences (`er_sites`).
+    BySite,
+    /// One JSON document (`er_json`).
+    Json,
+    /// A SARIF log with a result for each site and kind of race (`er_sarif`).
+    Sarif,
+}
+
+/// Reads a trace text, replays it, and writes its report in a form, without the races that the rules take. It reads, replays and ends
+/// as `replay_text` does.
+pub fn replay_as<R, D, W>(
+    rt: &R,
+    reader: &mut Device<D>,
+    writer: &mut Device<W>,
+    suppressions: &Suppressions,
+    options: &Options,
+    form: Form,
+) -> Result<Verdict, RunFault>
+where
+    R: AllocGlobal + Threads + Wait + Sync,
+    D: Read,
+    W: Write,
+    requires reader { has_failed reader.old ≡ false }
+    requires writer { has_failed writer.old ≡ false }
+    ensures form { IfOk result (λ verdict. IfSome (D.remaining (inner_of reader.old)) (λ text. IsReplayedAs form text options.now.byte_limit (targets_of suppressions.now) options.now.explain (W.contents (inner_of writer.old)) (W.contents (inner_of writer.new)) verdict)) }
+    ensures fault { IsFailedAs form (D.remaining (inner_of reader.old)) options.now.byte_limit (targets_of suppressions.now) options.now.explain (W.contents (inner_of writer.old)) (W.contents (inner_of writer.new)) result }
+    ensures nothing { IfErr result (λ why. WritesNothing (W.contents (inner_of writer.old)) (W.contents (inner_of writer.new)) why) }
+    ensures failed { FailsBy (has_failed reader.new) (has_failed writer.new) result }
+    ensures taken { taken_of reader.new ≤ taken_of reader.old + options.now.byte_limit + bytes_past_limit }
+    ensures whole { 1 < options.now.workers → IfOk result (λ verdict. IsFalse (is_stopped verdict)) }
+{
+    match replay_report(rt, rt.alloc(), reader, suppressions, options) {
+        Ok(found) => write_found(rt.alloc(), writer, &found, form),
+        Err(why) => Err(why),
+    }
+}
+
+// Writes a report in a form and says what the report comes to.
+fn write_found<W: Write>(
+    alloc: Global,
+    writer: &mut Device<W>,
+    found: &ReplayedTrace,
+    form: Form,
+) -> Result<Verdict, RunFault>
+    requires writer { has_failed writer.old ≡ false }
+    requires named { All (HasNames found.now.trace.names) found.now.report.lines.items }
+    ensures found { WritesFound form (W.contents (inner_of writer.old)) (W.contents (inner_of writer.new)) found.now.trace.names found.now.report result }
+    ensures failed { FailsBy false (has_failed writer.new) result }
+{
+    match write_form(alloc, writer, &found.report, found.trace.names(), form) {
+        Ok(()) => Ok(verdict_of(&found.report)),
+        Err(why) => Err(RunFault::Write(why)),
+    }
+}
+
+fn write_form<W: Write>(
+    alloc: Global,
+    writer: &mut Device<W>,
+    report: &Report,
+    names: &Names,
+    form: Form,
+) -> Result<(), WriteFault>
+    requires writer { has_failed writer.old ≡ false }
+    requires named { All (HasNames names.now) report.now.lines.items }
+    ensures bytes { WritesForm form (W.contents (inner_of writer.old)) (W.contents (inner_of writer.new)) names.now report.now result }
+    ensures failed { FailsWriting (has_failed writer.new) result }
+{
+    match form {
+        Form::BySite => write_sites(alloc, writer, report, names),
+        Form::Json => write_json(alloc, writer, report, names),
+        Form::Sarif => write_sarif(alloc, writer, report, names),
+    }
+}

@@ -1,0 +1,2 @@
+-- Which lines of a report a list of the document has.
+pub mod Sections

@@ -1,0 +1,266 @@
+//! The whole document.
+ghost use Rattle.std.specs.Prelude.{◌≡◌, ◌++◌, ◌&&◌, All, false, flat_map, map, IfOk, OnOk, decimal};
+ghost use Rattle.er_device.specs.Device.{inner_of, has_failed, taken_of};
+ghost use Rattle.er_json.specs.Document.{array_text, count_member, counts_member, json_text, list_text, lists_text, more_text, rows_text, stop_member, stop_text, totals_member, values_text};
+ghost use Rattle.er_json.specs.Inner.Sections.{has_none, heading_text, is_in, next_text, row_text, rows_in, separator_text};
+ghost use Rattle.er_print.specs.Written.{WritesReport, FailsWriting};
+ghost use Rattle.er_report.specs.Lines.{line_view};
+ghost use Rattle.er_report.specs.Names.{HasNames};
+ghost use Rattle.er_report.specs.Report.{told};
+
+use crate::members::{put_line, put_why};
+use crate::rows::{put_access, put_context, put_refused, put_shown};
+use er_device::Device;
+use er_event::NoRoom;
+use er_print::{WriteFault, put_number};
+use er_report::{Line, Report};
+use er_trace::Names;
+use std::alloc::{AllocError, Global};
+use std::io::Write;
+
+/// Writes a report as JSON, with these names for its numbers. The document is whole before its first byte is written.
+pub fn write_json<W: Write>(
+    alloc: Global,
+    writer: &mut Device<W>,
+    report: &Report,
+    names: &Names,
+) -> Result<(), WriteFault>
+    requires open { has_failed writer.old ≡ false }
+    requires names { All (HasNames names.now) report.now.lines.items }
+    ensures bytes { WritesReport (W.contents (inner_of writer.old)) (W.contents (inner_of writer.new)) (json_text names.now (told report.now)) result }
+    ensures failed { FailsWriting (has_failed writer.new) result }
+    ensures taken { taken_of writer.new ≡ taken_of writer.old }
+{
+    let Ok(text) = json_text(alloc, report, names) else {
+        return Err(WriteFault::Memory);
+    };
+    if writer.write_all(&text).is_err() {
+        return Err(WriteFault::Write);
+    }
+    Ok(())
+}
+
+#[tactic(auto, unfolding(crate::specs::Document::json_text))]
+fn json_text(alloc: Global, report: &Report, names: &Names) -> Result<Vec<u8>, AllocError>
+    requires { All (HasNames names.now) report.now.lines.items }
+    ensures { IfOk result (λ text. text.items ≡ json_text names.now (told report.now)) }
+{
+    let mut text = Vec::new(alloc);
+    put_lists(&mut text, names, &report.lines)?;
+    put_stop(&mut text, report.stop)?;
+    put_counts(&mut text, &report.rule_counts)?;
+    put_totals(&mut text, report)?;
+    Ok(text)
+}
+
+// One of the lists of the document.
+#[derive(Clone, Copy, Drop)]
+enum Section {
+    Races,
+    Refused,
+    Shown,
+}
+
+// Puts the three lists, of which the last is still open.
+#[tactic(auto, unfolding(crate::specs::Document::lists_text))]
+fn put_lists(out: &mut Vec<u8>, names: &Names, lines: &[Line]) -> Result<(), AllocError>
+    requires { All (HasNames names.now) lines.now }
+    ensures { OnOk result (out.new.items ≡ out.old.items ++ lists_text names.now (map line_view lines.now)) }
+{
+    put_list(out, names, lines, Section::Races)?;
+    put_list(out, names, lines, Section::Refused)?;
+    put_list(out, names, lines, Section::Shown)?;
+    Ok(())
+}
+
+// Puts a list, and closes the one before it.
+#[tactic(auto, unfolding(crate::specs::Document::list_text))]
+fn put_list(
+    out: &mut Vec<u8>,
+    names: &Names,
+    lines: &[Line],
+    section: Section,
+) -> Result<(), AllocError>
+    requires { All (HasNames names.now) lines.now }
+    ensures { OnOk result (out.new.items ≡ out.old.items ++ list_text (heading_text section) (flat_map (rows_in section names.now) (map line_view lines.now))) }
+{
+    out.extend_from_slice(heading_of(section))?;
+    put_rows(out, names, lines, section)
+}
+
+fn heading_of(section: Section) -> &'static [u8]
+    ensures { result.now ≡ heading_text section }
+{
+    match section {
+        Section::Races => b"{\"format\":1,\n\"races\":[".as_slice(),
+        Section::Refused => b"],\n\"refused\":[".as_slice(),
+        Section::Shown => b"],\n\"shown\":[".as_slice(),
+    }
+}
+
+// Puts the objects of a list, each on a line of its own.
+fn put_rows(
+    out: &mut Vec<u8>,
+    names: &Names,
+    lines: &[Line],
+    section: Section,
+) -> Result<(), AllocError>
+    requires { All (HasNames names.now) lines.now }
+    ensures { OnOk result (out.new.items ≡ out.old.items ++ rows_text (flat_map (rows_in section names.now) (map line_view lines.now))) }
+{
+    let mut is_first = true;
+    for line in lines {
+        is_first = put_line_in(out, names, line, section, is_first)?;
+    }
+    Ok(())
+}
+
+// Puts the object of a line, if the list has one, and returns whether the next one is the first.
+fn put_line_in(
+    out: &mut Vec<u8>,
+    names: &Names,
+    line: &Line,
+    section: Section,
+    is_first: bool,
+) -> Result<bool, AllocError>
+    requires { HasNames names.now line.now }
+    ensures text { OnOk result (out.new.items ≡ out.old.items ++ next_text is_first (rows_in section names.now (line_view line.now))) }
+    ensures first { IfOk result (λ still. still ≡ (is_first && has_none (rows_in section names.now (line_view line.now)))) }
+{
+    if !is_in(section, line) {
+        return Ok(is_first);
+    }
+    put_separator(out, is_first)?;
+    put_row(out, names, line)?;
+    Ok(false)
+}
+
+// Whether a list has an object of the line.
+fn is_in(section: Section, line: &Line) -> bool
+    ensures { result ≡ is_in section (line_view line.now) }
+{
+    match (section, line) {
+        (Section::Races, Line::Race { .. }) => true,
+        (Section::Refused, Line::Refused { .. }) => true,
+        (Section::Shown, Line::Shown { .. }) => true,
+        _ => false,
+    }
+}
+
+/// Puts what stands before a row: a comma, unless it is the first of its list, and a line feed.
+pub fn put_separator(out: &mut Vec<u8>, is_first: bool) -> Result<(), AllocError>
+    ensures { OnOk result (out.new.items ≡ out.old.items ++ separator_text is_first) }
+{
+    out.extend_from_slice(if is_first {
+        b"\n".as_slice()
+    } else {
+        b",\n".as_slice()
+    })
+}
+
+// Puts the object of a line.
+#[tactic(auto, unfolding(crate::specs::Document::race_text))]
+fn put_row(out: &mut Vec<u8>, names: &Names, line: &Line) -> Result<(), AllocError>
+    requires { HasNames names.now line.now }
+    ensures { OnOk result (out.new.items ≡ out.old.items ++ row_text names.now (line_view line.now)) }
+{
+    match line {
+        Line::Race {
+            line,
+            thread,
+            kind,
+            word,
+            site,
+            held,
+            explained,
+        } => {
+            put_access(out, names, *line, *thread, *kind, *word)?;
+            put_context(out, names, *site, held.as_slice(), explained)
+        }
+        Line::Refused {
+            line,
+            step,
+            refusal,
+        } => put_refused(out, names, *line, step, *refusal),
+        Line::Shown { line, word, state } => put_shown(out, names, *line, *word, state),
+    }
+}
+
+// Puts where the run stopped, or null, and closes the last list.
+#[tactic(auto, unfolding(crate::specs::Document::stop_member))]
+fn put_stop(out: &mut Vec<u8>, stop: Option<(u64, NoRoom)>) -> Result<(), AllocError>
+    ensures { OnOk result (out.new.items ≡ out.old.items ++ stop_member stop) }
+{
+    out.extend_from_slice(b"],\n\"stop\":")?;
+    put_stop_value(out, stop)
+}
+
+#[tactic(auto, unfolding(crate::specs::Document::stop_text))]
+fn put_stop_value(out: &mut Vec<u8>, stop: Option<(u64, NoRoom)>) -> Result<(), AllocError>
+    ensures { OnOk result (out.new.items ≡ out.old.items ++ stop_text stop) }
+{
+    let Some((line, cause)) = stop else {
+        return out.extend_from_slice(b"null");
+    };
+    put_line(out, line)?;
+    put_why(out, cause.refusal())
+}
+
+// Puts how many races each rule took.
+#[tactic(auto, unfolding(crate::specs::Document::counts_member))]
+fn put_counts(out: &mut Vec<u8>, counts: &[u64]) -> Result<(), AllocError>
+    ensures { OnOk result (out.new.items ≡ out.old.items ++ counts_member counts.now) }
+{
+    out.extend_from_slice(b",\n\"suppressions\":")?;
+    put_count_array(out, counts)
+}
+
+fn put_count_array(out: &mut Vec<u8>, counts: &[u64]) -> Result<(), AllocError>
+    ensures { OnOk result (out.new.items ≡ out.old.items ++ array_text decimal counts.now) }
+{
+    out.extend_from_slice(b"[")?;
+    put_count_list(out, counts)?;
+    out.extend_from_slice(b"]")
+}
+
+fn put_count_list(out: &mut Vec<u8>, counts: &[u64]) -> Result<(), AllocError>
+    ensures { OnOk result (out.new.items ≡ out.old.items ++ values_text decimal counts.now) }
+{
+    match counts {
+        [] => Ok(()),
+        [first, rest @ ..] => {
+            put_number(out, *first)?;
+            put_more_counts(out, rest)
+        }
+    }
+}
+
+fn put_more_counts(out: &mut Vec<u8>, counts: &[u64]) -> Result<(), AllocError>
+    ensures { OnOk result (out.new.items ≡ out.old.items ++ more_text decimal counts.now) }
+{
+    for count in counts {
+        out.push(b',')?;
+        put_number(out, *count)?;
+    }
+    Ok(())
+}
+
+// Puts the totals, and closes the document.
+#[tactic(auto, unfolding(crate::specs::Document::totals_member))]
+fn put_totals(out: &mut Vec<u8>, report: &Report) -> Result<(), AllocError>
+    ensures { OnOk result (out.new.items ≡ out.old.items ++ totals_member (told report.now)) }
+{
+    put_count(out, b",\n\"totals\":{\"steps\":", report.steps)?;
+    put_count(out, b",\"races\":", report.races)?;
+    put_count(out, b",\"suppressed\":", report.suppressed)?;
+    put_count(out, b",\"refused\":", report.refused)?;
+    out.extend_from_slice(b"}}\n")?;
+    Ok(())
+}
+
+fn put_count(out: &mut Vec<u8>, name: &[u8], count: u64) -> Result<(), AllocError>
+    ensures { OnOk result (out.new.items ≡ out.old.items ++ count_member name.now count) }
+{
+    out.extend_from_slice(name)?;
+    put_number(out, count)
+}

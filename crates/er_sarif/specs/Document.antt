@@ -1,0 +1,143 @@
+-- The SARIF of a report: a result for each site and kind of race.
+use Rattle.std.specs.Prelude.{ℕ, zero, suc, ◌+◌, ◌-◌, ◌==◌, cond, List, [], ◌∷◌, ◌++◌, take, drop, length, count_by, slice_get, Option, Some, None, codes, decimal}
+use Rattle.er_event.specs.Lockset.{is_level_lock, level_base}
+use Rattle.er_event.specs.declared.steps.Kind.{Kind}
+use Rattle.er_event.specs.declared.steps.Kind.TheVariants as kind
+use Rattle.er_json.specs.Document.{access_verb, array_text, escaped_text, lock_text, rows_text, string_text}
+use Rattle.er_print.specs.Printed.{address_text, name_at, site_text}
+use Rattle.er_report.specs.declared.report.Because.{Because}
+use Rattle.er_report.specs.declared.report.Label.{Label}
+use Rattle.er_report.specs.declared.report.Label.TheVariants as label
+use Rattle.er_report.specs.declared.report.Line.{Line}
+use Rattle.er_report.specs.declared.report.Line.TheVariants.{Race, Refused, Shown}
+use Rattle.er_sarif.specs.Places.{file_end}
+use Rattle.er_sites.specs.Table.{reads_at, writes_at}
+use Rattle.er_trace.specs.Names.{NameTable}
+
+-- a name inside a string
+unfoldable pub thread_words : NameTable → ℕ → List ℕ
+thread_words names thread = escaped_text (name_at names.threads thread)
+
+unfoldable pub lock_words : NameTable → ℕ → List ℕ
+lock_words names lock = cond (is_level_lock lock) (codes "!" ++ decimal (lock - level_base)) (escaped_text (name_at names.locks lock))
+
+-- the rule that a kind of race goes by
+unfoldable pub rule_member : Kind → List ℕ
+rule_member kind = codes "{\"ruleId\":\"race/" ++ access_verb kind ++ codes "\",\"level\":\"error\""
+
+-- what an access did to the word of a race
+abbrev pub deed_words : Kind → List ℕ
+deed_words kind.Read = codes " read the word at "
+deed_words kind.Write = codes " wrote the word at "
+
+unfoldable pub message_member : NameTable → ℕ → Kind → ℕ → List ℕ
+message_member names thread kind word =
+    codes ",\"message\":{\"text\":\"" ++ thread_words names thread ++ deed_words kind ++ address_text word ++ codes ", and no lock protects it\"}"
+
+unfoldable pub count_member : ℕ → List ℕ
+count_member count = codes ",\"occurrenceCount\":" ++ decimal count
+
+-- a site that doesn't end with a line is a name
+unfoldable pub name_member : List ℕ → List ℕ
+name_member site = codes ",\"locations\":[{\"logicalLocations\":[{\"fullyQualifiedName\":" ++ string_text site ++ codes "}]}]"
+
+-- and of another the file ends at the colon
+unfoldable pub file_member : List ℕ → ℕ → List ℕ
+file_member site n =
+    codes ",\"locations\":[{\"physicalLocation\":{\"artifactLocation\":{\"uri\":" ++ string_text (take n site) ++ codes "},\"region\":{\"startLine\":" ++ drop (n + 1) site
+    ++ codes "}}}]"
+
+abbrev pub location_by : List ℕ → Option ℕ → List ℕ
+location_by site None = name_member site
+location_by site (Some n) = file_member site n
+
+unfoldable pub location_member : List ℕ → List ℕ
+location_member site = location_by site (file_end site)
+
+-- what an access has to do with a race
+unfoldable pub label_words : NameTable → Label → List ℕ
+label_words names label.First = codes "first: "
+label_words names label.Joined = codes "joined: "
+label_words names label.Write = codes "write: "
+label_words names (label.Uncovered lock) = lock_words names lock ++ codes " not covering: "
+
+-- who did what there
+unfoldable pub access_words : NameTable → ℕ → Kind → ℕ → List ℕ
+access_words names thread kind number = thread_words names thread ++ codes " " ++ access_verb kind ++ codes " on line " ++ decimal number
+
+-- one of a race's reasons
+unfoldable pub reason_text : NameTable → Because → List ℕ
+reason_text names because =
+    codes "{\"message\":{\"text\":\"" ++ label_words names because.label ++ access_words names because.thread because.kind because.line ++ codes " of the trace\"}}"
+
+unfoldable pub related_member : NameTable → List Because → List ℕ
+related_member names explained = codes ",\"relatedLocations\":" ++ array_text (reason_text names) explained
+
+-- the same in each run
+unfoldable pub fingerprint_member : List ℕ → Kind → List ℕ
+fingerprint_member site kind = codes ",\"partialFingerprints\":{\"siteAndKind/v1\":\"" ++ escaped_text site ++ codes " " ++ access_verb kind ++ codes "\"}"
+
+unfoldable pub properties_member : NameTable → ℕ → List ℕ → List ℕ
+properties_member names number held = codes ",\"properties\":{\"line\":" ++ decimal number ++ codes ",\"held\":" ++ array_text (lock_text names) held ++ codes "}}"
+
+-- what is wrong, and how often
+unfoldable pub front_text : NameTable → ℕ → Kind → ℕ → ℕ → List ℕ
+front_text names thread kind word count = rule_member kind ++ message_member names thread kind word ++ count_member count
+
+-- where it is
+unfoldable pub place_text : List ℕ → Kind → List ℕ
+place_text site kind = location_member site ++ fingerprint_member site kind
+
+-- how it came about
+unfoldable pub back_text : NameTable → ℕ → List ℕ → List Because → List ℕ
+back_text names number held explained = related_member names explained ++ properties_member names number held
+
+-- a result: so many races, and the first of them
+unfoldable pub result_text : NameTable → ℕ → ℕ → ℕ → Kind → ℕ → ℕ → List ℕ → List Because → List ℕ
+result_text names count number thread kind word site held explained =
+    front_text names thread kind word count ++ place_text (site_text names site) kind ++ back_text names number held explained
+
+-- how many of the lines are races of the line's site and kind
+abbrev pub races_like : List Line → Line → ℕ
+races_like lines (Race number thread kind.Read word site held explained) = count_by (reads_at site) lines
+races_like lines (Race number thread kind.Write word site held explained) = count_by (writes_at site) lines
+races_like lines (Refused number step refusal) = 0
+races_like lines (Shown number word state) = 0
+
+-- a race has a result if none like it came before; there are so many like it in all
+abbrev pub results_of : NameTable → ℕ → ℕ → Line → List (List ℕ)
+results_of names before count (Race number thread kind word site held explained) =
+    cond (before == 0) (result_text names count number thread kind word site held explained.items ∷ []) []
+results_of names before count (Refused number step refusal) = []
+results_of names before count (Shown number word state) = []
+
+abbrev pub results_at : NameTable → List Line → ℕ → Option Line → List (List ℕ)
+results_at names lines n None = []
+results_at names lines n (Some line) = results_of names (races_like (take n lines) line) (races_like lines line) line
+
+-- the results of the first n lines
+unfoldable pub results_below : NameTable → List Line → ℕ → List (List ℕ)
+results_below names lines zero = []
+results_below names lines (suc n) = results_below names lines n ++ results_at names lines n (slice_get lines n)
+
+abbrev pub version_text : List ℕ
+version_text = codes "{\"$schema\":\"https://json.schemastore.org/sarif-2.1.0.json\",\n\"version\":\"2.1.0\",\n\"runs\":[{\n\"tool\":{\"driver\":"
+
+-- the rules by which results go
+abbrev pub read_rule_text : List ℕ
+read_rule_text = codes "{\"name\":\"eraser\",\"rules\":[{\"id\":\"race/read\",\"shortDescription\":{\"text\":\"A read that no lock protects\"}},"
+
+abbrev pub write_rule_text : List ℕ
+write_rule_text = codes "{\"id\":\"race/write\",\"shortDescription\":{\"text\":\"A write that no lock protects\"}}]}},\n\"results\":["
+
+-- what stands before the results
+unfoldable pub start_text : List ℕ
+start_text = version_text ++ read_rule_text ++ write_rule_text
+
+-- and after them
+unfoldable pub end_text : List ℕ
+end_text = codes "]}]}\n"
+
+-- the whole document
+unfoldable pub sarif_text : NameTable → List Line → List ℕ
+sarif_text names lines = start_text ++ rows_text (results_below names lines (length lines)) ++ end_text

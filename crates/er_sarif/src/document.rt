@@ -1,0 +1,73 @@
+//! The whole document.
+ghost use Rattle.std.specs.Prelude.{◌≡◌, ◌++◌, All, IfOk, OnOk, false};
+ghost use Rattle.er_device.specs.Device.{inner_of, has_failed, taken_of};
+ghost use Rattle.er_print.specs.Written.{WritesReport, FailsWriting};
+ghost use Rattle.er_report.specs.Names.{HasNames};
+ghost use Rattle.er_sarif.specs.Document.{end_text, sarif_text, start_text};
+
+use crate::results::put_results;
+use er_device::Device;
+use er_print::WriteFault;
+use er_report::{Line, Report};
+use er_sites::count_races;
+use er_trace::Names;
+use std::alloc::{AllocError, Global};
+use std::io::Write;
+
+/// Writes the races of a report as SARIF, with these names for its numbers. The document is whole before its first byte is written.
+pub fn write_sarif<W: Write>(
+    alloc: Global,
+    writer: &mut Device<W>,
+    report: &Report,
+    names: &Names,
+) -> Result<(), WriteFault>
+    requires open { has_failed writer.old ≡ false }
+    requires names { All (HasNames names.now) report.now.lines.items }
+    ensures bytes { WritesReport (W.contents (inner_of writer.old)) (W.contents (inner_of writer.new)) (sarif_text names.now report.now.lines.items) result }
+    ensures failed { FailsWriting (has_failed writer.new) result }
+    ensures taken { taken_of writer.new ≡ taken_of writer.old }
+{
+    let Ok(text) = sarif_text(alloc, &report.lines, names) else {
+        return Err(WriteFault::Memory);
+    };
+    if writer.write_all(&text).is_err() {
+        return Err(WriteFault::Write);
+    }
+    Ok(())
+}
+
+#[tactic(auto, unfolding(crate::specs::Document::sarif_text))]
+fn sarif_text(alloc: Global, lines: &[Line], names: &Names) -> Result<Vec<u8>, AllocError>
+    requires { All (HasNames names.now) lines.now }
+    ensures { IfOk result (λ text. text.items ≡ sarif_text names.now lines.now) }
+{
+    let total = count_races(alloc, lines)?;
+    let mut text = Vec::new(alloc);
+    put_start(&mut text)?;
+    put_results(alloc, &mut text, names, lines, &total)?;
+    put_end(&mut text)?;
+    Ok(text)
+}
+
+#[tactic(auto, unfolding(crate::specs::Document::start_text))]
+fn put_start(out: &mut Vec<u8>) -> Result<(), AllocError>
+    ensures { OnOk result (out.new.items ≡ out.old.items ++ start_text) }
+{
+    out.extend_from_slice(
+        b"{\"$schema\":\"https://json.schemastore.org/sarif-2.1.0.json\",\n\"version\":\"2.1.0\",\n\"runs\":[{\n\"tool\":{\"driver\":",
+    )?;
+    out.extend_from_slice(
+        b"{\"name\":\"eraser\",\"rules\":[{\"id\":\"race/read\",\"shortDescription\":{\"text\":\"A read that no lock protects\"}},",
+    )?;
+    out.extend_from_slice(
+        b"{\"id\":\"race/write\",\"shortDescription\":{\"text\":\"A write that no lock protects\"}}]}},\n\"results\":[",
+    )?;
+    Ok(())
+}
+
+#[tactic(auto, unfolding(crate::specs::Document::end_text))]
+fn put_end(out: &mut Vec<u8>) -> Result<(), AllocError>
+    ensures { OnOk result (out.new.items ≡ out.old.items ++ end_text) }
+{
+    out.extend_from_slice(b"]}]}\n")
+}

@@ -1,0 +1,19 @@
+//! The races of a report as SARIF 2.1.0, for code hosts.
+//!
+//! Begin with [`write_sarif`]. It writes one result for each site and kind of race, in the order of the first race of each, with how many
+//! there are and what is known of the first.
+//!
+//! What it promises, by the names of clauses: what it writes is the document of the report's races and nothing else, or nothing at all for
+//! want of memory, or a prefix of the document if the writer failed (`bytes`). It reports a fault of the writer exactly if the writer
+//! failed (`failed`). `specs/Document` defines the document member by member, and whole as `sarif_text`; `specs/Places` says which sites
+//! name a file and a line.
+//!
+//! Counts go by site, so memory goes by the number of sites and results, and time by the number of races.
+#![tactic(auto)]
+
+pub use document::write_sarif;
+
+mod document;
+mod members;
+mod places;
+mod results;

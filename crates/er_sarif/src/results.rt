@@ -1,0 +1,153 @@
+//! A result for the first race of each site and kind.
+ghost use Rattle.std.specs.Prelude.{◌≡◌, ◌++◌, ◌&&◌, ◌<◌, ◌≤◌, All, length, IfOk, OnOk};
+ghost use Rattle.er_json.specs.Document.{rows_text};
+ghost use Rattle.er_json.specs.Inner.Sections.{has_none, next_text};
+ghost use Rattle.er_print.specs.Printed.{site_text};
+ghost use Rattle.er_report.specs.Names.{HasLockNames, HasNames, HasReasonNames};
+ghost use Rattle.er_sarif.specs.Document.{back_text, front_text, place_text, results_below, results_of};
+ghost use Rattle.er_sarif.specs.Inner.Results.{count_like};
+ghost use Rattle.er_sites.specs.Inner.Counted.{AreCounts};
+
+use crate::members::{
+    put_count, put_fingerprint, put_location, put_message, put_properties, put_related, put_rule,
+};
+use er_event::{Kind, LockId, Site, ThreadId, Word};
+use er_json::put_separator;
+use er_report::{Because, Line};
+use er_sites::{Counts, count_at, count_line};
+use er_trace::Names;
+use std::alloc::{AllocError, Global};
+
+/// Puts the results of the lines, each on a line of its own. The counts are those of all races of the lines.
+pub(crate) fn put_results(
+    alloc: Global,
+    out: &mut Vec<u8>,
+    names: &Names,
+    lines: &[Line],
+    total: &Counts,
+) -> Result<(), AllocError>
+    requires named { All (HasNames names.now) lines.now }
+    requires total { AreCounts lines.now total.now }
+    ensures { OnOk result (out.new.items ≡ out.old.items ++ rows_text (results_below names.now lines.now (length lines.now))) }
+{
+    prove!(lines.len() < 1 << 63);
+    let mut reads = Vec::new(alloc);
+    let mut writes = Vec::new(alloc);
+    let mut is_first = true;
+    for line in lines {
+        let before = count_like(&reads, &writes, line);
+        let count = count_like(&total.reads, &total.writes, line);
+        is_first = put_next(out, names, line, before, count, is_first)?;
+        count_line(&mut reads, &mut writes, line)?;
+    }
+    Ok(())
+}
+
+// How many races there are like the line, by these counts.
+fn count_like(reads: &[u64], writes: &[u64], line: &Line) -> u64
+    ensures { result ≡ count_like reads.now writes.now line.now }
+{
+    match line {
+        Line::Race {
+            kind: Kind::Read,
+            site,
+            ..
+        } => count_at(reads, site.number() as usize),
+        Line::Race {
+            kind: Kind::Write,
+            site,
+            ..
+        } => count_at(writes, site.number() as usize),
+        _ => 0,
+    }
+}
+
+// Puts the result of a race if none like it came before, and returns whether the next one is the first.
+#[tactic(auto, unfolding(crate::specs::Document::result_text))]
+fn put_next(
+    out: &mut Vec<u8>,
+    names: &Names,
+    line: &Line,
+    before: u64,
+    count: u64,
+    is_first: bool,
+) -> Result<bool, AllocError>
+    requires { HasNames names.now line.now }
+    ensures text { OnOk result (out.new.items ≡ out.old.items ++ next_text is_first (results_of names.now before count line.now)) }
+    ensures first { IfOk result (λ still. still ≡ (is_first && has_none (results_of names.now before count line.now))) }
+{
+    let Line::Race {
+        line,
+        thread,
+        kind,
+        word,
+        site,
+        held,
+        explained,
+    } = line
+    else {
+        return Ok(is_first);
+    };
+    if before > 0 {
+        return Ok(is_first);
+    }
+    put_separator(out, is_first)?;
+    put_front(out, names, *thread, *kind, *word, count)?;
+    put_place(out, names, *site, *kind)?;
+    put_back(out, names, *line, held.as_slice(), explained)?;
+    Ok(false)
+}
+
+// Puts what is wrong, and how often.
+#[tactic(auto, unfolding(crate::specs::Document::front_text))]
+fn put_front(
+    out: &mut Vec<u8>,
+    names: &Names,
+    thread: ThreadId,
+    kind: Kind,
+    word: Word,
+    count: u64,
+) -> Result<(), AllocError>
+    requires { thread < length names.now.threads }
+    ensures { OnOk result (out.new.items ≡ out.old.items ++ front_text names.now thread kind word count) }
+{
+    put_rule(out, kind)?;
+    put_message(out, names, thread, kind, word)?;
+    put_count(out, count)
+}
+
+// Puts where it is.
+fn put_place(out: &mut Vec<u8>, names: &Names, site: Site, kind: Kind) -> Result<(), AllocError>
+    requires { site ≤ length names.now.sites }
+    ensures { OnOk result (out.new.items ≡ out.old.items ++ place_text (site_text names.now site) kind) }
+{
+    if site.number() == 0 {
+        return put_site(out, b"-", kind);
+    }
+    put_site(out, names.site_name(site).as_bytes(), kind)
+}
+
+#[tactic(auto, unfolding(crate::specs::Document::place_text))]
+fn put_site(out: &mut Vec<u8>, site: &[u8], kind: Kind) -> Result<(), AllocError>
+    ensures { OnOk result (out.new.items ≡ out.old.items ++ place_text site.now kind) }
+{
+    put_location(out, site)?;
+    put_fingerprint(out, site, kind)
+}
+
+// Puts how it came about, and closes the result.
+#[tactic(auto, unfolding(crate::specs::Document::back_text))]
+fn put_back(
+    out: &mut Vec<u8>,
+    names: &Names,
+    line: u64,
+    held: &[LockId],
+    explained: &[Because],
+) -> Result<(), AllocError>
+    requires held { HasLockNames names.now held.now }
+    requires explained { All (HasReasonNames names.now) explained.now }
+    ensures { OnOk result (out.new.items ≡ out.old.items ++ back_text names.now line held.now explained.now) }
+{
+    put_related(out, names, explained)?;
+    put_properties(out, names, line, held)
+}

@@ -1,0 +1,217 @@
+#!/usr/bin/env python3
+"""Compares `eraser replay --format json` with a document made from the report of tests/reference.py, byte for byte, and reads it back.
+
+`tests/run` calls `tests`. By itself this file runs these tests alone.
+"""
+
+import copy
+import json
+import os
+import pathlib
+import re
+import subprocess
+import sys
+import tempfile
+
+sys.path.insert(0, str(pathlib.Path(__file__).parent))
+sys.dont_write_bytecode = True
+import reference
+import site_tests
+from alone import run_alone
+from site_tests import RACE, REASON, TOP, preloaded, run, run_with
+
+SCHEMA = TOP / "docs/report.schema.json"
+REFUSED = re.compile(r"line (\d+): refused: (\S+) (\S+)(?: (\S+))?: ([^:]+)")
+SHOWN = re.compile(r"line (\d+): state (0x[0-9a-f]{12}): (\S+?)(?:, candidates (.*)| (\S+))?")
+STOPPED = re.compile(r"line (\d+): stopped: (.*)")
+TOTALS = re.compile(r"steps (\d+), races (\d+), suppressed (\d+), refused (\d+)")
+
+
+# ---- The document of a report's text
+
+def locks_in(text):
+    return [] if text == "none" else text.split(" ")
+
+
+def document_of(report):
+    """What the lines of a report say, as the document."""
+    found = {"format": 1, "races": [], "refused": [], "shown": [], "stop": None, "suppressions": [], "totals": None}
+    for line in report.splitlines():
+        race, reason, refused, shown = (pattern.fullmatch(line) for pattern in (RACE, REASON, REFUSED, SHOWN))
+        stopped, totals = STOPPED.fullmatch(line), TOTALS.fullmatch(line)
+        if race:
+            site = None if race[5] == "-" else race[5]
+            found["races"].append({"line": int(race[1]), "thread": race[2], "kind": race[3], "address": race[4], "site": site, "held": locks_in(race[6]), "reasons": []})
+        elif reason:
+            label, lock = ("not covering", reason[1].removesuffix(" not covering")) if reason[1].endswith(" not covering") else (reason[1], None)
+            found["races"][-1]["reasons"].append({"line": int(reason[2]), "thread": reason[3], "kind": reason[4], "label": label, "lock": lock})
+        elif refused:
+            found["refused"].append({"line": int(refused[1]), "thread": refused[2], "event": refused[3], "lock": refused[4], "why": refused[5]})
+        elif shown:
+            candidates = None if shown[4] is None else locks_in(shown[4])
+            found["shown"].append({"line": int(shown[1]), "address": shown[2], "state": shown[3], "owner": shown[5], "candidates": candidates})
+        elif stopped:
+            found["stop"] = {"line": int(stopped[1]), "why": stopped[2]}
+        elif totals:
+            found["totals"] = {"steps": int(totals[1]), "races": int(totals[2]), "suppressed": int(totals[3]), "refused": int(totals[4])}
+        else:
+            found["suppressions"].append(int(re.fullmatch(r"suppression \d+: (\d+)", line)[1]))
+    return found
+
+
+def plain(value):
+    return json.dumps(value, separators=(",", ":"))
+
+
+def text_of(document):
+    """The bytes of a document: one line for each member and for each item of its first three lists."""
+    members = []
+    for name, value in document.items():
+        rows = "[" + ",".join("\n" + plain(row) for row in value) + "]" if name in ("races", "refused", "shown") else plain(value)
+        members.append(f'"{name}":{rows}')
+    return "{" + ",\n".join(members) + "}\n"
+
+
+def expected(text, rules, explain):
+    output, errors, status = reference.replay(text, rules or b"", explain=explain)
+    return (text_of(document_of(output)) if status < 2 else output).encode(), errors.encode(), status
+
+
+# ---- The schema
+
+KINDS = {"object": dict, "array": list, "string": str, "null": type(None)}
+IGNORED = {"$schema", "$defs", "title"}
+
+
+def is_of(value, kind):
+    return isinstance(value, int) and not isinstance(value, bool) if kind == "integer" else isinstance(value, KINDS[kind])
+
+
+def faults(value, schema, root, where="$"):
+    """What is wrong with a value by a schema. A word of JSON Schema that this doesn't know ends the tests."""
+    for word, wants in schema.items():
+        if word == "$ref":
+            yield from faults(value, root["$defs"][wants.removeprefix("#/$defs/")], root, where)
+        elif word == "anyOf":
+            if all(list(faults(value, one, root, where)) for one in wants):
+                yield f"{where}: none of the choices"
+        elif word == "type":
+            if not is_of(value, wants):
+                yield f"{where}: no {wants}"
+        elif word == "const":
+            if value != wants:
+                yield f"{where}: not {wants}"
+        elif word == "enum":
+            if value not in wants:
+                yield f"{where}: none of {wants}"
+        elif word == "minimum":
+            if is_of(value, "integer") and value < wants:
+                yield f"{where}: less than {wants}"
+        elif word == "pattern":
+            if isinstance(value, str) and not re.search(wants, value):
+                yield f"{where}: not {wants}"
+        elif word == "items":
+            for place, item in enumerate(value if isinstance(value, list) else []):
+                yield from faults(item, wants, root, f"{where}[{place}]")
+        elif word == "required":
+            for name in wants:
+                if isinstance(value, dict) and name not in value:
+                    yield f"{where}: no {name}"
+        elif word == "properties":
+            for name, item in (value if isinstance(value, dict) else {}).items():
+                if name in wants:
+                    yield from faults(item, wants[name], root, f"{where}.{name}")
+        elif word == "additionalProperties":
+            for name in value if isinstance(value, dict) else {}:
+                if name not in schema["properties"]:
+                    yield f"{where}: {name} is too much"
+        elif word not in IGNORED:
+            sys.exit(f"tests/json_tests.py: {SCHEMA} has {word}, which is not known here")
+
+
+def changed(document):
+    """Documents that are none: each with one member gone, too much or of another sort, at every depth."""
+    def places(value):
+        if isinstance(value, dict):
+            for name in value:
+                yield value, name
+        for item in value.values() if isinstance(value, dict) else value if isinstance(value, list) else []:
+            yield from places(item)
+
+    for place in range(len(list(places(document)))):
+        for change in ("gone", "more", "other"):
+            other = copy.deepcopy(document)
+            owner, name = list(places(other))[place]
+            if change == "gone":
+                del owner[name]
+            elif change == "more":
+                owner["more"] = 0
+            else:
+                owner[name] = {"other": 0}
+            yield f"{name} {change}", other
+
+
+def schema_tests(record, schema):
+    formats = (TOP / "docs/FORMATS.md").read_text()
+    record("the schema of the formats", f"```json\n{SCHEMA.read_text()}```" in formats)
+    shown = run(["replay", "--explain", "--format", "json", str(TOP / "examples/explained.trace")])[0].decode()
+    record("the document of the formats", shown and shown in formats, shown)
+    rich = b"eraser trace 2\nt1 level 3\nt1 lock a\nt1 lock a\nt1 write 0\nt1 show 0\nt1 show 64\nt2 lock b\nt2 read 0 s:1\nt2 show 0\nt1 ignore-off\nt1 write 0 s:2\nt2 write 0\nt2 show 0\n"
+    output, errors, status = run(["replay", "--explain", "--format", "json", "-"], rich)
+    document = json.loads(output)
+    full = all(document[name] for name in ("races", "refused", "shown")) and document["races"][0]["reasons"] and document["shown"][-1]["candidates"] == []
+    record("a document with all that there is", full and (errors, status) == (b"", 1) and not list(faults(document, schema, schema)), f"{output}")
+    for name, other in changed(document):
+        record(f"a document with {name} is none", list(faults(other, schema, schema)), f"{other}")
+
+
+# ---- The program
+
+def document_tests(record, schema):
+    raced = refused = shown = 0
+    for name, text, rules in site_tests.texts():
+        for options in ([], ["--explain"]):
+            wanted, found = expected(text, rules, bool(options)), run_with(rules, text, "--format", "json", *options)
+            record(f"{name} as JSON {options}", found == wanted, f"{found}, {wanted}"[:2000])
+            record(f"{name} as JSON {options}, status", found[1:] == run_with(rules, text, *options)[1:], f"{found[1:]}")
+            if found[2] < 2:
+                document = json.loads(found[0])
+                wrong = list(faults(document, schema, schema))
+                record(f"{name} as JSON {options} by the schema", not wrong, f"{wrong}")
+                raced, refused, shown = raced + bool(document["races"]), refused + bool(document["refused"]), shown + bool(document["shown"])
+        record(f"{name} as JSON by several workers", found == run_with(rules, text, "--format", "json", "--explain", "--workers", "3"))
+    record("documents have races, refusals and states", min(raced, refused, shown) > 50, f"{raced}, {refused}, {shown}")
+    record("the text is a format", run(["replay", "--format", "text", "-"], reference.random_trace(7)) == run(["replay", "-"], reference.random_trace(7)))
+    for words in (["--format", "xml"], ["--format", "json", "--by-site"], ["--format", "text", "--by-site"], ["--format"]):
+        output, errors, status = run(["replay", *words, "-"], b"eraser trace 1\n")
+        record(f"{words} are wrong arguments", (output, status) == (b"", 2) and errors.startswith(b"error: "), f"{output}, {errors}, {status}")
+
+
+def refusal_tests(record, schema, preloaded):
+    """Each allocation refused in turn, each write failed in turn."""
+    with tempfile.TemporaryDirectory() as folder:
+        library, count = preloaded(folder, "refuse"), pathlib.Path(folder) / "count"
+        words = ["replay", "--explain", "--format", "json", str(TOP / "examples/explained.trace")]
+        whole = run(words)
+        for nth in range(1, 100000):
+            found = run(words, env={**os.environ, "LD_PRELOAD": str(library), "REFUSE": str(nth), "REFUSE_FOUND": str(count)})
+            if not count.exists():
+                record("JSON with all allocations", found == whole and nth > 20, f"{nth}")
+                break
+            count.unlink()
+            is_stopped = found[1:] == (b"", 3) and json.loads(found[0])["stop"]["why"] == "out of memory" and not list(faults(json.loads(found[0]), schema, schema))
+            record(f"JSON without allocation {nth}", found in (whole, (b"", b"out of memory\n", 3)) or is_stopped, f"{found}")
+    with open("/dev/full", "wb") as full:
+        done = subprocess.run([str(site_tests.PROGRAM), *words], stdout=full, stderr=subprocess.PIPE, timeout=120)
+        record("JSON on a full device", (done.stderr, done.returncode) == (b"write fault\n", 4), f"{done}")
+
+
+def tests(record, preloaded):
+    schema = json.loads(SCHEMA.read_text())
+    schema_tests(record, schema)
+    document_tests(record, schema)
+    refusal_tests(record, schema, preloaded)
+
+
+if __name__ == "__main__":
+    run_alone(tests, preloaded)

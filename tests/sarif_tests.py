@@ -1,0 +1,194 @@
+#!/usr/bin/env python3
+"""Compares `eraser replay --format sarif` with a log made from the explained report of tests/reference.py, byte for byte, and reads it back.
+
+`tests/run` calls `tests`. By itself this file runs these tests alone.
+"""
+
+import json
+import os
+import pathlib
+import re
+import subprocess
+import sys
+import tempfile
+
+sys.path.insert(0, str(pathlib.Path(__file__).parent))
+sys.dont_write_bytecode = True
+import reference
+import site_tests
+from alone import run_alone
+from json_tests import document_of, plain
+from site_tests import DID, TOP, preloaded, run, run_with
+
+RULES = [{"id": f"race/{kind}", "shortDescription": {"text": f"A {kind} that no lock protects"}} for kind in ("read", "write")]
+# Sites, with the file and the line that they name.
+PLACES = {
+    "pool.c:8": ("pool.c", 8),
+    "src/a:b.c:123456789": ("src/a:b.c", 123456789),
+    "a:1": ("a", 1),
+    "pool.c": None,
+    "pool.c:": None,
+    "pool.c:0": None,
+    "pool.c:08": None,
+    "pool.c:8x": None,
+    "pool.c:8:": None,
+    "pool.c:1234567890": None,
+    ":8": None,
+    "8": None,
+    "-": None,
+}
+
+
+# ---- The log of a report's text
+
+def location(site):
+    place = re.fullmatch(r"(.+):([1-9]\d{0,8})", site)
+    if not place:
+        return {"logicalLocations": [{"fullyQualifiedName": site}]}
+    return {"physicalLocation": {"artifactLocation": {"uri": place[1]}, "region": {"startLine": int(place[2])}}}
+
+
+def reason(found):
+    label = found["label"] if found["lock"] is None else f"{found['lock']} {found['label']}"
+    return {"message": {"text": f"{label}: {found['thread']} {found['kind']} on line {found['line']} of the trace"}}
+
+
+def results_of(document):
+    """The results, each with the first race of its site and kind."""
+    sorts = {}
+    for race in document["races"]:
+        sorts.setdefault((race["site"] or "-", race["kind"]), []).append(race)
+    for (site, kind), races in sorts.items():
+        race = races[0]
+        yield {
+            "ruleId": f"race/{kind}",
+            "level": "error",
+            "message": {"text": f"{race['thread']} {DID[kind]} the word at {race['address']}, and no lock protects it"},
+            "occurrenceCount": len(races),
+            "locations": [location(site)],
+            "partialFingerprints": {"siteAndKind/v1": f"{site} {kind}"},
+            "relatedLocations": [reason(found) for found in race["reasons"]],
+            "properties": {"line": race["line"], "held": race["held"]},
+        }
+
+
+def text_of(results):
+    driver = plain({"driver": {"name": "eraser", "rules": RULES}})
+    rows = ",".join("\n" + plain(result) for result in results)
+    schema = "https://json.schemastore.org/sarif-2.1.0.json"
+    return f'{{"$schema":"{schema}",\n"version":"2.1.0",\n"runs":[{{\n"tool":{driver},\n"results":[{rows}]}}]}}\n'
+
+
+def expected(text, rules):
+    output, errors, status = reference.replay(text, rules or b"", explain=True)
+    return (text_of(results_of(document_of(output))) if status < 2 else output).encode(), errors.encode(), status
+
+
+# ---- What SARIF requires
+
+def faults(log):
+    """What is wrong with a log by the required parts of SARIF 2.1.0, and by the ranges of the members that are used here."""
+    if log.get("version") != "2.1.0" or not isinstance(log.get("runs"), list):
+        yield "no version or no runs"
+        return
+    for each in log["runs"]:
+        driver = each.get("tool", {}).get("driver", {})
+        if not driver.get("name"):
+            yield "no name of the tool"
+        rules = [rule.get("id") for rule in driver.get("rules", [])]
+        for result in each.get("results", []):
+            if not result.get("message", {}).get("text"):
+                yield "no message"
+            if result.get("ruleId") not in rules or rules.count(result.get("ruleId")) != 1:
+                yield "no rule"
+            if result.get("level") not in ("none", "note", "warning", "error") or result.get("occurrenceCount", 0) < 1:
+                yield "no level or no count"
+            for found in result.get("locations", []):
+                place = found.get("physicalLocation")
+                if place and (not place.get("artifactLocation", {}).get("uri") or place.get("region", {}).get("startLine", 0) < 1):
+                    yield "no place"
+            if not all(isinstance(value, str) for value in result.get("partialFingerprints", {"": None}).values()):
+                yield "no fingerprints"
+            if not all(found.get("message", {}).get("text") for found in result.get("relatedLocations", [{}])):
+                yield "no related message"
+
+
+# ---- The program
+
+def log_tests(record):
+    results = doubles = 0
+    for name, text, rules in site_tests.texts():
+        wanted, found = expected(text, rules), run_with(rules, text, "--format", "sarif")
+        record(f"{name} as SARIF", found == wanted, f"{found}, {wanted}"[:2000])
+        record(f"{name} as SARIF, status", found[1:] == run_with(rules, text)[1:], f"{found[1:]}")
+        record(f"{name} as SARIF, explained or by several workers", found == run_with(rules, text, "--format", "sarif", "--explain", "--workers", "3"))
+        if found[2] < 2:
+            log = json.loads(found[0])
+            wrong = list(faults(log))
+            record(f"{name} as SARIF by what SARIF requires", not wrong, f"{wrong}")
+            counts = [result["occurrenceCount"] for result in log["runs"][0]["results"]]
+            results, doubles = results + len(counts), doubles + sum(count > 1 for count in counts)
+            races = int(re.search(rb"races (\d+)", run_with(rules, text)[0])[1])
+            record(f"{name} as SARIF has each race once", sum(counts) == races, f"{counts}, {races}")
+    record("logs have results, and results that stand for several races", results > 100 and doubles > 20, f"{results}, {doubles}")
+    lines = ["eraser trace 1"] + [f"t{who} write {4 * k} {site}" for who in (1, 2) for k, site in enumerate(PLACES)]
+    log = json.loads(run(["replay", "--format", "sarif", "-"], "\n".join(lines).encode())[0])
+    found = [result["locations"][0] for result in log["runs"][0]["results"]]
+    for (site, place), one in zip(PLACES.items(), found, strict=True):
+        named = {"logicalLocations": [{"fullyQualifiedName": site}]}
+        wanted = named if place is None else {"physicalLocation": {"artifactLocation": {"uri": place[0]}, "region": {"startLine": place[1]}}}
+        record(f"the location of {site}", one == wanted, f"{one}")
+    formats = (TOP / "docs/FORMATS.md").read_text()
+    shown = run(["replay", "--format", "sarif", str(TOP / "examples/explained.trace")])[0].decode()
+    record("the log of the formats", shown and shown in formats, shown)
+    output, errors, status = run(["replay", "--format", "sarif", "--by-site", "-"], b"eraser trace 1\n")
+    record("SARIF by site is wrong arguments", (output, status) == (b"", 2) and errors.startswith(b"error: "), f"{output}, {errors}, {status}")
+    # A pass over the races for each result would take minutes.
+    many = "eraser trace 1\n" + "".join(f"t{who} write {4 * k} s:{k + 1}\n" for who in (1, 2) for k in range(100_000))
+    output, errors, status = run(["replay", "--format", "sarif", "-"], many.encode())
+    record("many results", (errors, status) == (b"", 1) and output.count(b'"occurrenceCount":1,') == 100_000)
+
+
+def refusal_tests(record, preloaded):
+    """Each allocation refused in turn, and a failed write."""
+    with tempfile.TemporaryDirectory() as folder:
+        library, count = preloaded(folder, "refuse"), pathlib.Path(folder) / "count"
+        words = ["replay", "--format", "sarif", str(TOP / "examples/explained.trace")]
+        whole = run(words)
+        for nth in range(1, 100000):
+            found = run(words, env={**os.environ, "LD_PRELOAD": str(library), "REFUSE": str(nth), "REFUSE_FOUND": str(count)})
+            if not count.exists():
+                record("SARIF with all allocations", found == whole and nth > 20, f"{nth}")
+                break
+            count.unlink()
+            is_stopped = found[1:] == (b"", 3) and not list(faults(json.loads(found[0])))
+            record(f"SARIF without allocation {nth}", found in (whole, (b"", b"out of memory\n", 3)) or is_stopped, f"{found}")
+    with open("/dev/full", "wb") as full:
+        done = subprocess.run([str(site_tests.PROGRAM), *words], stdout=full, stderr=subprocess.PIPE, timeout=120)
+        record("SARIF on a full device", (done.stderr, done.returncode) == (b"write fault\n", 4), f"{done}")
+
+
+def required_tests(record):
+    """The check of what SARIF requires finds what is missing."""
+    good = json.loads(expected(b"eraser trace 1\nt1 write 0 a:1\nt2 write 0 a:1\n", None)[0])
+    record("a log with one result", not list(faults(good)) and len(good["runs"][0]["results"]) == 1)
+    for path in (["version"], ["runs"], ["runs", 0, "tool"], ["runs", 0, "tool", "driver", "name"], ["runs", 0, "tool", "driver", "rules", 1], ["runs", 0, "results", 0, "message"],
+                 ["runs", 0, "results", 0, "level"], ["runs", 0, "results", 0, "occurrenceCount"], ["runs", 0, "results", 0, "partialFingerprints"],
+                 ["runs", 0, "results", 0, "locations", 0, "physicalLocation", "artifactLocation"], ["runs", 0, "results", 0, "locations", 0, "physicalLocation", "region"],
+                 ["runs", 0, "results", 0, "relatedLocations", 0, "message"]):
+        other = json.loads(json.dumps(good))
+        owner = other
+        for name in path[:-1]:
+            owner = owner[name]
+        del owner[path[-1]]
+        record(f"a log without {path}", list(faults(other)))
+
+
+def tests(record, preloaded):
+    required_tests(record)
+    log_tests(record)
+    refusal_tests(record, preloaded)
+
+
+if __name__ == "__main__":
+    run_alone(tests, preloaded)
