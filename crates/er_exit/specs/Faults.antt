@@ -1,10 +1,11 @@
 -- Which fault of the program stands for a fault of a text or of a demo.
+use Rattle.std.specs.Prelude.{ℕ, Option, Some, None}
 use Rattle.er_load.specs.declared.faults.LoadFault.{LoadFault}
 use Rattle.er_load.specs.declared.faults.LoadFault.TheVariants as load
 use Rattle.er_text.specs.declared.faults.ReadFault.{ReadFault}
 use Rattle.er_text.specs.declared.faults.ReadFault.TheVariants as reading
 use Rattle.er_exit.specs.declared.faults.Fault.{Fault}
-use Rattle.er_exit.specs.declared.faults.Fault.TheVariants.{Text, Suppressions, Memory, Read, Refused, WorkerNotStarted, WorkerLost, Unsettled}
+use Rattle.er_exit.specs.declared.faults.Fault.TheVariants.{Text, Suppressions, Memory, Read, ReadSuppressions, Refused, WorkerNotStarted, WorkerLost, Unsettled}
 
 -- a fault in reading the trace
 abbrev pub trace_fault : ReadFault → Fault
@@ -12,11 +13,12 @@ trace_fault (reading.Text fault) = Text fault
 trace_fault reading.Memory = Memory
 trace_fault reading.Read = Read
 
--- a fault in reading the suppressions
-abbrev pub rules_fault : ReadFault → Fault
-rules_fault (reading.Text fault) = Suppressions fault
-rules_fault reading.Memory = Memory
-rules_fault reading.Read = Read
+-- a fault in reading the suppressions, of several files the one of this number
+abbrev pub rules_fault : Option ℕ → ReadFault → Fault
+rules_fault file (reading.Text fault) = Suppressions file fault
+rules_fault file reading.Memory = Memory
+rules_fault None reading.Read = Read
+rules_fault (Some file) reading.Read = ReadSuppressions file
 
 -- a fault of a demo
 abbrev pub demo_fault : LoadFault → Fault

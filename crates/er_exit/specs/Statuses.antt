@@ -1,7 +1,7 @@
 -- What the exit statuses of demos and faults mean.
 use Rattle.std.specs.Prelude.{ℕ, cond, nat_lt}
 use Rattle.er_exit.specs.declared.faults.Fault.{Fault}
-use Rattle.er_exit.specs.declared.faults.Fault.TheVariants.{Arguments, Text, Suppressions, Memory, TableFull, OpenTrace, OpenSuppressions, Read, Write, Refused, WorkerNotStarted, WorkerLost, Unsettled}
+use Rattle.er_exit.specs.declared.faults.Fault.TheVariants.{Arguments, Text, Suppressions, Memory, TableFull, OpenTrace, OpenSuppressions, Read, ReadSuppressions, Write, WriteRules, Refused, WorkerNotStarted, WorkerLost, Unsettled}
 
 -- behind a demo: whether it made a race
 abbrev pub demo_status : ℕ → ℕ
@@ -12,7 +12,7 @@ demo_status races = cond (nat_lt 0 races) 1 0
 abbrev pub fault_status : Fault → ℕ
 fault_status Arguments = 2
 fault_status (Text fault) = 2
-fault_status (Suppressions fault) = 2
+fault_status (Suppressions file fault) = 2
 fault_status Memory = 3
 fault_status TableFull = 3
 fault_status (Refused why) = 3
@@ -20,6 +20,8 @@ fault_status WorkerNotStarted = 3
 fault_status WorkerLost = 3
 fault_status (Unsettled why) = 3
 fault_status OpenTrace = 4
-fault_status OpenSuppressions = 4
+fault_status (OpenSuppressions file) = 4
 fault_status Read = 4
+fault_status (ReadSuppressions file) = 4
 fault_status Write = 4
+fault_status WriteRules = 4

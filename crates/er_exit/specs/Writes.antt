@@ -2,11 +2,12 @@
 use Rattle.std.specs.Prelude.{◌⊎◌, ℕ, Bool, true, false, List, Option, Result, Ok, Err, take, codes}
 use Rattle.std.specs.Io.KnownBytes.{Appends, Keeps}
 use Rattle.er_exit.specs.declared.faults.Fault.{Fault}
-use Rattle.er_exit.specs.declared.faults.Fault.TheVariants.{Write}
+use Rattle.er_exit.specs.declared.faults.Fault.TheVariants.{Write, WriteRules}
 
--- the output got nothing before this fault, unless a write to it failed
+-- the output got nothing before this fault, unless a write to it failed or the fault comes behind the whole report
 abbrev pub LeavesOutput : Option (List ℕ) → Option (List ℕ) → Fault → Type 0
 LeavesOutput old new Write = Unit {0}
+LeavesOutput old new WriteRules = Unit {0}
 LeavesOutput old new fault = Keeps old new
 
 -- the output got this line whole, and a beginning of it at most where there is a fault

@@ -16,20 +16,24 @@ pub enum Fault {
     Arguments,
     /// The trace's text has this fault.
     Text(TextFault),
-    /// The suppressions' text has this fault.
-    Suppressions(TextFault),
+    /// The suppressions' text has this fault. If there are several files, this is the one of that number, from 1.
+    Suppressions(Option<u64>, TextFault),
     /// There was no memory.
     Memory,
     /// Several workers wanted more sets of locks than the table takes.
     TableFull,
     /// The trace can't be opened.
     OpenTrace,
-    /// The suppressions can't be opened.
-    OpenSuppressions,
+    /// The suppressions can't be opened, of several files the one of that number.
+    OpenSuppressions(Option<u64>),
     /// A read failed.
     Read,
+    /// A read of one of several files of suppressions failed, of the one of that number.
+    ReadSuppressions(u64),
     /// A write to the standard output failed.
     Write,
+    /// The report was written, but not the file of rules that take its races.
+    WriteRules,
     /// A call of a demo was refused.
     Refused(Refusal),
     /// A worker, or a thread of a demo, couldn't be started.
@@ -46,14 +50,19 @@ impl Fault {
         ensures { result ≡ fault_status self }
     {
         match self {
-            Fault::Arguments | Fault::Text(_) | Fault::Suppressions(_) => 2,
+            Fault::Arguments | Fault::Text(_) | Fault::Suppressions(..) => 2,
             Fault::Memory
             | Fault::TableFull
             | Fault::Refused(_)
             | Fault::WorkerNotStarted
             | Fault::WorkerLost
             | Fault::Unsettled(_) => 3,
-            Fault::OpenTrace | Fault::OpenSuppressions | Fault::Read | Fault::Write => 4,
+            Fault::OpenTrace
+            | Fault::OpenSuppressions(_)
+            | Fault::Read
+            | Fault::ReadSuppressions(_)
+            | Fault::Write
+            | Fault::WriteRules => 4,
         }
     }
 
@@ -63,13 +72,14 @@ impl Fault {
     {
         match self {
             Fault::Arguments => "the arguments are not text",
-            Fault::Text(fault) | Fault::Suppressions(fault) => fault.kind.text(),
+            Fault::Text(fault) | Fault::Suppressions(_, fault) => fault.kind.text(),
             Fault::Memory => "out of memory",
             Fault::TableFull => "table full",
             Fault::OpenTrace => "cannot open trace",
-            Fault::OpenSuppressions => "cannot open suppressions",
-            Fault::Read => "read fault",
+            Fault::OpenSuppressions(_) => "cannot open suppressions",
+            Fault::Read | Fault::ReadSuppressions(_) => "read fault",
             Fault::Write => "write fault",
+            Fault::WriteRules => "cannot write rules",
             Fault::Refused(refusal) => refusal.text(),
             Fault::WorkerNotStarted => "worker not started",
             Fault::WorkerLost => "worker lost",
@@ -88,14 +98,15 @@ impl Fault {
         }
     }
 
-    /// A fault in reading the suppressions.
-    pub fn of_suppressions(fault: ReadFault) -> Fault
-        ensures { result ≡ rules_fault fault }
+    /// A fault in reading the suppressions, of several files the one of this number.
+    pub fn of_suppressions(file: Option<u64>, fault: ReadFault) -> Fault
+        ensures { result ≡ rules_fault file fault }
     {
-        match fault {
-            ReadFault::Text(fault) => Fault::Suppressions(fault),
-            ReadFault::Memory => Fault::Memory,
-            ReadFault::Read => Fault::Read,
+        match (fault, file) {
+            (ReadFault::Text(fault), file) => Fault::Suppressions(file, fault),
+            (ReadFault::Memory, _) => Fault::Memory,
+            (ReadFault::Read, None) => Fault::Read,
+            (ReadFault::Read, Some(file)) => Fault::ReadSuppressions(file),
         }
     }
 }

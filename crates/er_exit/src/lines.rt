@@ -17,9 +17,14 @@ fn line_of(alloc: Global, fault: Fault) -> Result<String, AllocError>
     let text = fault.text();
     match fault {
         Fault::Text(TextFault { line, .. }) => format!(in alloc; "line {line}: {text}\n"),
-        Fault::Suppressions(TextFault { line, .. }) => {
+        Fault::Suppressions(None, TextFault { line, .. }) => {
             format!(in alloc; "suppressions line {line}: {text}\n")
         }
+        Fault::Suppressions(Some(file), TextFault { line, .. }) => {
+            format!(in alloc; "suppressions file {file} line {line}: {text}\n")
+        }
+        Fault::OpenSuppressions(Some(file)) => format!(in alloc; "{text} file {file}\n"),
+        Fault::ReadSuppressions(file) => format!(in alloc; "{text} in suppressions file {file}\n"),
         Fault::Refused(_) => format!(in alloc; "refused: {text}\n"),
         Fault::Unsettled(_) => format!(in alloc; "unsettled: {text}\n"),
         _ => format!(in alloc; "{text}\n"),

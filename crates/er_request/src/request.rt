@@ -6,7 +6,7 @@ use clap::{Arg, ArgAction, ArgMatches, Command, Error, value_parser};
 use std::alloc::{AllocError, Global};
 
 /// What a command line asks for.
-#[derive(Clone, Copy, Drop)]
+#[derive(Drop)]
 pub enum Request<'a> {
     /// A replay of a trace.
     Replay(Replay<'a>),
@@ -15,15 +15,21 @@ pub enum Request<'a> {
 }
 
 /// Which trace to replay, by which suppressions, and how.
-#[derive(Clone, Copy, Drop)]
+#[derive(Drop)]
 pub struct Replay<'a> {
-    /// The path of the suppressions, if there are some.
-    pub suppressions: Option<&'a str>,
+    /// The paths of the files of suppressions, in the order of their rules.
+    pub suppressions: Vec<&'a str>,
+    /// The path of the file that gets rules for the races of the report, if there is to be one.
+    pub write_rules: Option<&'a str>,
+    /// Whether each rule that took no race is named.
+    pub unused_rules: bool,
+    /// How many lines of races the report has at most, if that is limited.
+    pub max_races: Option<u64>,
     /// The path of the trace, or `-` for standard input.
     pub trace: &'a str,
-    /// Whether the races are written by their sites, each site with an example.
-    pub by_site: bool,
-    /// Whether races are explained, as they are for examples too.
+    /// How the report is written.
+    pub format: Format,
+    /// Whether races are explained, as they are by site and as SARIF.
     pub explain: bool,
     /// In how many shards the words are, from 1 to 64.
     pub shards: u32,
@@ -36,6 +42,19 @@ pub struct Replay<'a> {
     pub ghost some_workers: { 1 ≤ workers },
     pub ghost few_workers: { workers ≤ 16 },
     pub ghost few_bytes: { byte_limit ≤ 2 ^ 62 },
+}
+
+/// How a report is written.
+#[derive(Clone, Copy, Debug, PartialEq, Eq, Drop)]
+pub enum Format {
+    /// As text, a line for each race.
+    Text,
+    /// For people: the races by their sites, each site with an example.
+    BySite,
+    /// As one JSON document.
+    Json,
+    /// As a SARIF log.
+    Sarif,
 }
 
 /// Which of the six workloads to run.
@@ -62,11 +81,36 @@ fn count<'a>(alloc: Global, name: &'a str, most: i64, default: &'a str, help: &'
         .help(help)
 }
 
-fn replay_command<'a>(alloc: Global) -> Result<Command<'a>, AllocError> {
+// The options that say which races get lines, and what is made of them besides.
+fn with_rules<'a>(alloc: Global, command: Command<'a>) -> Result<Command<'a>, AllocError> {
     let suppress = Arg::new(alloc, "suppress")
         .long("suppress")
         .value_name("FILE")
+        .action(ArgAction::Append)
         .help("Count the races that this file's rules take, and leave their lines out");
+    let write_rules = Arg::new(alloc, "write-rules")
+        .long("write-rules")
+        .value_name("FILE")
+        .help("Write rules to this file that take each race of the report");
+    let unused_rules = Arg::new(alloc, "unused-rules")
+        .long("unused-rules")
+        .action(ArgAction::SetTrue)
+        .help("Name each rule that took no race, on standard error");
+    let max_races = Arg::new(alloc, "max-races")
+        .long("max-races")
+        .value_name("COUNT")
+        .value_parser(value_parser!(u64))
+        .conflicts_with("by-site")?
+        .help("Write the lines of the first races alone, and how many were left out");
+    command
+        .arg(suppress)?
+        .arg(write_rules)?
+        .arg(unused_rules)?
+        .arg(max_races)
+}
+
+// The options that say how the races are written.
+fn with_forms<'a>(alloc: Global, command: Command<'a>) -> Result<Command<'a>, AllocError> {
     let explain = Arg::new(alloc, "explain")
         .long("explain")
         .action(ArgAction::SetTrue)
@@ -77,6 +121,20 @@ fn replay_command<'a>(alloc: Global) -> Result<Command<'a>, AllocError> {
         .help(
             "Write a table of the sites with races, most words first, and explain a race of each",
         );
+    let format = Arg::new(alloc, "format")
+        .long("format")
+        .value_name("FORM")
+        .value_parser(FORMS.as_slice())
+        .default_value("text")
+        .conflicts_with("by-site")?
+        .help(
+            "How the report is written: as text for scripts, as JSON for programs, or as SARIF for code hosts",
+        );
+    command.arg(explain)?.arg(by_site)?.arg(format)
+}
+
+// The options that say how the trace is replayed.
+fn with_limits<'a>(alloc: Global, command: Command<'a>) -> Result<Command<'a>, AllocError> {
     let workers = count(
         alloc,
         "workers",
@@ -97,20 +155,22 @@ fn replay_command<'a>(alloc: Global) -> Result<Command<'a>, AllocError> {
         .value_parser(value_parser!(u64).range(1..=MOST_BYTES as i64))
         .default_value("268435456")
         .help("The most bytes that a text may have, 1 to 4611686018427387904");
+    command.arg(workers)?.arg(shards)?.arg(byte_limit)
+}
+
+fn replay_command<'a>(alloc: Global) -> Result<Command<'a>, AllocError> {
+    let command = Command::new(alloc, "replay").about("Replay a trace and report its races");
+    let command = with_rules(alloc, command)?;
+    let command = with_forms(alloc, command)?;
+    let command = with_limits(alloc, command)?;
     let trace = Arg::new(alloc, "trace")
         .value_name("TRACE")
         .required(true)
         .help("The trace to replay, or - for standard input");
-    Command::new(alloc, "replay")
-        .about("Replay a trace and report its races")
-        .arg(suppress)?
-        .arg(explain)?
-        .arg(by_site)?
-        .arg(workers)?
-        .arg(shards)?
-        .arg(byte_limit)?
-        .arg(trace)
+    command.arg(trace)
 }
+
+const FORMS: [&str; 3] = ["text", "json", "sarif"];
 
 const NAMES: [&str; 6] = [
     "locked-counter",
@@ -179,7 +239,34 @@ fn demo_of(name: &str) -> Option<Demo> {
     }
 }
 
-fn replay_of<'a>(found: &ArgMatches<'a>) -> Option<Replay<'a>> {
+fn format_of(by_site: bool, form: &str) -> Option<Format> {
+    match (by_site, form) {
+        (true, _) => Some(Format::BySite),
+        (false, "text") => Some(Format::Text),
+        (false, "json") => Some(Format::Json),
+        (false, "sarif") => Some(Format::Sarif),
+        _ => None,
+    }
+}
+
+// Whether races are explained in this format without being asked for.
+fn has_reasons(format: Format) -> bool {
+    matches!(format, Format::BySite | Format::Sarif)
+}
+
+// The values of an option that may be given several times.
+fn values_of<'a>(
+    alloc: Global,
+    found: &ArgMatches<'a>,
+    name: &str,
+) -> Result<Vec<&'a str>, AllocError> {
+    match found.get_strs(name) {
+        Some(values) => values.to_vec(alloc),
+        None => Ok(Vec::new(alloc)),
+    }
+}
+
+fn replay_of<'a>(found: &ArgMatches<'a>, suppressions: Vec<&'a str>) -> Option<Replay<'a>> {
     let shards = found.get_one::<u32>("shards")?;
     let workers = found.get_one::<u32>("workers")?;
     let byte_limit = found.get_one::<u64>("byte-limit")?;
@@ -189,31 +276,49 @@ fn replay_of<'a>(found: &ArgMatches<'a>) -> Option<Replay<'a>> {
     if byte_limit > MOST_BYTES {
         return None;
     }
-    let by_site = found.get_flag("by-site");
+    let format = format_of(found.get_flag("by-site"), found.get_str("format")?)?;
     Some(Replay {
-        suppressions: found.get_str("suppress"),
+        suppressions,
+        write_rules: found.get_str("write-rules"),
+        unused_rules: found.get_flag("unused-rules"),
+        max_races: found.get_one::<u64>("max-races"),
         trace: found.get_str("trace")?,
-        by_site,
-        explain: by_site || found.get_flag("explain"),
+        format,
+        explain: has_reasons(format) || found.get_flag("explain"),
         shards,
         workers,
         byte_limit,
     })
 }
 
-fn request_of<'a>(matches: &ArgMatches<'a>) -> Option<Request<'a>> {
-    match matches.subcommand()? {
-        ("replay", found) => Some(Request::Replay(replay_of(found)?)),
-        ("demo", found) => Some(Request::Demo(demo_of(found.get_str("name")?)?)),
+// None if a value is out of its range.
+fn request_of<'a>(
+    alloc: Global,
+    matches: &ArgMatches<'a>,
+) -> Result<Option<Request<'a>>, AllocError> {
+    Ok(match matches.subcommand() {
+        Some(("replay", found)) => {
+            let suppressions = values_of(alloc, found, "suppress")?;
+            replay_request(found, suppressions)
+        }
+        Some(("demo", found)) => demo_request(found),
         _ => None,
-    }
+    })
+}
+
+fn replay_request<'a>(found: &ArgMatches<'a>, suppressions: Vec<&'a str>) -> Option<Request<'a>> {
+    Some(Request::Replay(replay_of(found, suppressions)?))
+}
+
+fn demo_request<'a>(found: &ArgMatches<'a>) -> Option<Request<'a>> {
+    Some(Request::Demo(demo_of(found.get_str("name")?)?))
 }
 
 /// Reads a command line, of which the first word is the program's name.
 pub fn read_request<'a>(alloc: Global, words: &'a [String]) -> Result<Request<'a>, Error> {
     let mut command = eraser_command(alloc)?;
     let matches = command.try_get_matches_from_mut(words)?;
-    match request_of(&matches) {
+    match request_of(alloc, &matches)? {
         Some(request) => Ok(request),
         None => Err(command.error(ErrorKind::InvalidValue, "a value is out of its range")?),
     }

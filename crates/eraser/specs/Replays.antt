@@ -1,5 +1,8 @@
 -- What a replay leaves, and its exit status.
-use Rattle.std.specs.Prelude.{◌≡◌, ℕ, Bool, List, [], Option}
+use Rattle.std.specs.Prelude.{◌≡◌, ℕ, Bool, false, List, [], Option, None}
+use Rattle.er_request.specs.declared.request.Format.TheVariants.{Text}
+use Rattle.er_request.specs.declared.request.Replay.{Replay}
+use Rattle.er_rules.specs.Rules.{Target}
 use Rattle.er_run.specs.Replays.{IsReplayed}
 use Rattle.er_run.specs.declared.fault.Verdict.{Verdict}
 use Rattle.er_run.specs.declared.fault.Verdict.TheVariants.{Clean, Races, Stopped}
@@ -10,6 +13,17 @@ verdict_status Clean = 0
 verdict_status Races = 1
 verdict_status Stopped = 3
 
--- the text, of at most so many bytes, was replayed under no rules, with reasons or without, and the status is that of its verdict
+-- nothing but the report is asked for, as its text
+pub record IsPlain (replay : Replay) : Type 0 where
+  pub form : replay.format ≡ Text
+  pub rules : replay.write_rules ≡ None
+  pub unused : replay.unused_rules ≡ false
+  pub all : replay.max_races ≡ None
+
+-- the text, of at most so many bytes, was replayed under these rules, with reasons or without, and the status is that of its verdict
+abbrev pub EndsAs : List ℕ → ℕ → List Target → Bool → Option (List ℕ) → Option (List ℕ) → ℕ → Type 0
+EndsAs text limit rules explain old new status = (verdict : Verdict) × IsReplayed text limit rules explain old new verdict × (status ≡ verdict_status verdict)
+
+-- the same under no rules
 abbrev pub ReplaysTo : List ℕ → ℕ → Bool → Option (List ℕ) → Option (List ℕ) → ℕ → Type 0
-ReplaysTo text limit explain old new status = (verdict : Verdict) × IsReplayed text limit [] explain old new verdict × (status ≡ verdict_status verdict)
+ReplaysTo text limit explain old new status = EndsAs text limit [] explain old new status

@@ -4,18 +4,23 @@ ghost use Rattle.std.specs.Io.KnownBytes.{Keeps};
 ghost use Rattle.er_device.specs.Device.{inner_of, has_failed};
 ghost use Rattle.er_rules.specs.Rules.{targets_of};
 ghost use Rattle.er_exit.specs.Writes.{LeavesOutput};
+ghost use Rattle.er_request.specs.declared.request.Format.TheVariants.{Text};
 ghost use Rattle.er_run.specs.Replays.{IsReplayed};
-ghost use Rattle.eraser.specs.Replays.{ReplaysTo, verdict_status};
+ghost use Rattle.er_triage.specs.Notes.{AreNotes};
+ghost use Rattle.eraser.specs.Notes.{AsksNoNotes, GetsNotes};
+ghost use Rattle.eraser.specs.Replays.{EndsAs, IsPlain, ReplaysTo};
 
 use crate::faults::fault_of;
+use crate::rules::suppressions_of;
+use crate::sorting::{Ended, replay_and_sort, status_of};
 use clap::error::ErrorKind;
 use er_device::Device;
 use er_exit::{Fault, put, report_fault, run_demo};
+use er_formats::{Form, replay_as};
 use er_load::Workload;
-use er_request::{Replay, Request, read_request};
+use er_request::{Demo, Format, Replay, Request, read_request};
 use er_rules::Suppressions;
-use er_run::{Options, Verdict, replay_by_site, replay_text};
-use er_text::read_suppressions;
+use er_run::{Options, Verdict, replay_text};
 use std::alloc::Global;
 use std::fs::File;
 use std::io::{Read, Write};
@@ -43,8 +48,9 @@ where
     requires errors { has_failed errors.old ≡ false }
     ensures status { result ≤ 4 }
 
-    // With a result nothing goes to the errors, and with wrong arguments or a faulty text nothing to the output.
-    ensures quiet { result ≤ 1 → Keeps (E.contents (inner_of errors.old)) (E.contents (inner_of errors.new)) }
+    // With a result nothing goes to the errors but the notes that were asked for, and with wrong arguments or a faulty text nothing to
+    // the output.
+    ensures quiet { result ≤ 1 → GetsNotes (E.contents (inner_of errors.old)) (E.contents (inner_of errors.new)) (has_failed errors.new) }
     ensures refused { result ≡ 2 → Keeps (O.contents (inner_of output.old)) (O.contents (inner_of output.new)) }
 {
     match read_request(rt.alloc(), words) {
@@ -69,30 +75,52 @@ where
     requires output { has_failed output.old ≡ false }
     requires errors { has_failed errors.old ≡ false }
     ensures status { result ≤ 4 }
-    ensures quiet { result ≤ 1 → Keeps (E.contents (inner_of errors.old)) (E.contents (inner_of errors.new)) }
+    ensures quiet { result ≤ 1 → GetsNotes (E.contents (inner_of errors.old)) (E.contents (inner_of errors.new)) (has_failed errors.new) }
+    ensures silent { AsksNoNotes request.entry → result ≤ 1 → Keeps (E.contents (inner_of errors.old)) (E.contents (inner_of errors.new)) }
     ensures refused { result ≡ 2 → Keeps (O.contents (inner_of output.old)) (O.contents (inner_of output.new)) }
 {
     let outcome = match request {
-        Request::Replay(replay) => run_replay(rt, replay, input, output),
-        Request::Demo(demo) => run_demo(rt, rt.alloc(), Workload::ALL[demo.place], output),
+        Request::Replay(replay) => run_replay(rt, &replay, input, output),
+        Request::Demo(demo) => run_workload_of(rt, demo, output),
     };
     match outcome {
-        Ok(status) => status,
+        Ok(ended) => note(ended, errors),
         Err(fault) => report_fault(rt.alloc(), fault, errors),
     }
 }
 
-fn status_of(verdict: Verdict) -> u8
-    ensures { result ≡ verdict_status verdict }
+// Writes the notes, and returns the status.
+fn note<E: Write>(ended: Ended, errors: &mut Device<E>) -> u8
+    requires errors { has_failed errors.old ≡ false }
+    requires notes { AreNotes ended.notes.items }
+    ensures status { result ≡ ended.status }
+    ensures notes { GetsNotes (E.contents (inner_of errors.old)) (E.contents (inner_of errors.new)) (has_failed errors.new) }
+    ensures silent { ended.notes.items ≡ [] → Keeps (E.contents (inner_of errors.old)) (E.contents (inner_of errors.new)) }
 {
-    match verdict {
-        Verdict::Clean => 0,
-        Verdict::Races => 1,
-        Verdict::Stopped => 3,
+    put(errors, &ended.notes);
+    ended.status
+}
+
+fn run_workload_of<R, O>(rt: &R, demo: Demo, output: &mut Device<O>) -> Result<Ended, Fault>
+where
+    R: AllocGlobal + Threads + Wait + Sync,
+    O: Write,
+    requires output { has_failed output.old ≡ false }
+    ensures status { IfOk result (λ ended. (ended.status ≤ 4) × (ended.status ≢ 2)) }
+    ensures notes { IfOk result (λ ended. AreNotes ended.notes.items) }
+    ensures silent { IfOk result (λ ended. ended.notes.items ≡ []) }
+    ensures nothing { IfErr result (LeavesOutput (O.contents (inner_of output.old)) (O.contents (inner_of output.new))) }
+{
+    match run_demo(rt, rt.alloc(), Workload::ALL[demo.place], output) {
+        Ok(status) => Ok(Ended {
+            status,
+            notes: Vec::new(rt.alloc()),
+        }),
+        Err(fault) => Err(fault),
     }
 }
 
-// What was asked for.
+// How the trace is to be replayed.
 fn options_of(replay: &Replay<'_>) -> Options
     ensures explain { result.explain ≡ replay.now.explain }
     ensures bytes { result.byte_limit ≡ replay.now.byte_limit }
@@ -105,89 +133,105 @@ fn options_of(replay: &Replay<'_>) -> Options
 // The suppressions are opened and read before the trace is opened.
 fn run_replay<R, I, O>(
     rt: &R,
-    replay: Replay<'_>,
+    replay: &Replay<'_>,
     input: &mut Device<I>,
     output: &mut Device<O>,
-) -> Result<u8, Fault>
+) -> Result<Ended, Fault>
 where
     R: Files + AllocGlobal + Threads + Wait + Sync,
     I: Read,
     O: Write,
     requires input { has_failed input.old ≡ false }
     requires output { has_failed output.old ≡ false }
-    ensures status { IfOk result (λ status. (status ≤ 4) × (status ≢ 2)) }
-    ensures report { replay.entry.by_site ≡ false → replay.entry.suppressions ≡ None → replay.entry.trace.now ≡ codes "-" → IfOk result (λ status. IfSome (I.remaining (inner_of input.old)) (λ text. ReplaysTo text replay.entry.byte_limit replay.entry.explain (O.contents (inner_of output.old)) (O.contents (inner_of output.new)) status)) }
+    ensures status { IfOk result (λ ended. (ended.status ≤ 4) × (ended.status ≢ 2)) }
+    ensures notes { IfOk result (λ ended. AreNotes ended.notes.items) }
+    ensures silent { replay.now.unused_rules ≡ false → replay.now.max_races ≡ None → IfOk result (λ ended. ended.notes.items ≡ []) }
+    ensures report { IsPlain replay.now → replay.now.suppressions.items ≡ [] → replay.now.trace.now ≡ codes "-" → IfOk result (λ ended. IfSome (I.remaining (inner_of input.old)) (λ text. ReplaysTo text replay.now.byte_limit replay.now.explain (O.contents (inner_of output.old)) (O.contents (inner_of output.new)) ended.status)) }
     ensures nothing { IfErr result (LeavesOutput (O.contents (inner_of output.old)) (O.contents (inner_of output.new))) }
 {
-    let options = options_of(&replay);
-    let suppressions = suppressions_at(rt, replay.suppressions, &options)?;
-    let by_site = replay.by_site;
-    let verdict = replay_trace(
-        rt,
-        replay.trace,
-        &suppressions,
-        &options,
-        by_site,
-        input,
-        output,
-    )?;
-    Ok(status_of(verdict))
-}
-
-fn suppressions_at<R>(rt: &R, path: Option<&str>, options: &Options) -> Result<Suppressions, Fault>
-where
-    R: Files + AllocGlobal,
-    ensures { path.entry ≡ None → IfOk result (λ rules. targets_of rules ≡ []) }
-{
-    let Some(path) = path else {
-        return Ok(Suppressions::new(rt.alloc()));
-    };
-    let Ok(file) = File::open(rt, path) else {
-        return Err(Fault::OpenSuppressions);
-    };
-    let mut source = Device::new(file);
-    match read_suppressions(rt.alloc(), &mut source, options.byte_limit) {
-        Ok(suppressions) => Ok(suppressions),
-        Err(fault) => Err(Fault::of_suppressions(fault)),
-    }
+    let options = options_of(replay);
+    let suppressions = suppressions_of(rt, &replay.suppressions, options.byte_limit)?;
+    replay_trace(rt, replay, &suppressions, &options, input, output)
 }
 
 fn replay_trace<R, I, O>(
     rt: &R,
-    path: &str,
+    replay: &Replay<'_>,
     suppressions: &Suppressions,
     options: &Options,
-    by_site: bool,
     input: &mut Device<I>,
     output: &mut Device<O>,
-) -> Result<Verdict, Fault>
+) -> Result<Ended, Fault>
 where
     R: Files + AllocGlobal + Threads + Wait + Sync,
     I: Read,
     O: Write,
     requires input { has_failed input.old ≡ false }
     requires output { has_failed output.old ≡ false }
-    ensures report { by_site ≡ false → path.now ≡ codes "-" → IfOk result (λ verdict. IfSome (I.remaining (inner_of input.old)) (λ text. IsReplayed text options.now.byte_limit (targets_of suppressions.now) options.now.explain (O.contents (inner_of output.old)) (O.contents (inner_of output.new)) verdict)) }
+    ensures status { IfOk result (λ ended. (ended.status ≤ 4) × (ended.status ≢ 2)) }
+    ensures notes { IfOk result (λ ended. AreNotes ended.notes.items) }
+    ensures silent { replay.now.unused_rules ≡ false → replay.now.max_races ≡ None → IfOk result (λ ended. ended.notes.items ≡ []) }
+    ensures report { IsPlain replay.now → replay.now.trace.now ≡ codes "-" → IfOk result (λ ended. IfSome (I.remaining (inner_of input.old)) (λ text. EndsAs text options.now.byte_limit (targets_of suppressions.now) options.now.explain (O.contents (inner_of output.old)) (O.contents (inner_of output.new)) ended.status)) }
     ensures nothing { IfErr result (LeavesOutput (O.contents (inner_of output.old)) (O.contents (inner_of output.new))) }
 {
-    if path == "-" {
-        return replay_from(rt, input, output, suppressions, options, by_site);
+    if replay.trace == "-" {
+        return replay_from(rt, replay, input, output, suppressions, options);
     }
-    let Ok(file) = File::open(rt, path) else {
+    let Ok(file) = File::open(rt, replay.trace) else {
         return Err(Fault::OpenTrace);
     };
     let mut source = Device::new(file);
-    replay_from(rt, &mut source, output, suppressions, options, by_site)
+    replay_from(rt, replay, &mut source, output, suppressions, options)
 }
 
-// Replays what the reader gives, and writes the report, or the races by their sites.
+// Replays what the reader gives, and writes what was asked for.
 fn replay_from<R, D, O>(
     rt: &R,
+    replay: &Replay<'_>,
     source: &mut Device<D>,
     output: &mut Device<O>,
     suppressions: &Suppressions,
     options: &Options,
-    by_site: bool,
+) -> Result<Ended, Fault>
+where
+    R: Files + AllocGlobal + Threads + Wait + Sync,
+    D: Read,
+    O: Write,
+    requires source { has_failed source.old ≡ false }
+    requires output { has_failed output.old ≡ false }
+    ensures status { IfOk result (λ ended. (ended.status ≤ 4) × (ended.status ≢ 2)) }
+    ensures notes { IfOk result (λ ended. AreNotes ended.notes.items) }
+    ensures silent { replay.now.unused_rules ≡ false → replay.now.max_races ≡ None → IfOk result (λ ended. ended.notes.items ≡ []) }
+    ensures report { IsPlain replay.now → IfOk result (λ ended. IfSome (D.remaining (inner_of source.old)) (λ text. EndsAs text options.now.byte_limit (targets_of suppressions.now) options.now.explain (O.contents (inner_of output.old)) (O.contents (inner_of output.new)) ended.status)) }
+    ensures nothing { IfErr result (LeavesOutput (O.contents (inner_of output.old)) (O.contents (inner_of output.new))) }
+{
+    if asks_more(replay) {
+        return replay_and_sort(rt, replay, source, output, suppressions, options);
+    }
+    match replay_in(rt, replay.format, source, output, suppressions, options) {
+        Ok(verdict) => Ok(Ended {
+            status: status_of(verdict),
+            notes: Vec::new(rt.alloc()),
+        }),
+        Err(fault) => Err(fault),
+    }
+}
+
+// Whether more is asked for than a report.
+fn asks_more(replay: &Replay<'_>) -> bool
+    ensures { IsPlain replay.now → result ≡ false }
+{
+    replay.write_rules.is_some() || replay.unused_rules || replay.max_races.is_some()
+}
+
+// Replays what the reader gives, and writes the report in the format that was asked for.
+fn replay_in<R, D, O>(
+    rt: &R,
+    format: Format,
+    source: &mut Device<D>,
+    output: &mut Device<O>,
+    suppressions: &Suppressions,
+    options: &Options,
 ) -> Result<Verdict, Fault>
 where
     R: AllocGlobal + Threads + Wait + Sync,
@@ -195,13 +239,14 @@ where
     O: Write,
     requires source { has_failed source.old ≡ false }
     requires output { has_failed output.old ≡ false }
-    ensures report { by_site ≡ false → IfOk result (λ verdict. IfSome (D.remaining (inner_of source.old)) (λ text. IsReplayed text options.now.byte_limit (targets_of suppressions.now) options.now.explain (O.contents (inner_of output.old)) (O.contents (inner_of output.new)) verdict)) }
+    ensures report { format ≡ Text → IfOk result (λ verdict. IfSome (D.remaining (inner_of source.old)) (λ text. IsReplayed text options.now.byte_limit (targets_of suppressions.now) options.now.explain (O.contents (inner_of output.old)) (O.contents (inner_of output.new)) verdict)) }
     ensures nothing { IfErr result (LeavesOutput (O.contents (inner_of output.old)) (O.contents (inner_of output.new))) }
 {
-    let replayed = if by_site {
-        replay_by_site(rt, source, output, suppressions, options)
-    } else {
-        replay_text(rt, source, output, suppressions, options)
+    let replayed = match format {
+        Format::Text => replay_text(rt, source, output, suppressions, options),
+        Format::BySite => replay_as(rt, source, output, suppressions, options, Form::BySite),
+        Format::Json => replay_as(rt, source, output, suppressions, options, Form::Json),
+        Format::Sarif => replay_as(rt, source, output, suppressions, options, Form::Sarif),
     };
     match replayed {
         Ok(verdict) => Ok(verdict),
@@ -219,7 +264,7 @@ fn refused<O: Write, E: Write>(
     requires output { has_failed output.old ≡ false }
     requires errors { has_failed errors.old ≡ false }
     ensures status { result ≤ 4 }
-    ensures quiet { result ≤ 1 → Keeps (E.contents (inner_of errors.old)) (E.contents (inner_of errors.new)) }
+    ensures quiet { result ≤ 1 → GetsNotes (E.contents (inner_of errors.old)) (E.contents (inner_of errors.new)) (has_failed errors.new) }
     ensures written { result ≤ 1 → has_failed output.new ≡ false }
     ensures refused { result ≡ 2 → Keeps (O.contents (inner_of output.old)) (O.contents (inner_of output.new)) }
 {

@@ -6,6 +6,8 @@
 
 mod command;
 mod faults;
+mod rules;
+mod sorting;
 
 pub use command::command;
 use er_device::Device;

@@ -1,0 +1,17 @@
+-- The rules are those of the races of all lines.
+use Rattle.std.proofs.Common.{◌≡◌, ◌≤◌, ◌∙◌, [], ap, sym, subst, List, All, length, map, arith}
+use Rattle.std.specs.List.{fold}
+use Rattle.std.proofs.lemmas.List.{take_all}
+use Rattle.er_report.specs.declared.report.Line.{Line}
+use Rattle.er_rules.specs.Rules.{Target}
+use Rattle.er_triage.specs.Known.{IsTaken, rules_of, known_target, with_rule}
+use Rattle.er_triage.proofs.KnownLemmas.{all_taken}
+use Rattle.er_triage.proofs.known.known_races.Goals as goal
+
+pub returns-clause-taken : goal.returns-clause-taken
+returns-clause-taken c =
+    let past : length c.args.lines.now ≤ c.loop-line.line-index = omega (arith, c.loop-line-test.false) in
+    let all : map (known_target c.args.names.now) c.loop-line.known.items ≡ rules_of c.args.names.now c.args.lines.now =
+    c.loop-line.invariant.known ∙ c.loop-line.invariant.rules
+    ∙ ap (λ (lines : List Line). fold (with_rule c.args.names.now) [] lines) (take_all c.loop-line.line-index c.args.lines.now past) in
+    subst (λ (rules : List Target). All (IsTaken c.args.names.now rules) c.args.lines.now) (sym all) (all_taken c.args.names.now c.args.lines.now)

@@ -1,0 +1,39 @@
+-- Rules that take the races of a report.
+use Rattle.std.specs.Prelude.{ℕ, ◌<◌, ◌≤◌, cond, is_some, IsSome, List, [], ◌∷◌, ◌++◌, length, Option, Some, None}
+use Rattle.std.specs.List.{fold}
+use Rattle.er_report.specs.Report.{site_name}
+use Rattle.er_report.specs.declared.report.Line.{Line}
+use Rattle.er_report.specs.declared.report.Line.TheVariants.{Race, Refused, Shown}
+use Rattle.er_rules.specs.Rules.{Target, AtSite, AtWords, matching_rule}
+use Rattle.er_trace.specs.Names.{NameTable}
+use Rattle.er_triage.specs.declared.known.KnownRace.{KnownRace}
+
+-- the rule of a race: by the name of its site, or by its word if it has no site
+abbrev pub race_target : Option (List ℕ) → ℕ → Target
+race_target None word = AtWords (Some (record { first = word; last = word }))
+race_target (Some name) word = AtSite (Some name)
+
+-- the rule of a race that is known
+abbrev pub known_target : NameTable → KnownRace → Target
+known_target names race = race_target (site_name names race.site) race.word
+
+-- the rules, and behind them that of a race if none of them takes it
+abbrev pub with_rule : NameTable → List Target → Line → List Target
+with_rule names rules (Race number thread kind word site held explained) =
+    cond (is_some (matching_rule rules (site_name names site) word)) rules (rules ++ race_target (site_name names site) word ∷ [])
+with_rule names rules (Refused number step refusal) = rules
+with_rule names rules (Shown number word state) = rules
+
+-- the rules that the races of these lines ask for, one after another
+abbrev pub rules_of : NameTable → List Line → List Target
+rules_of names lines = fold (with_rule names) [] lines
+
+-- if the line is a race, one of the rules takes it
+abbrev pub IsTaken : NameTable → List Target → Line → Type 0
+IsTaken names rules (Race number thread kind word site held explained) = IsSome (matching_rule rules (site_name names site) word)
+IsTaken names rules (Refused number step refusal) = Unit {0}
+IsTaken names rules (Shown number word state) = Unit {0}
+
+-- the thread and the site of the race have names
+abbrev pub IsNamed : NameTable → KnownRace → Type 0
+IsNamed names race = (race.thread < length names.threads) × (race.site ≤ length names.sites)

@@ -1,0 +1,4 @@
+pub mod First
+pub mod Known
+pub mod Notes
+pub mod Texts

@@ -1,0 +1,11 @@
+-- What is noted of a report on standard error.
+use Rattle.std.specs.Prelude.{◌≡◌, ℕ, List, ◌++◌}
+use Rattle.er_rules.specs.Rules.{Target}
+use Rattle.er_triage.specs.Texts.{left_out_text, unused_from}
+
+-- the lines of rules that took no race, and how many races were left out; there may be none of either
+pub record AreNotes (text : List ℕ) : Type 0 where
+  pub counts : List ℕ
+  pub rules : List Target
+  pub left_out : ℕ
+  pub says : text ≡ unused_from 0 counts rules ++ left_out_text left_out

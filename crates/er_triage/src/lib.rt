@@ -1,0 +1,29 @@
+//! What else a report is good for: rules that take its races, rules that took none, and its first races alone.
+//!
+//! Begin with [`known_races`]. It goes over the lines of a report and makes a rule for each race that no rule before it takes: by the site
+//! of the access, or by its word if it has no site. [`known_races_text`] is a suppression text of these rules. [`unused_rules_text`] names
+//! the rules that took no race, [`keep_first_races`] leaves the lines of the other races out, and [`append_rules`] puts the rules of
+//! several files together.
+//!
+//! What it promises, by the names of clauses: each race of the report is taken by one of the rules (`taken`), and there is no rule but
+//! those that such races ask for (`rules`). The texts are defined in `specs/Texts`, and the first races in `specs/First`.
+//!
+//! ```
+//! let known = known_races(alloc, &report.lines, trace.names())?;
+//! let text = known_races_text(alloc, &known, trace.names())?;
+//! // A run of `t1 write 0x1000 a.c:1` and `t2 write 0x1000 a.c:1` on lines 2 and 3 has this rule, below a comment:
+//! // site a.c:1
+//! ```
+#![tactic(auto)]
+
+pub use first::keep_first_races;
+pub use joined::append_rules;
+pub use known::{KnownRace, known_races};
+pub use texts::{known_races_text, left_out_text, unused_rules_text};
+pub use wishes::{Triaged, Wishes, triage};
+
+mod first;
+mod joined;
+mod known;
+mod texts;
+mod wishes;

@@ -1,0 +1,13 @@
+-- Nothing written is no note.
+use Rattle.std.proofs.Common.{◌≡◌, ℕ, Bool, false, List, [], ◌++◌, Option, Some, None, refl, sym}
+use Rattle.std.proofs.lemmas.List.{append-nil}
+use Rattle.er_exit.specs.Writes.{WritesBytes}
+use Rattle.er_triage.specs.Notes.{AreNotes}
+use Rattle.eraser.specs.Notes.{GetsNotes}
+
+pub nothing : (text : List ℕ) → text ≡ [] → AreNotes text
+nothing text empty = record { counts = []; rules = []; left_out = 0; says = empty }
+
+pub no-notes : (old : Option (List ℕ)) (failed : Bool) → failed ≡ false → GetsNotes old old failed
+no-notes None failed none = ([], nothing [] refl, rw none tt)
+no-notes (Some bytes) failed none = ([], nothing [] refl, rw none (sym (append-nil bytes)))

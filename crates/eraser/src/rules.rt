@@ -1,0 +1,87 @@
+//! Files of rules: those that are read, and the one that is written.
+ghost use Rattle.std.specs.Prelude.{◌≡◌, ◌≤◌, ◌^◌, [], length, IfOk, IfErr};
+ghost use Rattle.er_exit.specs.declared.faults.Fault.TheVariants.{WriteRules};
+ghost use Rattle.er_rules.specs.Rules.{targets_of};
+
+use er_device::Device;
+use er_exit::Fault;
+use er_rules::Suppressions;
+use er_text::read_suppressions;
+use er_triage::append_rules;
+use std::alloc::Global;
+use std::fs::File;
+use std::rt::Files;
+
+/// The rules of these files, in their order, and from file to file.
+pub(crate) fn suppressions_of<R>(
+    rt: &R,
+    paths: &[&str],
+    byte_limit: u64,
+) -> Result<Suppressions, Fault>
+where
+    R: Files + AllocGlobal,
+    requires { byte_limit ≤ 2 ^ 62 }
+    ensures { paths.now ≡ [] → IfOk result (λ rules. targets_of rules ≡ []) }
+{
+    if paths.is_empty() {
+        return Ok(Suppressions::new(rt.alloc()));
+    }
+    suppressions_of_some(rt, paths, byte_limit)
+}
+
+fn suppressions_of_some<R>(rt: &R, paths: &[&str], byte_limit: u64) -> Result<Suppressions, Fault>
+where
+    R: Files + AllocGlobal,
+    requires { byte_limit ≤ 2 ^ 62 }
+{
+    let mut rules = Suppressions::new(rt.alloc());
+    let several = paths.len() > 1;
+    for (place, path) in paths.iter().enumerate() {
+        let number = if several {
+            Some(place as u64 + 1)
+        } else {
+            None
+        };
+        let found = suppressions_at(rt, path, number, byte_limit)?;
+        if place == 0 {
+            rules = found;
+        } else if append_rules(&mut rules, &found).is_err() {
+            return Err(Fault::Memory);
+        }
+    }
+    Ok(rules)
+}
+
+// The rules of one file, which has this number if there are several.
+fn suppressions_at<R>(
+    rt: &R,
+    path: &str,
+    number: Option<u64>,
+    byte_limit: u64,
+) -> Result<Suppressions, Fault>
+where
+    R: Files + AllocGlobal,
+    requires { byte_limit ≤ 2 ^ 62 }
+{
+    let Ok(file) = File::open(rt, path) else {
+        return Err(Fault::OpenSuppressions(number));
+    };
+    let mut source = Device::new(file);
+    match read_suppressions(rt.alloc(), &mut source, byte_limit) {
+        Ok(suppressions) => Ok(suppressions),
+        Err(fault) => Err(Fault::of_suppressions(number, fault)),
+    }
+}
+
+/// Writes a file of rules, in the place of what it had.
+pub(crate) fn write_rules<R: Files>(rt: &R, path: &str, text: &[u8]) -> Result<(), Fault>
+    ensures { IfErr result (λ fault. fault ≡ WriteRules) }
+{
+    let Ok(file) = File::create(rt, path) else {
+        return Err(Fault::WriteRules);
+    };
+    match Device::new(file).write_all(text) {
+        Ok(()) => Ok(()),
+        Err(_) => Err(Fault::WriteRules),
+    }
+}

@@ -1,0 +1,168 @@
+//! A replay of which more is asked for than a report.
+ghost use Rattle.std.specs.Prelude.{◌≡◌, ◌≢◌, ◌≤◌, [], All, false, None, IfOk, IfErr};
+ghost use Rattle.er_device.specs.Device.{inner_of, has_failed};
+ghost use Rattle.er_exit.specs.declared.faults.Fault.TheVariants.{Memory, WriteRules};
+ghost use Rattle.er_exit.specs.Writes.{LeavesOutput};
+ghost use Rattle.er_report.specs.Names.{HasNames};
+ghost use Rattle.er_triage.specs.Notes.{AreNotes};
+ghost use Rattle.eraser.specs.Replays.{verdict_status};
+
+use crate::faults::fault_of;
+use crate::rules::write_rules;
+use er_device::Device;
+use er_exit::Fault;
+use er_json::write_json;
+use er_print::{WriteFault, write_report};
+use er_report::Report;
+use er_request::{Format, Replay};
+use er_rules::Suppressions;
+use er_run::{Options, ReplayedTrace, Verdict, replay_report, verdict_of};
+use er_sarif::write_sarif;
+use er_sites::write_sites;
+use er_trace::{Names, Trace};
+use er_triage::{Triaged, Wishes, triage};
+use std::alloc::Global;
+use std::io::{Read, Write};
+use std::rt::Files;
+use std::sync::Wait;
+use std::thread::Threads;
+
+/// What a command line came to.
+#[derive(Drop)]
+pub(crate) struct Ended {
+    /// The exit status.
+    pub(crate) status: u8,
+    /// Lines for standard error.
+    pub(crate) notes: Vec<u8>,
+}
+
+/// The exit status of a replay.
+pub(crate) fn status_of(verdict: Verdict) -> u8
+    ensures { result ≡ verdict_status verdict }
+{
+    match verdict {
+        Verdict::Clean => 0,
+        Verdict::Races => 1,
+        Verdict::Stopped => 3,
+    }
+}
+
+/// Replays what the reader gives, writes the report as it is asked for, and then the file of rules, unless the replay stopped.
+pub(crate) fn replay_and_sort<R, D, O>(
+    rt: &R,
+    replay: &Replay<'_>,
+    source: &mut Device<D>,
+    output: &mut Device<O>,
+    suppressions: &Suppressions,
+    options: &Options,
+) -> Result<Ended, Fault>
+where
+    R: Files + AllocGlobal + Threads + Wait + Sync,
+    D: Read,
+    O: Write,
+    requires source { has_failed source.old ≡ false }
+    requires output { has_failed output.old ≡ false }
+    ensures status { IfOk result (λ ended. (ended.status ≤ 4) × (ended.status ≢ 2)) }
+    ensures notes { IfOk result (λ ended. AreNotes ended.notes.items) }
+    ensures silent { replay.now.unused_rules ≡ false → replay.now.max_races ≡ None → IfOk result (λ ended. ended.notes.items ≡ []) }
+    ensures nothing { IfErr result (LeavesOutput (O.contents (inner_of output.old)) (O.contents (inner_of output.new))) }
+{
+    let (report, trace) = match replay_report(rt, rt.alloc(), source, suppressions, options) {
+        Ok(ReplayedTrace { report, trace }) => (report, trace),
+        Err(why) => return Err(fault_of(why)),
+    };
+    let triaged = sorted(rt.alloc(), report, &trace, suppressions, replay)?;
+    write_as(
+        rt.alloc(),
+        replay.format,
+        &triaged.report,
+        trace.names(),
+        output,
+    )?;
+    finish(rt, replay.write_rules, triaged)
+}
+
+// The report as it is asked for, and what is asked for besides.
+fn sorted(
+    alloc: Global,
+    report: Report,
+    trace: &Trace,
+    suppressions: &Suppressions,
+    replay: &Replay<'_>,
+) -> Result<Triaged, Fault>
+    requires { All (HasNames trace.now.names) report.lines.items }
+    ensures named { IfOk result (λ triaged. All (HasNames trace.now.names) triaged.report.lines.items) }
+    ensures notes { IfOk result (λ triaged. AreNotes triaged.notes.items) }
+    ensures silent { replay.now.unused_rules ≡ false → replay.now.max_races ≡ None → IfOk result (λ triaged. triaged.notes.items ≡ []) }
+    ensures fault { IfErr result (λ fault. fault ≡ Memory) }
+{
+    let wishes = wishes_of(replay);
+    match triage(alloc, report, trace.names(), suppressions, wishes) {
+        Ok(triaged) => Ok(triaged),
+        Err(_) => Err(Fault::Memory),
+    }
+}
+
+fn wishes_of(replay: &Replay<'_>) -> Wishes
+    ensures unused { result.unused_rules ≡ replay.now.unused_rules }
+    ensures most { result.max_races ≡ replay.now.max_races }
+{
+    Wishes {
+        known_races: replay.write_rules.is_some(),
+        unused_rules: replay.unused_rules,
+        max_races: replay.max_races,
+    }
+}
+
+// Writes the report in the format that was asked for.
+fn write_as<O: Write>(
+    alloc: Global,
+    format: Format,
+    report: &Report,
+    names: &Names,
+    output: &mut Device<O>,
+) -> Result<(), Fault>
+    requires output { has_failed output.old ≡ false }
+    requires named { All (HasNames names.now) report.now.lines.items }
+    ensures nothing { IfErr result (LeavesOutput (O.contents (inner_of output.old)) (O.contents (inner_of output.new))) }
+{
+    let written = match format {
+        Format::Text => write_report(alloc, output, report, names),
+        Format::BySite => write_sites(alloc, output, report, names),
+        Format::Json => write_json(alloc, output, report, names),
+        Format::Sarif => write_sarif(alloc, output, report, names),
+    };
+    match written {
+        Ok(()) => Ok(()),
+        Err(WriteFault::Memory) => Err(Fault::Memory),
+        Err(WriteFault::Write) => Err(Fault::Write),
+    }
+}
+
+// Writes the file of rules behind the report, unless the replay stopped.
+fn finish<R: Files>(rt: &R, path: Option<&str>, triaged: Triaged) -> Result<Ended, Fault>
+    requires { AreNotes triaged.notes.items }
+    ensures status { IfOk result (λ ended. (ended.status ≤ 4) × (ended.status ≢ 2)) }
+    ensures notes { IfOk result (λ ended. ended.notes.items ≡ triaged.notes.items) }
+    ensures fault { IfErr result (λ fault. fault ≡ WriteRules) }
+{
+    let verdict = verdict_of(&triaged.report);
+    let Triaged {
+        report,
+        known_races,
+        notes,
+    } = triaged;
+    close(report);
+    if let (Some(path), Some(text)) = (path, &known_races) {
+        if verdict != Verdict::Stopped {
+            write_rules(rt, path, text)?;
+        }
+    }
+    Ok(Ended {
+        status: status_of(verdict),
+        notes,
+    })
+}
+
+// Lets go of a report. Split for the prover.
+fn close(_report: Report) {}

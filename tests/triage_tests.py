@@ -1,0 +1,260 @@
+#!/usr/bin/env python3
+"""Rules of several files, rules that are written, rules that took nothing, and the first races alone.
+
+`tests/run` calls `tests`. By itself this file runs these tests alone. What is wanted is made of the report without these options, which
+the other tests compare with tests/reference.py.
+
+- rules in several files are those of one file with all lines; a fault names the file by its number
+- --write-rules: the report stays as it is, the file has the rules that this file makes of the report, and used with the earlier rules it
+  leaves no race; there is no file behind a fault or a stop
+- --unused-rules: a line for each rule of which the report says 0
+- --max-races: the first races have lines, and the others are counted; the same in JSON and SARIF
+- each allocation refused in turn: `out of memory` and no file of rules, or a stop, or the whole answer
+"""
+
+import json
+import os
+import pathlib
+import re
+import subprocess
+import sys
+import tempfile
+
+sys.dont_write_bytecode = True
+import cases
+import reference
+from alone import run_alone
+
+TOP = pathlib.Path(__file__).resolve().parent.parent
+PROGRAM = TOP / "crates/eraser/out/eraser"
+RANDOM_TRACES = 300
+RACE = re.compile(r"line (\d+): race: (\S+) (read|write) (0x[0-9a-f]{12}) at (\S+), holds .*")
+HEAD = "# Known races, written by eraser replay --write-rules\n"
+
+
+def run(words, text=b"", **more):
+    done = subprocess.run([str(PROGRAM), *map(str, words)], input=text, capture_output=True, timeout=120, **more)
+    return done.stdout, done.stderr, done.returncode
+
+
+def known_races(report):
+    """The rules file that a report asks for."""
+    rules = []
+    for line in report.decode().splitlines():
+        race = RACE.fullmatch(line)
+        if race:
+            _, _, _, address, site = race.groups()
+            for rule in rules:
+                if rule["rule"] in (f"site {site}", f"words {address} 4"):
+                    rule["races"] += 1
+                    break
+            else:
+                rules.append({"rule": f"words {address} 4" if site == "-" else f"site {site}", "races": 1, "first": race})
+    told = (f"# races {rule['races']}, first: line {rule['first'][1]}, {rule['first'][2]} {rule['first'][3]} {rule['first'][4]}\n{rule['rule']}\n" for rule in rules)
+    return (HEAD + "".join(told)).encode()
+
+
+def totals(report):
+    return [int(number) for number in re.findall(rb"\d+", report.splitlines()[-1])]
+
+
+def texts():
+    """Names, traces and rules, of which none has a fault, with options."""
+    for trace in sorted((TOP / "examples").glob("*.trace")):
+        rules, options = trace.with_suffix(".rules"), trace.with_suffix(".options")
+        yield trace.stem, trace.read_bytes(), rules.read_bytes() if rules.exists() else b"", options.read_text().split() if options.exists() else []
+    for seed in range(RANDOM_TRACES):
+        text, rules = reference.random_trace(seed), reference.random_rules(seed)
+        if reference.replay(text, rules)[2] < 2:
+            yield f"random trace {seed}", text, rules, []
+
+
+def written_rules(record, folder):
+    first, second = folder / "first.rules", folder / "second.rules"
+    races = 0
+    for name, text, rules, options in texts():
+        first.write_bytes(rules)
+        second.unlink(missing_ok=True)
+        before = run(["replay", *options, "--suppress", first, "-"], text)
+        for more in ([], ["--workers", "3"], ["--by-site"]):
+            plain = run(["replay", *options, *more, "--suppress", first, "-"], text)
+            found = run(["replay", *options, *more, "--suppress", first, "--write-rules", second, "-"], text)
+            record(f"{name} {more}: the report beside written rules", found == plain, f"{found}")
+            record(f"{name} {more}: written rules", second.read_bytes() == known_races(before[0]), f"{second.read_bytes()}")
+        output, errors, status = run(["replay", *options, "--suppress", first, "--suppress", second, "-"], text)
+        steps, raced, suppressed, refused = totals(before[0])
+        is_quiet = (errors, status) == (b"", 0) and totals(output) == [steps, 0, suppressed + raced, refused]
+        record(f"{name}: written rules leave no race", is_quiet, f"{output}")
+        counts = [int(count) for count in re.findall(rb"suppression \d+: (\d+)", output)][rules_in(rules):]
+        told = [int(count) for count in re.findall(rb"# races (\d+)", second.read_bytes())]
+        record(f"{name}: written rules take what they say", counts == told, f"{counts}, {told}")
+        races += raced
+    record("rules were written for some races", races > 100, f"{races}")
+
+
+def rules_in(text):
+    return sum(1 for line in text.split(b"\n") if line.strip(b" \t") and not line.startswith(b"#"))
+
+
+def several_files(record, folder):
+    one, parts = folder / "one.rules", [folder / f"part{n}.rules" for n in range(3)]
+    for name, text, rules, options in texts():
+        lines = re.findall(rb"[^\n]*\n|[^\n]+", rules)
+        cuts = [len(lines) // 3, 2 * len(lines) // 3]
+        for part, some in zip(parts, (lines[:cuts[0]], lines[cuts[0]:cuts[1]], lines[cuts[1]:])):
+            part.write_bytes(b"".join(some))
+        one.write_bytes(rules)
+        words = [word for part in parts for word in ("--suppress", part)]
+        whole = run(["replay", *options, "--suppress", one, "-"], text)
+        found = run(["replay", *options, *words, "-"], text)
+        record(f"{name}: rules in three files", found == whole, f"{found}, {whole}")
+    good, bad = folder / "good.rules", folder / "bad.rules"
+    good.write_bytes(b"site a.c:1\n")
+    bad.write_bytes(b"# no rule\nsites a.c:1\n")
+    trace = b"eraser trace 1\n"
+    for words, errors, status in (
+        ([bad], b"suppressions line 2: bad verb\n", 2),
+        ([bad, good], b"suppressions file 1 line 2: bad verb\n", 2),
+        ([good, bad], b"suppressions file 2 line 2: bad verb\n", 2),
+        ([good, "/nonexistent", bad], b"cannot open suppressions file 2\n", 4),
+        (["/nonexistent"], b"cannot open suppressions\n", 4),
+        ([good, TOP], b"read fault in suppressions file 2\n", 4),
+        ([TOP], b"read fault\n", 4),
+    ):
+        options = [word for path in words for word in ("--suppress", path)]
+        found = run(["replay", *options, "-"], trace)
+        record(f"files of rules {[pathlib.Path(word).name for word in words]}", found == (b"", errors, status), f"{found}")
+
+
+TWO_RACES = cases.text_of("t1 write 0x1000 a.c:1; t2 write 0x1000 a.c:1; t1 write 0x2000; t2 read 0x2000; t2 write 0x2000")
+
+
+def unwritten_rules(record, folder):
+    path, kept = folder / "kept.rules", b"site kept.c:1\n"
+    path.write_bytes(kept)
+    for name, words, text in (
+        ("a fault of the text", [], b"eraser trace 1\nt1 hop\n"),
+        ("a trace that is not there", ["/nonexistent"], b""),
+        ("suppressions that are not there", ["--suppress", "/nonexistent", "-"], TWO_RACES),
+    ):
+        found = run(["replay", "--write-rules", path, *(words or ["-"])], text)
+        record(f"no rules are written behind {name}", found[2] > 1 and found[1] and path.read_bytes() == kept, f"{found}")
+    whole = run(["replay", "-"], TWO_RACES)
+    with open("/dev/full", "wb") as full:
+        done = subprocess.run([str(PROGRAM), "replay", "--write-rules", str(path), "-"], input=TWO_RACES, stdout=full, stderr=subprocess.PIPE, timeout=60)
+        record("no rules are written behind a write fault", (done.stderr, done.returncode, path.read_bytes()) == (b"write fault\n", 4, kept), f"{done}")
+    for place in ("/dev/full", "/nonexistent/known.rules", TOP):
+        found = run(["replay", "--write-rules", place, "-"], TWO_RACES)
+        record(f"rules that can't be written to {pathlib.Path(place).name}", found == (whole[0], b"cannot write rules\n", 4), f"{found}")
+    output, errors, status = run(["replay", "--write-rules", "/dev/stdout", "-"], cases.text_of("t1 write 0x1000"))
+    record("rules of no race", (errors, status) == (b"", 0) and output.endswith(HEAD.encode()), f"{output}")
+
+
+def unused_rules(record, folder):
+    path, unused = folder / "some.rules", 0
+    for name, text, rules, options in texts():
+        path.write_bytes(rules)
+        plain = run(["replay", *options, "--suppress", path, "-"], text)
+        found = run(["replay", *options, "--suppress", path, "--unused-rules", "-"], text)
+        counts = [int(count) for count in re.findall(rb"suppression \d+: (\d+)", plain[0])]
+        numbers = [place for place, count in enumerate(counts, 1) if count == 0]
+        told = [int(number) for number in re.findall(rb"unused suppression (\d+): (?:site \S+|words 0x[0-9a-f]{12} \d+|words 0 0)\n", found[1])]
+        is_right = (found[0], found[2]) == (plain[0], plain[2]) and told == numbers and found[1].count(b"\n") == len(numbers)
+        record(f"{name}: unused rules", is_right, f"{found}, {numbers}")
+        unused += len(numbers)
+    record("some rules were unused", unused > 100, f"{unused}")
+    path.write_bytes(b"site a.c:1\nsite -\n# none\n words  4096 0x10 \nwords 0x7 1\nwords 12 0\n")
+    found = run(["replay", "--suppress", path, "--unused-rules", "-"], b"eraser trace 1\n")[1]
+    wanted = b"1: site a.c:1|2: site -|3: words 0x000000001000 16|4: words 0x000000000004 4|5: words 0 0"
+    record("unused rules as they are written", found == b"".join(b"unused suppression " + line + b"\n" for line in wanted.split(b"|")), f"{found}")
+
+
+def first_races(record, folder):
+    for name, text, _, options in texts():
+        for explained in ([], ["--explain"]) if not options else ([],):
+            lines = run(["replay", *options, *explained, "-"], text)
+            races = sum(1 for line in lines[0].splitlines() if b": race: " in line)
+            for most in {0, 1, races // 2, races, races + 1}:
+                kept, seen, is_kept = [], 0, True
+                for line in lines[0].splitlines(keepends=True):
+                    if b": race: " in line:
+                        seen += 1
+                        is_kept = seen <= most
+                    elif not line.startswith(b"  "):
+                        is_kept = True
+                    kept += [line] if is_kept else []
+                errors = f"races left out: {races - most}\n" if races > most else ""
+                found = run(["replay", *options, *explained, "--max-races", most, "-"], text)
+                record(f"{name} {explained}: the first {most} races", found == (b"".join(kept), errors.encode(), lines[2]), f"{found}")
+
+
+def counted(form, text):
+    """How many races a JSON document or the results of a SARIF log have."""
+    document = json.loads(text)
+    return len(document["races"]) if form == "json" else sum(result["occurrenceCount"] for result in document["runs"][0]["results"])
+
+
+def together(record, folder):
+    path, rules = folder / "all.rules", folder / "used.rules"
+    rules.write_bytes(b"site b.c:1\n")
+    words = ["replay", "--suppress", rules, "--unused-rules", "--max-races", "1", "--write-rules", path, "-"]
+    output, errors, status = run(words, TWO_RACES)
+    record("all at once", (errors, status) == (b"unused suppression 1: site b.c:1\nraces left out: 1\n", 1) and output.count(b": race: ") == 1, f"{output}, {errors}")
+    record("rules take the races without a line too", path.read_bytes() == known_races(run(["replay", "-"], TWO_RACES)[0]), f"{path.read_bytes()}")
+    output, errors, status = run(["replay", "--by-site", "--max-races", "1", "-"], TWO_RACES)
+    record("--max-races with --by-site", (output, status) == (b"", 2) and errors.startswith(b"error: the argument '"), f"{errors}")
+    for form in ("json", "sarif"):
+        everything = run(["replay", "--format", form, "-"], TWO_RACES)
+        path.unlink()
+        found = run(["replay", "--format", form, *words[1:]], TWO_RACES)
+        is_right = found[1:] == (b"unused suppression 1: site b.c:1\nraces left out: 1\n", 1) and counted(form, found[0]) == 1
+        record(f"all at once as {form}", is_right and counted(form, everything[0]) == 2, f"{found}")
+        record(f"rules take all races if the report is {form}", path.read_bytes() == known_races(run(["replay", "-"], TWO_RACES)[0]), f"{path.read_bytes()}")
+    for value in ("-1", "x", ""):
+        found = run(["replay", f"--max-races={value}", "-"], TWO_RACES)
+        record(f"--max-races {value}", (found[0], found[2]) == (b"", 2), f"{found}")
+
+
+def refusals(record, folder, preloaded):
+    """Each allocation refused in turn: `out of memory` with nothing written, or a stop, or the whole answer."""
+    library, count, rules, path = preloaded(folder, "refuse"), folder / "count", folder / "refused.rules", folder / "written.rules"
+    rules.write_bytes(b"site b.c:1\nwords 0x9000 8\n")
+    words = ["replay", "--suppress", rules, "--suppress", rules, "--unused-rules", "--max-races", "1", "--write-rules", path, "-"]
+    whole, told = run(words, TWO_RACES), 0
+    written = path.read_bytes()
+    for nth in range(1, 100000):
+        path.write_bytes(b"")
+        env = {**os.environ, "LD_PRELOAD": str(library), "REFUSE": str(nth), "REFUSE_FOUND": str(count)}
+        found = run(words, TWO_RACES, env=env)
+        if not count.exists():
+            record("triage with all allocations", found == whole and path.read_bytes() == written and 2 * told > nth, f"{found}, {told} of {nth}")
+            break
+        count.unlink()
+        is_stopped = found[2] == 3 and b": stopped: out of memory\n" in found[0]
+        is_told = is_stopped or found == (b"", b"out of memory\n", 3)
+        told += is_told
+        is_right = path.read_bytes() == b"" if is_told else (found, path.read_bytes()) == (whole, written)
+        record(f"triage without allocation {nth}", is_right, f"{found}")
+
+
+def tests(record, preloaded):
+    with tempfile.TemporaryDirectory() as name:
+        folder = pathlib.Path(name)
+        several_files(record, folder)
+        written_rules(record, folder)
+        unwritten_rules(record, folder)
+        unused_rules(record, folder)
+        first_races(record, folder)
+        together(record, folder)
+        refusals(record, folder, preloaded)
+
+
+def preloaded(folder, name):
+    """A library of tests/ for LD_PRELOAD, as `tests/run` builds it."""
+    path = pathlib.Path(folder) / f"{name}.so"
+    subprocess.run(["cc", "-O1", "-shared", "-fPIC", "-o", str(path), str(TOP / f"tests/{name}.c"), "-ldl"], check=True)
+    return path
+
+
+if __name__ == "__main__":
+    run_alone(tests, preloaded)
