@@ -39,7 +39,7 @@ get-ticked_other (suc t) (suc u) (x ∷ xs) other = get-ticked_other t u xs (λ 
 plus_zero : (x : ℕ) → x ≡ x + 0
 plus_zero x = omega arith
 
-tick-runs : (t u x : ℕ) (xs : List ℕ) (f own : Bool) → (t == u) ≡ own → get_or xs u 0 ≡ x → get_or (cond f (ticked t xs) xs) u 0 ≡ x + cond (own && f) 1 0
+pub tick-runs : (t u x : ℕ) (xs : List ℕ) (f own : Bool) → (t == u) ≡ own → get_or xs u 0 ≡ x → get_or (cond f (ticked t xs) xs) u 0 ≡ x + cond (own && f) 1 0
 tick-runs t u x xs true true same is =
     let here : t ≡ u = eqb-true t u same in
     rw here (get-ticked_same u xs ∙ rw is refl)

@@ -7,10 +7,10 @@ use Rattle.er_order.specs.Order.{Acquired, Released, Started, Joined, Signalled,
 use Rattle.er_order.specs.Clocks.{Keeper, OfThread, OfReleases, OfObject, Clocks, is_own, is_of_releases, is_of_object, gives, flows, found, seen, raised, clocks_after}
 use Rattle.er_order.proofs.Clocks.{equal_Bool}
 
-flip : (x y : ℕ) → (x == y) ≡ (y == x)
+pub flip : (x y : ℕ) → (x == y) ≡ (y == x)
 flip x y = equal_Bool (x == y) (y == x) (λ e. eq-eqb y x (sym (eqb-true x y e))) (λ e. eq-eqb x y (sym (eqb-true y x e)))
 
-and_none : (b : Bool) → (b && false) ≡ false
+pub and_none : (b : Bool) → (b && false) ≡ false
 and_none true = refl
 and_none false = refl
 
@@ -50,7 +50,7 @@ begun false true false x y same = omega arith
 begun false false true x y same = omega arith
 begun false false false x y same = omega arith
 
-and_all : (b : Bool) → (b && true) ≡ b
+pub and_all : (b : Bool) → (b && true) ≡ b
 and_all true = refl
 and_all false = refl
 

@@ -1,0 +1,5 @@
+use Rattle.er_held.proofs.MapLemmas.{holding_empty}
+use Rattle.er_before.proofs.holders.Holders.new.Goals as goal
+
+pub returns : goal.returns
+returns c t = holding_empty c.new.result.entries t c.new.ensures.empty

@@ -1,0 +1,177 @@
+//! Every thread's holdings.
+ghost use Rattle.std.specs.Prelude.{◌≡◌, ℕ, nat_eq, cond, IsTrue, OnOk, OnErr, None};
+ghost use Rattle.er_event.specs.Lockset.{has};
+ghost use Rattle.er_model.specs.Holdings.{refused_by, changed_by};
+ghost use Rattle.er_held.specs.Held.{nothing_held};
+ghost use Rattle.er_held.specs.ThreadLocks.{holding_among};
+
+use er_event::{Event, LockId, Mode, Refusal, ThreadId};
+use er_held::Held;
+use std::alloc::{AllocError, Global};
+use std::collections::HashMap;
+use std::marker::Model;
+
+/// The holdings of the threads that took something, by thread. Any other thread has nothing.
+#[derive(Drop)]
+pub(crate) struct Holders {
+    held: HashMap<u32, Held>,
+    nothing: Held,
+    alloc: Global,
+}
+
+impl Model for Holders {
+    ghost use Rattle.std.specs.Prelude.{◌≡◌, ℕ, List};
+    ghost use Rattle.er_held.specs.Held.{nothing_held};
+    ghost use Rattle.er_model.specs.Holdings.{Holdings};
+
+    ghost Value = { List (ℕ × Holdings) };
+
+    ghost view = { λ t. t.held.entries };
+
+    ghost invariant = { λ t. t.nothing ≡ nothing_held };
+}
+
+impl Holders {
+    /// Nobody has anything.
+    pub(crate) fn new(alloc: Global) -> Self
+        ensures { (t : ℕ) → holding_among result t ≡ nothing_held }
+    {
+        Holders {
+            held: HashMap::new(alloc),
+            nothing: Held::new(alloc),
+            alloc,
+        }
+    }
+
+    /// The thread's holdings.
+    pub(crate) fn get(&self, thread: ThreadId) -> &Held
+        ensures { result.now ≡ holding_among self.now thread }
+    {
+        match self.held.get(&thread.number()) {
+            Some(held) => held,
+            None => &self.nothing,
+        }
+    }
+
+    /// Why an event of the thread is refused, if it is.
+    pub(crate) fn refusal(&self, thread: ThreadId, event: &Event) -> Option<Refusal>
+        ensures { result ≡ refused_by (holding_among self.now thread) event.now }
+    {
+        refusal(self.get(thread), event)
+    }
+
+    /// What an accepted event makes of its thread's holdings. After an error nothing has changed.
+    pub(crate) fn change(&mut self, thread: ThreadId, event: Event) -> Result<(), AllocError>
+        requires { refused_by (holding_among self.old thread) event ≡ None }
+        ensures ok { OnOk result ((t : ℕ) → holding_among self.new t ≡ cond (nat_eq thread t) (changed_by (holding_among self.old thread) event) (holding_among self.old t)) }
+        ensures err { OnErr result ((t : ℕ) → holding_among self.new t ≡ holding_among self.old t) }
+        ensures within { (l : ℕ) → IsTrue (has (holding_among self.old thread).write_held l) → IsTrue (has (holding_among self.old thread).held l) }
+    {
+        match self.held.get_mut(&thread.number()) {
+            Some(held) => change(held, event),
+            None => {
+                let mut held = Held::new(self.alloc);
+                change(&mut held, event)?;
+                self.held.insert(thread.number(), held)?;
+                Ok(())
+            }
+        }
+    }
+
+    /// Gives up a lock that the thread holds in this mode. It takes no memory.
+    pub(crate) fn release(&mut self, thread: ThreadId, lock: LockId, mode: Mode)
+        requires { refused_by (holding_among self.old thread) (Event.Release lock mode) ≡ None }
+        ensures { (t : ℕ) → holding_among self.new t ≡ cond (nat_eq thread t) (changed_by (holding_among self.old thread) (Event.Release lock mode)) (holding_among self.old t) }
+    {
+        match self.held.get_mut(&thread.number()) {
+            Some(held) => give_up(held, lock, mode),
+            None => {}
+        }
+    }
+}
+
+// Why an event of a thread with these holdings is refused, if it is.
+fn refusal(held: &Held, event: &Event) -> Option<Refusal>
+    ensures { result ≡ refused_by held.now event.now }
+{
+    match *event {
+        Event::Acquire(lock, _) => {
+            if lock.is_level_lock() {
+                Some(Refusal::LevelLock)
+            } else if held.held().contains(lock) {
+                Some(Refusal::AlreadyHeld)
+            } else if held.acquired() >= Held::MOST_LOCKS {
+                Some(Refusal::HeldFull)
+            } else {
+                None
+            }
+        }
+        Event::Release(lock, mode) => refusal_of_release(held, lock, mode),
+        Event::IgnoreOn => {
+            if held.depth() == Held::MOST_BRACKETS {
+                Some(Refusal::IgnoreTooDeep)
+            } else {
+                None
+            }
+        }
+        Event::IgnoreOff => {
+            if held.depth() == 0 {
+                Some(Refusal::IgnoreNotOn)
+            } else {
+                None
+            }
+        }
+        Event::Access(..) | Event::Reuse(_) | Event::Show(_) | Event::Level(_) => None,
+    }
+}
+
+// The same of a release.
+fn refusal_of_release(held: &Held, lock: LockId, mode: Mode) -> Option<Refusal>
+    ensures { result ≡ refused_by held.now (Event.Release lock mode) }
+{
+    if lock.is_level_lock() {
+        return Some(Refusal::LevelLock);
+    }
+    let is_held = held.held().contains(lock);
+    let is_written = held.write_held().contains(lock);
+    match mode {
+        Mode::Write => {
+            if is_written {
+                None
+            } else if is_held {
+                Some(Refusal::WrongMode)
+            } else {
+                Some(Refusal::NotHeld)
+            }
+        }
+        Mode::Read => {
+            if is_written {
+                Some(Refusal::WrongMode)
+            } else if is_held {
+                None
+            } else {
+                Some(Refusal::NotHeld)
+            }
+        }
+    }
+}
+
+// What an accepted event makes of holdings.
+fn change(held: &mut Held, event: Event) -> Result<(), AllocError>
+    requires { refused_by held.old event ≡ None }
+    ensures ok { OnOk result (held.new ≡ changed_by held.old event) }
+    ensures err { OnErr result (held.new ≡ held.old) }
+    ensures within { (l : ℕ) → IsTrue (has held.old.write_held l) → IsTrue (has held.old.held l) }
+{
+    // What is held in write mode is held.
+    let _locks = held.held();
+    held.follow(event)
+}
+
+// Gives up a lock that is held in this mode.
+fn give_up(held: &mut Held, lock: LockId, mode: Mode)
+    requires { refused_by held.old (Event.Release lock mode) ≡ None }
+    ensures { held.new ≡ changed_by held.old (Event.Release lock mode) }
+{
+    let _ = held.release(lock, mode);
+}

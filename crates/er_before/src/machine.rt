@@ -1,0 +1,200 @@
+//! The machine: every thread's holdings, the clocks, and what is kept of every word.
+ghost use Rattle.std.specs.Prelude.{◌≡◌, ℕ, List, ◌++◌, ◌∷◌, [], IsFalse, IfOk, OnOk, OnErr, None, is_ok, length, true};
+ghost use Rattle.er_model.specs.Holdings.{refused_by};
+ghost use Rattle.er_order.specs.declared.steps.OrderStep.{OrderStep as Steps};
+ghost use Rattle.er_order.specs.Races.{order_answer};
+
+use crate::holders::Holders;
+use er_clock::NoTick;
+use er_clocks::Clocks;
+use er_epochs::OrderWords;
+use er_event::{Event, Kind, LockId, Mode, PageRange, Refusal, Reply, ThreadId, Word};
+use er_order::{OrderEvent, OrderStep};
+use std::alloc::Global;
+use std::marker::Model;
+
+/// Each thread's holdings, the clocks of threads, locks and objects, and what happens-before keeps of each word.
+#[derive(Drop)]
+pub struct OrderMachine {
+    holders: Holders,
+    clocks: Clocks,
+    words: OrderWords,
+}
+
+impl Model for OrderMachine {
+    ghost use Rattle.er_before.specs.Standing.{Ordered};
+
+    ghost Value = { Ordered };
+
+    ghost view = { λ m. record { holders = m.holders; clocks = m.clocks; words = m.words } };
+}
+
+impl OrderMachine {
+    ghost use Rattle.er_before.specs.Standing.{Stands, Changes, IsSame, holding, clock_of, kept_of, reply_by, answered_by, is_show, holds_alone};
+
+    /// A machine that has taken no step.
+    pub fn new(alloc: Global) -> Self
+        ensures { Stands result [] }
+    {
+        OrderMachine {
+            holders: Holders::new(alloc),
+            clocks: Clocks::new(alloc),
+            words: OrderWords::new(alloc),
+        }
+    }
+
+    /// Takes one step and says what it is answered: a reply, or why it is refused. A show is done.
+    ///
+    /// # Errors
+    /// `CountFull`: a thread's own count would rise, and is the greatest. `OutOfMemory`: memory was refused. The step may be tried
+    /// again.
+    pub fn step(&mut self, step: &OrderStep) -> Result<Result<Reply, Refusal>, NoTick>
+        ensures answer { (past : List Steps) → Stands self.old past → IsFalse (is_show step.now.event)
+            → IfOk result (λ answer. answer ≡ order_answer (past ++ step.now ∷ []) (length past)) }
+        ensures goes_on { (past : List Steps) → Stands self.old past → OnOk result (Stands self.new (past ++ step.now ∷ [])) }
+        ensures err { (past : List Steps) → Stands self.old past → OnErr result (Stands self.new past) }
+
+        // The same by the machine's own holdings, clocks and words.
+        ensures answered { IfOk result (λ answer. answer ≡ answered_by self.old step.now) }
+        ensures changes { OnOk result (Changes self.old step.now self.new) }
+        ensures same { OnErr result (IsSame self.old self.new) }
+    {
+        match step.event {
+            OrderEvent::Plain(event) => self.take(step.thread, event),
+            OrderEvent::Start(_)
+            | OrderEvent::Join(_)
+            | OrderEvent::Signal(_)
+            | OrderEvent::Await(_) => {
+                self.clocks.follow(step, true)?;
+                Ok(Ok(Reply::Done))
+            }
+        }
+    }
+
+    // An event of locks, words, brackets or levels.
+    fn take(&mut self, thread: ThreadId, event: Event) -> Result<Result<Reply, Refusal>, NoTick>
+        ensures answered { IfOk result (λ answer. answer ≡ answered_by self.old (record { thread = thread; event = OrderEvent.Plain event })) }
+        ensures changes { OnOk result (Changes self.old (record { thread = thread; event = OrderEvent.Plain event }) self.new) }
+        ensures same { OnErr result (IsSame self.old self.new) }
+    {
+        match self.holders.refusal(thread, &event) {
+            Some(why) => Ok(Err(why)),
+            None => match self.accept(thread, event) {
+                Ok(reply) => Ok(Ok(reply)),
+                Err(why) => Err(why),
+            },
+        }
+    }
+
+    // An accepted one.
+    fn accept(&mut self, thread: ThreadId, event: Event) -> Result<Reply, NoTick>
+        requires { refused_by (holding self.old thread) event ≡ None }
+        ensures reply { IfOk result (λ reply. reply ≡ reply_by (holding self.old thread) (clock_of self.old thread) (kept_of self.old) (OrderEvent.Plain event)) }
+        ensures changes { OnOk result (Changes self.old (record { thread = thread; event = OrderEvent.Plain event }) self.new) }
+        ensures same { OnErr result (IsSame self.old self.new) }
+    {
+        match event {
+            Event::Access(kind, word, _) => self.access(thread, kind, word),
+            Event::Reuse(range) => {
+                self.reuse(thread, range);
+                Ok(Reply::Done)
+            }
+            Event::Show(_) => Ok(Reply::Done),
+            Event::Acquire(lock, mode) => done(self.acquire(thread, lock, mode)),
+            Event::Release(lock, mode) => done(self.release(thread, lock, mode)),
+            Event::IgnoreOn => done(self.hold(thread, Event::IgnoreOn)),
+            Event::IgnoreOff => done(self.hold(thread, Event::IgnoreOff)),
+            Event::Level(level) => done(self.hold(thread, Event::Level(level))),
+        }
+    }
+
+    // An access, which isn't counted while its thread ignores.
+    fn access(&mut self, thread: ThreadId, kind: Kind, word: Word) -> Result<Reply, NoTick>
+        ensures reply { IfOk result (λ reply. reply ≡ reply_by (holding self.old thread) (clock_of self.old thread) (kept_of self.old) (OrderEvent.Plain (Event.Access kind word 0))) }
+        ensures changes { OnOk result (Changes self.old (record { thread = thread; event = OrderEvent.Plain (Event.Access kind word 0) }) self.new) }
+        ensures same { OnErr result (IsSame self.old self.new) }
+    {
+        if self.holders.get(thread).ignoring() {
+            return Ok(Reply::Ignored);
+        }
+        let clock = self.clocks.clock(thread);
+        match self.words.access(word, &clock, kind) {
+            Ok(true) => Ok(Reply::Race),
+            Ok(false) => Ok(Reply::Quiet),
+            Err(_) => Err(NoTick::OutOfMemory),
+        }
+    }
+
+    // The words of the range begin a new era.
+    fn reuse(&mut self, thread: ThreadId, range: PageRange)
+        ensures { Changes self.old (record { thread = thread; event = OrderEvent.Plain (Event.Reuse range) }) self.new }
+    {
+        self.words.reset(range);
+    }
+
+    // If the clocks lack room, the lock is given back.
+    fn acquire(&mut self, thread: ThreadId, lock: LockId, mode: Mode) -> Result<(), NoTick>
+        requires { refused_by (holding self.old thread) (Event.Acquire lock mode) ≡ None }
+        ensures changes { OnOk result (Changes self.old (record { thread = thread; event = OrderEvent.Plain (Event.Acquire lock mode) }) self.new) }
+        ensures same { OnErr result (IsSame self.old self.new) }
+    {
+        match self.holders.change(thread, Event::Acquire(lock, mode)) {
+            Ok(()) => {}
+            Err(_) => return Err(NoTick::OutOfMemory),
+        }
+        let step = OrderStep {
+            thread,
+            event: OrderEvent::Plain(Event::Acquire(lock, mode)),
+        };
+        match self.clocks.follow(&step, true) {
+            Ok(()) => Ok(()),
+            Err(why) => {
+                self.holders.release(thread, lock, mode);
+                Err(why)
+            }
+        }
+    }
+
+    // The clocks go first, since the lock is given up without memory.
+    fn release(&mut self, thread: ThreadId, lock: LockId, mode: Mode) -> Result<(), NoTick>
+        requires { refused_by (holding self.old thread) (Event.Release lock mode) ≡ None }
+        ensures changes { OnOk result (Changes self.old (record { thread = thread; event = OrderEvent.Plain (Event.Release lock mode) }) self.new) }
+        ensures same { OnErr result (IsSame self.old self.new) }
+    {
+        let step = OrderStep {
+            thread,
+            event: OrderEvent::Plain(Event::Release(lock, mode)),
+        };
+        match self.clocks.follow(&step, true) {
+            Ok(()) => {
+                self.holders.release(thread, lock, mode);
+                Ok(())
+            }
+            Err(why) => Err(why),
+        }
+    }
+
+    // A bracket or a level orders nothing.
+    fn hold(&mut self, thread: ThreadId, event: Event) -> Result<(), NoTick>
+        requires accepted { refused_by (holding self.old thread) event ≡ None }
+        requires local { holds_alone event ≡ true }
+        ensures changes { OnOk result (Changes self.old (record { thread = thread; event = OrderEvent.Plain event }) self.new) }
+        ensures same { OnErr result (IsSame self.old self.new) }
+    {
+        match self.holders.change(thread, event) {
+            Ok(()) => Ok(()),
+            Err(_) => Err(NoTick::OutOfMemory),
+        }
+    }
+}
+
+// What isn't an access is done.
+fn done(outcome: Result<(), NoTick>) -> Result<Reply, NoTick>
+    ensures same { is_ok result ≡ is_ok outcome }
+    ensures reply { IfOk result (λ reply. reply ≡ Reply.Done) }
+{
+    match outcome {
+        Ok(()) => Ok(Reply::Done),
+        Err(why) => Err(why),
+    }
+}

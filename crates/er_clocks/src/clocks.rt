@@ -1,0 +1,186 @@
+//! The clocks of a list of steps.
+ghost use Rattle.std.specs.Prelude.{◌≡◌, ◌-◌, ◌^◌, ◌++◌, ◌∷◌, [], ℕ, List, Bool, Some, None, IsTrue, OnOk, OnErr, IsErrOf, is_ok};
+ghost use Rattle.er_event.specs.declared.steps.Mode.{Mode as Modes};
+ghost use Rattle.er_order.specs.declared.steps.OrderStep.{OrderStep as Steps};
+ghost use Rattle.er_order.specs.Order.{Sync, sync_of, plain_sync};
+ghost use Rattle.er_order.specs.Clocks.{OfThread};
+ghost use Rattle.er_clocks.specs.Counts.{count_by};
+
+use crate::threads::{ThreadClock, ThreadClocks};
+use er_clock::{ClockTable, NoTick};
+use er_event::{Event, LockId, Mode, ThreadId};
+use er_order::{OrderEvent, OrderStep};
+use std::alloc::{AllocError, Global};
+use std::marker::Model;
+
+/// What each thread, each lock for its releases in either mode, and each object knows of the threads' steps.
+#[derive(Drop)]
+pub struct Clocks {
+    threads: ThreadClocks,
+    written: ClockTable,
+    read: ClockTable,
+    objects: ClockTable,
+}
+
+impl Model for Clocks {
+    ghost use Rattle.er_clocks.specs.Standing.{ClockMaps};
+
+    ghost Value = { ClockMaps };
+
+    ghost view = { λ c. record { threads = c.threads; written = c.written; read = c.read; objects = c.objects } };
+}
+
+impl Clocks {
+    ghost use Rattle.er_clocks.specs.Standing.{counts, SameCounts, Moves, act_if, act_flows, StandsForClocksOf, is_accepted};
+
+    /// The clocks before any step: each thread knows its own count alone, which begins at 1.
+    pub fn new(alloc: Global) -> Self
+        ensures { StandsForClocksOf result [] }
+    {
+        Clocks {
+            threads: ThreadClocks::new(alloc),
+            written: ClockTable::new(alloc),
+            read: ClockTable::new(alloc),
+            objects: ClockTable::new(alloc),
+        }
+    }
+
+    /// The clock of the thread.
+    pub fn clock(&self, thread: ThreadId) -> ThreadClock<'_>
+        ensures clock { (u : ℕ) → count_by result u ≡ counts self.now (OfThread thread) u }
+        ensures thread { result.0 ≡ thread }
+    {
+        self.threads.get(thread)
+    }
+
+    /// Goes on by one step, which is accepted or refused. A refused step moves nothing. After an error no count has changed, and the
+    /// step may be tried again.
+    ///
+    /// # Errors
+    /// `CountFull`: a thread's own count would rise, and is the greatest. `OutOfMemory`: memory was refused.
+    pub fn follow(&mut self, step: &OrderStep, accepted: bool) -> Result<(), NoTick>
+        ensures goes_on { (steps : List Steps) → StandsForClocksOf self.old steps → accepted ≡ is_accepted steps step.now
+            → OnOk result (StandsForClocksOf self.new (steps ++ step.now ∷ [])) }
+        ensures err { OnErr result (SameCounts self.old self.new) }
+        ensures full { IsErrOf result NoTick.CountFull
+            → (t : ℕ) × IsTrue (act_flows (act_if accepted step.now) t) × (counts self.old (OfThread t) t ≡ 2 ^ 32 - 1) }
+
+        // The same by the clocks' own counts.
+        ensures moves { OnOk result (Moves self.old (act_if accepted step.now) self.new) }
+    {
+        if accepted {
+            self.take(step.thread, step.event)
+        } else {
+            Ok(())
+        }
+    }
+
+    // What an accepted event moves.
+    fn take(&mut self, thread: ThreadId, event: OrderEvent) -> Result<(), NoTick>
+        ensures ok { OnOk result (Moves self.old (Some (record { thread = thread; sync = sync_of event })) self.new) }
+        ensures err { OnErr result (SameCounts self.old self.new) }
+        ensures full { IsErrOf result NoTick.CountFull
+            → (t : ℕ) × IsTrue (act_flows (Some (record { thread = thread; sync = sync_of event })) t) × (counts self.old (OfThread t) t ≡ 2 ^ 32 - 1) }
+    {
+        match event {
+            OrderEvent::Plain(event) => self.take_plain(thread, event),
+            OrderEvent::Start(started) => self.start(thread, started),
+            OrderEvent::Join(joined) => self.join(thread, joined),
+            OrderEvent::Signal(object) => self.signal(thread, object),
+            OrderEvent::Await(object) => want_memory(self.await_signals(thread, object)),
+        }
+    }
+
+    // The same of an event of locks, words, brackets or levels.
+    fn take_plain(&mut self, thread: ThreadId, event: Event) -> Result<(), NoTick>
+        ensures ok { OnOk result (Moves self.old (Some (record { thread = thread; sync = plain_sync event })) self.new) }
+        ensures err { OnErr result (SameCounts self.old self.new) }
+        ensures full { IsErrOf result NoTick.CountFull
+            → (t : ℕ) × IsTrue (act_flows (Some (record { thread = thread; sync = plain_sync event })) t) × (counts self.old (OfThread t) t ≡ 2 ^ 32 - 1) }
+    {
+        match event {
+            Event::Acquire(lock, mode) => want_memory(self.acquire(thread, lock, mode)),
+            Event::Release(lock, mode) => self.release(thread, lock, mode),
+            Event::Access(..)
+            | Event::Reuse(_)
+            | Event::IgnoreOn
+            | Event::IgnoreOff
+            | Event::Show(_)
+            | Event::Level(_) => Ok(()),
+        }
+    }
+
+    // The releases before happen before what comes now: two in read mode don't order each other.
+    fn acquire(&mut self, thread: ThreadId, lock: LockId, mode: Mode) -> Result<(), AllocError>
+        ensures ok { OnOk result (Moves self.old (Some (record { thread = thread; sync = Sync.Acquired lock mode })) self.new) }
+        ensures err { OnErr result (SameCounts self.old self.new) }
+    {
+        let written = self.written.get(lock.number());
+        match mode {
+            Mode::Read => self.threads.take(thread, written),
+            Mode::Write => {
+                let read = self.read.get(lock.number());
+                self.threads.take_both(thread, written, read)
+            }
+        }
+    }
+
+    // What the thread knows goes to the lock's releases in the mode.
+    fn release(&mut self, thread: ThreadId, lock: LockId, mode: Mode) -> Result<(), NoTick>
+        ensures ok { OnOk result (Moves self.old (Some (record { thread = thread; sync = Sync.Released lock mode })) self.new) }
+        ensures err { OnErr result (SameCounts self.old self.new) }
+        ensures full { IsErrOf result NoTick.CountFull → counts self.old (OfThread thread) thread ≡ 2 ^ 32 - 1 }
+    {
+        match mode {
+            Mode::Read => self.threads.give(thread, &mut self.read, lock.number()),
+            Mode::Write => self.threads.give(thread, &mut self.written, lock.number()),
+        }
+    }
+
+    // What the thread knows goes to the started one.
+    fn start(&mut self, thread: ThreadId, started: ThreadId) -> Result<(), NoTick>
+        ensures ok { OnOk result (Moves self.old (Some (record { thread = thread; sync = Sync.Started started })) self.new) }
+        ensures err { OnErr result (SameCounts self.old self.new) }
+        ensures full { IsErrOf result NoTick.CountFull → counts self.old (OfThread thread) thread ≡ 2 ^ 32 - 1 }
+    {
+        self.threads.hand_on(thread, started)
+    }
+
+    // What the joined thread knows goes to the thread.
+    fn join(&mut self, thread: ThreadId, joined: ThreadId) -> Result<(), NoTick>
+        ensures ok { OnOk result (Moves self.old (Some (record { thread = thread; sync = Sync.Joined joined })) self.new) }
+        ensures err { OnErr result (SameCounts self.old self.new) }
+        ensures full { IsErrOf result NoTick.CountFull → counts self.old (OfThread joined) joined ≡ 2 ^ 32 - 1 }
+    {
+        self.threads.hand_on(joined, thread)
+    }
+
+    // What the thread knows goes to the object.
+    fn signal(&mut self, thread: ThreadId, object: LockId) -> Result<(), NoTick>
+        ensures ok { OnOk result (Moves self.old (Some (record { thread = thread; sync = Sync.Signalled object })) self.new) }
+        ensures err { OnErr result (SameCounts self.old self.new) }
+        ensures full { IsErrOf result NoTick.CountFull → counts self.old (OfThread thread) thread ≡ 2 ^ 32 - 1 }
+    {
+        self.threads
+            .give(thread, &mut self.objects, object.number())
+    }
+
+    // The signals before happen before what comes now.
+    fn await_signals(&mut self, thread: ThreadId, object: LockId) -> Result<(), AllocError>
+        ensures ok { OnOk result (Moves self.old (Some (record { thread = thread; sync = Sync.Awaited object })) self.new) }
+        ensures err { OnErr result (SameCounts self.old self.new) }
+    {
+        self.threads.take(thread, self.objects.get(object.number()))
+    }
+}
+
+// A want of memory by its name.
+fn want_memory(outcome: Result<(), AllocError>) -> Result<(), NoTick>
+    ensures same { is_ok result ≡ is_ok outcome }
+    ensures memory { IsErrOf result NoTick.CountFull → ⊥ }
+{
+    match outcome {
+        Ok(()) => Ok(()),
+        Err(_) => Err(NoTick::OutOfMemory),
+    }
+}

@@ -1,0 +1,20 @@
+//! The clocks of a list of steps: what each thread, lock and object knows of the threads' steps.
+//!
+//! Nothing in the program uses it yet. Begin with [`Clocks`]. It goes on by one step at a time, and a thread's [`ThreadClock`] says
+//! which epochs happen before what the thread does now.
+//!
+//! What it promises, by the names of clauses: clocks that stand for a list of steps stand for the longer list after one more step
+//! (`goes_on`), where a refused step moves nothing; an error names what is lacking and changes no count (`err`, `full`).
+//!
+//! ```text
+//! let mut clocks = Clocks::new(alloc);
+//! clocks.follow(&OrderStep { thread, event: OrderEvent::Signal(object) }, true)?;
+//! clocks.clock(other).covers(epoch)
+//! ```
+#![tactic(auto)]
+
+pub use clocks::Clocks;
+pub use threads::ThreadClock;
+
+mod clocks;
+mod threads;

@@ -1,0 +1,2 @@
+pub mod Epochs
+pub mod Words

@@ -1,0 +1,5 @@
+//! Worked lists of steps, answered by happens-before: nothing but tests.
+#![tactic(auto)]
+
+#[cfg(test)]
+mod lists;
