@@ -115,12 +115,12 @@ fn last_line(rows: &[Row<'_>]) -> usize {
 }
 
 // Each row in turn. An ending is the last.
-fn play_all<R: Runtime + AllocGlobal + Wait>(
+fn play_all<'r, 'w, R: Runtime + AllocGlobal + Wait>(
     rt: &R,
     scene: Scene<'_, '_>,
     seats: &mut Vec<Option<Seat>>,
-    rows: &[Row<'_>],
-) -> Result<Ending, Fault> {
+    rows: &'r [Row<'w>],
+) -> Result<Ending<'r, 'w>, Fault> {
     let mut ending = Ending::Open;
     for row in rows {
         let Ending::Open = ending else {
@@ -131,28 +131,38 @@ fn play_all<R: Runtime + AllocGlobal + Wait>(
     Ok(ending)
 }
 
-fn play_row<R: Runtime + AllocGlobal + Wait>(
+fn play_row<'r, 'w, R: Runtime + AllocGlobal + Wait>(
     rt: &R,
     scene: Scene<'_, '_>,
     seats: &mut Vec<Option<Seat>>,
-    row: &Row<'_>,
-) -> Result<Ending, Fault> {
+    row: &'r Row<'w>,
+) -> Result<Ending<'r, 'w>, Fault> {
     let words = row.words.as_slice();
     if let Some(ending) = ending_of(words) {
         return Ok(ending);
     }
-    if let Some(question) = question_of(words) {
-        ask(rt, scene, seats.as_slice(), question, row.line)?;
-        return Ok(Ending::Open);
-    }
-    match times_of(words) {
-        Some((times, words)) => match act_of(words) {
-            Some(act) => make_times(rt, scene, seats, times, act, row.line)?,
-            None => return Err(Fault::Row(row.line)),
-        },
-        None => return Err(Fault::Row(row.line)),
-    }
+    play_on(rt, scene, seats, words, row.line)?;
     Ok(Ending::Open)
+}
+
+// A row after which others may come.
+fn play_on<R: Runtime + AllocGlobal + Wait>(
+    rt: &R,
+    scene: Scene<'_, '_>,
+    seats: &mut Vec<Option<Seat>>,
+    words: &[&str],
+    line: usize,
+) -> Result<(), Fault> {
+    if let Some(question) = question_of(words) {
+        return ask(rt, scene, seats.as_slice(), question, line);
+    }
+    let Some((times, words)) = times_of(words) else {
+        return Err(Fault::Row(line));
+    };
+    match act_of(words) {
+        Some(act) => make_times(rt, scene, seats, times, act, line),
+        None => Err(Fault::Row(line)),
+    }
 }
 
 // What changes a detector.
@@ -192,18 +202,7 @@ impl Act {
 fn act_of(words: &[&str]) -> Option<Act> {
     match words {
         ["open", side] => Some(Act::Open(side_of(side)?)),
-        ["seat", place, call @ .., "at", side] => {
-            Some(Act::Call(place_of(place)?, side_of(side)?, None, call_of(call)?))
-        }
-        ["seat", place, call @ .., "in", side, shard] => Some(Act::Call(
-            place_of(place)?,
-            side_of(side)?,
-            Some(count_of(shard)?),
-            call_of(call)?,
-        )),
-        ["seat", place, call @ ..] => {
-            Some(Act::Call(place_of(place)?, Side::A, None, call_of(call)?))
-        }
+        ["seat", place, call @ ..] => seat_act_of(place_of(place)?, call),
         ["enter", side, shard, raw @ ..] => {
             Some(Act::Enter(side_of(side)?, count_of(shard)?, raw_of(raw)?))
         }
@@ -213,6 +212,26 @@ fn act_of(words: &[&str]) -> Option<Act> {
             side_of(other)?,
             count_of(place)?,
         )),
+        _ => None,
+    }
+}
+
+// What the seat at this place calls, and where: `at` stands before a detector, and `in` before one of its shards.
+fn seat_act_of(place: usize, words: &[&str]) -> Option<Act> {
+    match words.iter().position(|word| *word == "at" || *word == "in") {
+        Some(end) => {
+            let call = call_of(words.get(..end)?)?;
+            let (side, shard) = goal_of(words.get(end..)?)?;
+            Some(Act::Call(place, side, shard, call))
+        }
+        None => Some(Act::Call(place, Side::A, None, call_of(words)?)),
+    }
+}
+
+fn goal_of(words: &[&str]) -> Option<(Side, Option<u32>)> {
+    match words {
+        ["at", side] => Some((side_of(side)?, None)),
+        ["in", side, shard] => Some((side_of(side)?, Some(count_of(shard)?))),
         _ => None,
     }
 }

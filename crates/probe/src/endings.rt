@@ -2,45 +2,32 @@
 use crate::Fault;
 use crate::answers::{put_event, put_reply};
 use crate::detectors::{Side, side_of};
-use crate::rows::{MOST_WORDS, place_of};
+use crate::rows::place_of;
 use er_detector::{Detector, Parts, Run, settle};
 use er_event::{Reply, Step};
 use er_seat::Seat;
+use er_shard::Shard;
 use std::alloc::{AllocError, Global};
 use std::fmt::Write;
 use std::rt::Runtime;
 
-/// The places of seats.
-pub(crate) type Places = [Option<usize>; MOST_WORDS];
-
 /// What the last row asks for.
 #[derive(Clone, Copy)]
-pub(crate) enum Ending {
+pub(crate) enum Ending<'r, 'w> {
     /// Nothing: more rows may follow.
     Open,
     /// A detector and the seats at these places are settled.
-    Settle(Side, Places),
+    Settle(Side, &'r [&'w str]),
     /// A detector's shards are taken out of their locks.
     Parts(Side),
 }
 
-pub(crate) fn ending_of(words: &[&str]) -> Option<Ending> {
+pub(crate) fn ending_of<'r, 'w>(words: &'r [&'w str]) -> Option<Ending<'r, 'w>> {
     match words {
-        ["settle", side, places @ ..] => Some(Ending::Settle(side_of(side)?, places_of(places)?)),
+        ["settle", side, places @ ..] => Some(Ending::Settle(side_of(side)?, places)),
         ["parts", side] => Some(Ending::Parts(side_of(side)?)),
         _ => None,
     }
-}
-
-fn places_of(words: &[&str]) -> Option<Places> {
-    let mut places = [None; MOST_WORDS];
-    if words.len() > MOST_WORDS {
-        return None;
-    }
-    for (place, word) in places.iter_mut().zip(words) {
-        *place = Some(place_of(word)?);
-    }
-    Some(places)
 }
 
 /// Settles a detector with the seats at these places, or shows its parts if there are no places. The row stands on this line.
@@ -48,7 +35,7 @@ pub(crate) fn end<R: Runtime + AllocGlobal>(
     rt: &R,
     detector: Detector<'_>,
     seats: Vec<Option<Seat>>,
-    places: Option<Places>,
+    places: Option<&[&str]>,
     line: usize,
 ) -> Result<(), Fault> {
     let text = match places {
@@ -65,22 +52,25 @@ pub(crate) fn end<R: Runtime + AllocGlobal>(
 fn chosen(
     alloc: Global,
     mut seats: Vec<Option<Seat>>,
-    places: Places,
+    places: &[&str],
     line: usize,
 ) -> Result<Vec<Seat>, Fault> {
     let mut found = Vec::new(alloc);
-    for place in places.into_iter().flatten() {
-        choose(&mut seats, place, &mut found, line)?;
+    for place in places {
+        choose(&mut seats, place_of(place), &mut found, line)?;
     }
     Ok(found)
 }
 
 fn choose(
     seats: &mut Vec<Option<Seat>>,
-    place: usize,
+    place: Option<usize>,
     found: &mut Vec<Seat>,
     line: usize,
 ) -> Result<(), Fault> {
+    let Some(place) = place else {
+        return Err(Fault::Row(line));
+    };
     found.reserve(1)?;
     match seats.get_mut(place) {
         Some(seat) => match seat.take() {
@@ -128,13 +118,17 @@ fn parts_text(alloc: Global, parts: &Parts<'_>) -> Result<String, AllocError> {
     let mut out = String::new(alloc);
     write!(out, "name {}, opened {}", parts.name, parts.opened)?;
     for shard in &parts.shards {
-        write!(
-            out,
-            "; shard {} of {}, entries {}",
-            shard.number(),
-            shard.name(),
-            shard.journal().len()
-        )?;
+        put_shard(&mut out, shard)?;
     }
     Ok(out)
+}
+
+fn put_shard(out: &mut String, shard: &Shard<'_>) -> Result<(), AllocError> {
+    write!(
+        out,
+        "; shard {} of {}, entries {}",
+        shard.number(),
+        shard.name(),
+        shard.journal().len()
+    )
 }

@@ -1,51 +1,33 @@
 //! Explanations of a list's races, found and checked.
-use crate::Fault;
 use crate::answers::put_lock;
-use crate::rows::{MOST_WORDS, lock_of, number_of};
+use crate::rows::{lock_of, number_of};
 use er_check::check_explanation;
 use er_event::{LockId, Step};
-use er_explain::{Explanation, Uncovered, explain, explain_races};
-use er_replay::{Machine, run};
-use er_table::LocksetTable;
+use er_explain::{Explanation, Uncovered, explain};
 use std::alloc::{AllocError, Global};
 use std::fmt::Write;
-use std::sync::Wait;
 
 /// What a row asks of a list of steps.
 #[derive(Clone, Copy)]
-pub(crate) enum Question {
+pub(crate) enum Question<'w> {
     /// Why the step at this place, from 0, is a race.
     Explain(u64),
     /// Why each race is one.
     Races,
     /// Whether the words explain the race at this place.
-    Check(u64, Claim),
+    Check(u64, Claim<'w>),
 }
-
-// Locks, each with the place of an access.
-type Pairs = [Option<(LockId, u64)>; MOST_WORDS];
 
 /// Where the first access, the joining and the write stand, and the words `LOCK@PLACE` of each lock that doesn't cover an access.
 #[derive(Clone, Copy)]
-pub(crate) struct Claim {
+pub(crate) struct Claim<'w> {
     first: u64,
     join: u64,
     write: u64,
-    pairs: Pairs,
+    pairs: &'w [&'w str],
 }
 
-fn pairs_of(words: &[&str]) -> Option<Pairs> {
-    let mut pairs = [None; MOST_WORDS];
-    if words.len() > MOST_WORDS {
-        return None;
-    }
-    for (place, word) in pairs.iter_mut().zip(words) {
-        *place = Some(pair_of(word)?);
-    }
-    Some(pairs)
-}
-
-pub(crate) fn question_of(words: &[&str]) -> Option<Question> {
+pub(crate) fn question_of<'w>(words: &'w [&'w str]) -> Option<Question<'w>> {
     match words {
         ["explain", place] => Some(Question::Explain(number_of(place)?)),
         ["races"] => Some(Question::Races),
@@ -54,7 +36,7 @@ pub(crate) fn question_of(words: &[&str]) -> Option<Question> {
                 first: number_of(first)?,
                 join: number_of(join)?,
                 write: number_of(write)?,
-                pairs: pairs_of(pairs)?,
+                pairs,
             };
             Some(Question::Check(number_of(place)?, claim))
         }
@@ -62,27 +44,19 @@ pub(crate) fn question_of(words: &[&str]) -> Option<Question> {
     }
 }
 
-/// The answer, or false where the row names what isn't there.
-pub(crate) fn put_explained<R: AllocGlobal + Wait>(
-    rt: &R,
+/// The answer, or false if a word of the row is none.
+pub(crate) fn put_explained(
+    alloc: Global,
     out: &mut String,
     steps: &[Step],
-    question: Question,
-) -> Result<bool, Fault> {
+    question: Question<'_>,
+) -> Result<bool, AllocError> {
     match question {
-        Question::Explain(place) => {
-            put_found(rt.alloc(), out, steps, place)?;
-            Ok(true)
-        }
-        Question::Races => {
-            put_races(rt, out, steps)?;
-            Ok(true)
-        }
-        Question::Check(place, claim) => {
-            put_checked(rt.alloc(), out, steps, place, claim)?;
-            Ok(true)
-        },
+        Question::Explain(place) => put_found(alloc, out, steps, place)?,
+        Question::Races => put_races(alloc, out, steps)?,
+        Question::Check(place, claim) => return put_checked(alloc, out, steps, place, claim),
     }
+    Ok(true)
 }
 
 fn put_found(
@@ -111,26 +85,19 @@ fn put_explanation(out: &mut String, explanation: &Explanation) -> Result<(), Al
     Ok(())
 }
 
-// What is found of each race, as a new machine answers the steps.
-fn found_races<R: AllocGlobal + Wait>(rt: &R, steps: &[Step]) -> Result<Vec<Explanation>, Fault> {
-    let Ok(table) = LocksetTable::new(rt.alloc(), 1000) else {
-        return Err(Fault::Memory);
-    };
-    let Ok(mut machine) = Machine::new(rt.alloc(), &table) else {
-        return Err(Fault::Memory);
-    };
-    let outcome = run(rt, rt.alloc(), &mut machine, steps);
-    let None = outcome.stopped else {
-        return Err(Fault::Memory);
-    };
-    let Ok(found) = explain_races(rt.alloc(), steps, &outcome.answers) else {
-        return Err(Fault::Memory);
-    };
+// What explains each step that is a race.
+fn found_races(alloc: Global, steps: &[Step]) -> Result<Vec<Explanation>, AllocError> {
+    let mut found = Vec::new(alloc);
+    for place in 0..steps.len() {
+        if let Some(explanation) = explain(alloc, steps, place as u64)? {
+            found.push(explanation)?;
+        }
+    }
     Ok(found)
 }
 
-fn put_races<R: AllocGlobal + Wait>(rt: &R, out: &mut String, steps: &[Step]) -> Result<(), Fault> {
-    let found = found_races(rt, steps)?;
+fn put_races(alloc: Global, out: &mut String, steps: &[Step]) -> Result<(), AllocError> {
+    let found = found_races(alloc, steps)?;
     write!(out, "races {}", found.len())?;
     for explanation in &found {
         out.push_str("; ")?;
@@ -144,24 +111,44 @@ fn put_checked(
     out: &mut String,
     steps: &[Step],
     place: u64,
-    claim: Claim,
-) -> Result<(), AllocError> {
-    let explanation = explanation_of(alloc, claim)?;
-    let accepted = check_explanation(alloc, steps, place, &explanation)?;
-    out.push_str(if accepted { "yes" } else { "no" })
+    claim: Claim<'_>,
+) -> Result<bool, AllocError> {
+    match uncovered_of(alloc, claim.pairs)? {
+        Some(uncovered) => {
+            let accepted = is_accepted(alloc, steps, place, claim, uncovered)?;
+            out.push_str(if accepted { "yes" } else { "no" })?;
+            Ok(true)
+        }
+        None => Ok(false),
+    }
 }
 
-fn explanation_of(alloc: Global, claim: Claim) -> Result<Explanation, AllocError> {
-    let mut uncovered = Vec::new(alloc);
-    for (lock, at) in claim.pairs.into_iter().flatten() {
-        uncovered.push(Uncovered { lock, at })?;
-    }
-    Ok(Explanation {
+fn is_accepted(
+    alloc: Global,
+    steps: &[Step],
+    place: u64,
+    claim: Claim<'_>,
+    uncovered: Vec<Uncovered>,
+) -> Result<bool, AllocError> {
+    let explanation = Explanation {
         first: claim.first,
         join: claim.join,
         write: claim.write,
         uncovered,
-    })
+    };
+    check_explanation(alloc, steps, place, &explanation)
+}
+
+// The locks and places of these words, unless one of them is none.
+fn uncovered_of(alloc: Global, words: &[&str]) -> Result<Option<Vec<Uncovered>>, AllocError> {
+    let mut uncovered = Vec::new(alloc);
+    for word in words {
+        let Some((lock, at)) = pair_of(word) else {
+            return Ok(None);
+        };
+        uncovered.push(Uncovered { lock, at })?;
+    }
+    Ok(Some(uncovered))
 }
 
 fn pair_of(word: &str) -> Option<(LockId, u64)> {

@@ -91,6 +91,3 @@ pub(crate) fn site_of(words: &[&str]) -> Option<Site> {
         _ => None,
     }
 }
-
-/// How many locks, places or pairs a row lists at most.
-pub(crate) const MOST_WORDS: usize = 12;

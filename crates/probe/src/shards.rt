@@ -122,6 +122,11 @@ pub(crate) fn put_entry<R: Wait + AllocGlobal>(
         return Answered::Missing;
     }
     let mut shard = detector.shard(rt, number);
+    enter(rt, &mut shard, raw)
+}
+
+// What a shard answers, whose lock is held.
+fn enter<R: Wait + AllocGlobal>(rt: &R, shard: &mut Shard<'_>, raw: Raw) -> Answered {
     match raw.what {
         What::Access(kind, address, locks) => {
             match stamp_of(rt.alloc(), raw.thread, kind, address, locks) {
@@ -130,7 +135,7 @@ pub(crate) fn put_entry<R: Wait + AllocGlobal>(
                 Err(AllocError) => Answered::Refused(Refusal::OutOfMemory),
             }
         }
-        What::Reset(address, size) => reset(&mut shard, raw, address, size),
+        What::Reset(address, size) => reset(shard, raw, address, size),
     }
 }
 

@@ -11,6 +11,7 @@ use er_gate::OpenGate;
 use er_journal::Outcome;
 use er_parallel::{ReplayConfig, ReplayFault, replay_parallel};
 use er_replay::{Machine, run};
+use er_table::LocksetTable;
 use std::alloc::AllocError;
 use std::fmt::Write;
 use std::rt::Runtime;
@@ -24,10 +25,27 @@ pub(crate) fn step_rows<R: Runtime + AllocGlobal + Threads + Wait + Sync>(
     rows: &[Row<'_>],
 ) -> Result<(), Fault> {
     let table = table_of(rt, sets)?;
-    let mut machine = Machine::new(rt.alloc(), &table)?;
+    play_at(rt, &table, rows)
+}
+
+// One function owns the table, one the machine and one the steps, each with few ways out: that is short to prove.
+fn play_at<R: Runtime + AllocGlobal + Threads + Wait + Sync>(
+    rt: &R,
+    table: &LocksetTable,
+    rows: &[Row<'_>],
+) -> Result<(), Fault> {
+    let mut machine = Machine::new(rt.alloc(), table)?;
+    play_all(rt, &mut machine, rows)
+}
+
+fn play_all<R: Runtime + AllocGlobal + Threads + Wait + Sync>(
+    rt: &R,
+    machine: &mut Machine<'_>,
+    rows: &[Row<'_>],
+) -> Result<(), Fault> {
     let mut steps = Vec::new(rt.alloc());
     for row in rows {
-        play_row(rt, &mut machine, &mut steps, row)?;
+        play_row(rt, machine, &mut steps, row)?;
     }
     Ok(())
 }
@@ -126,16 +144,16 @@ fn state_at(machine: &Machine<'_>, event: Event) -> Option<WordState> {
 
 // What a row asks of the machine or of its steps.
 #[derive(Clone, Copy)]
-enum Asked {
+enum Asked<'w> {
     State(u64),
     // A run of the steps by a new machine, over a table of so many sets.
     Run(Option<u32>),
     // The same by workers: shards, sets and workers.
     Parallel(Option<ReplayConfig>, u32),
-    Explained(Question),
+    Explained(Question<'w>),
 }
 
-fn asked_of(words: &[&str]) -> Option<Asked> {
+fn asked_of<'w>(words: &'w [&'w str]) -> Option<Asked<'w>> {
     match words {
         ["state", address] => Some(Asked::State(number_of(address)?)),
         ["run", sets] => Some(Asked::Run(Some(count_of(sets)?))),
@@ -151,7 +169,7 @@ fn answer<R: Runtime + AllocGlobal + Threads + Wait + Sync>(
     rt: &R,
     machine: &Machine<'_>,
     steps: &[Step],
-    asked: Asked,
+    asked: Asked<'_>,
     line: usize,
 ) -> Result<(), Fault> {
     let mut out = String::new(rt.alloc());
@@ -159,7 +177,7 @@ fn answer<R: Runtime + AllocGlobal + Threads + Wait + Sync>(
         Asked::State(address) => put_word(&mut out, machine, address)?,
         Asked::Run(sets) => put_run(rt, &mut out, steps, sets)?,
         Asked::Parallel(config, workers) => put_parallel(rt, &mut out, steps, config, workers)?,
-        Asked::Explained(question) => put_explained(rt, &mut out, steps, question)?,
+        Asked::Explained(question) => put_explained(rt.alloc(), &mut out, steps, question)?,
     };
     if is_there {
         Ok(rt.println(out.as_str())?)
@@ -183,10 +201,32 @@ fn put_run<R: AllocGlobal + Wait>(
     sets: Option<u32>,
 ) -> Result<bool, Fault> {
     let table = table_of(rt, sets)?;
-    let mut machine = Machine::new(rt.alloc(), &table)?;
-    let outcome = run(rt, rt.alloc(), &mut machine, steps);
+    put_run_over(rt, &table, out, steps)
+}
+
+fn put_run_over<R: AllocGlobal + Wait>(
+    rt: &R,
+    table: &LocksetTable,
+    out: &mut String,
+    steps: &[Step],
+) -> Result<bool, Fault> {
+    let outcome = run_anew(rt, table, steps)?;
     put_outcome(out, &outcome)?;
     Ok(true)
+}
+
+fn run_anew<R: AllocGlobal + Wait>(
+    rt: &R,
+    table: &LocksetTable,
+    steps: &[Step],
+) -> Result<Outcome, AllocError> {
+    let mut machine = Machine::new(rt.alloc(), table)?;
+    Ok(run_at(rt, &mut machine, steps))
+}
+
+// It says nothing of the outcome, so that its caller's proof has little to carry.
+fn run_at<R: AllocGlobal + Wait>(rt: &R, machine: &mut Machine<'_>, steps: &[Step]) -> Outcome {
+    run(rt, rt.alloc(), machine, steps)
 }
 
 fn put_outcome(out: &mut String, outcome: &Outcome) -> Result<(), AllocError> {

@@ -27,41 +27,78 @@ fn play_row<R: Runtime + AllocGlobal>(
     row: &Row<'_>,
 ) -> Result<(), Fault> {
     let mut out = String::new(rt.alloc());
-    let words = row.words.as_slice();
+    if put_row(rt.alloc(), &mut out, set, shadow, row.words.as_slice())? {
+        Ok(rt.println(out.as_str())?)
+    } else {
+        Err(Fault::Row(row.line))
+    }
+}
+
+// The answer to a row, or false if it asks for nothing.
+fn put_row(
+    alloc: Global,
+    out: &mut String,
+    set: &mut Lockset,
+    shadow: &mut Shadow,
+    words: &[&str],
+) -> Result<bool, AllocError> {
     if let [verb, locks @ ..] = words
         && let Some(act) = set_act_of(verb)
     {
-        match locks_of(rt.alloc(), locks)? {
-            Some(locks) => put_set(&mut out, set, act, &locks)?,
-            None => return Err(Fault::Row(row.line)),
-        }
-        return Ok(rt.println(out.as_str())?);
+        return put_act(alloc, out, set, act, locks);
     }
-    let Some(asked) = asked_of(words) else {
-        return Err(Fault::Row(row.line));
-    };
+    match asked_of(words) {
+        Some(asked) => put_asked(out, set, shadow, asked),
+        None => Ok(false),
+    }
+}
+
+fn put_act(
+    alloc: Global,
+    out: &mut String,
+    set: &mut Lockset,
+    act: SetAct,
+    words: &[&str],
+) -> Result<bool, AllocError> {
+    match locks_of(alloc, words)? {
+        Some(locks) => is_put(put_set(out, set, act, &locks)),
+        None => Ok(false),
+    }
+}
+
+fn is_put(done: Result<(), AllocError>) -> Result<bool, AllocError> {
+    done?;
+    Ok(true)
+}
+
+fn put_asked(
+    out: &mut String,
+    set: &mut Lockset,
+    shadow: &mut Shadow,
+    asked: Asked,
+) -> Result<bool, AllocError> {
     match asked {
         Asked::Cut(len) => {
             set.truncate(len);
-            put_locks(&mut out, set)?;
+            put_locks(out, set)?;
         }
         Asked::Shadow(next) => {
             *shadow = next;
-            put_shadow(&mut out, *shadow)?;
+            put_shadow(out, next)?;
         }
-        Asked::Need(thread, kind) => put_need(&mut out, need(*shadow, thread, kind))?,
+        Asked::Need(thread, kind) => put_need(out, need(*shadow, thread, kind))?,
         Asked::Advance(thread, kind, number) if number < 1 << 30 => {
             let (next, is_race) = advance(*shadow, thread, kind, number);
             *shadow = next;
-            put_shadow(&mut out, next)?;
+            put_shadow(out, next)?;
             out.push_str(if is_race { ", race" } else { "" })?;
         }
-        Asked::Advance(..) => return Err(Fault::Row(row.line)),
+        Asked::Advance(..) => return Ok(false),
         Asked::Is(is) => out.push_str(yes_or_no(is))?,
-        Asked::Range(range) => put_range(&mut out, range)?,
-        Asked::Word(word) => put_number(&mut out, word)?,
+        Asked::Range(range) => put_range(out, range)?,
+        Asked::Word(word) => put_number(out, word)?,
     }
-    Ok(rt.println(out.as_str())?)
+    Ok(true)
 }
 
 // What a row asks for.
@@ -105,6 +142,13 @@ fn asked_of(words: &[&str]) -> Option<Asked> {
         ["advance", thread, kind, set] => {
             Some(Asked::Advance(thread_of(thread)?, kind_of(kind)?, count_of(set)?))
         }
+        _ => number_asked_of(words),
+    }
+}
+
+// What a row asks of numbers alone.
+fn number_asked_of(words: &[&str]) -> Option<Asked> {
+    match words {
         ["range", address, size] => Some(Asked::Range(WordRange::of_bytes(
             number_of(address)?,
             number_of(size)?,

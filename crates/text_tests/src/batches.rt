@@ -33,20 +33,42 @@ impl Gathered {
     }
 }
 
-// Reads batches to the end of the text, or to its fault.
+// Reads batches to the end of the text, or to its fault. One function owns what is gathered, and one the reader, since each way out
+// drops what a function owns, and that is long to prove.
 fn gather<R: Read + Drop>(alloc: Global, inner: R, most: u32) -> Result<Gathered, ReadFault> {
-    let mut reader = Device::new(inner);
-    let mut batches = TraceReader::new(alloc, 1 << 20)?;
     let mut gathered = Gathered::new(alloc);
+    match gather_all(alloc, inner, most, &mut gathered) {
+        Ok(()) => Ok(gathered),
+        Err(fault) => Err(fault),
+    }
+}
+
+fn gather_all<R: Read + Drop>(
+    alloc: Global,
+    inner: R,
+    most: u32,
+    gathered: &mut Gathered,
+) -> Result<(), ReadFault> {
+    let mut batches = TraceReader::new(alloc, 1 << 20)?;
+    let mut reader = Device::new(inner);
+    gather_from(&mut reader, &mut batches, most, gathered)
+}
+
+fn gather_from<R: Read>(
+    reader: &mut Device<R>,
+    batches: &mut TraceReader,
+    most: u32,
+    gathered: &mut Gathered,
+) -> Result<(), ReadFault> {
     let mut batch = Batch::More;
     for _ in 0..1 << 20 {
         if reader.failed() || batch == Batch::End {
-            break;
+            return Ok(());
         }
-        batch = batches.next_batch(&mut reader, &mut gathered.trace, most)?;
+        batch = batches.next_batch(reader, &mut gathered.trace, most)?;
         gathered.keep()?;
     }
-    Ok(gathered)
+    Ok(())
 }
 
 const NAMES: [&str; 8] = [
@@ -138,21 +160,36 @@ fn behind_comments(alloc: Global, len: usize) -> Result<Vec<u8>, ReadFault> {
     Ok(text)
 }
 
+// What is gathered of the text behind so many bytes of comments.
+fn gather_behind(alloc: Global, len: usize, most: u32) -> Result<Gathered, ReadFault> {
+    let text = behind_comments(alloc, len)?;
+    gather(alloc, text.as_slice(), most)
+}
+
 // Whether the text has the same steps behind so many bytes of comments, with their lines that much later.
 fn moves(alloc: Global, len: usize, most: u32) -> Result<bool, ReadFault> {
-    let text = behind_comments(alloc, len)?;
-    let more = len.div_ceil(FILLED) as u64;
     let mut front = gather(alloc, TEXT, most)?;
-    let mut moved = gather(alloc, text.as_slice(), most)?;
+    moves_from(alloc, &mut front, len, most)
+}
+
+fn moves_from(
+    alloc: Global,
+    front: &mut Gathered,
+    len: usize,
+    most: u32,
+) -> Result<bool, ReadFault> {
+    let mut moved = gather_behind(alloc, len, most)?;
+    Ok(is_moved(front, &mut moved, len.div_ceil(FILLED) as u64))
+}
+
+fn is_moved(front: &mut Gathered, moved: &mut Gathered, more: u64) -> bool {
     let lines = moved.lines.iter().zip(front.lines.iter());
-    Ok(
-        moved.steps == front.steps
-            && moved.lines.len() == front.lines.len()
-            && lines
-                .map(|(one, other)| one.checked_sub(*other))
-                .all(|later| later == Some(more))
-            && same_names(&mut moved.trace, &mut front.trace),
-    )
+    moved.steps == front.steps
+        && moved.lines.len() == front.lines.len()
+        && lines
+            .map(|(one, other)| one.checked_sub(*other))
+            .all(|later| later == Some(more))
+        && same_names(&mut moved.trace, &mut front.trace)
 }
 
 // The first window ends at each byte of the text.
