@@ -12,8 +12,12 @@ _eraser() {
     done
     COMPREPLY=()
     case $command:$before in
-    replay:--suppress)
+    replay:--suppress | replay:--write-rules)
         _eraser_files
+        return
+        ;;
+    replay:--format)
+        _eraser_words "text json sarif"
         return
         ;;
     replay:--workers)
@@ -24,12 +28,12 @@ _eraser() {
         _eraser_words "1 2 4 8 16 32 64"
         return
         ;;
-    replay:--byte-limit) return ;;
+    replay:--byte-limit | replay:--max-races) return ;;
     esac
     case $command:$word in
     :-*) _eraser_words "--help --version -h -V" ;;
     :*) _eraser_words "replay demo help" ;;
-    replay:-?*) _eraser_words "--suppress --explain --by-site --workers --shards --byte-limit --help -h" ;;
+    replay:-?*) _eraser_words "--suppress --write-rules --unused-rules --max-races --explain --by-site --format --workers --shards --byte-limit --help -h" ;;
     replay:*) _eraser_files ;;
     demo:-*) _eraser_words "--help -h" ;;
     demo:*) _eraser_words "locked-counter racy-counter init-then-read rw-table reuse-pool ignored-stats" ;;

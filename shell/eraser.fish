@@ -9,8 +9,12 @@ complete -c eraser -n __fish_use_subcommand -a demo -d 'Run threads that call th
 complete -c eraser -n __fish_use_subcommand -a help -d 'Print this message or the help of the given subcommand(s)'
 
 complete -c eraser -n '__fish_seen_subcommand_from replay' -l suppress -r -F -d 'Count the races that this file\'s rules take, and leave their lines out'
+complete -c eraser -n '__fish_seen_subcommand_from replay' -l write-rules -r -F -d 'Write rules to this file that take each race of the report'
+complete -c eraser -n '__fish_seen_subcommand_from replay' -l unused-rules -d 'Name each rule that took no race, on standard error'
+complete -c eraser -n '__fish_seen_subcommand_from replay' -l max-races -x -d 'Write the lines of the first races alone, and how many were left out'
 complete -c eraser -n '__fish_seen_subcommand_from replay' -l explain -d 'Name the accesses that make each race'
 complete -c eraser -n '__fish_seen_subcommand_from replay' -l by-site -d 'Write a table of the sites with races, most words first, and explain a race of each'
+complete -c eraser -n '__fish_seen_subcommand_from replay' -l format -x -a 'text json sarif' -d 'How the report is written: as text for scripts, as JSON for programs, or as SARIF for code hosts'
 complete -c eraser -n '__fish_seen_subcommand_from replay' -l workers -x -a '(seq 16)' -d 'How many threads replay the trace, 1 to 16'
 complete -c eraser -n '__fish_seen_subcommand_from replay' -l shards -x -a '1 2 4 8 16 32 64' -d 'Into how many parts several workers cut the words, 1 to 64'
 complete -c eraser -n '__fish_seen_subcommand_from replay' -l byte-limit -x -d 'The most bytes that a text may have, 1 to 4611686018427387904'

@@ -7,6 +7,7 @@ A comment on a line of a program says what is expected there:
 """
 
 import concurrent.futures
+import json
 import os
 import pathlib
 import re
@@ -245,6 +246,10 @@ def ways_to_use(folder, findings, counter, queue):
     findings.check("suppressions with --explain", found.returncode == 3 and "suppression 1: 1\n" in found.stdout, f"{found}")
     found = command([RUN, "--explain", counter])
     findings.check("reasons of a race", re.search(r"^line .* race: .*\n  first: line \d+, t\d ", found.stdout, re.M), f"{found}")
+    found = command([RUN, "--explain", "--format", "json", counter])
+    document = json.loads(found.stdout.removeprefix("30\n") or "null")
+    sites = {race["site"] for race in document["races"]} if document else set()
+    findings.check("a report as JSON", found.returncode == 3 and sites == marked(SOURCES / "counter.c", "RACE"), f"{found}")
     found = command([RUN, "-q", "--paths", counter])
     findings.check("sites with paths, quietly", f"{SOURCES}/counter.c:" in found.stdout and found.stderr == "", f"{found}")
     found = command([RUN, "sh", "-c", 'cat; echo "$0" "$@" >&2; exit 9', "one", "two words"], input="given\n")
@@ -255,7 +260,7 @@ def ways_to_use(folder, findings, counter, queue):
     findings.check("two programs, of which one is recorded", "record: 1 further program" in found.stderr and found.stdout.startswith("30\n30\n"), f"{found}")
     findings.check("a program that is not there", command([RUN, folder / "nothing"]).returncode == 127)
     findings.check("a program that can't be started", command([RUN, folder]).returncode == 126)
-    for words in (["--wrong"], ["--limit", "10x"], ["--limit", "-1"], ["--limit", ""], ["--exit-status", "other"]):
+    for words in (["--wrong"], ["--limit", "10x"], ["--limit", "-1"], ["--limit", ""], ["--exit-status", "other"], ["--format", "xml"], ["--format", "json", "--by-site"]):
         found = command([RUN, *words, counter])
         findings.check(f"wrong options {words}", (found.stdout, found.returncode) == ("", 125) and "record: --" in found.stderr, f"{found}")
     found = command([RUN])
@@ -263,7 +268,7 @@ def ways_to_use(folder, findings, counter, queue):
     found = command([RUN, "--help"])
     findings.check("help", found.stdout.startswith("Usage: record/run ") and (found.stderr, found.returncode) == ("", 0), f"{found}")
     # Each of these options wants a report, also if the trace is kept.
-    for words in (["--replay"], ["--suppress", rules], ["--explain"], ["--exit-status", "report"]):
+    for words in (["--replay"], ["--suppress", rules], ["--explain"], ["--format", "text"], ["--exit-status", "report"]):
         found = command([RUN, "-o", trace, *words, counter])
         status = 1 if "report" in words else 3
         findings.check(f"a trace that is kept, and its report by {words[0]}", "\nsteps " in found.stdout and found.returncode == status, f"{found}")

@@ -30,6 +30,7 @@ struct options {
     bool replays;
     bool explains;
     bool by_site;
+    const char *format;
     bool ends_as_report;
     bool is_quiet;
 };
@@ -53,6 +54,7 @@ static const char usage[] =
     "      --suppress RULES    leave out the races that these rules take (docs/FORMATS.md)\n"
     "      --explain           name the accesses that make each race\n"
     "      --by-site           report the races by their sites, most words first\n"
+    "      --format FORM       write the report as `text` (the default), `json` or `sarif`\n"
     "      --exit-status WHOSE end with the status of the `program` (the default) or of the `report`\n"
     "      --limit BYTES       record at most so much text; 0: no limit. The default is 268435456\n"
     "      --paths             name sites by their whole path\n"
@@ -91,13 +93,24 @@ static bool is_report(const char *text)
     return *text == 'r';
 }
 
+/* What the replay would refuse is refused before the program has run. */
+static const char *read_format(const char *text)
+{
+    if (strcmp(text, "text") != 0 && strcmp(text, "json") != 0 && strcmp(text, "sarif") != 0) {
+        fprintf(stderr, "record: --format is 'text', 'json' or 'sarif', not '%s'\n", text);
+        exit(STATUS_FAILED);
+    }
+    return text;
+}
+
 static void read_options(int count, char **words)
 {
-    enum { REPLAY = 256, REPORT, SUPPRESS, EXPLAIN, BY_SITE, EXIT_STATUS, LIMIT, PATHS };
+    enum { REPLAY = 256, REPORT, SUPPRESS, EXPLAIN, BY_SITE, FORMAT, EXIT_STATUS, LIMIT, PATHS };
     static const struct option names[] = {
         {"output", 1, NULL, 'o'},         {"replay", 0, NULL, REPLAY}, {"report", 1, NULL, REPORT}, {"suppress", 1, NULL, SUPPRESS},
         {"exit-status", 1, NULL, EXIT_STATUS}, {"limit", 1, NULL, LIMIT},   {"paths", 0, NULL, PATHS},   {"quiet", 0, NULL, 'q'},
-        {"explain", 0, NULL, EXPLAIN},    {"by-site", 0, NULL, BY_SITE}, {"help", 0, NULL, 'h'},      {NULL, 0, NULL, 0},
+        {"explain", 0, NULL, EXPLAIN},    {"by-site", 0, NULL, BY_SITE}, {"format", 1, NULL, FORMAT}, {"help", 0, NULL, 'h'},
+        {NULL, 0, NULL, 0},
     };
     output.limit = USUAL_LIMIT;
     for (int got; (got = getopt_long(count, words, "+o:qh", names, NULL)) != -1;)
@@ -108,6 +121,7 @@ static void read_options(int count, char **words)
         case SUPPRESS: options.rules = optarg; break;
         case EXPLAIN: options.explains = true; break;
         case BY_SITE: options.by_site = true; break;
+        case FORMAT: options.format = read_format(optarg); break;
         case EXIT_STATUS: options.ends_as_report = is_report(optarg); break;
         case LIMIT: output.limit = read_bytes(optarg); break;
         case PATHS: sites_have_paths = true; break;
@@ -115,11 +129,15 @@ static void read_options(int count, char **words)
         case 'h': fputs(usage, stdout); exit(0);
         default: fputs("record: --help says what there is\n", stderr); exit(STATUS_FAILED);
         }
+    if (options.format && options.by_site) {
+        fputs("record: --by-site and --format are not given together\n", stderr);
+        exit(STATUS_FAILED);
+    }
     if (optind == count) {
         fputs(usage, stderr);
         exit(STATUS_FAILED);
     }
-    options.replays |= !options.trace || options.report || options.rules || options.explains || options.by_site || options.ends_as_report;
+    options.replays |= !options.trace || options.report || options.rules || options.explains || options.by_site || options.format || options.ends_as_report;
 }
 
 /* ---- Processes ---- */
@@ -190,7 +208,7 @@ static void start_replay(void)
     int ends[2];
     const char *command = getenv("ERASER");
     /* The writer ends the trace at its limit, so the replay needs none. This is the greatest that it knows. */
-    char *words[10] = {(char *)(command ? command : "eraser"), "replay", "--byte-limit", "4611686018427387904", NULL};
+    char *words[12] = {(char *)(command ? command : "eraser"), "replay", "--byte-limit", "4611686018427387904", NULL};
     int count = 4;
     if (options.rules) {
         words[count++] = "--suppress";
@@ -200,6 +218,10 @@ static void start_replay(void)
         words[count++] = "--explain";
     if (options.by_site)
         words[count++] = "--by-site";
+    if (options.format) {
+        words[count++] = "--format";
+        words[count++] = (char *)options.format;
+    }
     words[count] = "-";
     int report = options.report ? open(options.report, O_WRONLY | O_CREAT | O_TRUNC | O_CLOEXEC, 0666) : -1;
     if (options.report && report < 0)
