@@ -24,6 +24,7 @@ sys.dont_write_bytecode = True
 import cases
 import reference
 from alone import run_alone
+from site_tests import preloaded
 
 TOP = pathlib.Path(__file__).resolve().parent.parent
 PROGRAM = TOP / "crates/eraser/out/eraser"
@@ -247,13 +248,6 @@ def tests(record, preloaded):
         first_races(record, folder)
         together(record, folder)
         refusals(record, folder, preloaded)
-
-
-def preloaded(folder, name):
-    """A library of tests/ for LD_PRELOAD, as `tests/run` builds it."""
-    path = pathlib.Path(folder) / f"{name}.so"
-    subprocess.run(["cc", "-O1", "-shared", "-fPIC", "-o", str(path), str(TOP / f"tests/{name}.c"), "-ldl"], check=True)
-    return path
 
 
 if __name__ == "__main__":
