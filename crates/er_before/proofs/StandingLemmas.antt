@@ -3,7 +3,7 @@ use Rattle.std.proofs.Common.{◌≡◌, ℕ, Bool, true, false, nat_eq, nat_lt,
 use Rattle.std.proofs.Math.Path.{fun_ext}
 use Rattle.std.proofs.lemmas.Bool.{eqb-true}
 use Rattle.er_event.specs.declared.steps.Event.{Event}
-use Rattle.er_event.specs.declared.steps.Event.TheVariants.{Acquire, Release, Access, Reuse, IgnoreOn, IgnoreOff, Show, Level}
+use Rattle.er_event.specs.declared.steps.Event.TheVariants.{Acquire, Release, Access, Reuse, IgnoreOn, IgnoreOff, Show, Level, Sync}
 use Rattle.er_event.specs.declared.steps.Kind.{Kind}
 use Rattle.er_event.proofs.Lists.{length_push, get_last}
 use Rattle.er_event.specs.declared.steps.Reply.TheVariants.{Done}
@@ -11,28 +11,25 @@ use Rattle.er_event.specs.declared.steps.WordState.{WordState}
 use Rattle.er_model.specs.Words.{Nothing}
 use Rattle.er_model.specs.Following.{marked, replied}
 use Rattle.er_model.specs.Holdings.{Holdings, refused_by, changed_by, changed_unless, after_step, holdings_at, holdings_end}
-use Rattle.er_model.specs.Answers.{answer, answer_unless, state_end}
+use Rattle.er_model.specs.Answers.{answer, answer_unless, state_end, reading_of}
 use Rattle.er_model.proofs.Prefixes.{holdings-grow, holdings-empty}
-use Rattle.er_model.proofs.Prefixes as plain
-use Rattle.er_order.specs.declared.steps.OrderEvent.{OrderEvent}
-use Rattle.er_order.specs.declared.steps.OrderEvent.TheVariants.{Plain, Start, Join, Signal, Await}
-use Rattle.er_order.specs.declared.steps.OrderStep.{OrderStep}
-use Rattle.er_order.specs.Steps.{plain_event, plain_step, plain_steps, marks_of, held_at}
-use Rattle.er_order.specs.Order.{Sync, Local, plain_sync, sync_of, act_unless, acts_of}
+use Rattle.er_model.proofs.Prefixes as grown
+use Rattle.er_event.specs.declared.steps.Step.{Step}
+use Rattle.er_order.specs.Order.{Effect, Local, sync_of, act_unless, acts_of}
 use Rattle.er_order.specs.Clocks.{OfThread, clocks_after, clocks_at}
 use Rattle.er_order.specs.Races.{order_answer}
 use Rattle.er_order.specs.Following.{Kept, act_by, kept_by, kept_at, kept_after, kept_moved, fresh, access_answered}
 use Rattle.er_order.proofs.ClockSteps.{local}
-use Rattle.er_order.proofs.StepLemmas.{plain-append, plain-length, clocks-grow}
+use Rattle.er_order.proofs.StepLemmas.{clocks-grow}
 use Rattle.er_order.proofs.Growing.{kept-grow, answer-grow}
-use Rattle.er_order.proofs.Following.{answer-plain, answer-done, kept-none}
+use Rattle.er_order.proofs.Following.{answer-other, kept-none}
 use Rattle.er_held.specs.Held.{nothing_held}
 use Rattle.er_clocks.specs.Counts.{count_by}
 use Rattle.er_clocks.specs.Standing.{ClockMaps, counts, Moves, StandsForClocksOf}
 use Rattle.er_epochs.specs.Words.{kept_among}
 use Rattle.er_before.specs.Standing.{Ordered, holding, clock_of, kept_of, Stands, Changes, IsSame, answered_by, is_show, holds_alone}
 
--- an accepted event of locks, words, brackets or levels
+-- an accepted event
 module _ (before after : Ordered) (t : ℕ) (e : Event) (accepted : refused_by (holding before t) e ≡ None) where
   held_changed : (u : ℕ) (b : Bool) → nat_eq t u ≡ b →
       cond b (changed_by (holding before t) e) (holding before u) ≡ cond b (changed_unless (refused_by (holding before u) e) (holding before u) e) (holding before u)
@@ -42,13 +39,13 @@ module _ (before after : Ordered) (t : ℕ) (e : Event) (accepted : refused_by (
   held_changed u false same = refl
 
   pub changes : ((u : ℕ) → holding after u ≡ cond (nat_eq t u) (changed_by (holding before t) e) (holding before u)) →
-      Moves before.clocks (Some (record { thread = t; sync = plain_sync e })) after.clocks →
+      Moves before.clocks (Some (record { thread = t; sync = sync_of e })) after.clocks →
       ((w : ℕ) → kept_of after w ≡ kept_moved (clock_of before t) (kept_of before w) w (marked (holding before t) t e)) →
-      Changes before (record { thread = t; event = Plain e }) after
+      Changes before (record { thread = t; event = e }) after
   changes held moves kept =
       record {
         held = λ u. held u ∙ held_changed u (nat_eq t u) refl;
-        clocks = λ k u. moves k u ∙ ap (λ o. clocks_after (counts before.clocks) (act_unless o (record { thread = t; event = Plain e })) k u) (sym accepted);
+        clocks = λ k u. moves k u ∙ ap (λ o. clocks_after (counts before.clocks) (act_unless o (record { thread = t; event = e })) k u) (sym accepted);
         kept = kept;
       }
 
@@ -61,11 +58,11 @@ held_same before t u = by (nat_eq t u) refl
     by false same = refl
 
 -- an event that orders nothing leaves the clocks
-pub clocks_same : (maps : ClockMaps) (t : ℕ) (s : Sync) → s ≡ Local → Moves maps (Some (record { thread = t; sync = s })) maps
+pub clocks_same : (maps : ClockMaps) (t : ℕ) (s : Effect) → s ≡ Local → Moves maps (Some (record { thread = t; sync = s })) maps
 clocks_same maps t s is k u = sym (local (counts maps) t u k) ∙ ap (λ sync. clocks_after (counts maps) (Some (record { thread = t; sync = sync })) k u) (sym is)
 
 -- brackets and levels
-pub holds-local : (e : Event) → holds_alone e ≡ true → plain_sync e ≡ Local
+pub holds-local : (e : Event) → holds_alone e ≡ true → sync_of e ≡ Local
 holds-local IgnoreOn is = refl
 holds-local IgnoreOff is = refl
 holds-local (Level n) is = refl
@@ -74,6 +71,7 @@ holds-local (Release l m) is = cc
 holds-local (Access kind w site) is = cc
 holds-local (Reuse range) is = cc
 holds-local (Show w) is = cc
+holds-local (Sync sync) is = cc
 
 pub holds-nothing : (h : Holdings) (t : ℕ) (e : Event) → holds_alone e ≡ true → marked h t e ≡ Nothing
 holds-nothing h t IgnoreOn is = refl
@@ -84,10 +82,11 @@ holds-nothing h t (Release l m) is = cc
 holds-nothing h t (Access kind w site) is = cc
 holds-nothing h t (Reuse range) is = cc
 holds-nothing h t (Show w) is = cc
+holds-nothing h t (Sync sync) is = cc
 
 -- an access that isn't counted
 pub ignored : (before : Ordered) (t w : ℕ) (kind : Kind) → nat_lt 0 (holding before t).depth ≡ true →
-    Changes before (record { thread = t; event = Plain (Access kind w 0) }) before
+    Changes before (record { thread = t; event = Access kind w 0 }) before
 ignored before t w kind ignores =
     changes before before t (Access kind w 0) refl (held_same before t) (clocks_same before.clocks t Local refl) (λ v. rw ignores refl)
 
@@ -95,7 +94,7 @@ ignored before t w kind ignores =
 pub accessed : (before : Ordered) (words : List (ℕ × Kept)) (t w : ℕ) (kind : Kind) (clock : ℕ × List ℕ) → nat_lt 0 (holding before t).depth ≡ false →
     clock.0 ≡ t → ((u : ℕ) → count_by clock u ≡ clock_of before t u) →
     ((v : ℕ) → kept_among words v ≡ cond (w == v) (kept_by (count_by clock) (kept_of before w) clock.0 kind) (kept_of before v)) →
-    Changes before (record { thread = t; event = Plain (Access kind w 0) }) (record { holders = before.holders; clocks = before.clocks; words = words })
+    Changes before (record { thread = t; event = Access kind w 0 }) (record { holders = before.holders; clocks = before.clocks; words = words })
 accessed before words t w kind clock heeds thread same kept =
     changes before (record { holders = before.holders; clocks = before.clocks; words = words }) t (Access kind w 0) refl (held_same before t) (clocks_same before.clocks t Local refl)
     (λ v. rw heeds (kept v ∙ by v (w == v) refl))
@@ -111,33 +110,26 @@ accessed before words t w kind clock heeds thread same kept =
     by v false here = refl
 
 -- a machine that stands for a list stands for the longer one
-module _ (before : Ordered) (past : List OrderStep) (step : OrderStep) (stands : Stands before past) where
+module _ (before : Ordered) (past : List Step) (step : Step) (stands : Stands before past) where
   clocks_are : counts before.clocks ≡ clocks_at (acts_of past) (length past)
   clocks_are = fun_ext (λ k. fun_ext (λ u. stands.clocks k u))
 
   clock_is : clock_of before step.thread ≡ clocks_at (acts_of past) (length past) (OfThread step.thread)
   clock_is = fun_ext (λ u. stands.clocks (OfThread step.thread) u)
 
-  held_is : holding before step.thread ≡ held_at past step.thread (length past)
+  held_is : holding before step.thread ≡ holdings_at past step.thread (length past)
   held_is = stands.held step.thread
-
-  held-next : (t : ℕ) → after_step (held_at past t (length past)) t (plain_step step) ≡ held_at (past ++ step ∷ []) t (length (past ++ step ∷ []))
-  held-next t =
-      ap (λ n. after_step (holdings_at (plain_steps past) t n) t (plain_step step)) (sym (plain-length past))
-      ∙ sym (holdings-grow (plain_steps past) (plain_step step) t)
-      ∙ ap (λ steps. holdings_end steps t) (sym (plain-append past (step ∷ [])))
-      ∙ ap (λ n. holdings_at (plain_steps (past ++ step ∷ [])) t n) (plain-length (past ++ step ∷ []))
 
   pub stands-on : (after : Ordered) → Changes before step after → Stands after (past ++ step ∷ [])
   stands-on after changed =
       record {
-        held = λ t. changed.held t ∙ ap (λ h. after_step h t (plain_step step)) (stands.held t) ∙ held-next t;
+        held = λ t. changed.held t ∙ ap (λ h. after_step h t step) (stands.held t) ∙ sym (holdings-grow past step t);
         clocks = λ k u. changed.clocks k u
             ∙ ap₂ (λ clocks h. clocks_after clocks (act_by h step) k u) clocks_are held_is
             ∙ sym (clocks-grow past step k u) ∙ ap (λ n. clocks_at (acts_of (past ++ step ∷ [])) n k u) (sym (length_push past step));
         kept = λ w. changed.kept w
             ∙ ap₂ (λ h clock. kept_after h clock (kept_of before w) w step) held_is clock_is
-            ∙ ap (λ kept. kept_after (held_at past step.thread (length past)) (clocks_at (acts_of past) (length past) (OfThread step.thread)) kept w step) (stands.kept w)
+            ∙ ap (λ kept. kept_after (holdings_at past step.thread (length past)) (clocks_at (acts_of past) (length past) (OfThread step.thread)) kept w step) (stands.kept w)
             ∙ sym (kept-grow past step w) ∙ ap (λ n. kept_at (past ++ step ∷ []) w n) (sym (length_push past step));
       }
 
@@ -150,42 +142,37 @@ module _ (before : Ordered) (past : List OrderStep) (step : OrderStep) (stands :
       }
 
 -- the answer to the step
-access-answer : (before : Ordered) (past : List OrderStep) (t w site : ℕ) (kind : Kind) → Stands before past →
-    answered_by before (record { thread = t; event = Plain (Access kind w site) }) ≡ order_answer (past ++ record { thread = t; event = Plain (Access kind w site) } ∷ []) (length past)
+access-answer : (before : Ordered) (past : List Step) (t w site : ℕ) (kind : Kind) → Stands before past →
+    answered_by before (record { thread = t; event = Access kind w site }) ≡ order_answer (past ++ record { thread = t; event = Access kind w site } ∷ []) (length past)
 access-answer before past t w site kind stands =
-    let step : OrderStep = record { thread = t; event = Plain (Access kind w site) } in
+    let step : Step = record { thread = t; event = Access kind w site } in
     ap (λ h. access_answered h (clock_of before t) (kept_of before w) kind step) (held_is before past step stands)
-    ∙ ap (λ clock. access_answered (held_at past t (length past)) clock (kept_of before w) kind step) (clock_is before past step stands)
-    ∙ ap (λ kept. access_answered (held_at past t (length past)) (clocks_at (acts_of past) (length past) (OfThread t)) kept kind step) (stands.kept w)
+    ∙ ap (λ clock. access_answered (holdings_at past t (length past)) clock (kept_of before w) kind step) (clock_is before past step stands)
+    ∙ ap (λ kept. access_answered (holdings_at past t (length past)) (clocks_at (acts_of past) (length past) (OfThread t)) kept kind step) (stands.kept w)
     ∙ sym (answer-grow past step w site kind refl)
 
 -- where the lockset rule's answer doesn't look at words
-plain-answer : (before : Ordered) (past : List OrderStep) (t : ℕ) (e : Event) → Stands before past → ((w site : ℕ) (kind : Kind) → e ≡ Access kind w site → ⊥) →
+other-answer : (before : Ordered) (past : List Step) (t : ℕ) (e : Event) → Stands before past → ((w site : ℕ) (kind : Kind) → e ≡ Access kind w site → ⊥) →
     ((h : Holdings) (states : ℕ → WordState) → replied h states t e ≡ Done) →
-    answer_unless (refused_by (holding before t) e) Done ≡ order_answer (past ++ record { thread = t; event = Plain e } ∷ []) (length past)
-plain-answer before past t e stands never done =
-    let step : OrderStep = record { thread = t; event = Plain e } in
-    ap (λ h. answer_unless (refused_by h e) Done) (stands.held t ∙ ap (λ n. holdings_at (plain_steps past) t n) (sym (plain-length past)))
-    ∙ ap (answer_unless (refused_by (holdings_end (plain_steps past) t) e)) (sym (done (holdings_end (plain_steps past) t) (state_end (plain_steps past))))
-    ∙ sym (plain.answer-grow (plain_steps past) (record { thread = t; event = e }))
-    ∙ ap (λ n. answer (plain_steps past ++ record { thread = t; event = e } ∷ []) n) (plain-length past)
-    ∙ ap (λ steps. answer steps (length past)) (sym (plain-append past (step ∷ [])))
-    ∙ sym (answer-plain (past ++ step ∷ []) (length past) step (get_last past step) e refl never)
+    answer_unless (refused_by (holding before t) e) Done ≡ order_answer (past ++ record { thread = t; event = e } ∷ []) (length past)
+other-answer before past t e stands never done =
+    let step : Step = record { thread = t; event = e } in
+    ap (λ h. answer_unless (refused_by h e) Done) (stands.held t)
+    ∙ ap (answer_unless (refused_by (holdings_end past t) e)) (sym (done (holdings_end past t) (state_end past)))
+    ∙ sym (grown.answer-grow past step)
+    ∙ sym (answer-other (past ++ step ∷ []) (length past) step (get_last past step) never)
 
-pub answer-stands : (before : Ordered) (past : List OrderStep) (t : ℕ) (e : OrderEvent) → Stands before past → is_show e ≡ false →
+pub answer-stands : (before : Ordered) (past : List Step) (t : ℕ) (e : Event) → Stands before past → is_show e ≡ false →
     answered_by before (record { thread = t; event = e }) ≡ order_answer (past ++ record { thread = t; event = e } ∷ []) (length past)
-answer-stands before past t (Plain (Access kind w site)) stands other = access-answer before past t w site kind stands
-answer-stands before past t (Plain (Acquire l m)) stands other = plain-answer before past t (Acquire l m) stands (λ w site kind same. cc) (λ h states. refl)
-answer-stands before past t (Plain (Release l m)) stands other = plain-answer before past t (Release l m) stands (λ w site kind same. cc) (λ h states. refl)
-answer-stands before past t (Plain (Reuse range)) stands other = plain-answer before past t (Reuse range) stands (λ w site kind same. cc) (λ h states. refl)
-answer-stands before past t (Plain IgnoreOn) stands other = plain-answer before past t IgnoreOn stands (λ w site kind same. cc) (λ h states. refl)
-answer-stands before past t (Plain IgnoreOff) stands other = plain-answer before past t IgnoreOff stands (λ w site kind same. cc) (λ h states. refl)
-answer-stands before past t (Plain (Level n)) stands other = plain-answer before past t (Level n) stands (λ w site kind same. cc) (λ h states. refl)
-answer-stands before past t (Plain (Show w)) stands other = cc
-answer-stands before past t (Start u) stands other = sym (answer-done (past ++ record { thread = t; event = Start u } ∷ []) (length past) (record { thread = t; event = Start u }) (get_last past (record { thread = t; event = Start u })) (λ event same. cc))
-answer-stands before past t (Join u) stands other = sym (answer-done (past ++ record { thread = t; event = Join u } ∷ []) (length past) (record { thread = t; event = Join u }) (get_last past (record { thread = t; event = Join u })) (λ event same. cc))
-answer-stands before past t (Signal x) stands other = sym (answer-done (past ++ record { thread = t; event = Signal x } ∷ []) (length past) (record { thread = t; event = Signal x }) (get_last past (record { thread = t; event = Signal x })) (λ event same. cc))
-answer-stands before past t (Await x) stands other = sym (answer-done (past ++ record { thread = t; event = Await x } ∷ []) (length past) (record { thread = t; event = Await x }) (get_last past (record { thread = t; event = Await x })) (λ event same. cc))
+answer-stands before past t (Access kind w site) stands other = access-answer before past t w site kind stands
+answer-stands before past t (Acquire l m) stands other = other-answer before past t (Acquire l m) stands (λ w site kind same. cc) (λ h states. refl)
+answer-stands before past t (Release l m) stands other = other-answer before past t (Release l m) stands (λ w site kind same. cc) (λ h states. refl)
+answer-stands before past t (Reuse range) stands other = other-answer before past t (Reuse range) stands (λ w site kind same. cc) (λ h states. refl)
+answer-stands before past t IgnoreOn stands other = other-answer before past t IgnoreOn stands (λ w site kind same. cc) (λ h states. refl)
+answer-stands before past t IgnoreOff stands other = other-answer before past t IgnoreOff stands (λ w site kind same. cc) (λ h states. refl)
+answer-stands before past t (Level n) stands other = other-answer before past t (Level n) stands (λ w site kind same. cc) (λ h states. refl)
+answer-stands before past t (Show w) stands other = cc
+answer-stands before past t (Sync sync) stands other = other-answer before past t (Sync sync) stands (λ w site kind same. cc) (λ h states. refl)
 
 -- before any step
 pub stands-start : (machine : Ordered) → ((t : ℕ) → holding machine t ≡ nothing_held) → StandsForClocksOf machine.clocks [] → ((w : ℕ) → kept_of machine w ≡ fresh) → Stands machine []
@@ -193,30 +180,8 @@ stands-start machine nothing clocks fresh_all =
     record {
       held = λ t. nothing t ∙ sym (holdings-empty t);
       clocks = clocks;
-      kept = λ w. fresh_all w ∙ sym (kept-none (acts_of []) (marks_of []) w);
+      kept = λ w. fresh_all w ∙ sym (kept-none (acts_of []) (reading_of []) w);
     }
-
--- an event that only orders threads
-pub synchronized : (before : Ordered) (clocks : ClockMaps) (t : ℕ) (e : OrderEvent) → plain_event e ≡ Show 0 →
-    Moves before.clocks (Some (record { thread = t; sync = sync_of e })) clocks →
-    Changes before (record { thread = t; event = e }) (record { holders = before.holders; clocks = clocks; words = before.words })
-synchronized before clocks t e shows moves =
-    record {
-      held = λ u. by u (t == u) ∙ ap (λ plain. after_step (holding before u) u (record { thread = t; event = plain })) (sym shows);
-      clocks = λ k u. moves k u ∙ ap (λ plain. clocks_after (counts before.clocks) (act_unless (refused_by (holding before t) plain) (record { thread = t; event = e })) k u) (sym shows);
-      kept = λ w. ap (λ plain. kept_moved (clock_of before t) (kept_of before w) w (marked (holding before t) t plain)) (sym shows);
-    }
-  where
-    by : (u : ℕ) (b : Bool) → holding before u ≡ cond b (holding before u) (holding before u)
-    by u true = refl
-    by u false = refl
-
-pub synchronized-answer : (before : Ordered) (t : ℕ) (e : OrderEvent) → plain_event e ≡ Show 0 → Ok Done ≡ answered_by before (record { thread = t; event = e })
-synchronized-answer before t (Plain event) shows = rw shows refl
-synchronized-answer before t (Start u) shows = refl
-synchronized-answer before t (Join u) shows = refl
-synchronized-answer before t (Signal x) shows = refl
-synchronized-answer before t (Await x) shows = refl
 
 -- what holds of a reply
 pub if_ok : {T E : Type 0} (r : Result T E) (P Q : T → Type 0) → IfOk r P → ((v : T) → P v → Q v) → IfOk r Q

@@ -5,13 +5,10 @@ use Rattle.er_event.specs.declared.steps.Event.TheVariants.{Access, Show, Ignore
 use Rattle.er_event.specs.declared.steps.Reply.{Reply}
 use Rattle.er_event.specs.declared.steps.Reply.TheVariants.{Done, Quiet, Race, Ignored}
 use Rattle.er_event.specs.declared.refusals.Refusal.{Refusal}
-use Rattle.er_model.specs.Holdings.{Holdings, refused_by, after_step}
+use Rattle.er_model.specs.Holdings.{Holdings, refused_by, after_step, holdings_at}
 use Rattle.er_model.specs.Answers.{answer_unless}
 use Rattle.er_held.specs.ThreadLocks.{holding_among}
-use Rattle.er_order.specs.declared.steps.OrderEvent.{OrderEvent}
-use Rattle.er_order.specs.declared.steps.OrderEvent.TheVariants.{Plain}
-use Rattle.er_order.specs.declared.steps.OrderStep.{OrderStep}
-use Rattle.er_order.specs.Steps.{plain_event, plain_step, held_at}
+use Rattle.er_event.specs.declared.steps.Step.{Step}
 use Rattle.er_order.specs.Clocks.{OfThread}
 use Rattle.er_order.specs.Following.{Kept, act_by, kept_at, kept_after, reports_at}
 use Rattle.er_clocks.specs.Standing.{ClockMaps, counts, SameCounts, Moves, StandsForClocksOf}
@@ -36,14 +33,14 @@ abbrev pub kept_of : Ordered → ℕ → Kept
 kept_of machine w = kept_among machine.words w
 
 -- its holdings, its clocks and what it keeps are those at the end of the list
-pub record Stands (machine : Ordered) (steps : List OrderStep) : Type 0 where
-  pub held : (t : ℕ) → holding machine t ≡ held_at steps t (length steps)
+pub record Stands (machine : Ordered) (steps : List Step) : Type 0 where
+  pub held : (t : ℕ) → holding machine t ≡ holdings_at steps t (length steps)
   pub clocks : StandsForClocksOf machine.clocks steps
   pub kept : (w : ℕ) → kept_of machine w ≡ kept_at steps w (length steps)
 
 -- they are what the step makes of those before
-pub record Changes (before : Ordered) (step : OrderStep) (after : Ordered) : Type 0 where
-  pub held : (t : ℕ) → holding after t ≡ after_step (holding before t) t (plain_step step)
+pub record Changes (before : Ordered) (step : Step) (after : Ordered) : Type 0 where
+  pub held : (t : ℕ) → holding after t ≡ after_step (holding before t) t step
   pub clocks : Moves before.clocks (act_by (holding before step.thread) step) after.clocks
   pub kept : (w : ℕ) → kept_of after w ≡ kept_after (holding before step.thread) (clock_of before step.thread) (kept_of before w) w step
 
@@ -54,17 +51,17 @@ pub record IsSame (before after : Ordered) : Type 0 where
   pub kept : (w : ℕ) → kept_of after w ≡ kept_of before w
 
 -- the reply to an event that isn't refused, by these; a show is done
-abbrev pub reply_by : Holdings → (ℕ → ℕ) → (ℕ → Kept) → OrderEvent → Reply
-reply_by h clock kept (Plain (Access kind w site)) = cond (nat_lt 0 h.depth) Ignored (cond (reports_at clock (kept w) kind) Race Quiet)
+abbrev pub reply_by : Holdings → (ℕ → ℕ) → (ℕ → Kept) → Event → Reply
+reply_by h clock kept (Access kind w site) = cond (nat_lt 0 h.depth) Ignored (cond (reports_at clock (kept w) kind) Race Quiet)
 reply_by h clock kept _ = Done
 
 -- and the answer
-abbrev pub answered_by : Ordered → OrderStep → Result Reply Refusal
-answered_by machine step = answer_unless (refused_by (holding machine step.thread) (plain_event step.event)) (reply_by (holding machine step.thread) (clock_of machine step.thread) (kept_of machine) step.event)
+abbrev pub answered_by : Ordered → Step → Result Reply Refusal
+answered_by machine step = answer_unless (refused_by (holding machine step.thread) step.event) (reply_by (holding machine step.thread) (clock_of machine step.thread) (kept_of machine) step.event)
 
 -- the event asks for a word's state
-abbrev pub is_show : OrderEvent → Bool
-is_show (Plain (Show w)) = true
+abbrev pub is_show : Event → Bool
+is_show (Show w) = true
 is_show _ = false
 
 -- the event changes what its thread holds, and nothing else

@@ -121,7 +121,8 @@ fn refusal(held: &Held, event: &Event) -> Option<Refusal>
                 None
             }
         }
-        Event::Access(..) | Event::Reuse(_) | Event::Show(_) | Event::Level(_) => None,
+        Event::Access(..) | Event::Reuse(_) | Event::Show(_) | Event::Level(_) | Event::Sync(_) =>
+            None,
     }
 }
 

@@ -1,15 +1,14 @@
 //! The machine: every thread's holdings, the clocks, and what is kept of every word.
 ghost use Rattle.std.specs.Prelude.{◌≡◌, ℕ, List, ◌++◌, ◌∷◌, [], IsFalse, IfOk, OnOk, OnErr, None, is_ok, length, true};
 ghost use Rattle.er_model.specs.Holdings.{refused_by};
-ghost use Rattle.er_order.specs.declared.steps.OrderStep.{OrderStep as Steps};
+ghost use Rattle.er_event.specs.declared.steps.Step.{Step as Steps};
 ghost use Rattle.er_order.specs.Races.{order_answer};
 
 use crate::holders::Holders;
 use er_clock::NoTick;
 use er_clocks::Clocks;
 use er_epochs::OrderWords;
-use er_event::{Event, Kind, LockId, Mode, PageRange, Refusal, Reply, ThreadId, Word};
-use er_order::{OrderEvent, OrderStep};
+use er_event::{Event, Kind, LockId, Mode, PageRange, Refusal, Reply, Step, Sync, ThreadId, Word};
 use std::alloc::Global;
 use std::marker::Model;
 
@@ -48,7 +47,7 @@ impl OrderMachine {
     /// # Errors
     /// `CountFull`: a thread's own count would rise, and is the greatest. `OutOfMemory`: memory was refused. The step may be tried
     /// again.
-    pub fn step(&mut self, step: &OrderStep) -> Result<Result<Reply, Refusal>, NoTick>
+    pub fn step(&mut self, step: &Step) -> Result<Result<Reply, Refusal>, NoTick>
         ensures answer { (past : List Steps) → Stands self.old past → IsFalse (is_show step.now.event)
             → IfOk result (λ answer. answer ≡ order_answer (past ++ step.now ∷ []) (length past)) }
         ensures goes_on { (past : List Steps) → Stands self.old past → OnOk result (Stands self.new (past ++ step.now ∷ [])) }
@@ -59,22 +58,13 @@ impl OrderMachine {
         ensures changes { OnOk result (Changes self.old step.now self.new) }
         ensures same { OnErr result (IsSame self.old self.new) }
     {
-        match step.event {
-            OrderEvent::Plain(event) => self.take(step.thread, event),
-            OrderEvent::Start(_)
-            | OrderEvent::Join(_)
-            | OrderEvent::Signal(_)
-            | OrderEvent::Await(_) => {
-                self.clocks.follow(step, true)?;
-                Ok(Ok(Reply::Done))
-            }
-        }
+        self.take(step.thread, step.event)
     }
 
-    // An event of locks, words, brackets or levels.
+    // An event of this thread.
     fn take(&mut self, thread: ThreadId, event: Event) -> Result<Result<Reply, Refusal>, NoTick>
-        ensures answered { IfOk result (λ answer. answer ≡ answered_by self.old (record { thread = thread; event = OrderEvent.Plain event })) }
-        ensures changes { OnOk result (Changes self.old (record { thread = thread; event = OrderEvent.Plain event }) self.new) }
+        ensures answered { IfOk result (λ answer. answer ≡ answered_by self.old (record { thread = thread; event = event })) }
+        ensures changes { OnOk result (Changes self.old (record { thread = thread; event = event }) self.new) }
         ensures same { OnErr result (IsSame self.old self.new) }
     {
         match self.holders.refusal(thread, &event) {
@@ -86,11 +76,11 @@ impl OrderMachine {
         }
     }
 
-    // An accepted one.
+    // An accepted event.
     fn accept(&mut self, thread: ThreadId, event: Event) -> Result<Reply, NoTick>
         requires { refused_by (holding self.old thread) event ≡ None }
-        ensures reply { IfOk result (λ reply. reply ≡ reply_by (holding self.old thread) (clock_of self.old thread) (kept_of self.old) (OrderEvent.Plain event)) }
-        ensures changes { OnOk result (Changes self.old (record { thread = thread; event = OrderEvent.Plain event }) self.new) }
+        ensures reply { IfOk result (λ reply. reply ≡ reply_by (holding self.old thread) (clock_of self.old thread) (kept_of self.old) event) }
+        ensures changes { OnOk result (Changes self.old (record { thread = thread; event = event }) self.new) }
         ensures same { OnErr result (IsSame self.old self.new) }
     {
         match event {
@@ -105,13 +95,14 @@ impl OrderMachine {
             Event::IgnoreOn => done(self.hold(thread, Event::IgnoreOn)),
             Event::IgnoreOff => done(self.hold(thread, Event::IgnoreOff)),
             Event::Level(level) => done(self.hold(thread, Event::Level(level))),
+            Event::Sync(sync) => done(self.synchronize(thread, sync)),
         }
     }
 
     // An access, which isn't counted while its thread ignores.
     fn access(&mut self, thread: ThreadId, kind: Kind, word: Word) -> Result<Reply, NoTick>
-        ensures reply { IfOk result (λ reply. reply ≡ reply_by (holding self.old thread) (clock_of self.old thread) (kept_of self.old) (OrderEvent.Plain (Event.Access kind word 0))) }
-        ensures changes { OnOk result (Changes self.old (record { thread = thread; event = OrderEvent.Plain (Event.Access kind word 0) }) self.new) }
+        ensures reply { IfOk result (λ reply. reply ≡ reply_by (holding self.old thread) (clock_of self.old thread) (kept_of self.old) (Event.Access kind word 0)) }
+        ensures changes { OnOk result (Changes self.old (record { thread = thread; event = Event.Access kind word 0 }) self.new) }
         ensures same { OnErr result (IsSame self.old self.new) }
     {
         if self.holders.get(thread).ignoring() {
@@ -127,7 +118,7 @@ impl OrderMachine {
 
     // The words of the range begin a new era.
     fn reuse(&mut self, thread: ThreadId, range: PageRange)
-        ensures { Changes self.old (record { thread = thread; event = OrderEvent.Plain (Event.Reuse range) }) self.new }
+        ensures { Changes self.old (record { thread = thread; event = Event.Reuse range }) self.new }
     {
         self.words.reset(range);
     }
@@ -135,16 +126,16 @@ impl OrderMachine {
     // If the clocks lack room, the lock is given back.
     fn acquire(&mut self, thread: ThreadId, lock: LockId, mode: Mode) -> Result<(), NoTick>
         requires { refused_by (holding self.old thread) (Event.Acquire lock mode) ≡ None }
-        ensures changes { OnOk result (Changes self.old (record { thread = thread; event = OrderEvent.Plain (Event.Acquire lock mode) }) self.new) }
+        ensures changes { OnOk result (Changes self.old (record { thread = thread; event = Event.Acquire lock mode }) self.new) }
         ensures same { OnErr result (IsSame self.old self.new) }
     {
         match self.holders.change(thread, Event::Acquire(lock, mode)) {
             Ok(()) => {}
             Err(_) => return Err(NoTick::OutOfMemory),
         }
-        let step = OrderStep {
+        let step = Step {
             thread,
-            event: OrderEvent::Plain(Event::Acquire(lock, mode)),
+            event: Event::Acquire(lock, mode),
         };
         match self.clocks.follow(&step, true) {
             Ok(()) => Ok(()),
@@ -158,12 +149,12 @@ impl OrderMachine {
     // The clocks go first, since the lock is given up without memory.
     fn release(&mut self, thread: ThreadId, lock: LockId, mode: Mode) -> Result<(), NoTick>
         requires { refused_by (holding self.old thread) (Event.Release lock mode) ≡ None }
-        ensures changes { OnOk result (Changes self.old (record { thread = thread; event = OrderEvent.Plain (Event.Release lock mode) }) self.new) }
+        ensures changes { OnOk result (Changes self.old (record { thread = thread; event = Event.Release lock mode }) self.new) }
         ensures same { OnErr result (IsSame self.old self.new) }
     {
-        let step = OrderStep {
+        let step = Step {
             thread,
-            event: OrderEvent::Plain(Event::Release(lock, mode)),
+            event: Event::Release(lock, mode),
         };
         match self.clocks.follow(&step, true) {
             Ok(()) => {
@@ -174,11 +165,23 @@ impl OrderMachine {
         }
     }
 
+    // What only orders threads holds nothing.
+    fn synchronize(&mut self, thread: ThreadId, sync: Sync) -> Result<(), NoTick>
+        ensures changes { OnOk result (Changes self.old (record { thread = thread; event = Event.Sync sync }) self.new) }
+        ensures same { OnErr result (IsSame self.old self.new) }
+    {
+        let step = Step {
+            thread,
+            event: Event::Sync(sync),
+        };
+        self.clocks.follow(&step, true)
+    }
+
     // A bracket or a level orders nothing.
     fn hold(&mut self, thread: ThreadId, event: Event) -> Result<(), NoTick>
         requires accepted { refused_by (holding self.old thread) event ≡ None }
         requires local { holds_alone event ≡ true }
-        ensures changes { OnOk result (Changes self.old (record { thread = thread; event = OrderEvent.Plain event }) self.new) }
+        ensures changes { OnOk result (Changes self.old (record { thread = thread; event = event }) self.new) }
         ensures same { OnErr result (IsSame self.old self.new) }
     {
         match self.holders.change(thread, event) {

@@ -3,7 +3,7 @@ use Rattle.std.proofs.Common.{◌≡◌, ◌<◌, ◌≤◌, ◌==◌, ◌⊎◌
 use Rattle.std.proofs.lemmas.Bool.{le-leb, leb-true, leb-false, and_parts, and_from, eqb-true, cases_lt, cases_eq, false_from_ne_true, both_ways}
 use Rattle.std.proofs.lemmas.Option.{same_Some}
 use Rattle.er_event.specs.declared.steps.Event.{Event}
-use Rattle.er_event.specs.declared.steps.Event.TheVariants.{Acquire, Release, Access, Reuse, IgnoreOn, IgnoreOff, Show, Level}
+use Rattle.er_event.specs.declared.steps.Event.TheVariants.{Acquire, Release, Access, Reuse, IgnoreOn, IgnoreOff, Show, Level, Sync}
 use Rattle.er_event.specs.declared.steps.Kind.{Kind}
 use Rattle.er_event.specs.declared.steps.Step.{Step}
 use Rattle.er_event.specs.Lockset.{has}
@@ -108,6 +108,7 @@ counted_event past t w IgnoreOn counted = cc
 counted_event past t w IgnoreOff counted = cc
 counted_event past t w (Show word) counted = cc
 counted_event past t w (Level n) counted = cc
+counted_event past t w (Sync sync) counted = cc
 
 counted_mark : (past : List Step) (w : ℕ) (o : Option Step) → counts (mark_of past o) w ≡ true → (word_of o ≡ Some w) × ((s : Step) → o ≡ Some s → thread_of (mark_of past o) ≡ s.thread)
 unfolding counts

@@ -1,7 +1,7 @@
 -- Where a word's era begins, found by going back step by step.
 use Rattle.std.proofs.Common.{◌≡◌, ℕ, suc, cond, nat_lt, Bool, true, false, List, slice_get, Some, refl, ◌∙◌, arith}
 use Rattle.er_event.specs.declared.steps.Event.{Event}
-use Rattle.er_event.specs.declared.steps.Event.TheVariants.{Acquire, Release, Access, Reuse, IgnoreOn, IgnoreOff, Show, Level}
+use Rattle.er_event.specs.declared.steps.Event.TheVariants.{Acquire, Release, Access, Reuse, IgnoreOn, IgnoreOff, Show, Level, Sync}
 use Rattle.er_event.specs.declared.steps.Kind.{Kind}
 use Rattle.er_event.specs.declared.steps.Step.{Step}
 use Rattle.er_model.specs.Words.{Counted, Nothing, reuses, era}
@@ -28,6 +28,7 @@ reused-event h t w IgnoreOn = refl
 reused-event h t w IgnoreOff = refl
 reused-event h t w (Show word) = refl
 reused-event h t w (Level n) = refl
+reused-event h t w (Sync sync) = refl
 
 module _ (steps : List Step) (w i : ℕ) (s : Step) (is : slice_get steps i ≡ Some s) where
   reused : reuses (reading_of steps i) w ≡ reused_by s.event w

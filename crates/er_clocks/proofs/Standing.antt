@@ -6,10 +6,9 @@ use Rattle.std.specs.Option.{is_none}
 use Rattle.er_event.specs.declared.steps.Mode.TheVariants.{Read, Write}
 use Rattle.er_event.specs.declared.refusals.Refusal.{Refusal}
 use Rattle.er_event.proofs.Lists.{length_push}
-use Rattle.er_model.specs.Holdings.{refused_by}
-use Rattle.er_order.specs.declared.steps.OrderStep.{OrderStep}
-use Rattle.er_order.specs.Steps.{plain_event, held_at}
-use Rattle.er_order.specs.Order.{Act, Sync, Released, Signalled, Joined, act_unless, acts_of}
+use Rattle.er_model.specs.Holdings.{refused_by, holdings_at}
+use Rattle.er_event.specs.declared.steps.Step.{Step}
+use Rattle.er_order.specs.Order.{Act, Effect, Released, Signalled, Joined, act_unless, acts_of}
 use Rattle.er_order.specs.Clocks.{Keeper, OfThread, OfReleases, OfObject, is_own, publishes, flows, clocks_after, clocks_at}
 use Rattle.er_order.specs.Following.{act_by}
 use Rattle.er_order.proofs.ClockSteps.{and_none, and_all, released, signalled}
@@ -20,7 +19,7 @@ use Rattle.er_clocks.specs.Standing.{ClockMaps, counts, Moves, act_if, StandsFor
 plus_none : (x : ℕ) → x ≡ x + 0
 plus_none x = omega arith
 
-module _ (m : ClockMaps) (threads : ClockMap) (t : ℕ) (a : Sync) where
+module _ (m : ClockMaps) (threads : ClockMap) (t : ℕ) (a : Effect) where
   abbrev act : Option Act
   act = Some (record { thread = t; sync = a })
 
@@ -102,15 +101,15 @@ flows-joined t v = rw (eq-eqb v v refl) (or_true (t == v && false))
     or_true false = refl
 
 -- clocks that stand for a list stand for the longer one
-act-accepted : (o : Option Refusal) (step : OrderStep) → act_if (is_none o) step ≡ act_unless o step
+act-accepted : (o : Option Refusal) (step : Step) → act_if (is_none o) step ≡ act_unless o step
 act-accepted None step = refl
 act-accepted (Some why) step = refl
 
-pub stands-on : (before after : ClockMaps) (steps : List OrderStep) (step : OrderStep) (accepted : Bool) → StandsForClocksOf before steps →
+pub stands-on : (before after : ClockMaps) (steps : List Step) (step : Step) (accepted : Bool) → StandsForClocksOf before steps →
     accepted ≡ is_accepted steps step → Moves before (act_if accepted step) after → StandsForClocksOf after (steps ++ step ∷ [])
 stands-on before after steps step accepted stands is moves k u =
     let same : counts before ≡ clocks_at (acts_of steps) (length steps) = fun_ext (λ k. fun_ext (λ u. stands k u)) in
-    let act : act_if accepted step ≡ act_by (held_at steps step.thread (length steps)) step =
-    ap (λ b. act_if b step) is ∙ act-accepted (refused_by (held_at steps step.thread (length steps)) (plain_event step.event)) step in
+    let act : act_if accepted step ≡ act_by (holdings_at steps step.thread (length steps)) step =
+    ap (λ b. act_if b step) is ∙ act-accepted (refused_by (holdings_at steps step.thread (length steps)) step.event) step in
     moves k u ∙ ap₂ (λ clocks o. clocks_after clocks o k u) same act ∙ sym (clocks-grow steps step k u)
     ∙ ap (λ n. clocks_at (acts_of (steps ++ step ∷ [])) n k u) (sym (length_push steps step))

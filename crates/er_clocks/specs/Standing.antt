@@ -1,9 +1,8 @@
 -- The lists of steps that clocks stand for, and what one more step makes of them.
 use Rattle.std.specs.Prelude.{ℕ, ◌≡◌, Bool, true, false, List, length, Option, Some, None, is_none}
 use Rattle.er_event.specs.declared.steps.Mode.TheVariants.{Read, Write}
-use Rattle.er_model.specs.Holdings.{refused_by}
-use Rattle.er_order.specs.declared.steps.OrderStep.{OrderStep}
-use Rattle.er_order.specs.Steps.{plain_event, held_at}
+use Rattle.er_model.specs.Holdings.{refused_by, holdings_at}
+use Rattle.er_event.specs.declared.steps.Step.{Step}
 use Rattle.er_order.specs.Order.{Act, sync_of, acts_of}
 use Rattle.er_order.specs.Clocks.{Keeper, OfThread, OfReleases, OfObject, flows, clocks_after, clocks_at}
 use Rattle.er_clocks.specs.Counts.{ClockMap, known_by, known_to}
@@ -31,7 +30,7 @@ abbrev pub Moves : ClockMaps → Option Act → ClockMaps → Type 0
 Moves before act after = (k : Keeper) (u : ℕ) → counts after k u ≡ clocks_after (counts before) act k u
 
 -- a refused step is no act
-abbrev pub act_if : Bool → OrderStep → Option Act
+abbrev pub act_if : Bool → Step → Option Act
 act_if true step = Some (record { thread = step.thread; sync = sync_of step.event })
 act_if false step = None
 
@@ -41,9 +40,9 @@ act_flows None t = false
 act_flows (Some a) t = flows a t
 
 -- the counts are those of the clocks at the end of the list
-abbrev pub StandsForClocksOf : ClockMaps → List OrderStep → Type 0
+abbrev pub StandsForClocksOf : ClockMaps → List Step → Type 0
 StandsForClocksOf maps steps = (k : Keeper) (u : ℕ) → counts maps k u ≡ clocks_at (acts_of steps) (length steps) k u
 
 -- the step isn't refused after the list
-abbrev pub is_accepted : List OrderStep → OrderStep → Bool
-is_accepted steps step = is_none (refused_by (held_at steps step.thread (length steps)) (plain_event step.event))
+abbrev pub is_accepted : List Step → Step → Bool
+is_accepted steps step = is_none (refused_by (holdings_at steps step.thread (length steps)) step.event)

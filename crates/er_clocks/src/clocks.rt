@@ -1,15 +1,14 @@
 //! The clocks of a list of steps.
 ghost use Rattle.std.specs.Prelude.{◌≡◌, ◌-◌, ◌^◌, ◌++◌, ◌∷◌, [], ℕ, List, Bool, Some, None, IsTrue, OnOk, OnErr, IsErrOf, is_ok};
 ghost use Rattle.er_event.specs.declared.steps.Mode.{Mode as Modes};
-ghost use Rattle.er_order.specs.declared.steps.OrderStep.{OrderStep as Steps};
-ghost use Rattle.er_order.specs.Order.{Sync, sync_of, plain_sync};
+ghost use Rattle.er_event.specs.declared.steps.Step.{Step as Steps};
+ghost use Rattle.er_order.specs.Order.{Effect, sync_of, effect_of};
 ghost use Rattle.er_order.specs.Clocks.{OfThread};
 ghost use Rattle.er_clocks.specs.Counts.{count_by};
 
 use crate::threads::{ThreadClock, ThreadClocks};
 use er_clock::{ClockTable, NoTick};
-use er_event::{Event, LockId, Mode, ThreadId};
-use er_order::{OrderEvent, OrderStep};
+use er_event::{Event, LockId, Mode, Step, Sync, ThreadId};
 use std::alloc::{AllocError, Global};
 use std::marker::Model;
 
@@ -58,7 +57,7 @@ impl Clocks {
     ///
     /// # Errors
     /// `CountFull`: a thread's own count would rise, and is the greatest. `OutOfMemory`: memory was refused.
-    pub fn follow(&mut self, step: &OrderStep, accepted: bool) -> Result<(), NoTick>
+    pub fn follow(&mut self, step: &Step, accepted: bool) -> Result<(), NoTick>
         ensures goes_on { (steps : List Steps) → StandsForClocksOf self.old steps → accepted ≡ is_accepted steps step.now
             → OnOk result (StandsForClocksOf self.new (steps ++ step.now ∷ [])) }
         ensures err { OnErr result (SameCounts self.old self.new) }
@@ -76,31 +75,16 @@ impl Clocks {
     }
 
     // What an accepted event moves.
-    fn take(&mut self, thread: ThreadId, event: OrderEvent) -> Result<(), NoTick>
+    fn take(&mut self, thread: ThreadId, event: Event) -> Result<(), NoTick>
         ensures ok { OnOk result (Moves self.old (Some (record { thread = thread; sync = sync_of event })) self.new) }
         ensures err { OnErr result (SameCounts self.old self.new) }
         ensures full { IsErrOf result NoTick.CountFull
             → (t : ℕ) × IsTrue (act_flows (Some (record { thread = thread; sync = sync_of event })) t) × (counts self.old (OfThread t) t ≡ 2 ^ 32 - 1) }
     {
         match event {
-            OrderEvent::Plain(event) => self.take_plain(thread, event),
-            OrderEvent::Start(started) => self.start(thread, started),
-            OrderEvent::Join(joined) => self.join(thread, joined),
-            OrderEvent::Signal(object) => self.signal(thread, object),
-            OrderEvent::Await(object) => want_memory(self.await_signals(thread, object)),
-        }
-    }
-
-    // The same of an event of locks, words, brackets or levels.
-    fn take_plain(&mut self, thread: ThreadId, event: Event) -> Result<(), NoTick>
-        ensures ok { OnOk result (Moves self.old (Some (record { thread = thread; sync = plain_sync event })) self.new) }
-        ensures err { OnErr result (SameCounts self.old self.new) }
-        ensures full { IsErrOf result NoTick.CountFull
-            → (t : ℕ) × IsTrue (act_flows (Some (record { thread = thread; sync = plain_sync event })) t) × (counts self.old (OfThread t) t ≡ 2 ^ 32 - 1) }
-    {
-        match event {
             Event::Acquire(lock, mode) => want_memory(self.acquire(thread, lock, mode)),
             Event::Release(lock, mode) => self.release(thread, lock, mode),
+            Event::Sync(sync) => self.synchronize(thread, sync),
             Event::Access(..)
             | Event::Reuse(_)
             | Event::IgnoreOn
@@ -110,9 +94,24 @@ impl Clocks {
         }
     }
 
+    // The same of an event that orders threads and holds no lock.
+    fn synchronize(&mut self, thread: ThreadId, sync: Sync) -> Result<(), NoTick>
+        ensures ok { OnOk result (Moves self.old (Some (record { thread = thread; sync = effect_of sync })) self.new) }
+        ensures err { OnErr result (SameCounts self.old self.new) }
+        ensures full { IsErrOf result NoTick.CountFull
+            → (t : ℕ) × IsTrue (act_flows (Some (record { thread = thread; sync = effect_of sync })) t) × (counts self.old (OfThread t) t ≡ 2 ^ 32 - 1) }
+    {
+        match sync {
+            Sync::Start(started) => self.start(thread, started),
+            Sync::Join(joined) => self.join(thread, joined),
+            Sync::Signal(object) => self.signal(thread, object),
+            Sync::Await(object) => want_memory(self.await_signals(thread, object)),
+        }
+    }
+
     // The releases before happen before what comes now: two in read mode don't order each other.
     fn acquire(&mut self, thread: ThreadId, lock: LockId, mode: Mode) -> Result<(), AllocError>
-        ensures ok { OnOk result (Moves self.old (Some (record { thread = thread; sync = Sync.Acquired lock mode })) self.new) }
+        ensures ok { OnOk result (Moves self.old (Some (record { thread = thread; sync = Effect.Acquired lock mode })) self.new) }
         ensures err { OnErr result (SameCounts self.old self.new) }
     {
         let written = self.written.get(lock.number());
@@ -127,7 +126,7 @@ impl Clocks {
 
     // What the thread knows goes to the lock's releases in the mode.
     fn release(&mut self, thread: ThreadId, lock: LockId, mode: Mode) -> Result<(), NoTick>
-        ensures ok { OnOk result (Moves self.old (Some (record { thread = thread; sync = Sync.Released lock mode })) self.new) }
+        ensures ok { OnOk result (Moves self.old (Some (record { thread = thread; sync = Effect.Released lock mode })) self.new) }
         ensures err { OnErr result (SameCounts self.old self.new) }
         ensures full { IsErrOf result NoTick.CountFull → counts self.old (OfThread thread) thread ≡ 2 ^ 32 - 1 }
     {
@@ -139,7 +138,7 @@ impl Clocks {
 
     // What the thread knows goes to the started one.
     fn start(&mut self, thread: ThreadId, started: ThreadId) -> Result<(), NoTick>
-        ensures ok { OnOk result (Moves self.old (Some (record { thread = thread; sync = Sync.Started started })) self.new) }
+        ensures ok { OnOk result (Moves self.old (Some (record { thread = thread; sync = Effect.Started started })) self.new) }
         ensures err { OnErr result (SameCounts self.old self.new) }
         ensures full { IsErrOf result NoTick.CountFull → counts self.old (OfThread thread) thread ≡ 2 ^ 32 - 1 }
     {
@@ -148,7 +147,7 @@ impl Clocks {
 
     // What the joined thread knows goes to the thread.
     fn join(&mut self, thread: ThreadId, joined: ThreadId) -> Result<(), NoTick>
-        ensures ok { OnOk result (Moves self.old (Some (record { thread = thread; sync = Sync.Joined joined })) self.new) }
+        ensures ok { OnOk result (Moves self.old (Some (record { thread = thread; sync = Effect.Joined joined })) self.new) }
         ensures err { OnErr result (SameCounts self.old self.new) }
         ensures full { IsErrOf result NoTick.CountFull → counts self.old (OfThread joined) joined ≡ 2 ^ 32 - 1 }
     {
@@ -157,7 +156,7 @@ impl Clocks {
 
     // What the thread knows goes to the object.
     fn signal(&mut self, thread: ThreadId, object: LockId) -> Result<(), NoTick>
-        ensures ok { OnOk result (Moves self.old (Some (record { thread = thread; sync = Sync.Signalled object })) self.new) }
+        ensures ok { OnOk result (Moves self.old (Some (record { thread = thread; sync = Effect.Signalled object })) self.new) }
         ensures err { OnErr result (SameCounts self.old self.new) }
         ensures full { IsErrOf result NoTick.CountFull → counts self.old (OfThread thread) thread ≡ 2 ^ 32 - 1 }
     {
@@ -167,7 +166,7 @@ impl Clocks {
 
     // The signals before happen before what comes now.
     fn await_signals(&mut self, thread: ThreadId, object: LockId) -> Result<(), AllocError>
-        ensures ok { OnOk result (Moves self.old (Some (record { thread = thread; sync = Sync.Awaited object })) self.new) }
+        ensures ok { OnOk result (Moves self.old (Some (record { thread = thread; sync = Effect.Awaited object })) self.new) }
         ensures err { OnErr result (SameCounts self.old self.new) }
     {
         self.threads.take(thread, self.objects.get(object.number()))

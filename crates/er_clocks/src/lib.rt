@@ -8,7 +8,7 @@
 //!
 //! ```text
 //! let mut clocks = Clocks::new(alloc);
-//! clocks.follow(&OrderStep { thread, event: OrderEvent::Signal(object) }, true)?;
+//! clocks.follow(&Step { thread, event: Event::Sync(Sync::Signal(object)) }, true)?;
 //! clocks.clock(other).covers(epoch)
 //! ```
 #![tactic(auto)]

@@ -22,6 +22,19 @@ pub enum Kind {
     Write,
 }
 
+/// What orders the steps of two threads and holds no lock.
+#[derive(Clone, Copy, Debug, PartialEq, Eq)]
+pub enum Sync {
+    /// Starts the thread: what it has done so far happens before the steps of that thread.
+    Start(ThreadId),
+    /// Waits for the thread's end: the steps of that thread so far happen before what it does from now on.
+    Join(ThreadId),
+    /// Signals the object, as a thread does that releases a semaphore or stores with release order.
+    Signal(LockId),
+    /// Awaits the object: the earlier signals of it happen before what the thread does from now on.
+    Await(LockId),
+}
+
 /// What a thread does in one step.
 #[derive(Clone, Copy, Debug, PartialEq, Eq)]
 pub enum Event {
@@ -41,6 +54,8 @@ pub enum Event {
     Show(Word),
     /// Goes to this interrupt level.
     Level(Level),
+    /// Comes before or after other threads' steps in order. It is never refused, and locks and words don't see it.
+    Sync(Sync),
 }
 
 /// One step of one thread.
@@ -83,7 +98,7 @@ impl WordState {
 /// What an accepted step is answered.
 #[derive(Debug, PartialEq, Eq, Drop)]
 pub enum Reply {
-    /// A lock, reuse, ignore or level event took effect.
+    /// A lock, reuse, ignore, level or order event took effect.
     Done,
     /// An access that reports nothing.
     Quiet,

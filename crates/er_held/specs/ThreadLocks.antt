@@ -2,7 +2,7 @@
 use Rattle.std.specs.Prelude.{ℕ, nat_eq, Bool, true, false, List, slice_index_or, unwrap_or}
 use Rattle.std.specs.Map.{lookup}
 use Rattle.er_event.specs.declared.steps.Event.{Event}
-use Rattle.er_event.specs.declared.steps.Event.TheVariants.{Acquire, Release, Access, Reuse, IgnoreOn, IgnoreOff, Show, Level}
+use Rattle.er_event.specs.declared.steps.Event.TheVariants.{Acquire, Release, Access, Reuse, IgnoreOn, IgnoreOff, Show, Level, Sync}
 use Rattle.er_held.specs.Held.{nothing_held}
 use Rattle.er_model.specs.Holdings.{Holdings}
 
@@ -24,3 +24,4 @@ changes_holdings IgnoreOn = true
 changes_holdings IgnoreOff = true
 changes_holdings (Show word) = false
 changes_holdings (Level level) = true
+changes_holdings (Sync sync) = false

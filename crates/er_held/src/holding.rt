@@ -227,7 +227,7 @@ impl Held {
         Ok(())
     }
 
-    /// Makes the change of one event, unless the definitions refuse it. An access, a reuse and a show change nothing.
+    /// Makes the change of one event, unless the definitions refuse it. An access, a reuse, a show and an order event change nothing.
     pub fn follow(&mut self, event: Event) -> Result<(), AllocError>
         ensures ok { OnOk result (self.new ≡ changed_unless (refused_by self.old event) self.old event) }
         ensures err { OnErr result (self.new ≡ self.old) }
@@ -238,7 +238,7 @@ impl Held {
             Event::IgnoreOn => self.ignore_on(),
             Event::IgnoreOff => self.ignore_off(),
             Event::Level(level) => self.set_level(level),
-            Event::Access(..) | Event::Reuse(_) | Event::Show(_) => Ok(()),
+            Event::Access(..) | Event::Reuse(_) | Event::Show(_) | Event::Sync(_) => Ok(()),
         };
         match answer {
             Err(Refusal::OutOfMemory) => Err(AllocError),

@@ -114,5 +114,8 @@ fn reach(alloc: Global, by_thread: &mut Vec<Held>, place: usize) -> Result<(), A
 fn changes_holdings(event: Event) -> bool
     ensures { result ≡ changes_holdings event }
 {
-    !matches!(event, Event::Access(..) | Event::Reuse(_) | Event::Show(_))
+    !matches!(
+        event,
+        Event::Access(..) | Event::Reuse(_) | Event::Show(_) | Event::Sync(_)
+    )
 }

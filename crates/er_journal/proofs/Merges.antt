@@ -2,7 +2,7 @@
 use Rattle.std.proofs.Common.{◌≡◌, ℕ, zero, suc, ◌/◌, ◌%◌, ◌<◌, ◌≤◌, ◌==◌, nat_le, Bool, true, false, cond, List, [], ◌∷◌, ◌++◌, append-nil, append_assoc, length, slice_get, Option, Some, None, Ok, refl, ap, sym, ◌∙◌, arith, ⊎_elim}
 use Rattle.std.proofs.lemmas.Bool.{eq-eqb, eqb-true, or_cases, and_parts, leb-true}
 use Rattle.er_event.specs.declared.steps.Event.{Event}
-use Rattle.er_event.specs.declared.steps.Event.TheVariants.{Acquire, Release, Access, Reuse, IgnoreOn, IgnoreOff, Show, Level}
+use Rattle.er_event.specs.declared.steps.Event.TheVariants.{Acquire, Release, Access, Reuse, IgnoreOn, IgnoreOff, Show, Level, Sync}
 use Rattle.er_event.specs.declared.addresses.PageRange.{PageRange}
 use Rattle.er_event.specs.declared.steps.Reply.{Reply}
 use Rattle.er_event.specs.declared.steps.Step.{Step}
@@ -152,6 +152,7 @@ module _ (shards : ℕ) (steps : List Step) (replies : List Reply) (calls : ℕ 
     word_reply k s IgnoreOn is event word = cc
     word_reply k s IgnoreOff is event word = cc
     word_reply k s (Level n) is event word = cc
+    word_reply k s (Sync sync) is event word = cc
 
     reply_by_kind : (k : ℕ) (s : Step) → slice_get steps k ≡ Some s → (b : Bool) → is_own_call (holdings_at steps s.thread k) s.event ≡ b → answer steps k ≡ Ok (reply_at replies k)
     reply_by_kind k s is true own = own_reply k s is own

@@ -2,7 +2,7 @@
 use Rattle.std.proofs.Common.{◌≡◌, ℕ, suc, Bool, true, false, cond, ◌==◌, nat_lt, List, slice_get, Some, refl, ◌∙◌}
 use Rattle.std.proofs.lemmas.Bool.{eq-eqb}
 use Rattle.er_event.specs.declared.steps.Event.{Event}
-use Rattle.er_event.specs.declared.steps.Event.TheVariants.{Acquire, Release, Access, Reuse, IgnoreOn, IgnoreOff, Show, Level}
+use Rattle.er_event.specs.declared.steps.Event.TheVariants.{Acquire, Release, Access, Reuse, IgnoreOn, IgnoreOff, Show, Level, Sync}
 use Rattle.er_event.specs.declared.steps.Kind.{Kind}
 use Rattle.er_event.specs.declared.steps.Kind.TheVariants.{Read as reading, Write as writing}
 use Rattle.er_event.specs.declared.addresses.PageRange.{PageRange}
@@ -72,6 +72,7 @@ marked-mark p t IgnoreOn = refl
 marked-mark p t IgnoreOff = refl
 marked-mark p t (Show w) = refl
 marked-mark p t (Level n) = refl
+marked-mark p t (Sync sync) = refl
 
 pub reading-step : (steps : List Step) (k : ℕ) (s : Step) → slice_get steps k ≡ Some s → reading_of steps k ≡ marked (holdings_at steps s.thread k) s.thread s.event
 unfolding reading_of
@@ -101,6 +102,7 @@ reply_event steps k t IgnoreOn is = refl
 reply_event steps k t IgnoreOff is = refl
 reply_event steps k t (Show w) is = refl
 reply_event steps k t (Level n) is = refl
+reply_event steps k t (Sync sync) is = refl
 
 pub answer-step : (steps : List Step) (k : ℕ) (s : Step) → slice_get steps k ≡ Some s →
     answer steps k ≡ answered (holdings_at steps s.thread k) (λ w. state_at steps w k) s

@@ -5,7 +5,7 @@ use Rattle.std.proofs.lemmas.List.Elements.{All-nil, All-cons, All-head, All-tai
 use Rattle.std.proofs.lemmas.List.Sums.{sum_by-cons}
 use Rattle.std.proofs.lemmas.Bool.{le-leb, leb-true, ltb-true, ltb-false, eqb-true, eq-eqb, or_left, or_right, and_parts, and_from, not-true, both_ways}
 use Rattle.er_event.specs.declared.steps.Event.{Event}
-use Rattle.er_event.specs.declared.steps.Event.TheVariants.{Acquire, Release, Access, Reuse, IgnoreOn, IgnoreOff, Show, Level}
+use Rattle.er_event.specs.declared.steps.Event.TheVariants.{Acquire, Release, Access, Reuse, IgnoreOn, IgnoreOff, Show, Level, Sync}
 use Rattle.er_event.specs.declared.steps.Kind.{Kind}
 use Rattle.er_event.specs.declared.steps.Kind.TheVariants.{Read as reading, Write as writing}
 use Rattle.er_event.specs.declared.refusals.Refusal.{Refusal}
@@ -439,6 +439,7 @@ rising_event steps i t IgnoreOn = tt
 rising_event steps i t IgnoreOff = tt
 rising_event steps i t (Show w) = tt
 rising_event steps i t (Level n) = tt
+rising_event steps i t (Sync sync) = tt
 
 rising_mark : (steps : List Step) (i : ℕ) (o : Option Step) → slice_get steps i ≡ o → IsRising (cover_of (reading_of steps i))
 unfolding reading_of cover_of
@@ -472,6 +473,7 @@ race_event steps k s (Reuse range) is event race = cc
 race_event steps k s IgnoreOn is event race = cc
 race_event steps k s IgnoreOff is event race = cc
 race_event steps k s (Level n) is event race = cc
+race_event steps k s (Sync sync) is event race = cc
 
 replied_so : (o : Option Refusal) (given wanted : Reply) → answer_unless o given ≡ Ok wanted → given ≡ wanted
 replied_so None given wanted e = cc
@@ -513,6 +515,7 @@ reported_event steps k w s (Reuse range) is event access counted there = cc
 reported_event steps k w s IgnoreOn is event access counted there = cc
 reported_event steps k w s IgnoreOff is event access counted there = cc
 reported_event steps k w s (Level n) is event access counted there = cc
+reported_event steps k w s (Sync sync) is event access counted there = cc
 
 reported_at : (steps : List Step) (k w : ℕ) (o : Option Step) → slice_get steps k ≡ o → word_of (slice_get steps k) ≡ Some w →
     counts (reading_of steps k) w ≡ true → reported (reading_of steps) w k ≡ true → answer steps k ≡ Ok Race

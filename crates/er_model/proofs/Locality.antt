@@ -2,7 +2,7 @@
 use Rattle.std.proofs.Common.{◌≡◌, ℕ, zero, suc, ◌==◌, Bool, true, false, cond, List, [], ◌∷◌, ◌++◌, append-nil, slice_get, Option, Some, None, refl, ap, sym, ◌∙◌}
 use Rattle.std.proofs.lemmas.Bool.{or_parts, eq-eqb}
 use Rattle.er_event.specs.declared.steps.Event.{Event}
-use Rattle.er_event.specs.declared.steps.Event.TheVariants.{Acquire, Release, Access, Reuse, IgnoreOn, IgnoreOff, Show, Level}
+use Rattle.er_event.specs.declared.steps.Event.TheVariants.{Acquire, Release, Access, Reuse, IgnoreOn, IgnoreOff, Show, Level, Sync}
 use Rattle.er_event.specs.declared.steps.Step.{Step}
 use Rattle.er_event.specs.declared.steps.WordState.{WordState}
 use Rattle.er_event.specs.declared.steps.WordState.TheVariants.{Virgin}
@@ -108,6 +108,7 @@ replied-about h f g t (Reuse range) same = refl
 replied-about h f g t IgnoreOn same = refl
 replied-about h f g t IgnoreOff same = refl
 replied-about h f g t (Level n) same = refl
+replied-about h f g t (Sync sync) same = refl
 
 -- an answer depends on the thread's own events before it, and on the marks before it that touch its word
 pub answer-local : (steps others : List Step) (j k : ℕ) (s : Step) → slice_get steps j ≡ Some s → slice_get others k ≡ Some s →

@@ -3,7 +3,7 @@ use Rattle.std.proofs.Common.{◌≡◌, ℕ, zero, suc, ◌<◌, ◌≤◌, ◌
 use Rattle.std.proofs.lemmas.Bool.{le-leb, leb-true, ltb-true, lt-ltb, eqb-true, eq-eqb, or_left, or_right, and_parts, and_from, or_cases, not-true, both_ways, or_parts, or_from, not_from_false}
 use Rattle.std.specs.List.{list_any}
 use Rattle.er_event.specs.declared.steps.Event.{Event}
-use Rattle.er_event.specs.declared.steps.Event.TheVariants.{Acquire, Release, Access, Reuse, IgnoreOn, IgnoreOff, Show, Level}
+use Rattle.er_event.specs.declared.steps.Event.TheVariants.{Acquire, Release, Access, Reuse, IgnoreOn, IgnoreOff, Show, Level, Sync}
 use Rattle.er_event.specs.declared.steps.Mode.{Mode}
 use Rattle.er_event.specs.declared.steps.Mode.TheVariants.{Read, Write}
 use Rattle.er_event.specs.declared.steps.Step.{Step}
@@ -232,6 +232,7 @@ holds-means past t l m = (
 -- the level is the one that was set last
 level_same : (level t : ℕ) (e : Event) → ((m : ℕ) → e ≡ Level m → ⊥) → level_after level e ≡ level
 level_same level t (Level n) none = absurd (none n refl)
+level_same level t (Sync sync) none = refl
 level_same level t (Acquire l m) none = refl
 level_same level t (Release l m) none = refl
 level_same level t (Access kind w site) none = refl

@@ -1,7 +1,7 @@
 -- Refused steps can be left out: the list of the accepted ones says the same.
 use Rattle.std.proofs.Common.{◌≡◌, ℕ, zero, suc, List, [], ◌∷◌, ◌++◌, length, slice_get, Option, Some, None, refl, sym, ◌∙◌}
 use Rattle.er_event.specs.declared.steps.Event.{Event}
-use Rattle.er_event.specs.declared.steps.Event.TheVariants.{Acquire, Release, Access, Reuse, IgnoreOn, IgnoreOff, Show, Level}
+use Rattle.er_event.specs.declared.steps.Event.TheVariants.{Acquire, Release, Access, Reuse, IgnoreOn, IgnoreOff, Show, Level, Sync}
 use Rattle.er_event.specs.declared.refusals.Refusal.{Refusal}
 use Rattle.er_event.specs.declared.steps.Step.{Step}
 use Rattle.er_model.specs.Words.{Nothing}
@@ -24,6 +24,7 @@ refused-mark p h t (Access kind w site) why refused = cc
 refused-mark p h t (Reuse range) why refused = cc
 refused-mark p h t (Show w) why refused = cc
 refused-mark p h t (Level n) why refused = cc
+refused-mark p h t (Sync sync) why refused = cc
 
 module _ (steps : List Step) where
   abbrev IsKept : ℕ → List Step → Type 0

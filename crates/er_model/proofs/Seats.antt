@@ -2,7 +2,7 @@
 use Rattle.std.proofs.Common.{◌≡◌, ℕ, zero, suc, ◌<◌, ◌≤◌, ◌==◌, Bool, true, false, cond, List, [], ◌∷◌, ◌++◌, append-nil, append_assoc, length, slice_get, Option, Some, None, refl, ap, sym, ◌∙◌, arith, ⊎_elim}
 use Rattle.std.proofs.lemmas.Bool.{eq-eqb}
 use Rattle.er_event.specs.declared.steps.Event.{Event}
-use Rattle.er_event.specs.declared.steps.Event.TheVariants.{Acquire, Release, Access, Reuse, IgnoreOn, IgnoreOff, Show, Level}
+use Rattle.er_event.specs.declared.steps.Event.TheVariants.{Acquire, Release, Access, Reuse, IgnoreOn, IgnoreOff, Show, Level, Sync}
 use Rattle.er_event.specs.declared.steps.Step.{Step}
 use Rattle.er_event.specs.declared.steps.WordState.{WordState}
 use Rattle.er_model.specs.Holdings.{Holdings, holdings_at, holdings_end, refused_by}
@@ -94,6 +94,7 @@ replied-own h f g t (Reuse range) own = cc
 replied-own h f g t IgnoreOn own = refl
 replied-own h f g t IgnoreOff own = refl
 replied-own h f g t (Level n) own = refl
+replied-own h f g t (Sync sync) own = refl
 
 -- a call that asks for no word is answered in the thread's own list as in the whole
 pub answer-own : (steps : List Step) (k n : ℕ) (s : Step) → k < n → slice_get steps k ≡ Some s → is_own_call (holdings_at steps s.thread k) s.event ≡ true →

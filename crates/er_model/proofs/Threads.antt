@@ -5,7 +5,7 @@ use Rattle.std.proofs.lemmas.List.Folds.{list_any-append}
 use Rattle.std.proofs.lemmas.List.Sums.{sum_by-append}
 use Rattle.std.specs.List.{list_any, count_by}
 use Rattle.er_event.specs.declared.steps.Event.{Event}
-use Rattle.er_event.specs.declared.steps.Event.TheVariants.{Acquire, Release, Access, Reuse, IgnoreOn, IgnoreOff, Show, Level}
+use Rattle.er_event.specs.declared.steps.Event.TheVariants.{Acquire, Release, Access, Reuse, IgnoreOn, IgnoreOff, Show, Level, Sync}
 use Rattle.er_event.specs.declared.steps.Mode.{Mode}
 use Rattle.er_event.specs.declared.steps.Mode.TheVariants.{Read, Write}
 use Rattle.er_event.specs.declared.refusals.Refusal.{Refusal}
@@ -66,6 +66,7 @@ named_event IgnoreOn l m xs never = cc
 named_event IgnoreOff l m xs never = cc
 named_event (Show w) l m xs never = cc
 named_event (Level n) l m xs never = cc
+named_event (Sync sync) l m xs never = cc
 
 named_kept : (e : Event) (l : ℕ) (xs : List ℕ) → has xs l ≡ true → has (lock_named e xs) l ≡ true
 named_kept (Acquire lock mode) l xs member = has-with_lock lock xs l ∙ or_right (lock == l) (has xs l) member
@@ -76,6 +77,7 @@ named_kept IgnoreOn l xs member = member
 named_kept IgnoreOff l xs member = member
 named_kept (Show w) l xs member = member
 named_kept (Level n) l xs member = member
+named_kept (Sync sync) l xs member = member
 
 named-acquired : (p : List Step) (t l : ℕ) (m : Mode) → acquired p t l m ≡ true → has (named p) l ≡ true
 unfolding acquired named acquires
@@ -95,6 +97,7 @@ rising_event IgnoreOn xs up = up
 rising_event IgnoreOff xs up = up
 rising_event (Show w) xs up = up
 rising_event (Level n) xs up = up
+rising_event (Sync sync) xs up = up
 
 pub rising-named : (p : List Step) → IsRising (named p)
 unfolding named
@@ -176,6 +179,7 @@ acquired-changed IgnoreOn xs k = keep_Bool (has xs k)
 acquired-changed IgnoreOff xs k = keep_Bool (has xs k)
 acquired-changed (Show w) xs k = keep_Bool (has xs k)
 acquired-changed (Level n) xs k = keep_Bool (has xs k)
+acquired-changed (Sync sync) xs k = keep_Bool (has xs k)
 
 keep_one : (h : Bool) → h ≡ ((h && true) || false)
 keep_one true = refl
@@ -210,6 +214,7 @@ acquired_to_write-changed IgnoreOn xs k = keep_one (has xs k)
 acquired_to_write-changed IgnoreOff xs k = keep_one (has xs k)
 acquired_to_write-changed (Show w) xs k = keep_one (has xs k)
 acquired_to_write-changed (Level n) xs k = keep_one (has xs k)
+acquired_to_write-changed (Sync sync) xs k = keep_one (has xs k)
 
 rising-changed : (e : Event) (xs : List ℕ) → IsRising xs → IsRising (acquired_by e xs)
 rising-changed (Acquire l m) xs up = rising-with_lock l xs up
@@ -220,6 +225,7 @@ rising-changed IgnoreOn xs up = up
 rising-changed IgnoreOff xs up = up
 rising-changed (Show w) xs up = up
 rising-changed (Level n) xs up = up
+rising-changed (Sync sync) xs up = up
 
 rising-to_write_changed : (e : Event) (xs : List ℕ) → IsRising xs → IsRising (acquired_to_write_by e xs)
 rising-to_write_changed (Acquire l Read) xs up = up
@@ -231,6 +237,7 @@ rising-to_write_changed IgnoreOn xs up = up
 rising-to_write_changed IgnoreOff xs up = up
 rising-to_write_changed (Show w) xs up = up
 rising-to_write_changed (Level n) xs up = up
+rising-to_write_changed (Sync sync) xs up = up
 
 -- the thread's own step
 pub acquired-own : (p : List Step) (s : Step) (t : ℕ) → (s.thread == t) ≡ true → acquired_locks (p ++ s ∷ []) t ≡ acquired_by s.event (acquired_locks p t)
@@ -312,6 +319,7 @@ depth_event ons offs h IgnoreOn is fits = omega arith
 depth_event ons offs h IgnoreOff is fits = omega arith
 depth_event ons offs h (Show w) is fits = omega arith
 depth_event ons offs h (Level n) is fits = omega arith
+depth_event ons offs h (Sync sync) is fits = omega arith
 
 pub depth-own : (p : List Step) (s : Step) (t : ℕ) → ignore_offs p t ≤ ignore_ons p t → (s.thread == t) ≡ true →
     depth (p ++ s ∷ []) t ≡ (changed_by (holdings p t) s.event).depth
@@ -377,6 +385,7 @@ balanced_event p t IgnoreOff fits taken =
     omega arith
 balanced_event p t (Show w) fits taken = omega arith
 balanced_event p t (Level n) fits taken = omega arith
+balanced_event p t (Sync sync) fits taken = omega arith
 
 balanced_by : (p : List Step) (s : Step) (t : ℕ) (b : Bool) → (s.thread == t) ≡ b → IsBalanced p → refusal p s.thread s.event ≡ None →
     ignore_offs (p ++ s ∷ []) t ≤ ignore_ons (p ++ s ∷ []) t
@@ -435,6 +444,7 @@ one_mode_event t l IgnoreOn a b = cc
 one_mode_event t l IgnoreOff a b = cc
 one_mode_event t l (Show w) a b = cc
 one_mode_event t l (Level n) a b = cc
+one_mode_event t l (Sync sync) a b = cc
 
 -- an acquire that is accepted is of a lock that isn't acquired yet
 acquire_free : (p : List Step) (t l : ℕ) (m : Mode) (e : Event) → refusal p t e ≡ None → is_acquire e l m ≡ true → acquired_any p t l ≡ true → ⊥
@@ -450,6 +460,7 @@ acquire_free p t l m IgnoreOn taken is_it some = cc
 acquire_free p t l m IgnoreOff taken is_it some = cc
 acquire_free p t l m (Show w) taken is_it some = cc
 acquire_free p t l m (Level n) taken is_it some = cc
+acquire_free p t l m (Sync sync) taken is_it some = cc
 
 one_mode_by : (p : List Step) (s : Step) (t l : ℕ) (b : Bool) → (s.thread == t) ≡ b → HasOneMode p → refusal p s.thread s.event ≡ None →
     acquired (p ++ s ∷ []) t l Read ≡ true → acquired (p ++ s ∷ []) t l Write ≡ true → ⊥
@@ -485,6 +496,7 @@ plain_event p t l m IgnoreOn taken is_it = cc
 plain_event p t l m IgnoreOff taken is_it = cc
 plain_event p t l m (Show w) taken is_it = cc
 plain_event p t l m (Level n) taken is_it = cc
+plain_event p t l m (Sync sync) taken is_it = cc
 
 plain_by : (p : List Step) (s : Step) (t l : ℕ) (m : Mode) → AcquiresNoLevelLock p → refusal p s.thread s.event ≡ None →
     acquired (p ++ s ∷ []) t l m ≡ true → is_level_lock l ≡ false
@@ -534,6 +546,7 @@ held_event p t (Acquire l Write) plain taken =
 held_event p t (Release l m) plain taken =
     sym (without-levels l (level_of p t) (acquired_locks p t) (taken_plain (is_level_lock l) (cond (holds p t l m) None (cond (holds p t l (other_mode m)) (Some WrongMode) (Some NotHeld))) taken))
 held_event p t (Level n) plain taken = rw (among-levels (acquired_locks p t) (level_of p t) (acquired-plain p t plain)) refl
+held_event p t (Sync sync) plain taken = refl
 held_event p t (Access kind w site) plain taken = refl
 held_event p t (Reuse range) plain taken = refl
 held_event p t IgnoreOn plain taken = refl
@@ -549,6 +562,7 @@ write_held_event p t (Acquire l Write) plain taken =
 write_held_event p t (Release l m) plain taken =
     sym (without-levels l (level_of p t) (acquired_to_write p t) (taken_plain (is_level_lock l) (cond (holds p t l m) None (cond (holds p t l (other_mode m)) (Some WrongMode) (Some NotHeld))) taken))
 write_held_event p t (Level n) plain taken = rw (among-levels (acquired_to_write p t) (level_of p t) (to_write-plain p t plain)) refl
+write_held_event p t (Sync sync) plain taken = refl
 write_held_event p t (Access kind w site) plain taken = refl
 write_held_event p t (Reuse range) plain taken = refl
 write_held_event p t IgnoreOn plain taken = refl
@@ -561,6 +575,7 @@ level_event p t (Acquire l Read) = refl
 level_event p t (Acquire l Write) = refl
 level_event p t (Release l m) = refl
 level_event p t (Level n) = refl
+level_event p t (Sync sync) = refl
 level_event p t (Access kind w site) = refl
 level_event p t (Reuse range) = refl
 level_event p t IgnoreOn = refl
@@ -633,6 +648,7 @@ refusal-by p t (Access kind w site) one plain = refl
 refusal-by p t (Reuse range) one plain = refl
 refusal-by p t (Show w) one plain = refl
 refusal-by p t (Level n) one plain = refl
+refusal-by p t (Sync sync) one plain = refl
 
 same_holdings : (a b : Holdings) → a.held ≡ b.held → a.write_held ≡ b.write_held → a.level ≡ b.level → a.depth ≡ b.depth → a ≡ b
 same_holdings a b e f g h = λ i. record { held = e i; write_held = f i; level = g i; depth = h i }

@@ -1,7 +1,7 @@
 -- What each step of a list is answered.
 use Rattle.std.specs.Prelude.{ℕ, zero, suc, cond, List, [], ◌∷◌, ◌++◌, length, slice_get, Option, Some, None, Result, Ok, Err}
 use Rattle.er_event.specs.declared.steps.Event.{Event}
-use Rattle.er_event.specs.declared.steps.Event.TheVariants.{Acquire, Release, Access, Reuse, IgnoreOn, IgnoreOff, Show, Level}
+use Rattle.er_event.specs.declared.steps.Event.TheVariants.{Acquire, Release, Access, Reuse, IgnoreOn, IgnoreOff, Show, Level, Sync}
 use Rattle.er_event.specs.declared.steps.Kind.{Kind}
 use Rattle.er_event.specs.declared.steps.Kind.TheVariants.{Read as reading, Write as writing}
 use Rattle.er_event.specs.declared.refusals.Refusal.{Refusal}
@@ -27,6 +27,7 @@ mark past t IgnoreOn = Nothing
 mark past t IgnoreOff = Nothing
 mark past t (Show w) = Shown w
 mark past t (Level n) = Nothing
+mark past t (Sync sync) = Nothing
 
 -- past the list's end there is nothing
 abbrev pub mark_of : List Step → Option Step → Mark
@@ -51,6 +52,7 @@ reply steps k t (Reuse range) = Done
 reply steps k t IgnoreOn = Done
 reply steps k t IgnoreOff = Done
 reply steps k t (Level n) = Done
+reply steps k t (Sync sync) = Done
 
 -- the refusal where there is one, else the reply
 abbrev pub answer_unless : Option Refusal → Reply → Result Reply Refusal

@@ -1,7 +1,7 @@
 -- What one step is answered, and what it makes of a word, by its thread's holdings and the words' states when it is taken.
 use Rattle.std.specs.Prelude.{ℕ, ◌≡◌, nat_lt, cond, List, Result}
 use Rattle.er_event.specs.declared.steps.Event.{Event}
-use Rattle.er_event.specs.declared.steps.Event.TheVariants.{Acquire, Release, Access, Reuse, IgnoreOn, IgnoreOff, Show, Level}
+use Rattle.er_event.specs.declared.steps.Event.TheVariants.{Acquire, Release, Access, Reuse, IgnoreOn, IgnoreOff, Show, Level, Sync}
 use Rattle.er_event.specs.declared.steps.Kind.{Kind}
 use Rattle.er_event.specs.declared.steps.Kind.TheVariants.{Read as reading, Write as writing}
 use Rattle.er_event.specs.declared.refusals.Refusal.{Refusal}
@@ -29,6 +29,7 @@ marked h t IgnoreOn = Nothing
 marked h t IgnoreOff = Nothing
 marked h t (Show w) = Shown w
 marked h t (Level n) = Nothing
+marked h t (Sync sync) = Nothing
 
 -- the state of word w after the step
 abbrev pub state_after : Holdings → WordState → ℕ → Step → WordState
@@ -44,6 +45,7 @@ replied h states t (Reuse range) = Done
 replied h states t IgnoreOn = Done
 replied h states t IgnoreOff = Done
 replied h states t (Level n) = Done
+replied h states t (Sync sync) = Done
 
 -- the answer to the step that finds these
 abbrev pub answered : Holdings → (ℕ → WordState) → Step → Result Reply Refusal

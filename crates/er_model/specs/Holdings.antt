@@ -1,7 +1,7 @@
 -- One thread's locks, interrupt level and ignore depth, and what one event makes of them.
 use Rattle.std.specs.Prelude.{ℕ, ◌+◌, ◌-◌, ◌==◌, nat_le, not, cond, List, ◌++◌, filter, length, Option, Some, None}
 use Rattle.er_event.specs.declared.steps.Event.{Event}
-use Rattle.er_event.specs.declared.steps.Event.TheVariants.{Acquire, Release, Access, Reuse, IgnoreOn, IgnoreOff, Show, Level}
+use Rattle.er_event.specs.declared.steps.Event.TheVariants.{Acquire, Release, Access, Reuse, IgnoreOn, IgnoreOff, Show, Level, Sync}
 use Rattle.er_event.specs.declared.steps.Mode.TheVariants.{Read, Write}
 use Rattle.er_event.specs.declared.refusals.Refusal.{Refusal}
 use Rattle.er_event.specs.declared.refusals.Refusal.TheVariants.{AlreadyHeld, NotHeld, WrongMode, IgnoreNotOn, IgnoreTooDeep, HeldFull, LevelLock}
@@ -39,6 +39,7 @@ refused_by h (Access kind w site) = None
 refused_by h (Reuse range) = None
 refused_by h (Show w) = None
 refused_by h (Level n) = None
+refused_by h (Sync sync) = None
 
 -- what the event makes of them, where it is accepted
 abbrev pub changed_by : Holdings → Event → Holdings
@@ -48,6 +49,7 @@ changed_by h (Release l m) = record { held = without_lock l h.held; write_held =
 changed_by h IgnoreOn = record { held = h.held; write_held = h.write_held; level = h.level; depth = h.depth + 1 }
 changed_by h IgnoreOff = record { held = h.held; write_held = h.write_held; level = h.level; depth = h.depth - 1 }
 changed_by h (Level n) = record { held = at_level n h.held; write_held = at_level n h.write_held; level = n; depth = h.depth }
+changed_by h (Sync sync) = h
 changed_by h (Access kind w site) = h
 changed_by h (Reuse range) = h
 changed_by h (Show w) = h

@@ -2,7 +2,7 @@
 use Rattle.std.specs.Prelude.{ℕ, zero, suc, ◌-◌, ◌==◌, nat_le, nat_lt, Bool, true, false, not, ◌&&◌, ◌||◌, cond, List, [], ◌∷◌, ◌++◌, length, filter, count_by, slice_get, Option, Some, None}
 use Rattle.std.specs.List.{list_any}
 use Rattle.er_event.specs.declared.steps.Event.{Event}
-use Rattle.er_event.specs.declared.steps.Event.TheVariants.{Acquire, Release, Access, Reuse, IgnoreOn, IgnoreOff, Show, Level}
+use Rattle.er_event.specs.declared.steps.Event.TheVariants.{Acquire, Release, Access, Reuse, IgnoreOn, IgnoreOff, Show, Level, Sync}
 use Rattle.er_event.specs.declared.steps.Mode.{Mode}
 use Rattle.er_event.specs.declared.steps.Mode.TheVariants.{Read, Write}
 use Rattle.er_event.specs.declared.refusals.Refusal.{Refusal}
@@ -139,6 +139,7 @@ refusal past t (Access kind w site) = None
 refusal past t (Reuse range) = None
 refusal past t (Show w) = None
 refusal past t (Level n) = None
+refusal past t (Sync sync) = None
 
 -- the step alone, or nothing where it is refused
 abbrev pub kept_unless : Option Refusal → Step → List Step

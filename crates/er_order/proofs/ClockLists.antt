@@ -2,7 +2,7 @@
 use Rattle.std.proofs.Common.{◌≡◌, ℕ, zero, suc, ◌+◌, max, Bool, true, false, ◌&&◌, cond, ◌==◌, List, [], ◌∷◌, get_or, Option, Some, None, refl, ap₂, ◌∙◌, arith}
 use Rattle.std.proofs.lemmas.Bool.{eqb-true, eqb-false}
 use Rattle.er_event.specs.declared.steps.Mode.TheVariants.{Read, Write}
-use Rattle.er_order.specs.Order.{Sync, Acquired, Released, Started, Joined, Signalled, Awaited, Local, Act}
+use Rattle.er_order.specs.Order.{Effect, Acquired, Released, Started, Joined, Signalled, Awaited, Local, Act}
 use Rattle.er_order.specs.Clocks.{Keeper, OfThread, OfReleases, OfObject, Clocks, gives, flows, found, seen, clocks_after}
 use Rattle.er_order.specs.ClockLists.{merged, ticked, ClockLists, found_list, lists_after, StandForClocks}
 
@@ -48,7 +48,7 @@ tick-runs t u x xs false true same is = is ∙ plus_zero x
 tick-runs t u x xs false false other is = is ∙ plus_zero x
 
 module _ (lists : ClockLists) (clocks : Clocks) (stand : StandForClocks lists clocks) where
-  found-list : (d : Sync) (u : ℕ) → get_or (found_list lists d) u 0 ≡ found clocks d u
+  found-list : (d : Effect) (u : ℕ) → get_or (found_list lists d) u 0 ≡ found clocks d u
   found-list (Acquired lock Read) u = stand (OfReleases lock Write) u
   found-list (Acquired lock Write) u =
       get-merged (lists (OfReleases lock Write)) (lists (OfReleases lock Read)) u ∙ ap₂ max (stand (OfReleases lock Write) u) (stand (OfReleases lock Read) u)

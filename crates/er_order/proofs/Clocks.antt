@@ -5,7 +5,7 @@ use Rattle.er_event.specs.declared.steps.Mode.{Mode}
 use Rattle.er_event.specs.declared.steps.Mode.TheVariants.{Read, Write}
 use Rattle.er_event.specs.Lockset.{has}
 use Rattle.er_model.proofs.Search.{below_or_at}
-use Rattle.er_order.specs.Order.{Sync, Acquired, Released, Started, Joined, Signalled, Awaited, Local, Act, Acts, starts, joins, leads, leads_from, reached, happens_before}
+use Rattle.er_order.specs.Order.{Effect, Acquired, Released, Started, Joined, Signalled, Awaited, Local, Act, Acts, starts, joins, leads, leads_from, reached, happens_before}
 use Rattle.er_order.specs.Clocks.{Keeper, OfThread, OfReleases, OfObject, Clocks, is_own, gives_up, signals, gives, publishes, flows, found, seen, raised, clocks_after, clocks_at, own_count}
 use Rattle.er_order.proofs.Order.{reached-self, reached-next, reached-last, reached-from, happens_before-from, happens_before-parts}
 use Rattle.er_order.proofs.Keepers.{link-from, link-leads, own-leads, seen-found, found-seen}
@@ -52,7 +52,7 @@ module _ (clocks : Clocks) (ahead : IsAhead clocks) (u : ℕ) where
   runs_low v true same = let here : v ≡ u = eqb-true v u same in rw here (omega arith)
   runs_low v false other = let below = ahead (OfThread v) u other in omega arith
 
-  found_low : (d : Sync) → found clocks d u ≤ clocks (OfThread u) u
+  found_low : (d : Effect) → found clocks d u ≤ clocks (OfThread u) u
   found_low (Acquired lock Read) = let a = ahead (OfReleases lock Write) u refl in omega arith
   found_low (Acquired lock Write) = let a = ahead (OfReleases lock Write) u refl in let b = ahead (OfReleases lock Read) u refl in omega arith
   found_low (Joined thread) = runs_low thread (thread == u) refl
@@ -62,7 +62,7 @@ module _ (clocks : Clocks) (ahead : IsAhead clocks) (u : ℕ) where
   found_low (Signalled object) = omega arith
   found_low Local = omega arith
 
-  found_below : (d : Sync) → joins d u ≡ false → found clocks d u < clocks (OfThread u) u
+  found_below : (d : Effect) → joins d u ≡ false → found clocks d u < clocks (OfThread u) u
   found_below (Acquired lock Read) e = ahead (OfReleases lock Write) u refl
   found_below (Acquired lock Write) e = let a = ahead (OfReleases lock Write) u refl in let b = ahead (OfReleases lock Read) u refl in omega arith
   found_below (Joined thread) e = ahead (OfThread thread) u e
@@ -73,7 +73,7 @@ module _ (clocks : Clocks) (ahead : IsAhead clocks) (u : ℕ) where
   found_below Local e = let a = ahead (OfObject 0) u refl in omega arith
 
 -- a step that gives to another keeper hands out
-starts_out : (d : Sync) (u : ℕ) → starts d u ≡ true → publishes d ≡ true
+starts_out : (d : Effect) (u : ℕ) → starts d u ≡ true → publishes d ≡ true
 starts_out (Started thread) u e = refl
 starts_out (Acquired lock mode) u e = cc
 starts_out (Released lock mode) u e = cc
@@ -82,7 +82,7 @@ starts_out (Signalled object) u e = cc
 starts_out (Awaited object) u e = cc
 starts_out Local u e = cc
 
-frees_out : (d : Sync) (l : ℕ) (m : Mode) → gives_up d l m ≡ true → publishes d ≡ true
+frees_out : (d : Effect) (l : ℕ) (m : Mode) → gives_up d l m ≡ true → publishes d ≡ true
 frees_out (Released lock mode) l m e = refl
 frees_out (Acquired lock mode) l m e = cc
 frees_out (Started thread) l m e = cc
@@ -91,7 +91,7 @@ frees_out (Signalled object) l m e = cc
 frees_out (Awaited object) l m e = cc
 frees_out Local l m e = cc
 
-sends_out : (d : Sync) (x : ℕ) → signals d x ≡ true → publishes d ≡ true
+sends_out : (d : Effect) (x : ℕ) → signals d x ≡ true → publishes d ≡ true
 sends_out (Signalled object) x e = refl
 sends_out (Acquired lock mode) x e = cc
 sends_out (Released lock mode) x e = cc

@@ -5,31 +5,29 @@ use Rattle.std.specs.List.{list_any}
 use Rattle.er_event.specs.Lockset.{has}
 use Rattle.er_event.specs.declared.addresses.PageRange.{PageRange}
 use Rattle.er_event.specs.declared.steps.Event.{Event}
-use Rattle.er_event.specs.declared.steps.Event.TheVariants.{Acquire, Release, Access, Reuse, IgnoreOn, IgnoreOff, Show, Level}
+use Rattle.er_event.specs.declared.steps.Event.TheVariants.{Acquire, Release, Access, Reuse, IgnoreOn, IgnoreOff, Show, Level, Sync}
+use Rattle.er_event.specs.declared.steps.Sync.{Sync as SyncEvent}
 use Rattle.er_event.specs.declared.steps.Kind.{Kind}
 use Rattle.er_event.specs.declared.steps.Kind.TheVariants.{Read as reading, Write as writing}
 use Rattle.er_event.specs.declared.steps.Reply.TheVariants.{Done, Quiet, Race, Ignored}
 use Rattle.er_model.specs.Search.{some_below, every_below, greatest_below}
 use Rattle.er_model.specs.Words.{Mark, Counted, Reused, Shown, Nothing, Reading, reuses, counts, thread_of, writes, era, counted_from, is_writing, is_within}
 use Rattle.er_model.specs.Threads.{refusal, accepted, depth}
-use Rattle.er_model.specs.Holdings.{Holdings, holdings, refused_by}
-use Rattle.er_model.specs.Answers.{reply, answer, answer_unless}
+use Rattle.er_model.specs.Holdings.{Holdings, holdings, refused_by, holdings_at}
+use Rattle.er_model.specs.Answers.{reply, answer, answer_unless, reading_of}
 use Rattle.er_model.specs.Following.{locks_for, marked}
 use Rattle.er_model.proofs.Search.{some_below-none}
 use Rattle.er_model.proofs.Threads.{refusal_at}
 use Rattle.er_model.proofs.AnswersLemmas.{reading-step}
 use Rattle.er_model.proofs.Words.{era-kept, era-reused, era-below}
-use Rattle.er_order.specs.declared.steps.OrderEvent.{OrderEvent}
-use Rattle.er_order.specs.declared.steps.OrderEvent.TheVariants.{Plain, Start, Join, Signal, Await}
-use Rattle.er_order.specs.declared.steps.OrderStep.{OrderStep}
-use Rattle.er_order.specs.Steps.{plain_event, plain_steps, marks_of, held_at}
+use Rattle.er_event.specs.declared.steps.Step.{Step}
 use Rattle.er_order.specs.Order.{Acts, Local, acts_of, happens_before}
 use Rattle.er_order.specs.Clocks.{Epoch, OfThread, clocks_at, own_count}
-use Rattle.er_order.specs.Races.{Order, is_apart, is_race, had_race, is_reported, order_reply, order_answer, last_write, past_write, latest_from, latest_reads, plain_reply, order_reply}
+use Rattle.er_order.specs.Races.{Order, is_apart, is_race, had_race, is_reported, order_reply, order_answer, last_write, past_write, latest_from, latest_reads}
 use Rattle.er_order.specs.Following.{Kept, Seen, fresh, epoch_of, write_epoch, kept, kept_at, is_unordered, write_is_unordered, races_with, reports_at, seen_by, kept_by, kept_moved, kept_after, access_answered}
 use Rattle.er_order.proofs.Order.{happens_before-chain}
 use Rattle.er_order.proofs.Searches.{greatest-Some, greatest-none}
-use Rattle.er_order.proofs.StepLemmas.{Agree, agree-steps, decided, plain-at}
+use Rattle.er_order.proofs.StepLemmas.{Agree, agree-steps, decided}
 use Rattle.er_order.proofs.RaceLemmas.{not-reused, latest-in, latest-empty, race-finds}
 
 or_none : (b : Bool) → (b || false) ≡ b
@@ -253,7 +251,7 @@ unfolding kept had_race some_below last_write greatest_below latest_reads latest
 kept-none acts r w = refl
 
 -- a list of steps
-module _ (steps : List OrderStep) (k : ℕ) (s : OrderStep) (is : slice_get steps k ≡ Some s) where
+module _ (steps : List Step) (k : ℕ) (s : Step) (is : slice_get steps k ≡ Some s) where
   -- a clock is asked for only where the step is an access
   kept_event : (clock other : ℕ → ℕ) (before : Kept) (w : ℕ) (h : Holdings) (e : Event) → (thread_of (marked h s.thread e) ≡ s.thread → clock ≡ other) →
       kept_moved clock before w (marked h s.thread e) ≡ kept_moved other before w (marked h s.thread e)
@@ -271,66 +269,57 @@ module _ (steps : List OrderStep) (k : ℕ) (s : OrderStep) (is : slice_get step
   kept_event clock other before w h IgnoreOff same = refl
   kept_event clock other before w h (Show word) same = refl
   kept_event clock other before w h (Level n) same = refl
+  kept_event clock other before w h (Sync sync) same = refl
 
   -- its place in the reading
-  pub mark-step : marks_of steps k ≡ marked (held_at steps s.thread k) s.thread (plain_event s.event)
-  mark-step = reading-step (plain_steps steps) k (Rattle.er_order.specs.Steps.plain_step s) (plain-at steps k s is)
+  pub mark-step : reading_of steps k ≡ marked (holdings_at steps s.thread k) s.thread s.event
+  mark-step = reading-step steps k s is
 
-  pub kept-step : (w : ℕ) → kept_at steps w (suc k) ≡ kept_after (held_at steps s.thread k) (clocks_at (acts_of steps) k (OfThread s.thread)) (kept_at steps w k) w s
+  pub kept-step : (w : ℕ) → kept_at steps w (suc k) ≡ kept_after (holdings_at steps s.thread k) (clocks_at (acts_of steps) k (OfThread s.thread)) (kept_at steps w k) w s
   kept-step w =
-      kept-follows (acts_of steps) (marks_of steps) (agree-steps steps) w k
+      kept-follows (acts_of steps) (reading_of steps) (agree-steps steps) w k
       ∙ rw mark-step
-      (kept_event (clocks_at (acts_of steps) k (OfThread (thread_of (marked (held_at steps s.thread k) s.thread (plain_event s.event))))) (clocks_at (acts_of steps) k (OfThread s.thread)) (kept_at steps w k) w (held_at steps s.thread k) (plain_event s.event)
+      (kept_event (clocks_at (acts_of steps) k (OfThread (thread_of (marked (holdings_at steps s.thread k) s.thread s.event)))) (clocks_at (acts_of steps) k (OfThread s.thread)) (kept_at steps w k) w (holdings_at steps s.thread k) s.event
       (λ same. ap (λ t. clocks_at (acts_of steps) k (OfThread t)) same))
 
-  replied_access : (w site : ℕ) (kind : Kind) (b : Bool) → nat_lt 0 (depth (accepted (plain_steps steps) k) s.thread) ≡ b →
-      marks_of steps k ≡ cond b Nothing (Counted s.thread kind w (locks_for (held_at steps s.thread k) kind)) →
-      cond b Ignored (cond (is_reported (happens_before (acts_of steps)) (marks_of steps) w k) Race Quiet) ≡
+  replied_access : (w site : ℕ) (kind : Kind) (b : Bool) → nat_lt 0 (depth (accepted steps k) s.thread) ≡ b →
+      reading_of steps k ≡ cond b Nothing (Counted s.thread kind w (locks_for (holdings_at steps s.thread k) kind)) →
+      cond b Ignored (cond (is_reported (happens_before (acts_of steps)) (reading_of steps) w k) Race Quiet) ≡
       cond b Ignored (cond (reports_at (clocks_at (acts_of steps) k (OfThread s.thread)) (kept_at steps w k) kind) Race Quiet)
   replied_access w site kind true ignores at = refl
   replied_access w site kind false heeds at =
-      rw (report-kept (acts_of steps) (marks_of steps) (agree-steps steps) w k s.thread kind (locks_for (held_at steps s.thread k) kind) at) refl
+      rw (report-kept (acts_of steps) (reading_of steps) (agree-steps steps) w k s.thread kind (locks_for (holdings_at steps s.thread k) kind) at) refl
 
-  replied_event : (w site : ℕ) (kind : Kind) → marks_of steps k ≡ marked (held_at steps s.thread k) s.thread (Access kind w site) →
-      plain_reply steps k s.thread (Access kind w site) ≡ cond (nat_lt 0 (depth (accepted (plain_steps steps) k) s.thread)) Ignored (cond (reports_at (clocks_at (acts_of steps) k (OfThread s.thread)) (kept_at steps w k) kind) Race Quiet)
-  unfolding plain_reply holdings
-  replied_event w site kind at = replied_access w site kind (nat_lt 0 (depth (accepted (plain_steps steps) k) s.thread)) refl at
+  replied_event : (w site : ℕ) (kind : Kind) → reading_of steps k ≡ marked (holdings_at steps s.thread k) s.thread (Access kind w site) →
+      order_reply steps k s.thread (Access kind w site) ≡ cond (nat_lt 0 (depth (accepted steps k) s.thread)) Ignored (cond (reports_at (clocks_at (acts_of steps) k (OfThread s.thread)) (kept_at steps w k) kind) Race Quiet)
+  unfolding order_reply holdings
+  replied_event w site kind at = replied_access w site kind (nat_lt 0 (depth (accepted steps k) s.thread)) refl at
 
-  pub answer-access : (w site : ℕ) (kind : Kind) → s.event ≡ Plain (Access kind w site) →
-      order_answer steps k ≡ access_answered (held_at steps s.thread k) (clocks_at (acts_of steps) k (OfThread s.thread)) (kept_at steps w k) kind s
+  pub answer-access : (w site : ℕ) (kind : Kind) → s.event ≡ Access kind w site →
+      order_answer steps k ≡ access_answered (holdings_at steps s.thread k) (clocks_at (acts_of steps) k (OfThread s.thread)) (kept_at steps w k) kind s
   unfolding order_answer holdings
   answer-access w site kind event =
-      rw is (rw (refusal_at (plain_steps steps) k s.thread (plain_event s.event))
-      (ap (answer_unless (refused_by (held_at steps s.thread k) (plain_event s.event)))
-      (ap (order_reply steps k s.thread) event ∙ replied_event w site kind (mark-step ∙ ap (λ e. marked (held_at steps s.thread k) s.thread (plain_event e)) event))))
+      rw is (rw (refusal_at steps k s.thread s.event)
+      (ap (answer_unless (refused_by (holdings_at steps s.thread k) s.event))
+      (ap (order_reply steps k s.thread) event ∙ replied_event w site kind (mark-step ∙ ap (λ e. marked (holdings_at steps s.thread k) s.thread e) event))))
 
-  plain_other : (t : ℕ) (e : Event) → ((w site : ℕ) (kind : Kind) → e ≡ Access kind w site → ⊥) → plain_reply steps k t e ≡ reply (plain_steps steps) k t e
-  unfolding plain_reply
-  plain_other t (Access kind w site) never = absurd (never w site kind refl)
-  plain_other t (Acquire l m) never = refl
-  plain_other t (Release l m) never = refl
-  plain_other t (Reuse range) never = refl
-  plain_other t IgnoreOn never = refl
-  plain_other t IgnoreOff never = refl
-  plain_other t (Show w) never = refl
-  plain_other t (Level n) never = refl
+  other_event : (t : ℕ) (e : Event) → ((w site : ℕ) (kind : Kind) → e ≡ Access kind w site → ⊥) → order_reply steps k t e ≡ reply steps k t e
+  unfolding order_reply
+  other_event t (Access kind w site) never = absurd (never w site kind refl)
+  other_event t (Acquire l m) never = refl
+  other_event t (Release l m) never = refl
+  other_event t (Reuse range) never = refl
+  other_event t IgnoreOn never = refl
+  other_event t IgnoreOff never = refl
+  other_event t (Show w) never = refl
+  other_event t (Level n) never = refl
+  other_event t (Sync sync) never = refl
 
-  pub answer-plain : (e : Event) → s.event ≡ Plain e → ((w site : ℕ) (kind : Kind) → e ≡ Access kind w site → ⊥) → order_answer steps k ≡ answer (plain_steps steps) k
+  pub answer-other : ((w site : ℕ) (kind : Kind) → s.event ≡ Access kind w site → ⊥) → order_answer steps k ≡ answer steps k
   unfolding order_answer answer
-  answer-plain e event never =
-      rw (is, plain-at steps k s is)
-      (ap (answer_unless (refusal (accepted (plain_steps steps) k) s.thread (plain_event s.event)))
-      (ap (order_reply steps k s.thread) event ∙ plain_other s.thread e never ∙ ap (λ f. reply (plain_steps steps) k s.thread (plain_event f)) (sym event)))
+  answer-other never =
+      rw is (ap (answer_unless (refusal (accepted steps k) s.thread s.event)) (other_event s.thread s.event never))
 
-  done_event : (t : ℕ) (e : OrderEvent) → ((plain : Event) → e ≡ Plain plain → ⊥) →
-      answer_unless (refused_by (held_at steps t k) (plain_event e)) (order_reply steps k t e) ≡ Ok Done
-  done_event t (Plain e) never = absurd (never e refl)
-  done_event t (Start u) never = refl
-  done_event t (Join u) never = refl
-  done_event t (Signal x) never = refl
-  done_event t (Await x) never = refl
-
-  pub answer-done : ((plain : Event) → s.event ≡ Plain plain → ⊥) → order_answer steps k ≡ Ok Done
-  unfolding order_answer
-  answer-done never =
-      rw is (rw (refusal_at (plain_steps steps) k s.thread (plain_event s.event)) (done_event s.thread s.event never))
+  pub answer-done : (sync : SyncEvent) → s.event ≡ Sync sync → order_answer steps k ≡ Ok Done
+  unfolding order_answer refusal order_reply reply
+  answer-done sync event = rw (is, event) refl

@@ -8,9 +8,9 @@ use Rattle.er_event.specs.declared.steps.Kind.{Kind}
 use Rattle.er_event.specs.declared.steps.Kind.TheVariants.{Read as reading, Write as writing}
 use Rattle.er_model.specs.Words.{Reading, writes, counted_from}
 use Rattle.er_event.proofs.Lists.{get_front, get_last}
-use Rattle.er_order.specs.declared.steps.OrderEvent.TheVariants.{Plain}
-use Rattle.er_order.specs.declared.steps.OrderStep.{OrderStep}
-use Rattle.er_order.specs.Steps.{marks_of, held_at}
+use Rattle.er_event.specs.declared.steps.Step.{Step}
+use Rattle.er_model.specs.Answers.{reading_of}
+use Rattle.er_model.specs.Holdings.{holdings_at}
 use Rattle.er_order.specs.Order.{acts_of}
 use Rattle.er_order.specs.Clocks.{Epoch, OfThread, clocks_at}
 use Rattle.er_order.specs.Races.{Order, order_answer, latest_from}
@@ -20,24 +20,24 @@ use Rattle.er_order.proofs.StepLemmas.{some-at, held-front, clocks-front}
 use Rattle.er_order.proofs.RaceLemmas.{latest-in}
 use Rattle.er_order.proofs.Following.{kept-none, kept-step, answer-access, any-mapped, filter-mapped}
 
-module _ (steps more : List OrderStep) where
+module _ (steps more : List Step) where
   pub kept-front : (w n : ℕ) → n ≤ length steps → kept_at (steps ++ more) w n ≡ kept_at steps w n
-  kept-front w zero below = kept-none (acts_of (steps ++ more)) (marks_of (steps ++ more)) w ∙ sym (kept-none (acts_of steps) (marks_of steps) w)
+  kept-front w zero below = kept-none (acts_of (steps ++ more)) (reading_of (steps ++ more)) w ∙ sym (kept-none (acts_of steps) (reading_of steps) w)
   kept-front w (suc n) below =
       let at = some-at steps n (omega arith) in
       kept-step (steps ++ more) n at.0 (get_front steps more n (omega arith) ∙ at.1) w
       ∙ rw (held-front steps more at.0.thread n (omega arith), clocks-front steps more n (omega arith), kept-front w n (omega arith))
       (sym (kept-step steps n at.0 at.1 w))
 
-module _ (steps : List OrderStep) (s : OrderStep) where
+module _ (steps : List Step) (s : Step) where
   pub kept-grow : (w : ℕ) → kept_at (steps ++ s ∷ []) w (suc (length steps)) ≡
-      kept_after (held_at steps s.thread (length steps)) (clocks_at (acts_of steps) (length steps) (OfThread s.thread)) (kept_at steps w (length steps)) w s
+      kept_after (holdings_at steps s.thread (length steps)) (clocks_at (acts_of steps) (length steps) (OfThread s.thread)) (kept_at steps w (length steps)) w s
   kept-grow w =
       kept-step (steps ++ s ∷ []) (length steps) s (get_last steps s) w
       ∙ rw (clocks-front steps (s ∷ []) (length steps) (omega arith), held-front steps (s ∷ []) s.thread (length steps) (omega arith), kept-front steps (s ∷ []) w (length steps) (omega arith)) refl
 
-  pub answer-grow : (w site : ℕ) (kind : Kind) → s.event ≡ Plain (Access kind w site) → order_answer (steps ++ s ∷ []) (length steps) ≡
-      access_answered (held_at steps s.thread (length steps)) (clocks_at (acts_of steps) (length steps) (OfThread s.thread)) (kept_at steps w (length steps)) kind s
+  pub answer-grow : (w site : ℕ) (kind : Kind) → s.event ≡ Access kind w site → order_answer (steps ++ s ∷ []) (length steps) ≡
+      access_answered (holdings_at steps s.thread (length steps)) (clocks_at (acts_of steps) (length steps) (OfThread s.thread)) (kept_at steps w (length steps)) kind s
   answer-grow w site kind event =
       answer-access (steps ++ s ∷ []) (length steps) s (get_last steps s) w site kind event
       ∙ rw (clocks-front steps (s ∷ []) (length steps) (omega arith), held-front steps (s ∷ []) s.thread (length steps) (omega arith), kept-front steps (s ∷ []) w (length steps) (omega arith)) refl

@@ -4,7 +4,7 @@ use Rattle.std.proofs.lemmas.Bool.{eq-eqb, eqb-true, or_left, or_right, or_cases
 use Rattle.er_event.specs.declared.steps.Mode.{Mode}
 use Rattle.er_event.specs.declared.steps.Mode.TheVariants.{Read, Write}
 use Rattle.er_model.specs.Threads.{same_mode}
-use Rattle.er_order.specs.Order.{Sync, Acquired, Released, Started, Joined, Signalled, Awaited, Local, Act, takes, awaits, starts, joins, synchronizes, leads}
+use Rattle.er_order.specs.Order.{Effect, Acquired, Released, Started, Joined, Signalled, Awaited, Local, Act, takes, awaits, starts, joins, synchronizes, leads}
 use Rattle.er_order.specs.Clocks.{Keeper, OfThread, OfReleases, OfObject, Clocks, gives_up, signals, gives, found, seen}
 
 -- the keepers from which a step takes
@@ -13,7 +13,7 @@ finds b (OfThread t) = b.thread == t || joins b.sync t
 finds b (OfReleases l m) = takes b.sync l m
 finds b (OfObject x) = awaits b.sync x
 
-abbrev pub doing : ℕ → Sync → Act
+abbrev pub doing : ℕ → Effect → Act
 doing t d = record { thread = t; sync = d }
 
 same_self : (m : Mode) → same_mode m m ≡ true
@@ -29,7 +29,7 @@ same-mode Write Read e = cc
 abbrev pub IsLink : Act → Act → Type 0
 IsLink a b = (c : Keeper) × (gives a c ≡ true) × (finds b c ≡ true)
 
-hands_link : (t : ℕ) (d : Sync) (b : Act) → synchronizes d b.sync ≡ true → IsLink (doing t d) b
+hands_link : (t : ℕ) (d : Effect) (b : Act) → synchronizes d b.sync ≡ true → IsLink (doing t d) b
 unfolding gives
 hands_link t (Released lock mode) b e = (OfReleases lock mode, and_from (lock == lock) (same_mode mode mode) (eq-eqb lock lock refl) (same_self mode), e)
 hands_link t (Signalled object) b e = (OfObject object, eq-eqb object object refl, e)
@@ -56,7 +56,7 @@ link-from a b e =
     (or_cases (a.thread == b.thread) (starts a.sync b.thread || (joins b.sync a.thread || synchronizes a.sync b.sync)) e)
 
 -- and the other way round
-starts_joins : (d e : Sync) (u : ℕ) → starts d u ≡ true → joins e u ≡ true → synchronizes d e ≡ true
+starts_joins : (d e : Effect) (u : ℕ) → starts d u ≡ true → joins e u ≡ true → synchronizes d e ≡ true
 starts_joins (Started thread) e u s j = let same : thread ≡ u = eqb-true thread u s in rw same j
 starts_joins (Released lock mode) e u s j = cc
 starts_joins (Signalled object) e u s j = cc
@@ -65,7 +65,7 @@ starts_joins (Joined thread) e u s j = cc
 starts_joins (Awaited object) e u s j = cc
 starts_joins Local e u s j = cc
 
-frees_takes : (d e : Sync) (l : ℕ) (m : Mode) → gives_up d l m ≡ true → takes e l m ≡ true → synchronizes d e ≡ true
+frees_takes : (d e : Effect) (l : ℕ) (m : Mode) → gives_up d l m ≡ true → takes e l m ≡ true → synchronizes d e ≡ true
 frees_takes (Released lock mode) e l m f t =
     let parts = and_parts (lock == l) (same_mode mode m) f in
     let same : lock ≡ l = eqb-true lock l parts.0 in
@@ -78,7 +78,7 @@ frees_takes (Joined thread) e l m f t = cc
 frees_takes (Awaited object) e l m f t = cc
 frees_takes Local e l m f t = cc
 
-sends_awaits : (d e : Sync) (x : ℕ) → signals d x ≡ true → awaits e x ≡ true → synchronizes d e ≡ true
+sends_awaits : (d e : Effect) (x : ℕ) → signals d x ≡ true → awaits e x ≡ true → synchronizes d e ≡ true
 sends_awaits (Signalled object) e x s a = let same : object ≡ x = eqb-true object x s in rw same a
 sends_awaits (Started thread) e x s a = cc
 sends_awaits (Released lock mode) e x s a = cc
@@ -140,7 +140,7 @@ module _ (clocks : Clocks) (t x : ℕ) where
   or_less : (y z : ℕ) → x ≤ max y z → (x ≤ y) ⊎ (x ≤ z)
   or_less y z e = grind arith
 
-  found_at : (u : ℕ) (d : Sync) → 0 < x → x ≤ found clocks d t → IsFound (doing u d)
+  found_at : (u : ℕ) (d : Effect) → 0 < x → x ≤ found clocks d t → IsFound (doing u d)
   found_at u (Acquired lock Read) some e = (OfReleases lock Write, and_from (lock == lock) true (eq-eqb lock lock refl) refl, e)
   found_at u (Acquired lock Write) some e =
       ⊎_elim
@@ -162,7 +162,7 @@ module _ (clocks : Clocks) (t x : ℕ) where
       (λ other. found_at b.thread b.sync some other)
       (or_less (clocks (OfThread b.thread) t) (found clocks b.sync t) e)
 
-  joins_found : (d : Sync) (u : ℕ) → joins d u ≡ true → x ≤ clocks (OfThread u) t → x ≤ found clocks d t
+  joins_found : (d : Effect) (u : ℕ) → joins d u ≡ true → x ≤ clocks (OfThread u) t → x ≤ found clocks d t
   joins_found (Joined thread) u j e = let same : thread ≡ u = eqb-true thread u j in rw same e
   joins_found (Acquired lock mode) u j e = cc
   joins_found (Released lock mode) u j e = cc
@@ -177,7 +177,7 @@ module _ (clocks : Clocks) (t x : ℕ) where
   takes_lock lock l Write Write same ok e = rw same (omega arith)
   takes_lock lock l Write Read same ok e = rw same (omega arith)
 
-  takes_found : (d : Sync) (l : ℕ) (m : Mode) → takes d l m ≡ true → x ≤ clocks (OfReleases l m) t → x ≤ found clocks d t
+  takes_found : (d : Effect) (l : ℕ) (m : Mode) → takes d l m ≡ true → x ≤ clocks (OfReleases l m) t → x ≤ found clocks d t
   takes_found (Acquired lock mode) l m j e =
       let parts = and_parts (lock == l) (not (same_mode mode Read && same_mode m Read)) j in
       takes_lock lock l mode m (eqb-true lock l parts.0) parts.1 e
@@ -188,7 +188,7 @@ module _ (clocks : Clocks) (t x : ℕ) where
   takes_found (Awaited object) l m j e = cc
   takes_found Local l m j e = cc
 
-  awaits_found : (d : Sync) (o : ℕ) → awaits d o ≡ true → x ≤ clocks (OfObject o) t → x ≤ found clocks d t
+  awaits_found : (d : Effect) (o : ℕ) → awaits d o ≡ true → x ≤ clocks (OfObject o) t → x ≤ found clocks d t
   awaits_found (Awaited object) o j e = let same : object ≡ o = eqb-true object o j in rw same e
   awaits_found (Acquired lock mode) o j e = cc
   awaits_found (Joined thread) o j e = cc

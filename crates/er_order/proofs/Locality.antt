@@ -3,8 +3,8 @@ use Rattle.std.proofs.Common.{◌≡◌, ℕ, zero, suc, Bool, true, false, cond
 use Rattle.std.proofs.lemmas.Bool.{or_parts}
 use Rattle.er_model.specs.Words.{Mark, Counted, Reused, Shown, Nothing, Reading, reuses, counts, thread_of, is_within}
 use Rattle.er_model.specs.Locality.{touches}
-use Rattle.er_order.specs.declared.steps.OrderStep.{OrderStep}
-use Rattle.er_order.specs.Steps.{marks_of}
+use Rattle.er_event.specs.declared.steps.Step.{Step}
+use Rattle.er_model.specs.Answers.{reading_of}
 use Rattle.er_order.specs.Order.{Acts, acts_of}
 use Rattle.er_order.specs.Clocks.{OfThread, clocks_at}
 use Rattle.er_order.specs.Following.{Kept, fresh, kept, kept_at, kept_moved}
@@ -48,8 +48,8 @@ module _ (acts : Acts) (r : Reading) (agree : Agree acts r) (w : ℕ) where
   kept-replay zero = kept-none acts r w
   kept-replay (suc n) = kept_replayed n (touches (r n) w) refl (kept-replay n)
 
-pub kept-local : (steps others : List OrderStep) (w m n : ℕ) → clocked_on (acts_of steps) (marks_of steps) w m ≡ clocked_on (acts_of others) (marks_of others) w n →
+pub kept-local : (steps others : List Step) (w m n : ℕ) → clocked_on (acts_of steps) (reading_of steps) w m ≡ clocked_on (acts_of others) (reading_of others) w n →
     kept_at steps w m ≡ kept_at others w n
 kept-local steps others w m n same =
-    kept-replay (acts_of steps) (marks_of steps) (agree-steps steps) w m
-    ∙ rw same (sym (kept-replay (acts_of others) (marks_of others) (agree-steps others) w n))
+    kept-replay (acts_of steps) (reading_of steps) (agree-steps steps) w m
+    ∙ rw same (sym (kept-replay (acts_of others) (reading_of others) (agree-steps others) w n))

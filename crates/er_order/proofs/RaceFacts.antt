@@ -5,11 +5,11 @@ use Rattle.er_event.specs.declared.refusals.Refusal.{Refusal}
 use Rattle.er_model.specs.Search.{every_below}
 use Rattle.er_model.specs.Words.{Reading, counts, thread_of, writes, era, counted_from}
 use Rattle.er_model.specs.Threads.{refusal, accepted}
-use Rattle.er_order.specs.declared.steps.OrderStep.{OrderStep}
-use Rattle.er_order.specs.Steps.{plain_event, plain_steps, marks_of}
+use Rattle.er_event.specs.declared.steps.Step.{Step}
 use Rattle.er_model.proofs.Search.{every_below-all, least_below-Some, least_below-first}
 use Rattle.er_model.proofs.Meaning.{some_below-found, some_below-from, every_below-at}
 use Rattle.er_model.proofs.Words.{era-kept, era-below}
+use Rattle.er_model.specs.Answers.{reading_of}
 use Rattle.er_order.specs.Order.{Local, Act, sync_of, act_unless, acts_of, leads, leads_from, happens_before}
 use Rattle.er_order.specs.Races.{Order, is_race, had_race, is_reported}
 use Rattle.er_order.proofs.Order.{happens_before-least}
@@ -125,15 +125,15 @@ same_trans (Some a) None q e f = cc
 same_trans (Some a) (Some b) None e f = cc
 same_trans (Some a) (Some b) (Some c) e f = eq-eqb a.thread c.thread (eqb-true a.thread b.thread e ∙ eqb-true b.thread c.thread f)
 
-idle_act : (o : Option Refusal) (s : OrderStep) → sync_of s.event ≡ Local → IsIdle (act_unless o s)
+idle_act : (o : Option Refusal) (s : Step) → sync_of s.event ≡ Local → IsIdle (act_unless o s)
 idle_act None s idle a e = let same : record { thread = s.thread; sync = sync_of s.event } ≡ a = cc in rw (← same) idle
 idle_act (Some why) s idle a e = cc
 
-module _ (steps : List OrderStep) (idle : (k : ℕ) (s : OrderStep) → slice_get steps k ≡ Some s → sync_of s.event ≡ Local) where
-  idle_at : (k : ℕ) (o : Option OrderStep) → slice_get steps k ≡ o → IsIdle (acts_of steps k)
+module _ (steps : List Step) (idle : (k : ℕ) (s : Step) → slice_get steps k ≡ Some s → sync_of s.event ≡ Local) where
+  idle_at : (k : ℕ) (o : Option Step) → slice_get steps k ≡ o → IsIdle (acts_of steps k)
   unfolding acts_of
   idle_at k None is = rw is (λ a e. cc)
-  idle_at k (Some s) is = rw is (idle_act (refusal (accepted (plain_steps steps) k) s.thread (plain_event s.event)) s (idle k s is))
+  idle_at k (Some s) is = rw is (idle_act (refusal (accepted steps k) s.thread s.event) s (idle k s is))
 
   idle-same : (j k : ℕ) → happens_before (acts_of steps) j k ≡ true → same_thread (acts_of steps j) (acts_of steps k) ≡ true
   idle-same =
@@ -142,32 +142,32 @@ module _ (steps : List OrderStep) (idle : (k : ℕ) (s : OrderStep) → slice_ge
       (λ i j k first below led. same_trans (acts_of steps i) (acts_of steps j) (acts_of steps k) first
       (leads_same (acts_of steps j) (acts_of steps k) (idle_at j (slice_get steps j) refl) (idle_at k (slice_get steps k) refl) led))
 
-  own_threads : (w j k : ℕ) → counts (marks_of steps j) w ≡ true → counts (marks_of steps k) w ≡ true → happens_before (acts_of steps) j k ≡ true →
-      thread_of (marks_of steps j) ≡ thread_of (marks_of steps k)
+  own_threads : (w j k : ℕ) → counts (reading_of steps j) w ≡ true → counts (reading_of steps k) w ≡ true → happens_before (acts_of steps) j k ≡ true →
+      thread_of (reading_of steps j) ≡ thread_of (reading_of steps k)
   unfolding same_thread
   own_threads w j k at_j at_k e =
       let same = idle-same j k e in
-      eqb-true (thread_of (marks_of steps j)) (thread_of (marks_of steps k)) (rw (agree-steps steps j w at_j, agree-steps steps k w at_k) at same)
+      eqb-true (thread_of (reading_of steps j)) (thread_of (reading_of steps k)) (rw (agree-steps steps j w at_j, agree-steps steps k w at_k) at same)
 
-  pub idle-race : (w n i k : ℕ) → i < n → k < n → counted_from (marks_of steps) w (era (marks_of steps) w n) i ≡ true →
-      counted_from (marks_of steps) w (era (marks_of steps) w n) k ≡ true → writes (marks_of steps i) ≡ true →
-      (thread_of (marks_of steps i) ≡ thread_of (marks_of steps k) → ⊥) → had_race (happens_before (acts_of steps)) (marks_of steps) w n ≡ true
-  idle-race w n i k low_i low_k at_i at_k wrote other = shared-race (happens_before (acts_of steps)) (marks_of steps) w n (own_threads w) i k low_i low_k at_i at_k wrote other
+  pub idle-race : (w n i k : ℕ) → i < n → k < n → counted_from (reading_of steps) w (era (reading_of steps) w n) i ≡ true →
+      counted_from (reading_of steps) w (era (reading_of steps) w n) k ≡ true → writes (reading_of steps i) ≡ true →
+      (thread_of (reading_of steps i) ≡ thread_of (reading_of steps k) → ⊥) → had_race (happens_before (acts_of steps)) (reading_of steps) w n ≡ true
+  idle-race w n i k low_i low_k at_i at_k wrote other = shared-race (happens_before (acts_of steps)) (reading_of steps) w n (own_threads w) i k low_i low_k at_i at_k wrote other
 
 -- two threads of which neither has a step that happens before one of the other's
-module _ (steps : List OrderStep) (w n i k : ℕ)
+module _ (steps : List Step) (w n i k : ℕ)
     (apart : (a b : Act) (x y : ℕ) → acts_of steps x ≡ Some a → acts_of steps y ≡ Some b →
-    ((a.thread ≡ thread_of (marks_of steps i)) × (b.thread ≡ thread_of (marks_of steps k))) ⊎
-    ((a.thread ≡ thread_of (marks_of steps k)) × (b.thread ≡ thread_of (marks_of steps i))) → happens_before (acts_of steps) x y ≡ false) where
+    ((a.thread ≡ thread_of (reading_of steps i)) × (b.thread ≡ thread_of (reading_of steps k))) ⊎
+    ((a.thread ≡ thread_of (reading_of steps k)) × (b.thread ≡ thread_of (reading_of steps i))) → happens_before (acts_of steps) x y ≡ false) where
   abbrev act_at : ℕ → Act
-  act_at x = record { thread = thread_of (marks_of steps x); sync = Local }
+  act_at x = record { thread = thread_of (reading_of steps x); sync = Local }
 
-  pub threads-race : i < n → k < n → counted_from (marks_of steps) w (era (marks_of steps) w n) i ≡ true →
-      counted_from (marks_of steps) w (era (marks_of steps) w n) k ≡ true → writes (marks_of steps i) ≡ true →
-      (thread_of (marks_of steps i) ≡ thread_of (marks_of steps k) → ⊥) → had_race (happens_before (acts_of steps)) (marks_of steps) w n ≡ true
+  pub threads-race : i < n → k < n → counted_from (reading_of steps) w (era (reading_of steps) w n) i ≡ true →
+      counted_from (reading_of steps) w (era (reading_of steps) w n) k ≡ true → writes (reading_of steps i) ≡ true →
+      (thread_of (reading_of steps i) ≡ thread_of (reading_of steps k) → ⊥) → had_race (happens_before (acts_of steps)) (reading_of steps) w n ≡ true
   threads-race low_i low_k at_i at_k wrote other =
-      let is_i = agree-steps steps i w (counted_at (happens_before (acts_of steps)) (marks_of steps) w n i at_i) in
-      let is_k = agree-steps steps k w (counted_at (happens_before (acts_of steps)) (marks_of steps) w n k at_k) in
-      apart-race (happens_before (acts_of steps)) (marks_of steps) w n i k low_i low_k at_i at_k wrote other
+      let is_i = agree-steps steps i w (counted_at (happens_before (acts_of steps)) (reading_of steps) w n i at_i) in
+      let is_k = agree-steps steps k w (counted_at (happens_before (acts_of steps)) (reading_of steps) w n k at_k) in
+      apart-race (happens_before (acts_of steps)) (reading_of steps) w n i k low_i low_k at_i at_k wrote other
       (apart (act_at i) (act_at k) i k is_i is_k (inl (refl, refl)))
       (apart (act_at k) (act_at i) k i is_k is_i (inr (refl, refl)))

@@ -3,7 +3,7 @@ use Rattle.std.proofs.Common.{◌≡◌, ℕ, zero, suc, ◌<◌, ◌≤◌, max
 use Rattle.std.proofs.Math.Path.{fun_ext}
 use Rattle.er_event.proofs.Lists.{get_front, get_last}
 use Rattle.er_event.specs.declared.steps.Event.{Event}
-use Rattle.er_event.specs.declared.steps.Event.TheVariants.{Acquire, Release, Access, Reuse, IgnoreOn, IgnoreOff, Show, Level}
+use Rattle.er_event.specs.declared.steps.Event.TheVariants.{Acquire, Release, Access, Reuse, IgnoreOn, IgnoreOff, Show, Level, Sync}
 use Rattle.er_event.specs.declared.steps.Kind.{Kind}
 use Rattle.er_event.specs.declared.steps.Kind.TheVariants.{Read as reading, Write as writing}
 use Rattle.er_event.specs.declared.steps.Step.{Step}
@@ -12,33 +12,11 @@ use Rattle.er_model.specs.Threads.{refusal, accepted, is_ignoring, held, write_h
 use Rattle.er_model.specs.Answers.{mark, reading_of}
 use Rattle.er_model.proofs.Threads.{refusal_at}
 use Rattle.er_model.proofs.Prefixes.{accepted-front, holdings-front}
-use Rattle.er_order.specs.declared.steps.OrderEvent.{OrderEvent}
-use Rattle.er_order.specs.declared.steps.OrderEvent.TheVariants.{Plain, Start, Join, Signal, Await}
-use Rattle.er_order.specs.declared.steps.OrderStep.{OrderStep}
-use Rattle.er_order.specs.Steps.{plain_event, plain_step, plain_steps, marks_of, held_at}
+use Rattle.er_model.specs.Holdings.{holdings_at}
 use Rattle.er_order.specs.Order.{Acts, Local, act_unless, act_after, acts_of, happens_before}
 use Rattle.er_order.specs.Clocks.{Keeper, OfThread, seen, clocks_after, clocks_at, own_count}
 use Rattle.er_order.specs.Following.{act_by}
 use Rattle.er_order.proofs.Clocks.{clocks-decide}
-
--- a step stands at the same position among the plain ones
-pub plain-at : (steps : List OrderStep) (k : ℕ) (s : OrderStep) → slice_get steps k ≡ Some s → slice_get (plain_steps steps) k ≡ Some (plain_step s)
-plain-at [] k s is = cc
-plain-at (x ∷ xs) zero s is = let same : x ≡ s = cc in rw same refl
-plain-at (x ∷ xs) (suc k) s is = plain-at xs k s is
-
-pub plain-none : (steps : List OrderStep) (k : ℕ) → slice_get steps k ≡ None → slice_get (plain_steps steps) k ≡ None
-plain-none [] k is = refl
-plain-none (x ∷ xs) zero is = cc
-plain-none (x ∷ xs) (suc k) is = plain-none xs k is
-
-pub plain-append : (steps more : List OrderStep) → plain_steps (steps ++ more) ≡ plain_steps steps ++ plain_steps more
-plain-append [] more = refl
-plain-append (x ∷ xs) more = ap (λ ys. plain_step x ∷ ys) (plain-append xs more)
-
-pub plain-length : (steps : List OrderStep) → length (plain_steps steps) ≡ length steps
-plain-length [] = refl
-plain-length (x ∷ xs) = ap suc (plain-length xs)
 
 -- the counted positions of the reading are steps that order no other thread
 abbrev pub Agree : Acts → Reading → Type 0
@@ -60,51 +38,42 @@ unfolding counts thread_of
 agree_access past w t word kind cover true ignores counted = cc
 agree_access past w t word kind cover false heeds counted = refl
 
-agree_plain : (past : List Step) (w t : ℕ) (e : Event) → counts (mark past t e) w ≡ true →
-    act_unless (refusal past t e) (record { thread = t; event = Plain e }) ≡ Some (record { thread = thread_of (mark past t e); sync = Local })
+agree_event : (past : List Step) (w t : ℕ) (e : Event) → counts (mark past t e) w ≡ true →
+    act_unless (refusal past t e) (record { thread = t; event = e }) ≡ Some (record { thread = thread_of (mark past t e); sync = Local })
 unfolding mark refusal counts
-agree_plain past w t (Access kind word site) counted =
+agree_event past w t (Access kind word site) counted =
     let same = agree_access past w t word kind (cover_here kind) (is_ignoring past t) refl counted in
     rw same refl
   where
     cover_here : Kind → List ℕ
     cover_here reading = held past t
     cover_here writing = write_held past t
-agree_plain past w t (Acquire l m) counted = cc
-agree_plain past w t (Release l m) counted = cc
-agree_plain past w t (Reuse range) counted = cc
-agree_plain past w t IgnoreOn counted = cc
-agree_plain past w t IgnoreOff counted = cc
-agree_plain past w t (Show word) counted = cc
-agree_plain past w t (Level n) counted = cc
+agree_event past w t (Acquire l m) counted = cc
+agree_event past w t (Release l m) counted = cc
+agree_event past w t (Reuse range) counted = cc
+agree_event past w t IgnoreOn counted = cc
+agree_event past w t IgnoreOff counted = cc
+agree_event past w t (Show word) counted = cc
+agree_event past w t (Level n) counted = cc
+agree_event past w t (Sync sync) counted = cc
 
-agree_event : (past : List Step) (w t : ℕ) (e : OrderEvent) → counts (mark past t (plain_event e)) w ≡ true →
-    act_unless (refusal past t (plain_event e)) (record { thread = t; event = e }) ≡ Some (record { thread = thread_of (mark past t (plain_event e)); sync = Local })
-unfolding mark counts
-agree_event past w t (Plain e) counted = agree_plain past w t e counted
-agree_event past w t (Start u) counted = cc
-agree_event past w t (Join u) counted = cc
-agree_event past w t (Signal x) counted = cc
-agree_event past w t (Await x) counted = cc
-
-agree_at : (steps : List OrderStep) (k w : ℕ) (o : Option OrderStep) → slice_get steps k ≡ o → counts (marks_of steps k) w ≡ true →
-    acts_of steps k ≡ Some (record { thread = thread_of (marks_of steps k); sync = Local })
+agree_at : (steps : List Step) (k w : ℕ) (o : Option Step) → slice_get steps k ≡ o → counts (reading_of steps k) w ≡ true →
+    acts_of steps k ≡ Some (record { thread = thread_of (reading_of steps k); sync = Local })
 unfolding reading_of acts_of counts
-agree_at steps k w None is counted = let never : false ≡ true = rw (plain-none steps k is) at counted in cc
+agree_at steps k w None is counted = let never : false ≡ true = rw is at counted in cc
 agree_at steps k w (Some s) is counted =
-    let at = plain-at steps k s is in
-    let counted' : counts (mark (accepted (plain_steps steps) k) s.thread (plain_event s.event)) w ≡ true = rw at at counted in
-    rw (is, at) (agree_event (accepted (plain_steps steps) k) w s.thread s.event counted')
+    let counted' : counts (mark (accepted steps k) s.thread s.event) w ≡ true = rw is at counted in
+    rw is (agree_event (accepted steps k) w s.thread s.event counted')
 
-pub agree-steps : (steps : List OrderStep) → Agree (acts_of steps) (marks_of steps)
+pub agree-steps : (steps : List Step) → Agree (acts_of steps) (reading_of steps)
 agree-steps steps k w counted = agree_at steps k w (slice_get steps k) refl counted
 
-module _ (steps : List OrderStep) (k : ℕ) (s : OrderStep) (is : slice_get steps k ≡ Some s) where
-  pub act-step : acts_of steps k ≡ act_by (held_at steps s.thread k) s
+module _ (steps : List Step) (k : ℕ) (s : Step) (is : slice_get steps k ≡ Some s) where
+  pub act-step : acts_of steps k ≡ act_by (holdings_at steps s.thread k) s
   unfolding acts_of
-  act-step = rw (is, refusal_at (plain_steps steps) k s.thread (plain_event s.event)) refl
+  act-step = rw (is, refusal_at steps k s.thread s.event) refl
 
-  pub clocks-step : (c : Keeper) (u : ℕ) → clocks_at (acts_of steps) (suc k) c u ≡ clocks_after (clocks_at (acts_of steps) k) (act_by (held_at steps s.thread k) s) c u
+  pub clocks-step : (c : Keeper) (u : ℕ) → clocks_at (acts_of steps) (suc k) c u ≡ clocks_after (clocks_at (acts_of steps) k) (act_by (holdings_at steps s.thread k) s) c u
   unfolding clocks_at
   clocks-step c u = rw act-step refl
 
@@ -114,18 +83,16 @@ some-at (x ∷ xs) zero below = (x, refl)
 some-at (x ∷ xs) (suc k) below = some-at xs k (omega arith)
 
 -- later steps change nothing at an earlier point
-module _ (steps more : List OrderStep) where
-  pub held-front : (t n : ℕ) → n ≤ length steps → held_at (steps ++ more) t n ≡ held_at steps t n
-  held-front t n below =
-      rw (plain-append steps more) (holdings-front (plain_steps steps) (plain_steps more) t n (rw (plain-length steps) below))
+module _ (steps more : List Step) where
+  pub held-front : (t n : ℕ) → n ≤ length steps → holdings_at (steps ++ more) t n ≡ holdings_at steps t n
+  held-front t n below = holdings-front steps more t n below
 
-  past-front : (k : ℕ) → k ≤ length steps → accepted (plain_steps (steps ++ more)) k ≡ accepted (plain_steps steps) k
-  past-front k below =
-      rw (plain-append steps more) (accepted-front (plain_steps steps) (plain_steps more) k (rw (plain-length steps) below))
+  past-front : (k : ℕ) → k ≤ length steps → accepted (steps ++ more) k ≡ accepted steps k
+  past-front k below = accepted-front steps more k below
 
-  after-front : (k : ℕ) (o : Option OrderStep) → k ≤ length steps → act_after (steps ++ more) k o ≡ act_after steps k o
+  after-front : (k : ℕ) (o : Option Step) → k ≤ length steps → act_after (steps ++ more) k o ≡ act_after steps k o
   after-front k None below = refl
-  after-front k (Some s) below = ap (λ past. act_unless (refusal past s.thread (plain_event s.event)) s) (past-front k below)
+  after-front k (Some s) below = ap (λ past. act_unless (refusal past s.thread s.event) s) (past-front k below)
 
   acts-front : (k : ℕ) → k < length steps → acts_of (steps ++ more) k ≡ acts_of steps k
   unfolding acts_of
@@ -137,8 +104,8 @@ module _ (steps more : List OrderStep) where
   clocks-front (suc n) below =
       fun_ext (λ c. fun_ext (λ u. rw (clocks-front n (omega arith), acts-front n (omega arith)) refl))
 
-pub clocks-grow : (steps : List OrderStep) (s : OrderStep) (c : Keeper) (u : ℕ) → clocks_at (acts_of (steps ++ s ∷ [])) (suc (length steps)) c u ≡
-    clocks_after (clocks_at (acts_of steps) (length steps)) (act_by (held_at steps s.thread (length steps)) s) c u
+pub clocks-grow : (steps : List Step) (s : Step) (c : Keeper) (u : ℕ) → clocks_at (acts_of (steps ++ s ∷ [])) (suc (length steps)) c u ≡
+    clocks_after (clocks_at (acts_of steps) (length steps)) (act_by (holdings_at steps s.thread (length steps)) s) c u
 clocks-grow steps s c u =
     clocks-step (steps ++ s ∷ []) (length steps) s (get_last steps s) c u
     ∙ rw (clocks-front steps (s ∷ []) (length steps) (omega arith), held-front steps (s ∷ []) s.thread (length steps) (omega arith)) refl

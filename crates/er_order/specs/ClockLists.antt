@@ -1,7 +1,7 @@
 -- Clocks as lists: the count of thread u stands in place u, and past the end all counts are 0.
 use Rattle.std.specs.Prelude.{ℕ, zero, suc, ◌≡◌, max, cond, List, [], ◌∷◌, get_or, Option, Some, None}
 use Rattle.er_event.specs.declared.steps.Mode.TheVariants.{Read, Write}
-use Rattle.er_order.specs.Order.{Sync, Acquired, Joined, Awaited, Act}
+use Rattle.er_order.specs.Order.{Effect, Acquired, Joined, Awaited, Act}
 use Rattle.er_order.specs.Clocks.{Keeper, OfThread, OfReleases, OfObject, Clocks, gives, flows}
 
 -- of each thread the greater count
@@ -22,7 +22,7 @@ abbrev pub ClockLists : Type 0
 ClockLists = Keeper → List ℕ
 
 -- what the step finds in other clocks than its thread's own
-abbrev pub found_list : ClockLists → Sync → List ℕ
+abbrev pub found_list : ClockLists → Effect → List ℕ
 found_list lists (Acquired lock Read) = lists (OfReleases lock Write)
 found_list lists (Acquired lock Write) = merged (lists (OfReleases lock Write)) (lists (OfReleases lock Read))
 found_list lists (Joined thread) = lists (OfThread thread)

@@ -3,7 +3,7 @@ use Rattle.std.specs.Prelude.{ℕ, zero, suc, ◌+◌, max, ◌==◌, nat_le, Bo
 use Rattle.er_event.specs.declared.steps.Mode.{Mode}
 use Rattle.er_event.specs.declared.steps.Mode.TheVariants.{Read, Write}
 use Rattle.er_model.specs.Threads.{same_mode}
-use Rattle.er_order.specs.Order.{Sync, Acquired, Released, Started, Joined, Signalled, Awaited, Act, Acts, starts, joins}
+use Rattle.er_order.specs.Order.{Effect, Acquired, Released, Started, Joined, Signalled, Awaited, Act, Acts, starts, joins}
 
 -- what has a clock: a thread, a lock for its releases in a mode, an object
 pub data Keeper : Type 0 where
@@ -34,12 +34,12 @@ is_of_object (OfThread thread) x = false
 is_of_object (OfReleases lock mode) x = false
 
 -- a release of the lock in the mode
-abbrev pub gives_up : Sync → ℕ → Mode → Bool
+abbrev pub gives_up : Effect → ℕ → Mode → Bool
 gives_up (Released lock mode) l m = lock == l && same_mode mode m
 gives_up _ l m = false
 
 -- a signal of the object
-abbrev pub signals : Sync → ℕ → Bool
+abbrev pub signals : Effect → ℕ → Bool
 signals (Signalled object) x = object == x
 signals _ x = false
 
@@ -50,7 +50,7 @@ gives a (OfReleases l m) = gives_up a.sync l m
 gives a (OfObject x) = signals a.sync x
 
 -- it puts it into another clock than its thread's own
-abbrev pub publishes : Sync → Bool
+abbrev pub publishes : Effect → Bool
 publishes (Released lock mode) = true
 publishes (Started thread) = true
 publishes (Signalled object) = true
@@ -61,7 +61,7 @@ unfoldable pub flows : Act → ℕ → Bool
 flows a t = (a.thread == t && publishes a.sync) || joins a.sync t
 
 -- what the step finds in other clocks than its thread's own
-abbrev pub found : Clocks → Sync → ℕ → ℕ
+abbrev pub found : Clocks → Effect → ℕ → ℕ
 found clocks (Acquired lock Read) t = clocks (OfReleases lock Write) t
 found clocks (Acquired lock Write) t = max (clocks (OfReleases lock Write) t) (clocks (OfReleases lock Read) t)
 found clocks (Joined thread) t = clocks (OfThread thread) t

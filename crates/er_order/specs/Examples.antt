@@ -1,120 +1,120 @@
 -- Short lists of steps, to see what happens-before answers.
 use Rattle.std.specs.Prelude.{ℕ, List, [], ◌∷◌}
-use Rattle.er_event.specs.declared.steps.Event.TheVariants.{Acquire, Release, Access, Reuse, Level, IgnoreOn, IgnoreOff}
+use Rattle.er_event.specs.declared.steps.Event.{Event}
+use Rattle.er_event.specs.declared.steps.Event.TheVariants.{Acquire, Release, Access, Reuse, Level, IgnoreOn, IgnoreOff, Sync}
 use Rattle.er_event.specs.declared.steps.Kind.TheVariants.{Read as reading, Write as writing}
 use Rattle.er_event.specs.declared.steps.Mode.TheVariants.{Read, Write}
+use Rattle.er_event.specs.declared.steps.Sync.TheVariants.{Start, Join, Signal, Await}
 use Rattle.er_model.specs.Examples.{one_word}
-use Rattle.er_order.specs.declared.steps.OrderEvent.{OrderEvent}
-use Rattle.er_order.specs.declared.steps.OrderEvent.TheVariants.{Plain, Start, Join, Signal, Await}
-use Rattle.er_order.specs.declared.steps.OrderStep.{OrderStep}
+use Rattle.er_event.specs.declared.steps.Step.{Step}
 
-abbrev pub does : ℕ → OrderEvent → OrderStep
+abbrev pub does : ℕ → Event → Step
 does t event = record { thread = t; event = event }
 
-abbrev pub writes_at : ℕ → ℕ → OrderStep
-writes_at t w = does t (Plain (Access writing w 0))
+abbrev pub writes_at : ℕ → ℕ → Step
+writes_at t w = does t (Access writing w 0)
 
-abbrev pub reads_at : ℕ → ℕ → OrderStep
-reads_at t w = does t (Plain (Access reading w 0))
+abbrev pub reads_at : ℕ → ℕ → Step
+reads_at t w = does t (Access reading w 0)
 
-abbrev pub writes_word : ℕ → OrderStep
+abbrev pub writes_word : ℕ → Step
 writes_word t = writes_at t 1024
 
-abbrev pub reads_word : ℕ → OrderStep
+abbrev pub reads_word : ℕ → Step
 reads_word t = reads_at t 1024
 
-abbrev pub takes : ℕ → ℕ → OrderStep
-takes t l = does t (Plain (Acquire l Write))
+abbrev pub takes : ℕ → ℕ → Step
+takes t l = does t (Acquire l Write)
 
-abbrev pub gives : ℕ → ℕ → OrderStep
-gives t l = does t (Plain (Release l Write))
+abbrev pub gives : ℕ → ℕ → Step
+gives t l = does t (Release l Write)
 
-abbrev pub takes_to_read : ℕ → ℕ → OrderStep
-takes_to_read t l = does t (Plain (Acquire l Read))
+abbrev pub takes_to_read : ℕ → ℕ → Step
+takes_to_read t l = does t (Acquire l Read)
 
-abbrev pub gives_read : ℕ → ℕ → OrderStep
-gives_read t l = does t (Plain (Release l Read))
+abbrev pub gives_read : ℕ → ℕ → Step
+gives_read t l = does t (Release l Read)
 
 -- thread 1 fills the word and puts it into a queue under lock 7; thread 2 takes it out under the lock and writes it
-unfoldable pub queue : List OrderStep
+unfoldable pub queue : List Step
 queue = writes_word 1 ∷ takes 1 7 ∷ gives 1 7 ∷ takes 2 7 ∷ gives 2 7 ∷ writes_word 2 ∷ []
 
 -- the same with no lock
-unfoldable pub no_lock : List OrderStep
+unfoldable pub no_lock : List Step
 no_lock = writes_word 1 ∷ writes_word 2 ∷ []
 
 -- the second thread takes the lock before the first one gives it up
-unfoldable pub too_early : List OrderStep
+unfoldable pub too_early : List Step
 too_early = writes_word 1 ∷ takes 2 7 ∷ gives 2 7 ∷ takes 1 7 ∷ gives 1 7 ∷ writes_word 2 ∷ []
 
 -- over three threads by two locks, and then a write by the first, which nothing orders after the third's
-unfoldable pub chain : List OrderStep
+unfoldable pub chain : List Step
 chain = writes_word 1 ∷ takes 1 7 ∷ gives 1 7 ∷ takes 2 7 ∷ takes 2 8 ∷ gives 2 8 ∷ takes 3 8 ∷ writes_word 3 ∷ writes_word 1 ∷ []
 
 -- two readers, both joined before the next write
-unfoldable pub readers_joined : List OrderStep
-readers_joined = writes_word 1 ∷ does 1 (Start 2) ∷ does 1 (Start 3) ∷ reads_word 2 ∷ reads_word 3 ∷ does 1 (Join 2) ∷ does 1 (Join 3) ∷ writes_word 1 ∷ []
+unfoldable pub readers_joined : List Step
+readers_joined = writes_word 1 ∷ does 1 (Sync (Start 2)) ∷ does 1 (Sync (Start 3)) ∷ reads_word 2 ∷ reads_word 3 ∷ does 1 (Sync (Join 2)) ∷ does 1 (Sync (Join 3)) ∷ writes_word 1 ∷ []
 
 -- two readers, of which one only is joined before the write
-unfoldable pub one_reader_joined : List OrderStep
-one_reader_joined = writes_word 1 ∷ does 1 (Start 2) ∷ does 1 (Start 3) ∷ reads_word 2 ∷ reads_word 3 ∷ does 1 (Join 2) ∷ writes_word 1 ∷ []
+unfoldable pub one_reader_joined : List Step
+one_reader_joined = writes_word 1 ∷ does 1 (Sync (Start 2)) ∷ does 1 (Sync (Start 3)) ∷ reads_word 2 ∷ reads_word 3 ∷ does 1 (Sync (Join 2)) ∷ writes_word 1 ∷ []
 
 -- read by two threads and written by none
-unfoldable pub only_read : List OrderStep
+unfoldable pub only_read : List Step
 only_read = reads_word 1 ∷ reads_word 2 ∷ reads_word 1 ∷ []
 
 -- thread 1 starts another, which writes, and joins it before it writes itself, twice
-unfoldable pub rounds : List OrderStep
-rounds = writes_word 1 ∷ does 1 (Start 2) ∷ writes_word 2 ∷ does 1 (Join 2) ∷ writes_word 1 ∷ does 1 (Start 3) ∷ writes_word 3 ∷ does 1 (Join 3) ∷ writes_word 1 ∷ []
+unfoldable pub rounds : List Step
+rounds = writes_word 1 ∷ does 1 (Sync (Start 2)) ∷ writes_word 2 ∷ does 1 (Sync (Join 2)) ∷ writes_word 1 ∷ does 1 (Sync (Start 3)) ∷ writes_word 3 ∷ does 1 (Sync (Join 3)) ∷ writes_word 1 ∷ []
 
 -- it writes before it joins the other
-unfoldable pub joined_late : List OrderStep
-joined_late = writes_word 1 ∷ does 1 (Start 2) ∷ writes_word 2 ∷ writes_word 1 ∷ does 1 (Join 2) ∷ []
+unfoldable pub joined_late : List Step
+joined_late = writes_word 1 ∷ does 1 (Sync (Start 2)) ∷ writes_word 2 ∷ writes_word 1 ∷ does 1 (Sync (Join 2)) ∷ []
 
 -- a semaphore: signalled after the write, awaited before the next one
-unfoldable pub semaphore : List OrderStep
-semaphore = writes_word 1 ∷ does 1 (Signal 5) ∷ does 2 (Await 5) ∷ writes_word 2 ∷ []
+unfoldable pub semaphore : List Step
+semaphore = writes_word 1 ∷ does 1 (Sync (Signal 5)) ∷ does 2 (Sync (Await 5)) ∷ writes_word 2 ∷ []
 
 -- awaited before it was signalled
-unfoldable pub awaited_early : List OrderStep
-awaited_early = writes_word 1 ∷ does 2 (Await 5) ∷ does 1 (Signal 5) ∷ writes_word 2 ∷ []
+unfoldable pub awaited_early : List Step
+awaited_early = writes_word 1 ∷ does 2 (Sync (Await 5)) ∷ does 1 (Sync (Signal 5)) ∷ writes_word 2 ∷ []
 
 -- two holders of a lock in read mode aren't in order
-unfoldable pub read_locks : List OrderStep
+unfoldable pub read_locks : List Step
 read_locks = takes_to_read 1 7 ∷ writes_word 1 ∷ gives_read 1 7 ∷ takes_to_read 2 7 ∷ writes_word 2 ∷ []
 
 -- a release in read mode happens before an acquire to write, and a release to write before an acquire in read mode
-unfoldable pub read_and_write_locks : List OrderStep
+unfoldable pub read_and_write_locks : List Step
 read_and_write_locks = takes_to_read 1 7 ∷ reads_word 1 ∷ gives_read 1 7 ∷ takes 2 7 ∷ writes_word 2 ∷ gives 2 7 ∷ takes_to_read 1 7 ∷ reads_word 1 ∷ []
 
 -- thread 1 fills the word and raises a flag that is a counted word too; thread 2 reads the flag with no lock, and then the word
-unfoldable pub double_checked : List OrderStep
+unfoldable pub double_checked : List Step
 double_checked = takes 1 7 ∷ writes_word 1 ∷ writes_at 1 1025 ∷ gives 1 7 ∷ reads_at 2 1025 ∷ reads_word 2 ∷ []
 
 -- the same where the flag is stored to signal and loaded to await
-unfoldable pub double_checked_in_order : List OrderStep
-double_checked_in_order = takes 1 7 ∷ writes_word 1 ∷ does 1 (Signal 5) ∷ gives 1 7 ∷ does 2 (Await 5) ∷ reads_word 2 ∷ []
+unfoldable pub double_checked_in_order : List Step
+double_checked_in_order = takes 1 7 ∷ writes_word 1 ∷ does 1 (Sync (Signal 5)) ∷ gives 1 7 ∷ does 2 (Sync (Await 5)) ∷ reads_word 2 ∷ []
 
 -- a reuse between two accesses; then a race, reported once
-unfoldable pub reuse_between : List OrderStep
-reuse_between = writes_word 1 ∷ does 2 (Plain (Reuse one_word)) ∷ writes_word 2 ∷ writes_word 1 ∷ writes_word 2 ∷ []
+unfoldable pub reuse_between : List Step
+reuse_between = writes_word 1 ∷ does 2 (Reuse one_word) ∷ writes_word 2 ∷ writes_word 1 ∷ writes_word 2 ∷ []
 
 -- a release that is refused
-unfoldable pub refused_release : List OrderStep
+unfoldable pub refused_release : List Step
 refused_release = writes_word 1 ∷ gives 1 7 ∷ takes 2 7 ∷ writes_word 2 ∷ []
 
 -- two holders of a lock: what each of them did before its release happens before the next acquire
-unfoldable pub two_holders : List OrderStep
+unfoldable pub two_holders : List Step
 two_holders = takes 1 7 ∷ takes 2 7 ∷ writes_word 1 ∷ gives 1 7 ∷ gives 2 7 ∷ takes 3 7 ∷ writes_word 3 ∷ []
 
 -- both at the same interrupt level
-unfoldable pub levels : List OrderStep
-levels = does 1 (Plain (Level 2)) ∷ writes_word 1 ∷ does 1 (Plain (Level 0)) ∷ does 2 (Plain (Level 2)) ∷ writes_word 2 ∷ []
+unfoldable pub levels : List Step
+levels = does 1 (Level 2) ∷ writes_word 1 ∷ does 1 (Level 0) ∷ does 2 (Level 2) ∷ writes_word 2 ∷ []
 
 -- an access inside an ignore bracket isn't counted
-unfoldable pub bracket : List OrderStep
-bracket = writes_word 1 ∷ does 2 (Plain IgnoreOn) ∷ writes_word 2 ∷ does 2 (Plain IgnoreOff) ∷ writes_word 1 ∷ []
+unfoldable pub bracket : List Step
+bracket = writes_word 1 ∷ does 2 IgnoreOn ∷ writes_word 2 ∷ does 2 IgnoreOff ∷ writes_word 1 ∷ []
 
 -- written with no lock, and then by a second thread under one: by locks alone that is no race yet
-unfoldable pub locked_later : List OrderStep
+unfoldable pub locked_later : List Step
 locked_later = writes_word 1 ∷ takes 2 7 ∷ writes_word 2 ∷ gives 2 7 ∷ []

@@ -9,16 +9,15 @@ use Rattle.er_event.specs.declared.steps.Reply.TheVariants.{Quiet, Race, Ignored
 use Rattle.er_model.specs.Words.{Mark, Counted, Reused, Shown, Nothing, Reading, thread_of, is_writing, is_within}
 use Rattle.er_model.specs.Holdings.{Holdings, refused_by}
 use Rattle.er_model.specs.Following.{marked}
-use Rattle.er_model.specs.Answers.{answer_unless}
-use Rattle.er_order.specs.declared.steps.OrderStep.{OrderStep}
-use Rattle.er_order.specs.Steps.{plain_event, marks_of}
+use Rattle.er_model.specs.Answers.{answer_unless, reading_of}
+use Rattle.er_event.specs.declared.steps.Step.{Step}
 use Rattle.er_order.specs.Order.{Act, Acts, act_unless, acts_of, happens_before}
 use Rattle.er_order.specs.Clocks.{Epoch, own_count, covers}
 use Rattle.er_order.specs.Races.{had_race, last_write, latest_reads}
 
 -- what the step of a thread with these holdings does to the order
-abbrev pub act_by : Holdings → OrderStep → Option Act
-act_by h step = act_unless (refused_by h (plain_event step.event)) step
+abbrev pub act_by : Holdings → Step → Option Act
+act_by h step = act_unless (refused_by h step.event) step
 
 -- of the era, the epochs of the last write and of the latest reads since; or that a race was reported in it
 pub data Kept : Type 0 where
@@ -43,8 +42,8 @@ unfoldable pub kept : Acts → Reading → ℕ → ℕ → Kept
 kept acts r w n = cond (had_race (happens_before acts) r w n) Reported (Seen (write_epoch acts r (last_write r w n)) (map (epoch_of acts r) (latest_reads (happens_before acts) r w n)))
 
 -- what is kept after the first n steps of a list
-abbrev pub kept_at : List OrderStep → ℕ → ℕ → Kept
-kept_at steps w n = kept (acts_of steps) (marks_of steps) w n
+abbrev pub kept_at : List Step → ℕ → ℕ → Kept
+kept_at steps w n = kept (acts_of steps) (reading_of steps) w n
 
 -- the clock doesn't cover the epoch: its access doesn't happen before what the clock's thread does now
 abbrev pub is_unordered : (ℕ → ℕ) → Epoch → Bool
@@ -82,12 +81,12 @@ kept_moved clock before w (Shown word) = before
 kept_moved clock before w Nothing = before
 
 -- after a step by a thread with these holdings and this clock
-abbrev pub kept_after : Holdings → (ℕ → ℕ) → Kept → ℕ → OrderStep → Kept
-kept_after h clock before w step = kept_moved clock before w (marked h step.thread (plain_event step.event))
+abbrev pub kept_after : Holdings → (ℕ → ℕ) → Kept → ℕ → Step → Kept
+kept_after h clock before w step = kept_moved clock before w (marked h step.thread step.event)
 
 -- the answer to an access that finds these
-abbrev pub access_answered : Holdings → (ℕ → ℕ) → Kept → Kind → OrderStep → Result Reply Refusal
-access_answered h clock before kind step = answer_unless (refused_by h (plain_event step.event)) (cond (nat_lt 0 h.depth) Ignored (cond (reports_at clock before kind) Race Quiet))
+abbrev pub access_answered : Holdings → (ℕ → ℕ) → Kept → Kind → Step → Result Reply Refusal
+access_answered h clock before kind step = answer_unless (refused_by h step.event) (cond (nat_lt 0 h.depth) Ignored (cond (reports_at clock before kind) Race Quiet))
 
 -- a shadow word: numbers of epochs in the epochs' place
 pub data Shadow : Type 0 where

@@ -1,4 +1,3 @@
-pub mod Steps
 pub mod Order
 pub mod Clocks
 pub mod ClockLists

@@ -2,58 +2,57 @@
 use Rattle.std.specs.Prelude.{ℕ, zero, suc, ◌==◌, nat_lt, Bool, false, not, ◌&&◌, ◌||◌, cond, List, [], ◌∷◌, slice_get, Option, Some, None}
 use Rattle.std.specs.List.{list_any}
 use Rattle.er_event.specs.declared.steps.Event.{Event}
-use Rattle.er_event.specs.declared.steps.Event.TheVariants.{Acquire, Release}
+use Rattle.er_event.specs.declared.steps.Event.TheVariants.{Acquire, Release, Sync}
+use Rattle.er_event.specs.declared.steps.Sync.{Sync as SyncEvent}
+use Rattle.er_event.specs.declared.steps.Sync.TheVariants.{Start, Join, Signal, Await}
 use Rattle.er_event.specs.declared.steps.Mode.{Mode}
 use Rattle.er_event.specs.declared.steps.Mode.TheVariants.{Read}
 use Rattle.er_event.specs.declared.refusals.Refusal.{Refusal}
 use Rattle.er_event.specs.Lockset.{has}
 use Rattle.er_model.specs.Threads.{same_mode, refusal, accepted}
-use Rattle.er_order.specs.declared.steps.OrderEvent.{OrderEvent}
-use Rattle.er_order.specs.declared.steps.OrderEvent.TheVariants.{Plain, Start, Join, Signal, Await}
-use Rattle.er_order.specs.declared.steps.OrderStep.{OrderStep}
-use Rattle.er_order.specs.Steps.{plain_event, plain_steps}
+use Rattle.er_event.specs.declared.steps.Step.{Step}
 
 -- what an accepted step does to the order of threads
-pub data Sync : Type 0 where
-  Acquired : (lock : ℕ) → (mode : Mode) → Sync
-  Released : (lock : ℕ) → (mode : Mode) → Sync
-  Started : (thread : ℕ) → Sync
-  Joined : (thread : ℕ) → Sync
-  Signalled : (object : ℕ) → Sync
-  Awaited : (object : ℕ) → Sync
-  Local : Sync
+pub data Effect : Type 0 where
+  Acquired : (lock : ℕ) → (mode : Mode) → Effect
+  Released : (lock : ℕ) → (mode : Mode) → Effect
+  Started : (thread : ℕ) → Effect
+  Joined : (thread : ℕ) → Effect
+  Signalled : (object : ℕ) → Effect
+  Awaited : (object : ℕ) → Effect
+  Local : Effect
 
 -- an accepted step of a thread
 pub record Act : Type 0 where
   pub thread : ℕ
-  pub sync : Sync
+  pub sync : Effect
 
 -- a list of steps, read for order: nothing where a step is refused or past the end
 abbrev pub Acts : Type 0
 Acts = ℕ → Option Act
 
 -- an acquire of the lock; after a release in read mode, one to write
-abbrev pub takes : Sync → ℕ → Mode → Bool
+abbrev pub takes : Effect → ℕ → Mode → Bool
 takes (Acquired lock mode) l m = lock == l && not (same_mode mode Read && same_mode m Read)
 takes _ l m = false
 
 -- an await of the object
-abbrev pub awaits : Sync → ℕ → Bool
+abbrev pub awaits : Effect → ℕ → Bool
 awaits (Awaited object) x = object == x
 awaits _ x = false
 
 -- a start of the thread
-abbrev pub starts : Sync → ℕ → Bool
+abbrev pub starts : Effect → ℕ → Bool
 starts (Started thread) t = thread == t
 starts _ t = false
 
 -- a join of the thread
-abbrev pub joins : Sync → ℕ → Bool
+abbrev pub joins : Effect → ℕ → Bool
 joins (Joined thread) t = thread == t
 joins _ t = false
 
 -- a release and an acquire of its lock, a signal and an await of its object, a start and a join of its thread
-abbrev pub synchronizes : Sync → Sync → Bool
+abbrev pub synchronizes : Effect → Effect → Bool
 synchronizes (Released lock mode) later = takes later lock mode
 synchronizes (Signalled object) later = awaits later object
 synchronizes (Started thread) later = joins later thread
@@ -81,30 +80,30 @@ reached acts j (suc n) = with_next acts j n (reached acts j n)
 unfoldable pub happens_before : Acts → ℕ → ℕ → Bool
 happens_before acts j k = nat_lt j k && has (reached acts j (suc k)) k
 
--- an event of locks, words, brackets or levels
-abbrev pub plain_sync : Event → Sync
-plain_sync (Acquire l m) = Acquired l m
-plain_sync (Release l m) = Released l m
-plain_sync _ = Local
+-- what an order event does to the order
+abbrev pub effect_of : SyncEvent → Effect
+effect_of (Start thread) = Started thread
+effect_of (Join thread) = Joined thread
+effect_of (Signal object) = Signalled object
+effect_of (Await object) = Awaited object
 
 -- what an event does to the order
-abbrev pub sync_of : OrderEvent → Sync
-sync_of (Plain event) = plain_sync event
-sync_of (Start thread) = Started thread
-sync_of (Join thread) = Joined thread
-sync_of (Signal object) = Signalled object
-sync_of (Await object) = Awaited object
+abbrev pub sync_of : Event → Effect
+sync_of (Acquire l m) = Acquired l m
+sync_of (Release l m) = Released l m
+sync_of (Sync sync) = effect_of sync
+sync_of _ = Local
 
 -- a refused step is none
-abbrev pub act_unless : Option Refusal → OrderStep → Option Act
+abbrev pub act_unless : Option Refusal → Step → Option Act
 act_unless None step = Some (record { thread = step.thread; sync = sync_of step.event })
 act_unless (Some refusal) step = None
 
 -- nor is what stands past the end
-abbrev pub act_after : List OrderStep → ℕ → Option OrderStep → Option Act
+abbrev pub act_after : List Step → ℕ → Option Step → Option Act
 act_after steps k None = None
-act_after steps k (Some step) = act_unless (refusal (accepted (plain_steps steps) k) step.thread (plain_event step.event)) step
+act_after steps k (Some step) = act_unless (refusal (accepted steps k) step.thread step.event) step
 
 -- a list of steps, as order sees it
-unfoldable pub acts_of : List OrderStep → Acts
+unfoldable pub acts_of : List Step → Acts
 acts_of steps k = act_after steps k (slice_get steps k)

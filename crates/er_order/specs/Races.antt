@@ -8,11 +8,8 @@ use Rattle.er_event.specs.declared.steps.Reply.TheVariants.{Done, Quiet, Race, I
 use Rattle.er_model.specs.Search.{some_below, every_below, greatest_below}
 use Rattle.er_model.specs.Words.{Reading, counts, writes, era, counted_from}
 use Rattle.er_model.specs.Threads.{is_ignoring, refusal, accepted}
-use Rattle.er_model.specs.Answers.{reply, answer_unless}
-use Rattle.er_order.specs.declared.steps.OrderEvent.{OrderEvent}
-use Rattle.er_order.specs.declared.steps.OrderEvent.TheVariants.{Plain, Start, Join, Signal, Await}
-use Rattle.er_order.specs.declared.steps.OrderStep.{OrderStep}
-use Rattle.er_order.specs.Steps.{plain_event, plain_steps, marks_of}
+use Rattle.er_model.specs.Answers.{reply, answer_unless, reading_of}
+use Rattle.er_event.specs.declared.steps.Step.{Step}
 use Rattle.er_order.specs.Order.{acts_of, happens_before}
 
 -- whether one position comes before another in order
@@ -35,35 +32,27 @@ had_race order r w n = some_below n (λ j. counted_from r w (era r w n) j && is_
 unfoldable pub is_reported : Order → Reading → ℕ → ℕ → Bool
 is_reported order r w k = is_race order r w k && every_below k (λ j. not (counted_from r w (era r w (suc k)) j && is_race order r w j))
 
--- the reply to an event of locks, words, brackets or levels at position k, where it isn't refused; a show tells the lockset rule's state
-unfoldable pub plain_reply : List OrderStep → ℕ → ℕ → Event → Reply
-plain_reply steps k t (Access kind w site) = cond (is_ignoring (accepted (plain_steps steps) k) t) Ignored (cond (is_reported (happens_before (acts_of steps)) (marks_of steps) w k) Race Quiet)
-plain_reply steps k t event = reply (plain_steps steps) k t event
-
--- the reply to each event
-abbrev pub order_reply : List OrderStep → ℕ → ℕ → OrderEvent → Reply
-order_reply steps k t (Plain event) = plain_reply steps k t event
-order_reply steps k t (Start thread) = Done
-order_reply steps k t (Join thread) = Done
-order_reply steps k t (Signal object) = Done
-order_reply steps k t (Await object) = Done
+-- the reply to an event at position k, where it isn't refused; a show tells the lockset rule's state
+unfoldable pub order_reply : List Step → ℕ → ℕ → Event → Reply
+order_reply steps k t (Access kind w site) = cond (is_ignoring (accepted steps k) t) Ignored (cond (is_reported (happens_before (acts_of steps)) (reading_of steps) w k) Race Quiet)
+order_reply steps k t event = reply steps k t event
 
 -- the answer to what stands at a position
-abbrev pub order_answer_to : List OrderStep → ℕ → Option OrderStep → Result Reply Refusal
+abbrev pub order_answer_to : List Step → ℕ → Option Step → Result Reply Refusal
 order_answer_to steps k None = Ok Done
-order_answer_to steps k (Some step) = answer_unless (refusal (accepted (plain_steps steps) k) step.thread (plain_event step.event)) (order_reply steps k step.thread step.event)
+order_answer_to steps k (Some step) = answer_unless (refusal (accepted steps k) step.thread step.event) (order_reply steps k step.thread step.event)
 
 -- the answer by happens-before to the step at position k
-unfoldable pub order_answer : List OrderStep → ℕ → Result Reply Refusal
+unfoldable pub order_answer : List Step → ℕ → Result Reply Refusal
 order_answer steps k = order_answer_to steps k (slice_get steps k)
 
 -- the answers to the first n steps
-unfoldable pub order_answers_below : List OrderStep → ℕ → List (Result Reply Refusal)
+unfoldable pub order_answers_below : List Step → ℕ → List (Result Reply Refusal)
 order_answers_below steps zero = []
 order_answers_below steps (suc n) = order_answers_below steps n ++ order_answer steps n ∷ []
 
 -- the answers to the whole list
-abbrev pub order_answers : List OrderStep → List (Result Reply Refusal)
+abbrev pub order_answers : List Step → List (Result Reply Refusal)
 order_answers steps = order_answers_below steps (length steps)
 
 -- position k doesn't come in order after this one

@@ -1,9 +1,9 @@
 //! The laws of order and of its clocks: each function does nothing, and its contract is proved of the definitions in `specs/`.
 ghost use Rattle.std.specs.Prelude.{◌≡◌, ◌<◌, ◌≤◌, ◌++◌, ◌+◌, ◌==◌, ◌&&◌, cond, max, get_or, nat_le, slice_get, length, Option, [], ◌∷◌, ℕ, suc, Bool, List, false, IsTrue};
 ghost use Rattle.er_event.specs.declared.steps.Mode.{Mode};
-ghost use Rattle.er_order.specs.declared.steps.OrderStep.{OrderStep};
-ghost use Rattle.er_order.specs.Steps.{held_at};
-ghost use Rattle.er_order.specs.Order.{Sync, Act, Acts, acts_of, leads_from, happens_before};
+ghost use Rattle.er_event.specs.declared.steps.Step.{Step};
+ghost use Rattle.er_model.specs.Holdings.{holdings_at};
+ghost use Rattle.er_order.specs.Order.{Effect, Act, Acts, acts_of, leads_from, happens_before};
 ghost use Rattle.er_order.specs.Clocks.{Keeper, Clocks, OfThread, is_own, is_of_releases, is_of_object, found, seen, clocks_after, clocks_at, own_count, covers};
 ghost use Rattle.er_order.specs.ClockLists.{ClockLists, StandForClocks, lists_after, merged};
 ghost use Rattle.er_order.specs.Following.{act_by};
@@ -31,14 +31,14 @@ pub fn clocks_decide_order()
 /// The clocks after a step follow from those before it and from whether its thread's holdings refuse it; steps that come later change
 /// nothing at an earlier point.
 pub fn a_clock_follows_its_step()
-    ensures act { (steps : List OrderStep) (k : ℕ) (step : OrderStep) → slice_get steps k ≡ Option.Some step
-        → acts_of steps k ≡ act_by (held_at steps step.thread k) step }
-    ensures clocks { (steps : List OrderStep) (k u : ℕ) (step : OrderStep) (c : Keeper) → slice_get steps k ≡ Option.Some step
-        → clocks_at (acts_of steps) (suc k) c u ≡ clocks_after (clocks_at (acts_of steps) k) (act_by (held_at steps step.thread k) step) c u }
-    ensures end { (steps : List OrderStep) (step : OrderStep) (c : Keeper) (u : ℕ)
+    ensures act { (steps : List Step) (k : ℕ) (step : Step) → slice_get steps k ≡ Option.Some step
+        → acts_of steps k ≡ act_by (holdings_at steps step.thread k) step }
+    ensures clocks { (steps : List Step) (k u : ℕ) (step : Step) (c : Keeper) → slice_get steps k ≡ Option.Some step
+        → clocks_at (acts_of steps) (suc k) c u ≡ clocks_after (clocks_at (acts_of steps) k) (act_by (holdings_at steps step.thread k) step) c u }
+    ensures end { (steps : List Step) (step : Step) (c : Keeper) (u : ℕ)
         → clocks_at (acts_of (steps ++ step ∷ [])) (suc (length steps)) c u
-        ≡ clocks_after (clocks_at (acts_of steps) (length steps)) (act_by (held_at steps step.thread (length steps)) step) c u }
-    ensures earlier { (steps more : List OrderStep) (n : ℕ) → n ≤ length steps
+        ≡ clocks_after (clocks_at (acts_of steps) (length steps)) (act_by (holdings_at steps step.thread (length steps)) step) c u }
+    ensures earlier { (steps more : List Step) (n : ℕ) → n ≤ length steps
         → clocks_at (acts_of (steps ++ more)) n ≡ clocks_at (acts_of steps) n }
 {}
 
@@ -47,25 +47,25 @@ pub fn a_clock_follows_its_step()
 /// takes the joined thread's clock, and then the joined thread's own count rises. Nothing else changes a clock.
 pub fn a_step_moves_its_clocks()
     ensures acquired { (clocks : Clocks) (t l u : ℕ) (m : Mode) (k : Keeper)
-        → clocks_after clocks (Option.Some (record { thread = t; sync = Sync.Acquired l m })) k u
-        ≡ cond (is_own k t) (max (clocks k u) (found clocks (Sync.Acquired l m) u)) (clocks k u) }
+        → clocks_after clocks (Option.Some (record { thread = t; sync = Effect.Acquired l m })) k u
+        ≡ cond (is_own k t) (max (clocks k u) (found clocks (Effect.Acquired l m) u)) (clocks k u) }
     ensures awaited { (clocks : Clocks) (t x u : ℕ) (k : Keeper)
-        → clocks_after clocks (Option.Some (record { thread = t; sync = Sync.Awaited x })) k u
-        ≡ cond (is_own k t) (max (clocks k u) (found clocks (Sync.Awaited x) u)) (clocks k u) }
+        → clocks_after clocks (Option.Some (record { thread = t; sync = Effect.Awaited x })) k u
+        ≡ cond (is_own k t) (max (clocks k u) (found clocks (Effect.Awaited x) u)) (clocks k u) }
     ensures released { (clocks : Clocks) (t l u : ℕ) (m : Mode) (k : Keeper)
-        → clocks_after clocks (Option.Some (record { thread = t; sync = Sync.Released l m })) k u
+        → clocks_after clocks (Option.Some (record { thread = t; sync = Effect.Released l m })) k u
         ≡ cond (is_of_releases k l m) (max (clocks k u) (clocks (OfThread t) u)) (clocks k u) + cond (is_own k t && t == u) 1 0 }
     ensures signalled { (clocks : Clocks) (t x u : ℕ) (k : Keeper)
-        → clocks_after clocks (Option.Some (record { thread = t; sync = Sync.Signalled x })) k u
+        → clocks_after clocks (Option.Some (record { thread = t; sync = Effect.Signalled x })) k u
         ≡ cond (is_of_object k x) (max (clocks k u) (clocks (OfThread t) u)) (clocks k u) + cond (is_own k t && t == u) 1 0 }
     ensures started { (clocks : Clocks) (t v u : ℕ) (k : Keeper)
-        → clocks_after clocks (Option.Some (record { thread = t; sync = Sync.Started v })) k u
+        → clocks_after clocks (Option.Some (record { thread = t; sync = Effect.Started v })) k u
         ≡ cond (is_own k v) (max (clocks k u) (clocks (OfThread t) u)) (clocks k u) + cond (is_own k t && t == u) 1 0 }
     ensures joined { (clocks : Clocks) (t v u : ℕ) (k : Keeper)
-        → clocks_after clocks (Option.Some (record { thread = t; sync = Sync.Joined v })) k u
+        → clocks_after clocks (Option.Some (record { thread = t; sync = Effect.Joined v })) k u
         ≡ cond (is_own k t) (max (clocks k u) (clocks (OfThread v) u)) (clocks k u) + cond (is_own k v && v == u) 1 0 }
     ensures local { (clocks : Clocks) (t u : ℕ) (k : Keeper)
-        → clocks_after clocks (Option.Some (record { thread = t; sync = Sync.Local })) k u ≡ clocks k u }
+        → clocks_after clocks (Option.Some (record { thread = t; sync = Effect.Local })) k u ≡ clocks k u }
 {}
 
 /// Lists of counts that stand for the clocks still do so after a step.

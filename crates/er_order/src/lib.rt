@@ -20,10 +20,8 @@ pub use races::{
     an_era_is_reported_once, an_ordered_list_grows_by_a_step, more_order_fewer_races,
     races_are_found, the_latest_reads_are_apart, with_no_order_each_shared_write_races,
 };
-pub use steps::{OrderEvent, OrderStep};
 pub use worked::worked_races;
 
 mod laws;
 mod races;
-mod steps;
 mod worked;

@@ -1,15 +1,14 @@
 //! The laws of races by happens-before: each function does nothing, and its contract is proved of the definitions in `specs/`.
 ghost use Rattle.std.specs.Prelude.{◌≡◌, ◌<◌, ◌≤◌, ◌++◌, ◌⊎◌, length, ◌||◌, ◌&&◌, not, slice_get, Option, Ok, [], ◌∷◌, ℕ, suc, List, false, IsTrue};
 ghost use Rattle.std.specs.List.{list_any};
-ghost use Rattle.er_model.specs.Answers.{answer};
+ghost use Rattle.er_model.specs.Answers.{answer, reading_of};
 ghost use Rattle.er_model.specs.Words.{Reading, counts, thread_of, writes, era, counted_from};
 ghost use Rattle.er_event.specs.Lockset.{has};
-ghost use Rattle.er_event.specs.declared.steps.Event.{Event};
-ghost use Rattle.er_event.specs.declared.steps.Event.TheVariants.{Access};
-ghost use Rattle.er_order.specs.declared.steps.OrderEvent.TheVariants.{Plain};
-ghost use Rattle.er_order.specs.declared.steps.OrderStep.{OrderStep};
-ghost use Rattle.er_order.specs.Steps.{plain_steps, marks_of, held_at};
-ghost use Rattle.er_order.specs.Order.{Act, Sync, sync_of, acts_of, happens_before};
+ghost use Rattle.er_event.specs.declared.steps.Event.TheVariants.{Access, Sync};
+ghost use Rattle.er_event.specs.declared.steps.Sync.{Sync as SyncEvent};
+ghost use Rattle.er_event.specs.declared.steps.Step.{Step};
+ghost use Rattle.er_model.specs.Holdings.{holdings_at};
+ghost use Rattle.er_order.specs.Order.{Act, Effect, sync_of, acts_of, happens_before};
 ghost use Rattle.er_order.specs.Clocks.{Epoch, OfThread, clocks_at};
 ghost use Rattle.er_order.specs.Races.{Order, is_apart, latest_from, last_write, latest_reads, is_race, had_race, is_reported, order_answer};
 ghost use Rattle.er_order.specs.Following.{Shadow, shadow_by, kept_by, kept_of, fresh, kept_at, kept_after, access_answered};
@@ -27,20 +26,18 @@ pub fn races_are_found()
 {}
 
 /// The answer to an access, and what is kept of each word, follow from what was kept of it, the kind of the access, and its thread's
-/// holdings and clock. Each other event of locks, words, brackets and levels has the lockset rule's answer, and a start, join, signal
-/// or await is done.
+/// holdings and clock. Each other event has the lockset rule's answer, and a start, join, signal or await is done.
 pub fn an_access_follows_its_word()
-    ensures answer { (steps : List OrderStep) (k w site : ℕ) (kind : Kind) (step : OrderStep) → slice_get steps k ≡ Option.Some step
-        → step.event ≡ Plain (Access kind w site) → order_answer steps k
-        ≡ access_answered (held_at steps step.thread k) (clocks_at (acts_of steps) k (OfThread step.thread)) (kept_at steps w k) kind step }
-    ensures plain { (steps : List OrderStep) (k : ℕ) (step : OrderStep) (event : Event) → slice_get steps k ≡ Option.Some step
-        → step.event ≡ Plain event → ((w site : ℕ) (kind : Kind) → event ≡ Access kind w site → ⊥)
-        → order_answer steps k ≡ answer (plain_steps steps) k }
-    ensures done { (steps : List OrderStep) (k : ℕ) (step : OrderStep) → slice_get steps k ≡ Option.Some step
-        → ((event : Event) → step.event ≡ Plain event → ⊥) → order_answer steps k ≡ Ok Reply.Done }
-    ensures kept { (steps : List OrderStep) (k w : ℕ) (step : OrderStep) → slice_get steps k ≡ Option.Some step → kept_at steps w (suc k)
-        ≡ kept_after (held_at steps step.thread k) (clocks_at (acts_of steps) k (OfThread step.thread)) (kept_at steps w k) w step }
-    ensures begins { (steps : List OrderStep) (w : ℕ) → kept_at steps w 0 ≡ fresh }
+    ensures answer { (steps : List Step) (k w site : ℕ) (kind : Kind) (step : Step) → slice_get steps k ≡ Option.Some step
+        → step.event ≡ Access kind w site → order_answer steps k
+        ≡ access_answered (holdings_at steps step.thread k) (clocks_at (acts_of steps) k (OfThread step.thread)) (kept_at steps w k) kind step }
+    ensures other { (steps : List Step) (k : ℕ) (step : Step) → slice_get steps k ≡ Option.Some step
+        → ((w site : ℕ) (kind : Kind) → step.event ≡ Access kind w site → ⊥) → order_answer steps k ≡ answer steps k }
+    ensures done { (steps : List Step) (k : ℕ) (step : Step) (sync : SyncEvent) → slice_get steps k ≡ Option.Some step
+        → step.event ≡ Sync sync → order_answer steps k ≡ Ok Reply.Done }
+    ensures kept { (steps : List Step) (k w : ℕ) (step : Step) → slice_get steps k ≡ Option.Some step → kept_at steps w (suc k)
+        ≡ kept_after (holdings_at steps step.thread k) (clocks_at (acts_of steps) k (OfThread step.thread)) (kept_at steps w k) w step }
+    ensures begins { (steps : List Step) (w : ℕ) → kept_at steps w 0 ≡ fresh }
 {}
 
 /// Where more comes in order, no more accesses are races.
@@ -63,31 +60,31 @@ pub fn an_era_is_reported_once()
 pub fn with_no_order_each_shared_write_races()
     ensures pair { (order : Order) (r : Reading) (w n j k : ℕ) → j < k → k < n → IsTrue (counted_from r w (era r w n) j)
         → IsTrue (counted_from r w (era r w n) k) → IsTrue (writes (r j) || writes (r k)) → order j k ≡ false → IsTrue (had_race order r w n) }
-    ensures threads { (steps : List OrderStep) (w n i k : ℕ)
+    ensures threads { (steps : List Step) (w n i k : ℕ)
         → ((a b : Act) (x y : ℕ) → acts_of steps x ≡ Option.Some a → acts_of steps y ≡ Option.Some b
-        → ((a.thread ≡ thread_of (marks_of steps i)) × (b.thread ≡ thread_of (marks_of steps k)))
-        ⊎ ((a.thread ≡ thread_of (marks_of steps k)) × (b.thread ≡ thread_of (marks_of steps i))) → happens_before (acts_of steps) x y ≡ false)
-        → i < n → k < n → IsTrue (counted_from (marks_of steps) w (era (marks_of steps) w n) i)
-        → IsTrue (counted_from (marks_of steps) w (era (marks_of steps) w n) k) → IsTrue (writes (marks_of steps i))
-        → (thread_of (marks_of steps i) ≡ thread_of (marks_of steps k) → ⊥)
-        → IsTrue (had_race (happens_before (acts_of steps)) (marks_of steps) w n) }
-    ensures none { (steps : List OrderStep)
-        → ((k : ℕ) (step : OrderStep) → slice_get steps k ≡ Option.Some step → sync_of step.event ≡ Sync.Local)
-        → (w n i k : ℕ) → i < n → k < n → IsTrue (counted_from (marks_of steps) w (era (marks_of steps) w n) i)
-        → IsTrue (counted_from (marks_of steps) w (era (marks_of steps) w n) k) → IsTrue (writes (marks_of steps i))
-        → (thread_of (marks_of steps i) ≡ thread_of (marks_of steps k) → ⊥)
-        → IsTrue (had_race (happens_before (acts_of steps)) (marks_of steps) w n) }
+        → ((a.thread ≡ thread_of (reading_of steps i)) × (b.thread ≡ thread_of (reading_of steps k)))
+        ⊎ ((a.thread ≡ thread_of (reading_of steps k)) × (b.thread ≡ thread_of (reading_of steps i))) → happens_before (acts_of steps) x y ≡ false)
+        → i < n → k < n → IsTrue (counted_from (reading_of steps) w (era (reading_of steps) w n) i)
+        → IsTrue (counted_from (reading_of steps) w (era (reading_of steps) w n) k) → IsTrue (writes (reading_of steps i))
+        → (thread_of (reading_of steps i) ≡ thread_of (reading_of steps k) → ⊥)
+        → IsTrue (had_race (happens_before (acts_of steps)) (reading_of steps) w n) }
+    ensures none { (steps : List Step)
+        → ((k : ℕ) (step : Step) → slice_get steps k ≡ Option.Some step → sync_of step.event ≡ Effect.Local)
+        → (w n i k : ℕ) → i < n → k < n → IsTrue (counted_from (reading_of steps) w (era (reading_of steps) w n) i)
+        → IsTrue (counted_from (reading_of steps) w (era (reading_of steps) w n) k) → IsTrue (writes (reading_of steps i))
+        → (thread_of (reading_of steps i) ≡ thread_of (reading_of steps k) → ⊥)
+        → IsTrue (had_race (happens_before (acts_of steps)) (reading_of steps) w n) }
 {}
 
 /// One more step at the end of a list: the answer to an access, and what the step makes of each word. What came before stays.
 pub fn an_ordered_list_grows_by_a_step()
-    ensures answer { (steps : List OrderStep) (step : OrderStep) (w site : ℕ) (kind : Kind) → step.event ≡ Plain (Access kind w site)
-        → order_answer (steps ++ step ∷ []) (length steps) ≡ access_answered (held_at steps step.thread (length steps))
+    ensures answer { (steps : List Step) (step : Step) (w site : ℕ) (kind : Kind) → step.event ≡ Access kind w site
+        → order_answer (steps ++ step ∷ []) (length steps) ≡ access_answered (holdings_at steps step.thread (length steps))
         (clocks_at (acts_of steps) (length steps) (OfThread step.thread)) (kept_at steps w (length steps)) kind step }
-    ensures kept { (steps : List OrderStep) (step : OrderStep) (w : ℕ) → kept_at (steps ++ step ∷ []) w (suc (length steps))
-        ≡ kept_after (held_at steps step.thread (length steps)) (clocks_at (acts_of steps) (length steps) (OfThread step.thread))
+    ensures kept { (steps : List Step) (step : Step) (w : ℕ) → kept_at (steps ++ step ∷ []) w (suc (length steps))
+        ≡ kept_after (holdings_at steps step.thread (length steps)) (clocks_at (acts_of steps) (length steps) (OfThread step.thread))
         (kept_at steps w (length steps)) w step }
-    ensures earlier { (steps more : List OrderStep) (w n : ℕ) → n ≤ length steps → kept_at (steps ++ more) w n ≡ kept_at steps w n }
+    ensures earlier { (steps more : List Step) (w n : ℕ) → n ≤ length steps → kept_at (steps ++ more) w n ≡ kept_at steps w n }
 {}
 
 /// A shadow word may have numbers of epochs in the epochs' place.
@@ -104,7 +101,7 @@ pub fn the_latest_reads_are_apart()
 
 /// What is kept of a word depends on the marks that touch it and on the clocks of their threads alone.
 pub fn a_word_is_local()
-    ensures kept { (steps others : List OrderStep) (w m n : ℕ)
-        → clocked_on (acts_of steps) (marks_of steps) w m ≡ clocked_on (acts_of others) (marks_of others) w n
+    ensures kept { (steps others : List Step) (w m n : ℕ)
+        → clocked_on (acts_of steps) (reading_of steps) w m ≡ clocked_on (acts_of others) (reading_of others) w n
         → kept_at steps w m ≡ kept_at others w n }
 {}

@@ -2,7 +2,6 @@
 ghost use Rattle.std.specs.Prelude.{◌≡◌, [], ◌∷◌};
 ghost use Rattle.er_model.specs.Examples.{done, quiet, race, not_counted, refused_for};
 ghost use Rattle.er_model.specs.Answers.{answers};
-ghost use Rattle.er_order.specs.Steps.{plain_steps};
 ghost use Rattle.er_order.specs.Races.{order_answers};
 ghost use Rattle.er_order.specs.Examples.{queue, no_lock, too_early, chain, readers_joined, one_reader_joined, only_read, rounds, joined_late, semaphore, awaited_early, read_locks, read_and_write_locks, double_checked, double_checked_in_order, reuse_between, refused_release, two_holders, levels, bracket, locked_later};
 
@@ -11,9 +10,9 @@ use er_event::Refusal;
 /// What happens-before answers to short lists, and what the lockset rule answers to two of them.
 pub fn worked_races()
     ensures queue { order_answers queue ≡ quiet ∷ done ∷ done ∷ done ∷ done ∷ quiet ∷ [] }
-    ensures queue_by_locks { answers (plain_steps queue) ≡ quiet ∷ done ∷ done ∷ done ∷ done ∷ race ∷ [] }
+    ensures queue_by_locks { answers queue ≡ quiet ∷ done ∷ done ∷ done ∷ done ∷ race ∷ [] }
     ensures locked_later { order_answers locked_later ≡ quiet ∷ done ∷ race ∷ done ∷ [] }
-    ensures locked_later_by_locks { answers (plain_steps locked_later) ≡ quiet ∷ done ∷ quiet ∷ done ∷ [] }
+    ensures locked_later_by_locks { answers (locked_later) ≡ quiet ∷ done ∷ quiet ∷ done ∷ [] }
     ensures no_lock { order_answers no_lock ≡ quiet ∷ race ∷ [] }
     ensures too_early { order_answers too_early ≡ quiet ∷ done ∷ done ∷ done ∷ done ∷ race ∷ [] }
     ensures chain { order_answers chain ≡ quiet ∷ done ∷ done ∷ done ∷ done ∷ done ∷ done ∷ quiet ∷ race ∷ [] }

@@ -56,6 +56,7 @@ marked_own h t (event.Release l m) own = refl
 marked_own h t event.IgnoreOn own = refl
 marked_own h t event.IgnoreOff own = refl
 marked_own h t (event.Level n) own = refl
+marked_own h t (event.Sync sync) own = refl
 
 abbrev made : Holdings → ℕ → ℕ → Kind → ℕ → Stamp
 made h t w kind site = record { thread = t; word = w; kind = kind; site = site; held = h.held; write_held = h.write_held }

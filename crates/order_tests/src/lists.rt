@@ -1,7 +1,8 @@
 //! Short lists of steps and their answers. A step is three bytes: its thread, a verb, and a lock, an object, a thread or a word.
 use er_before::OrderMachine;
-use er_event::{Event, Kind, LockId, Mode, PageRange, Refusal, Reply, Site, ThreadId, Word};
-use er_order::{OrderEvent, OrderStep};
+use er_event::{
+    Event, Kind, LockId, Mode, PageRange, Refusal, Reply, Site, Step, Sync, ThreadId, Word,
+};
 use std::alloc::{AllocError, Global};
 use std::test::Fail;
 
@@ -10,23 +11,23 @@ fn word(digit: u8) -> Word {
     Word::new(1024 + u64::from(digit))
 }
 
-fn event(verb: u8, digit: u8) -> OrderEvent {
+fn event(verb: u8, digit: u8) -> Event {
     let number = u32::from(digit);
     let lock = LockId::new(number);
     match verb {
-        b'w' => OrderEvent::Plain(Event::Access(Kind::Write, word(digit), Site::MISSING)),
-        b'r' => OrderEvent::Plain(Event::Access(Kind::Read, word(digit), Site::MISSING)),
-        b'a' => OrderEvent::Plain(Event::Acquire(lock, Mode::Write)),
-        b'g' => OrderEvent::Plain(Event::Release(lock, Mode::Write)),
-        b'A' => OrderEvent::Plain(Event::Acquire(lock, Mode::Read)),
-        b'G' => OrderEvent::Plain(Event::Release(lock, Mode::Read)),
-        b'u' => OrderEvent::Plain(Event::Reuse(PageRange::new(Word::new(1024), Word::new(1279)))),
-        b'(' => OrderEvent::Plain(Event::IgnoreOn),
-        b')' => OrderEvent::Plain(Event::IgnoreOff),
-        b's' => OrderEvent::Start(ThreadId::new(number)),
-        b'j' => OrderEvent::Join(ThreadId::new(number)),
-        b'!' => OrderEvent::Signal(lock),
-        _ => OrderEvent::Await(lock),
+        b'w' => Event::Access(Kind::Write, word(digit), Site::MISSING),
+        b'r' => Event::Access(Kind::Read, word(digit), Site::MISSING),
+        b'a' => Event::Acquire(lock, Mode::Write),
+        b'g' => Event::Release(lock, Mode::Write),
+        b'A' => Event::Acquire(lock, Mode::Read),
+        b'G' => Event::Release(lock, Mode::Read),
+        b'u' => Event::Reuse(PageRange::new(Word::new(1024), Word::new(1279))),
+        b'(' => Event::IgnoreOn,
+        b')' => Event::IgnoreOff,
+        b's' => Event::Sync(Sync::Start(ThreadId::new(number))),
+        b'j' => Event::Sync(Sync::Join(ThreadId::new(number))),
+        b'!' => Event::Sync(Sync::Signal(lock)),
+        _ => Event::Sync(Sync::Await(lock)),
     }
 }
 
@@ -47,7 +48,7 @@ fn answers(alloc: Global, list: &[u8]) -> Result<Vec<u8>, AllocError> {
     let mut machine = OrderMachine::new(alloc);
     let mut letters = Vec::new(alloc);
     for at in 0..list.len() / 4 {
-        let step = OrderStep {
+        let step = Step {
             thread: ThreadId::new(u32::from(list[4 * at])),
             event: event(list[4 * at + 1], list[4 * at + 2]),
         };

@@ -1,5 +1,5 @@
 //! Answers, states, steps and locks in words.
-use er_event::{Event, Kind, LockId, Lockset, Mode, Refusal, Reply, Site, WordState};
+use er_event::{Event, Kind, LockId, Lockset, Mode, Refusal, Reply, Site, Sync, WordState};
 use er_journal::{Answer, Answers};
 use std::alloc::AllocError;
 use std::fmt::Write;
@@ -137,5 +137,21 @@ pub(crate) fn put_event(out: &mut String, event: Event) -> Result<(), AllocError
         Event::IgnoreOff => out.push_str("ignore-off"),
         Event::Show(word) => write!(out, "show {:#x}", word.address()),
         Event::Level(level) => write!(out, "level {}", level.number()),
+        Event::Sync(sync) => put_sync(out, sync),
+    }
+}
+
+fn put_sync(out: &mut String, sync: Sync) -> Result<(), AllocError> {
+    match sync {
+        Sync::Start(thread) => write!(out, "start {}", thread.number()),
+        Sync::Join(thread) => write!(out, "join {}", thread.number()),
+        Sync::Signal(object) => {
+            out.push_str("signal ")?;
+            put_lock(out, object)
+        }
+        Sync::Await(object) => {
+            out.push_str("await ")?;
+            put_lock(out, object)
+        }
     }
 }

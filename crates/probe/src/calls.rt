@@ -1,6 +1,6 @@
 //! What a thread calls, by the words of a row.
-use crate::rows::{count_of, kind_of, lock_of, mode_of, number_of, site_of};
-use er_event::{Kind, LockId, Mode, Site};
+use crate::rows::{count_of, kind_of, lock_of, mode_of, number_of, site_of, thread_of};
+use er_event::{Kind, LockId, Mode, Site, Sync};
 
 /// A call, with its addresses as they stand in the row.
 #[derive(Clone, Copy)]
@@ -10,6 +10,7 @@ pub(crate) enum Call {
     IgnoreOn,
     IgnoreOff,
     Level(u64),
+    Sync(Sync),
     Access(Kind, u64, Site),
     /// From an address on, so many bytes.
     Reuse(u64, u64),
@@ -24,6 +25,10 @@ pub(crate) fn call_of(words: &[&str]) -> Option<Call> {
         ["ignore-on"] => Some(Call::IgnoreOn),
         ["ignore-off"] => Some(Call::IgnoreOff),
         ["level", level] => Some(Call::Level(number_of(level)?)),
+        ["start", thread] => Some(Call::Sync(Sync::Start(thread_of(thread)?))),
+        ["join", thread] => Some(Call::Sync(Sync::Join(thread_of(thread)?))),
+        ["signal", object] => Some(Call::Sync(Sync::Signal(lock_of(object)?))),
+        ["await", object] => Some(Call::Sync(Sync::Await(lock_of(object)?))),
         ["reuse", address, size] => Some(Call::Reuse(number_of(address)?, number_of(size)?)),
         ["show", address] => Some(Call::Show(number_of(address)?)),
         [kind, address, site @ ..] => {
@@ -44,7 +49,7 @@ impl Call {
             }
             Call::Reuse(address, size) => Some(Call::Reuse(address.checked_add(by)?, size)),
             Call::Show(address) => Some(Call::Show(address.checked_add(by)?)),
-            Call::IgnoreOn | Call::IgnoreOff | Call::Level(_) => Some(self),
+            Call::IgnoreOn | Call::IgnoreOff | Call::Level(_) | Call::Sync(_) => Some(self),
         }
     }
 }

@@ -42,7 +42,7 @@ pub(crate) fn call_by<R: Wait>(
             (Err(why), _) => Err(why),
         },
         Call::Reuse(address, size) => return reuse(rt, detector, seat, address, size),
-        Call::Show(_) => return Answered::Missing,
+        Call::Show(_) | Call::Sync(_) => return Answered::Missing,
     };
     match answered {
         Ok(()) => Answered::Done,

@@ -76,6 +76,7 @@ fn event_of(call: Call) -> Result<Option<Event>, Refusal> {
         Call::IgnoreOn => Event::IgnoreOn,
         Call::IgnoreOff => Event::IgnoreOff,
         Call::Level(number) => Event::Level(Level::of_number(number)?),
+        Call::Sync(sync) => Event::Sync(sync),
         Call::Access(kind, address, site) => Event::Access(kind, Word::of_address(address)?, site),
         Call::Reuse(address, size) => match WordRange::of_bytes(address, size)? {
             Some(range) if range.parts() > 0 => Event::Reuse(range.part(0)),

@@ -1,17 +1,17 @@
-use Rattle.er_order.proofs.Following.{kept-none, kept-step, answer-access, answer-plain, answer-done}
+use Rattle.er_order.proofs.Following.{kept-none, kept-step, answer-access, answer-other, answer-done}
 use Rattle.er_order.proofs.races.an_access_follows_its_word.Goals as goal
 
 pub returns-clause-answer : goal.returns-clause-answer
 returns-clause-answer c = λ steps k w site kind step is event. answer-access steps k step is w site kind event
 
-pub returns-clause-plain : goal.returns-clause-plain
-returns-clause-plain c = λ steps k step event is at never. answer-plain steps k step is event at never
+pub returns-clause-other : goal.returns-clause-other
+returns-clause-other c = λ steps k step is never. answer-other steps k step is never
 
 pub returns-clause-done : goal.returns-clause-done
-returns-clause-done c = λ steps k step is never. answer-done steps k step is never
+returns-clause-done c = λ steps k step sync is event. answer-done steps k step is sync event
 
 pub returns-clause-kept : goal.returns-clause-kept
 returns-clause-kept c = λ steps k w step is. kept-step steps k step is w
 
 pub returns-clause-begins : goal.returns-clause-begins
-returns-clause-begins c = λ steps w. kept-none (Rattle.er_order.specs.Order.acts_of steps) (Rattle.er_order.specs.Steps.marks_of steps) w
+returns-clause-begins c = λ steps w. kept-none (Rattle.er_order.specs.Order.acts_of steps) (Rattle.er_model.specs.Answers.reading_of steps) w

@@ -1,6 +1,6 @@
 use Rattle.std.proofs.Common.{◌≡◌, None, ap, sym}
 use Rattle.er_model.specs.Holdings.{refused_by}
-use Rattle.er_order.specs.Order.{plain_sync}
+use Rattle.er_order.specs.Order.{sync_of}
 use Rattle.er_order.specs.Following.{kept_moved}
 use Rattle.er_before.specs.Standing.{holding, clock_of, kept_of}
 use Rattle.er_before.specs.contracts.machine.OrderMachine.{the_view}
@@ -15,7 +15,7 @@ returns-clause-changes c =
     elim c.match-change.branch [
       | in-Ok w ↦ rw (w.result-is, ← c.self.view_is)
           (changes before (the_view (record { holders = c.change.new.self; clocks = c.self.inside.clocks; words = c.self.inside.words })) c.args.thread c.args.event accepted
-          w.in-Ok.ensures.ok (clocks_same c.self.inside.clocks c.args.thread (plain_sync c.args.event) (holds-local c.args.event c.requires.local))
+          w.in-Ok.ensures.ok (clocks_same c.self.inside.clocks c.args.thread (sync_of c.args.event) (holds-local c.args.event c.requires.local))
           (λ v. ap (kept_moved (clock_of before c.args.thread) (kept_of before v) v) (sym (holds-nothing (holding before c.args.thread) c.args.thread c.args.event c.requires.local))))
       | in-Err w ↦ rw w.result-is tt
     ]
