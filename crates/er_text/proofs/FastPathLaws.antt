@@ -1,5 +1,5 @@
 -- Lines in their usual form say what the grammar says of their words.
-use Rattle.std.proofs.Common.{◌≡◌, ◌+◌, ◌==◌, ℕ, zero, suc, append-nil, ◌/◌, ◌^◌, ◌≤◌, Bool, true, false, not, ◌&&◌, cond, List, [], ◌∷◌, ◌++◌, length, take, drop, get_or, filter, Option, Some, None, Ok, nat_lt, nat_le, codes, refl, sym, ap, ◌∙◌, arith}
+use Rattle.std.proofs.Common.{◌≡◌, ◌+◌, ◌==◌, ℕ, zero, suc, append-nil, ◌^◌, ◌≤◌, true, false, not, ◌&&◌, cond, List, [], ◌∷◌, ◌++◌, length, take, drop, get_or, filter, Option, Some, None, Ok, nat_lt, nat_le, codes, refl, sym, ap, ◌∙◌, subst, arith}
 use Rattle.std.specs.List.{list_all, slice_split, All}
 use Rattle.std.specs.Char.{is_digit}
 use Rattle.std.specs.Str.{bytes_eq}
@@ -16,10 +16,10 @@ use Rattle.er_event.specs.declared.steps.Mode.TheVariants as mode
 use Rattle.er_text.specs.declared.verbs.Version.{Version}
 use Rattle.er_text.specs.Lines.{is_gap, is_ascii, is_comment, has_bytes, words, word_at}
 use Rattle.er_text.specs.Number.{number_of}
-use Rattle.er_text.specs.Naming.{is_name_byte, is_name, is_lock_name, name_of, lock_name_of}
+use Rattle.er_text.specs.Naming.{is_name_byte, is_name, is_lock_name}
 use Rattle.er_text.specs.Events.{Operation, Acquires, Releases, Accesses, EventLine, with_line}
 use Rattle.er_text.specs.Inner.Traces.{Progress, add_parsed, read_words, plain_at}
-use Rattle.er_text.specs.Inner.FastPath.{IsLeadingName, AreLeadingDigits, IsFastAccess, IsFastOperation, IsFastLine}
+use Rattle.er_text.specs.Inner.FastPath.{IsLeadingName, AreLeadingDigits, IsLeadingWord, IsFastAccess, IsFastOperation, IsFastLine}
 use Rattle.er_text.proofs.ByteLemmas.{name_ascii}
 use Rattle.er_text.proofs.ParsingAgain.{says_parsed}
 
@@ -90,96 +90,84 @@ addressed : (bytes digits tail : List ℕ) (len : ℕ) → bytes ≡ codes "0x" 
 addressed bytes digits tail len is rest =
     is ∙ ap (λ (d : List ℕ). 48 ∷ 120 ∷ d) (sym (take-append-drop len digits) ∙ ap (λ (d : List ℕ). take len digits ++ d) rest)
 
+-- a word that names a site, or none
+abbrev IsSiteWord : List ℕ → Option (List ℕ) → Type 0
+IsSiteWord site s = (is_name site ≡ true) × (s ≡ cond (bytes_eq site (codes "-")) None (Some site))
+
 -- an address and no site
-pub access_alone : (k : Kind) (bytes digits : List ℕ) (value len : ℕ) (operation : Operation) → bytes ≡ codes "0x" ++ digits → AreLeadingDigits digits value len → (len ≡ 0 → ⊥)
-    → drop len digits ≡ [] → operation ≡ Accesses k (value / 4) None → IsFastAccess k bytes operation
-access_alone k bytes digits value len operation is front some rest told =
-    let hex = hex_word digits value len front some in
-    let address = 48 ∷ 120 ∷ take len digits in
-    let whole = addressed bytes digits [] len is rest ∙ append-nil address in
+pub access_alone : (k : Kind) (bytes : List ℕ) (word : ℕ) (rest : List ℕ) (operation : Operation) → IsLeadingWord bytes word rest → rest ≡ [] → operation ≡ Accesses k word None → IsFastAccess k bytes operation
+access_alone k bytes word rest operation led none told =
+    let hex = hex_word led.digits led.value led.len led.front led.some in
+    let address = 48 ∷ 120 ∷ take led.len led.digits in
+    let whole = addressed bytes led.digits [] led.len led.is (led.behind ∙ none) ∙ append-nil address in
     record {
       ascii = ap (list_all is_ascii) whole ∙ hex.ascii;
       address = address;
-      n = value;
+      n = led.value;
       behind = [];
       site = None;
       words_are = ap words whole ∙ word_alone address hex.gapless refl;
       number = hex.number;
-      small = front.small;
+      small = led.front.small;
       names = refl;
-      is = told;
+      is = told ∙ ap (λ (w : ℕ). Accesses k w None) led.word_is;
     }
 
 -- an address and the name of a site
-pub access_site : (k : Kind) (bytes digits site : List ℕ) (value len : ℕ) (s : Option (List ℕ)) (operation : Operation) → bytes ≡ codes "0x" ++ digits → AreLeadingDigits digits value len → (len ≡ 0 → ⊥)
-    → drop len digits ≡ 32 ∷ site → is_name site ≡ true → s ≡ cond (bytes_eq site (codes "-")) None (Some site) → operation ≡ Accesses k (value / 4) s → IsFastAccess k bytes operation
-access_site k bytes digits site value len s operation is front some rest name named told =
-    let hex = hex_word digits value len front some in
-    let address = 48 ∷ 120 ∷ take len digits in
-    let whole = addressed bytes digits (32 ∷ site) len is rest in
-    let parts = name_parts site name in
+pub access_site : (k : Kind) (bytes : List ℕ) (word : ℕ) (rest site : List ℕ) (s : Option (List ℕ)) (operation : Operation) → IsLeadingWord bytes word rest → rest ≡ 32 ∷ site
+    → IsSiteWord site s → operation ≡ Accesses k word s → IsFastAccess k bytes operation
+access_site k bytes word rest site s operation led spaced named told =
+    let hex = hex_word led.digits led.value led.len led.front led.some in
+    let address = 48 ∷ 120 ∷ take led.len led.digits in
+    let whole = addressed bytes led.digits (32 ∷ site) led.len led.is (led.behind ∙ spaced) in
+    let parts = name_parts site named.0 in
     record {
       ascii = ap (list_all is_ascii) whole ∙ ascii_then address site hex.ascii (name_ascii site parts.named);
       address = address;
-      n = value;
+      n = led.value;
       behind = site ∷ [];
       site = s;
       words_are = ap words whole ∙ word_then address site hex.gapless refl ∙ ap (λ (ws : List (List ℕ)). address ∷ ws) (word_alone site parts.gapless parts.some);
       number = hex.number;
-      small = front.small;
-      names = (name, named);
-      is = told;
+      small = led.front.small;
+      names = named;
+      is = told ∙ ap (λ (w : ℕ). Accesses k w s) led.word_is;
     }
-
-lock_named : (b : Bool) (w name : List ℕ) → Some name ≡ cond b (Some w) None → (b ≡ true) × (w ≡ name)
-lock_named true w name e = (refl, cc)
-lock_named false w name e = absurd (cc)
 
 lock_is_name : (w : List ℕ) → is_lock_name w ≡ true → is_name w ≡ true
 lock_is_name w e = (and_parts (is_name w) (not (bytes_eq w (codes "none"))) e).0
 
-pub lock_tells : (bytes rest name : List ℕ) → bytes ≡ codes "lock " ++ rest → Some name ≡ lock_name_of rest → IsFastOperation bytes (Acquires name mode.Write)
-lock_tells bytes rest name is named =
-    let h = lock_named (is_lock_name rest) rest name named in
-    let parts = name_parts rest (lock_is_name rest h.0) in
-    record {
+pub lock_tells : (bytes rest : List ℕ) (operation : Operation) → bytes ≡ codes "lock " ++ rest → is_lock_name rest ≡ true → operation ≡ Acquires rest mode.Write → IsFastOperation bytes operation
+lock_tells bytes rest operation is named told =
+    let parts = name_parts rest (lock_is_name rest named) in
+    subst (IsFastOperation bytes) (sym told) (record {
       ascii = ap (list_all is_ascii) is ∙ name_ascii rest parts.named;
       says = λ v thread. (
-        ap (λ (w : List (List ℕ)). thread ∷ w) (ap words is ∙ ap (λ (w : List (List ℕ)). codes "lock" ∷ w) (word_alone rest parts.gapless parts.some ∙ ap (λ (w : List ℕ). w ∷ []) h.1)),
-        ap is_lock_name (sym h.1) ∙ h.0,
+        ap (λ (w : List (List ℕ)). thread ∷ w) (ap words is ∙ ap (λ (w : List (List ℕ)). codes "lock" ∷ w) (word_alone rest parts.gapless parts.some)),
+        named,
       );
-    }
+    })
 
-pub unlock_tells : (bytes rest name : List ℕ) → bytes ≡ codes "unlock " ++ rest → Some name ≡ lock_name_of rest → IsFastOperation bytes (Releases name mode.Write)
-unlock_tells bytes rest name is named =
-    let h = lock_named (is_lock_name rest) rest name named in
-    let parts = name_parts rest (lock_is_name rest h.0) in
-    record {
+pub unlock_tells : (bytes rest : List ℕ) (operation : Operation) → bytes ≡ codes "unlock " ++ rest → is_lock_name rest ≡ true → operation ≡ Releases rest mode.Write → IsFastOperation bytes operation
+unlock_tells bytes rest operation is named told =
+    let parts = name_parts rest (lock_is_name rest named) in
+    subst (IsFastOperation bytes) (sym told) (record {
       ascii = ap (list_all is_ascii) is ∙ name_ascii rest parts.named;
       says = λ v thread. (
-        ap (λ (w : List (List ℕ)). thread ∷ w) (ap words is ∙ ap (λ (w : List (List ℕ)). codes "unlock" ∷ w) (word_alone rest parts.gapless parts.some ∙ ap (λ (w : List ℕ). w ∷ []) h.1)),
-        ap is_lock_name (sym h.1) ∙ h.0,
+        ap (λ (w : List (List ℕ)). thread ∷ w) (ap words is ∙ ap (λ (w : List (List ℕ)). codes "unlock" ∷ w) (word_alone rest parts.gapless parts.some)),
+        named,
       );
-    }
+    })
 
--- a word that is read as a name
-name_known : (b : Bool) (w name : List ℕ) → Some name ≡ cond b (Some w) None → (b ≡ true) × (w ≡ name)
-name_known true w name e = (refl, cc)
-name_known false w name e = absurd (cc)
-
-abbrev IsSiteWord : List ℕ → Option (List ℕ) → Type 0
-IsSiteWord site s = (is_name site ≡ true) × (s ≡ cond (bytes_eq site (codes "-")) None (Some site))
-
-pub missing_site : (site dash name : List ℕ) → Some name ≡ name_of site → true ≡ bytes_eq site dash → dash ≡ codes "-" → IsSiteWord site None
-missing_site site dash name named same is =
+pub missing_site : (site dash : List ℕ) → is_name site ≡ true → true ≡ bytes_eq site dash → dash ≡ codes "-" → IsSiteWord site None
+missing_site site dash named same is =
     let test : bytes_eq site (codes "-") ≡ true = ap (λ (w : List ℕ). bytes_eq site w) (sym is) ∙ sym same in
-    ((name_known (is_name site) site name named).0, rw test refl)
+    (named, rw test refl)
 
-pub named_site : (site dash name : List ℕ) → Some name ≡ name_of site → false ≡ bytes_eq site dash → dash ≡ codes "-" → IsSiteWord site (Some name)
-named_site site dash name named other is =
+pub named_site : (site dash : List ℕ) → is_name site ≡ true → false ≡ bytes_eq site dash → dash ≡ codes "-" → IsSiteWord site (Some site)
+named_site site dash named other is =
     let test : bytes_eq site (codes "-") ≡ false = ap (λ (w : List ℕ). bytes_eq site w) (sym is) ∙ sym other in
-    let known = name_known (is_name site) site name named in
-    (known.0, rw test (ap Some (sym known.1)))
+    (named, rw test refl)
 
 most_name : (len : ℕ) (bytes : List ℕ) → len ≤ 128 → nat_le (length (take len bytes)) 128 ≡ true
 most_name len bytes few = let size = length-take len bytes in grind (arith, nat_tests, size, few)

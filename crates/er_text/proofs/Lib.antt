@@ -9,6 +9,7 @@ pub mod LendingLemmas
 pub mod TurnLemmas
 pub mod FastPathLemmas
 pub mod FastPathLaws
+pub mod UsualLemmas
 pub mod SpellingLaws
 pub mod FaultTables
 pub mod ParsingLaws

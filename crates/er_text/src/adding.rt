@@ -1,10 +1,10 @@
 //! The steps that a line adds to a trace.
-ghost use Rattle.std.specs.Prelude.{◌≡◌, ◌<◌, ℕ, length, IfOk, OnOk};
+ghost use Rattle.std.specs.Prelude.{◌≡◌, ◌<◌, ℕ, length, Some, None, IfOk, OnOk};
 ghost use Rattle.er_text.specs.Inner.Parsing.{event_line, seen_name};
-ghost use Rattle.er_text.specs.Events.{with_line, site_number, with_site_of, with_reuses, run_parts};
+ghost use Rattle.er_text.specs.Events.{Acquires, Releases, Accesses, with_line, site_number, with_site_of, with_reuses, run_parts};
 
 use crate::parsing::{Action, ParsedLine};
-use er_event::{Event, Site, Step, ThreadId, WordRange};
+use er_event::{Event, Kind, Mode, Site, Step, ThreadId, Word, WordRange};
 use er_trace::Trace;
 use std::alloc::AllocError;
 
@@ -17,6 +17,73 @@ fn site_number(trace: &mut Trace, site: Option<&str>) -> Result<Site, AllocError
         Some(name) => trace.site(name),
         None => Ok(Site::MISSING),
     }
+}
+
+/// Adds the acquire of a lock. The thread is numbered first.
+#[inline(always)]
+pub(crate) fn add_acquire(
+    trace: &mut Trace,
+    line: u64,
+    thread: &str,
+    lock: &str,
+    mode: Mode,
+) -> Result<(), AllocError>
+    ensures { OnOk result (trace.new ≡ with_line line (record { thread = thread.now; operation = Acquires lock.now mode }) trace.old) }
+{
+    let thread = trace.thread(thread)?;
+    let lock = trace.lock(lock)?;
+    let event = Event::Acquire(lock, mode);
+    trace.push(Step { thread, event }, line)
+}
+
+/// Adds the release of a lock. The thread is numbered first.
+#[inline(always)]
+pub(crate) fn add_release(
+    trace: &mut Trace,
+    line: u64,
+    thread: &str,
+    lock: &str,
+    mode: Mode,
+) -> Result<(), AllocError>
+    ensures { OnOk result (trace.new ≡ with_line line (record { thread = thread.now; operation = Releases lock.now mode }) trace.old) }
+{
+    let thread = trace.thread(thread)?;
+    let lock = trace.lock(lock)?;
+    let event = Event::Release(lock, mode);
+    trace.push(Step { thread, event }, line)
+}
+
+/// Adds an access without a site. The thread is numbered first.
+pub(crate) fn add_lone_access(
+    trace: &mut Trace,
+    line: u64,
+    thread: &str,
+    kind: Kind,
+    word: Word,
+) -> Result<(), AllocError>
+    ensures { OnOk result (trace.new ≡ with_line line (record { thread = thread.now; operation = Accesses kind word None }) trace.old) }
+{
+    let thread = trace.thread(thread)?;
+    let event = Event::Access(kind, word, Site::MISSING);
+    trace.push(Step { thread, event }, line)
+}
+
+/// Adds an access at a site. The thread is numbered first.
+#[inline(always)]
+pub(crate) fn add_access(
+    trace: &mut Trace,
+    line: u64,
+    thread: &str,
+    kind: Kind,
+    word: Word,
+    site: &str,
+) -> Result<(), AllocError>
+    ensures { OnOk result (trace.new ≡ with_line line (record { thread = thread.now; operation = Accesses kind word (Some site.now) }) trace.old) }
+{
+    let thread = trace.thread(thread)?;
+    let site = trace.site(site)?;
+    let event = Event::Access(kind, word, site);
+    trace.push(Step { thread, event }, line)
 }
 
 /// Adds a step for each page of a range.

@@ -1,18 +1,19 @@
 //! Event lines in their usual form, read in one pass over their bytes: a name, `read`, `write`, `lock` or `unlock`, an address of
 //! at most 12 hexadecimal digits and perhaps a site, or a lock, with one space between any two of them.
 //!
-//! The answer is that of `parsing`, in less than half the time. A line of any other form is left to `parsing`.
-ghost use Rattle.std.specs.Prelude.{◌≡◌, ◌+◌, ◌<◌, ◌≤◌, ◌∷◌, ◌++◌, not, position, length, codes, IfSome};
+//! The steps are those of `parsing` and `adding`, in less than half the time. A line of any other form is left to `parsing`.
+ghost use Rattle.std.specs.Prelude.{◌≡◌, ◌+◌, ◌<◌, ◌≤◌, ◌∷◌, ◌++◌, not, position, length, codes, ℕ, List, IfSome};
 ghost use Rattle.std.specs.List.{list_all, position_or_len};
 ghost use Rattle.std.specs.Char.{digit_value};
 ghost use Rattle.er_text.specs.Naming.{is_name_byte};
-ghost use Rattle.er_text.specs.Inner.Parsing.{action_view, event_line};
-ghost use Rattle.er_text.specs.Inner.FastPath.{IsLeadingName, HexSoFar, AreLeadingDigits, IsFastAccess, IsFastOperation, IsFastLine};
+ghost use Rattle.er_text.specs.Inner.FastPath.{IsLeadingName, HexSoFar, AreLeadingDigits, IsLeadingWord, IsFastAccess, IsFastAcquire, IsFastRelease, IsFastOperation, IsFastLine, AddsOperation, AddsLine};
 
+use crate::adding::{add_access, add_acquire, add_lone_access, add_release};
 use crate::classes::{class_of, is_name_byte};
-use crate::naming::{lock_name_of, name_of, text};
-use crate::parsing::{Action, ParsedLine};
+use crate::naming::{is_lock_name, is_name, text};
 use er_event::{Kind, Mode, Word};
+use er_trace::Trace;
+use std::alloc::AllocError;
 
 fn find_name_end(bytes: &[u8]) -> Option<usize>
     ensures { result ≡ position (λ byte. not (is_name_byte byte)) bytes.now }
@@ -169,55 +170,135 @@ fn leading_digits(bytes: &[u8]) -> (u64, usize)
     digits_by_one(bytes)
 }
 
+/// The word whose address stands in front, and what follows the address.
 #[inline(always)]
-fn access(kind: Kind, bytes: &[u8]) -> Option<Action<'_>>
-    ensures { IfSome result (λ action. IsFastAccess kind bytes.now (action_view action)) }
+fn leading_word(bytes: &[u8]) -> Option<(Word, &[u8])>
+    ensures { IfSome result (λ parts. IsLeadingWord bytes.now parts.0 parts.1.now) }
 {
     let digits = after_hex(bytes)?;
     let (address, len) = leading_digits(digits);
     if len == 0 {
         return None;
     }
-    let word = Word::new(address / Word::BYTES);
-    let rest = &digits[len..];
-    if rest.is_empty() {
-        return Some(Action::Access(kind, word, None));
-    }
-    let site = after_space(rest)?;
-    let name = name_of(site)?;
-    if site == b"-".as_slice() {
-        return Some(Action::Access(kind, word, None));
-    }
-    Some(Action::Access(kind, word, Some(name)))
+    Some((Word::new(address / Word::BYTES), &digits[len..]))
 }
 
+/// Adds an access of a word, if nothing or a site follows its address, and says whether it did.
 #[inline(always)]
-fn action(bytes: &[u8]) -> Option<Action<'_>>
-    ensures { IfSome result (λ action. IsFastOperation bytes.now (action_view action)) }
+fn add_word_access(
+    trace: &mut Trace,
+    line: u64,
+    thread: &str,
+    kind: Kind,
+    word: Word,
+    rest: &[u8],
+) -> Result<bool, AllocError>
+    ensures { (bytes : List ℕ) → IsLeadingWord bytes word rest.now → AddsOperation (IsFastAccess kind bytes) line thread.now trace.old trace.new result }
+{
+    if rest.is_empty() {
+        add_lone_access(trace, line, thread, kind, word)?;
+        return Ok(true);
+    }
+    let Some(site) = after_space(rest) else {
+        return Ok(false);
+    };
+    if !is_name(site) {
+        return Ok(false);
+    }
+    if site == b"-".as_slice() {
+        add_lone_access(trace, line, thread, kind, word)?;
+        return Ok(true);
+    }
+    add_access(trace, line, thread, kind, word, text(site))?;
+    Ok(true)
+}
+
+/// Adds the access that stands behind its verb, and says whether it did.
+#[inline(always)]
+fn add_usual_access(
+    trace: &mut Trace,
+    line: u64,
+    thread: &str,
+    kind: Kind,
+    bytes: &[u8],
+) -> Result<bool, AllocError>
+    ensures { AddsOperation (IsFastAccess kind bytes.now) line thread.now trace.old trace.new result }
+{
+    match leading_word(bytes) {
+        Some((word, rest)) => add_word_access(trace, line, thread, kind, word, rest),
+        None => Ok(false),
+    }
+}
+
+/// Adds the acquire of the lock that stands behind the verb, and says whether it did.
+#[inline(always)]
+fn add_usual_acquire(
+    trace: &mut Trace,
+    line: u64,
+    thread: &str,
+    bytes: &[u8],
+) -> Result<bool, AllocError>
+    ensures { AddsOperation (IsFastAcquire bytes.now) line thread.now trace.old trace.new result }
+{
+    if !is_lock_name(bytes) {
+        return Ok(false);
+    }
+    add_acquire(trace, line, thread, text(bytes), Mode::Write)?;
+    Ok(true)
+}
+
+/// Adds the release of the lock that stands behind the verb, and says whether it did.
+#[inline(always)]
+fn add_usual_release(
+    trace: &mut Trace,
+    line: u64,
+    thread: &str,
+    bytes: &[u8],
+) -> Result<bool, AllocError>
+    ensures { AddsOperation (IsFastRelease bytes.now) line thread.now trace.old trace.new result }
+{
+    if !is_lock_name(bytes) {
+        return Ok(false);
+    }
+    add_release(trace, line, thread, text(bytes), Mode::Write)?;
+    Ok(true)
+}
+
+/// Adds what a thread does, and says whether it did.
+#[inline(always)]
+fn add_usual_operation(
+    trace: &mut Trace,
+    line: u64,
+    thread: &str,
+    bytes: &[u8],
+) -> Result<bool, AllocError>
+    ensures { AddsOperation (IsFastOperation bytes.now) line thread.now trace.old trace.new result }
 {
     if let Some(rest) = after_read(bytes) {
-        return access(Kind::Read, rest);
+        return add_usual_access(trace, line, thread, Kind::Read, rest);
     }
     if let Some(rest) = after_write(bytes) {
-        return access(Kind::Write, rest);
+        return add_usual_access(trace, line, thread, Kind::Write, rest);
     }
     if let Some(rest) = after_lock(bytes) {
-        return Some(Action::Acquire(lock_name_of(rest)?, Mode::Write));
+        return add_usual_acquire(trace, line, thread, rest);
     }
     if let Some(rest) = after_unlock(bytes) {
-        return Some(Action::Release(lock_name_of(rest)?, Mode::Write));
+        return add_usual_release(trace, line, thread, rest);
     }
-    None
+    Ok(false)
 }
 
-/// What a line in its usual form says.
+/// Adds the step of a line in its usual form, and says whether it did. A line of another form adds nothing.
+///
+/// It makes no value of an enum with names in it: such a value is copied in pieces that are wider than its parts, and each copy
+/// waits until the parts are written.
 #[inline(always)]
-pub(crate) fn parse_usual(line: &[u8]) -> Option<ParsedLine<'_>>
-    ensures { IfSome result (λ parsed. IsFastLine line.now (event_line parsed)) }
+pub(crate) fn add_usual(trace: &mut Trace, line: u64, bytes: &[u8]) -> Result<bool, AllocError>
+    ensures { AddsLine (IsFastLine bytes.now) line trace.old trace.new result }
 {
-    let (thread, rest) = leading_name(line)?;
-    match action(rest) {
-        Some(action) => Some(ParsedLine { thread, action }),
-        None => None,
+    match leading_name(bytes) {
+        Some((thread, rest)) => add_usual_operation(trace, line, thread, rest),
+        None => Ok(false),
     }
 }

@@ -1,7 +1,7 @@
 //! Words that are names.
 ghost use Rattle.std.specs.Prelude.{◌≡◌, IsTrue};
 ghost use Rattle.std.specs.List.{list_all};
-ghost use Rattle.er_text.specs.Naming.{is_name, is_name_byte, name_of, lock_name_of};
+ghost use Rattle.er_text.specs.Naming.{is_name, is_lock_name, is_name_byte, name_of, lock_name_of};
 ghost use Rattle.er_text.specs.Inner.Parsing.{seen_name};
 
 use crate::classes::{are_name_blocks, is_name_byte};
@@ -15,10 +15,18 @@ fn has_name_bytes(word: &[u8]) -> bool
     word.iter().all(|byte| is_name_byte(*byte))
 }
 
-fn is_name(word: &[u8]) -> bool
+/// Whether a word is a name.
+pub(crate) fn is_name(word: &[u8]) -> bool
     ensures { result ≡ is_name word.now }
 {
     !word.is_empty() && word.len() <= 128 && has_name_bytes(word)
+}
+
+/// Whether a word is the name of a lock.
+pub(crate) fn is_lock_name(word: &[u8]) -> bool
+    ensures { result ≡ is_lock_name word.now }
+{
+    word != b"none".as_slice() && is_name(word)
 }
 
 /// A word of name bytes, which are ASCII, as text.

@@ -9,11 +9,12 @@ ghost use Rattle.er_text.specs.Named.{Grows};
 ghost use Rattle.er_text.specs.Batches.{HasRead, GivesBatch};
 ghost use Rattle.er_text.specs.Inner.Lending.{taken_by, lines_left};
 ghost use Rattle.er_text.specs.Inner.Reading.{Reads, Turns};
+ghost use Rattle.er_text.specs.Inner.FastPath.{ReadsUsual};
 ghost use Rattle.er_text.specs.Inner.Traces.{progress, at_line, read_at, plain_at, read_content, read_text, IsOutcome, Batches};
 
 use crate::adding::add_steps;
 use crate::bytes::{is_ascii, says_something};
-use crate::fast_path::parse_usual;
+use crate::fast_path::add_usual;
 use crate::faults::{ReadFault, TextKind, fault_at};
 use crate::lines::LineReader;
 use crate::parsing::split_words;
@@ -56,21 +57,38 @@ impl Header {
         }
     }
 
-    /// Reads a line in the limits. A line in its usual form is ASCII, and so the test is for the others alone.
-    fn read_plain(&mut self, trace: &mut Trace, line: u64, bytes: &[u8]) -> Result<(), ReadFault>
+    /// Reads a line in its usual form, behind the header, and says whether it did.
+    #[inline(always)]
+    fn read_usual(&self, trace: &mut Trace, line: u64, bytes: &[u8]) -> Result<bool, AllocError>
+        ensures { ReadsUsual line self.now.version bytes.now trace.old trace.new result }
+    {
+        match self.version {
+            Some(_) => add_usual(trace, line, bytes),
+            None => Ok(false),
+        }
+    }
+
+    /// Reads a line in the limits, in whatever form.
+    fn read_any(&mut self, trace: &mut Trace, line: u64, bytes: &[u8]) -> Result<(), ReadFault>
         ensures read { Reads line (at_line (line + 1) self.new.version trace.new) result (plain_at (at_line line self.old.version trace.old) line bytes.now) }
         ensures failed { IsErrOf result ReadFault.Read → ⊥ }
     {
-        if let Some(_) = self.version
-            && let Some(parsed) = parse_usual(bytes)
-        {
-            add_steps(trace, line, &parsed)?;
-            return Ok(());
-        }
         if !is_ascii(bytes) {
             return Err(fault_at(line, TextKind::NotAscii));
         }
         self.read(trace, line, bytes)
+    }
+
+    /// Reads a line in the limits. A line in its usual form is ASCII, and so the test is for the others alone.
+    #[inline(always)]
+    fn read_plain(&mut self, trace: &mut Trace, line: u64, bytes: &[u8]) -> Result<(), ReadFault>
+        ensures read { Reads line (at_line (line + 1) self.new.version trace.new) result (plain_at (at_line line self.old.version trace.old) line bytes.now) }
+        ensures failed { IsErrOf result ReadFault.Read → ⊥ }
+    {
+        if self.read_usual(trace, line, bytes)? {
+            return Ok(());
+        }
+        self.read_any(trace, line, bytes)
     }
 }
 

@@ -1,3 +1,4 @@
 pub mod NamesLemmas
+pub mod HintLemmas
 pub mod NumberLemmas
 pub mod RecentLemmas

@@ -2,7 +2,9 @@
 use Rattle.std.specs.Prelude.{ℕ, ◌<◌, ◌≤◌, ◌++◌, List, [], ◌∷◌, length}
 use Rattle.er_trace.specs.Names.{NameTable, no_names, with_name}
 use Rattle.er_event.specs.declared.steps.Event.{Event}
-use Rattle.er_event.specs.declared.steps.Event.TheVariants.{Acquire, Release, Access, Reuse, IgnoreOn, IgnoreOff, Show, Level}
+use Rattle.er_event.specs.declared.steps.Event.TheVariants.{Acquire, Release, Access, Reuse, IgnoreOn, IgnoreOff, Show, Level, Sync}
+use Rattle.er_event.specs.declared.steps.Sync.{Sync as Order}
+use Rattle.er_event.specs.declared.steps.Sync.TheVariants.{Start, Join, Signal, Await}
 use Rattle.er_event.specs.declared.steps.Step.{Step}
 
 -- the steps in order, the line of each, and the names of their numbers
@@ -14,6 +16,13 @@ pub record Recording : Type 0 where
 abbrev pub no_steps : Recording
 no_steps = record { steps = []; lines = []; names = no_names }
 
+-- the thread or the object of an order event has a name
+abbrev pub HasOrderNames : NameTable → Order → Type 0
+HasOrderNames names (Start thread) = thread < length names.threads
+HasOrderNames names (Join thread) = thread < length names.threads
+HasOrderNames names (Signal object) = object < length names.locks
+HasOrderNames names (Await object) = object < length names.locks
+
 -- each number of the event but the missing site has a name
 abbrev pub HasNames : NameTable → Event → Type 0
 HasNames names (Acquire lock mode) = lock < length names.locks
@@ -24,6 +33,7 @@ HasNames names IgnoreOn = Unit {0}
 HasNames names IgnoreOff = Unit {0}
 HasNames names (Show word) = Unit {0}
 HasNames names (Level level) = Unit {0}
+HasNames names (Sync sync) = HasOrderNames names sync
 
 -- and so does its thread
 pub record IsNamed (names : NameTable) (step : Step) : Type 0 where

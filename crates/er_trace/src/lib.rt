@@ -11,6 +11,7 @@
 pub use names::{Names, equal_names_alone_share_a_number};
 pub use trace::Trace;
 
+mod hints;
 mod names;
 mod recent;
 mod trace;

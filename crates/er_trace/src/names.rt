@@ -1,8 +1,9 @@
 //! Numbers for the names of threads, locks and sites.
 ghost use Rattle.std.specs.Prelude.{◌≡◌, ◌+◌, ◌-◌, ◌<◌, ◌≤◌, ℕ, List, [], length, Some, slice_get, IsTrue, IsOk, IsErr, IfOk, OnOk, OnErr, false};
-ghost use Rattle.er_trace.specs.Inner.Recent.{bytes_of};
+ghost use Rattle.er_trace.specs.Inner.Recent.{bytes_of, Knows};
 ghost use Rattle.er_trace.specs.Names.{is_known, number_of, with_name, no_names, most_names};
 
+use crate::hints::NameHints;
 use crate::recent::{RecentNames, ShortName};
 use er_event::{LockId, Site, ThreadId};
 use indexmap::IndexSet;
@@ -59,6 +60,16 @@ impl NameList {
         Ok(number)
     }
 
+    /// Whether the name of this number is this one.
+    fn is_at(&self, number: usize, name: &str) -> bool
+        ensures { IsTrue result → Knows self.now name.now number }
+    {
+        match self.names.as_slice().get(number) {
+            Some(found) => found.as_str() == name,
+            None => false,
+        }
+    }
+
     fn name(&self, number: usize) -> &str
         requires { number < length self.now }
         ensures { slice_get self.now number ≡ Some result.now }
@@ -67,11 +78,12 @@ impl NameList {
     }
 }
 
-/// Names of one sort, of which a short one that appeared lately is found without a hash.
+/// Names of one sort, of which one that appeared lately is found without a hash.
 #[derive(Drop)]
 struct CachedNames {
     list: NameList,
     recent: RecentNames,
+    hints: NameHints,
 }
 
 impl Model for CachedNames {
@@ -92,6 +104,7 @@ impl CachedNames {
         CachedNames {
             list: NameList::new(alloc),
             recent: RecentNames::new(alloc),
+            hints: NameHints::new(alloc),
         }
     }
 
@@ -106,7 +119,7 @@ impl CachedNames {
         ensures full { most_names ≤ length self.old → is_known self.old name.now ≡ false → IsErr result }
     {
         let Some(short) = ShortName::of(name) else {
-            return self.number_in_list(name);
+            return self.number_of_long(name);
         };
         match self.recent.find(short) {
             Some(number) => Ok(number as usize),
@@ -114,9 +127,9 @@ impl CachedNames {
         }
     }
 
-    /// The same, by a look into the whole list.
+    /// The same of a name that isn't short.
     #[inline(never)]
-    fn number_in_list(&mut self, name: &str) -> Result<usize, AllocError>
+    fn number_of_long(&mut self, name: &str) -> Result<usize, AllocError>
         ensures number { IfOk result (λ n. n ≡ number_of self.old name.now) }
         ensures ok { OnOk result (self.new ≡ with_name self.old name.now) }
         ensures err { OnErr result (self.new ≡ self.old) }
@@ -124,7 +137,13 @@ impl CachedNames {
         ensures within { IfOk result (λ n. n < most_names) }
         ensures full { most_names ≤ length self.old → is_known self.old name.now ≡ false → IsErr result }
     {
-        self.list.number(name)
+        let hint = self.hints.hint(name);
+        if self.list.is_at(hint, name) {
+            return Ok(hint);
+        }
+        let number = self.list.number(name)?;
+        self.hints.note(name, number as u32);
+        Ok(number)
     }
 
     /// The same, after which the name is among the recent ones.

@@ -56,7 +56,15 @@ impl ShortName {
         ensures bytes { IfSome result (λ short. bytes_of short ≡ name.now) }
         ensures some { IfSome result (λ short. 0 < short.len) }
     {
-        let bytes = name.as_bytes();
+        ShortName::of_bytes(name.as_bytes())
+    }
+
+    /// The name of these bytes, if it is short.
+    #[inline(always)]
+    pub(crate) fn of_bytes(bytes: &[u8]) -> Option<ShortName>
+        ensures bytes { IfSome result (λ short. bytes_of short ≡ bytes.now) }
+        ensures some { IfSome result (λ short. 0 < short.len) }
+    {
         let len = bytes.len();
         if len == 0 || len > 16 {
             return None;
@@ -78,7 +86,7 @@ impl ShortName {
 
     /// The only slot that it can be in.
     #[inline(always)]
-    fn slot(self) -> usize {
+    pub(crate) fn slot(self) -> usize {
         let spread = self.first.wrapping_mul(0x9e37_79b9_7f4a_7c15)
             ^ self.rest.wrapping_mul(0xc2b2_ae3d_27d4_eb4f);
         (spread >> 52) as usize

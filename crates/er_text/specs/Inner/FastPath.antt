@@ -1,15 +1,18 @@
 -- What is known of an event line in its usual form. No public clause cites this module.
-use Rattle.std.specs.Prelude.{◌≡◌, ℕ, ◌*◌, ◌/◌, ◌^◌, ◌<◌, ◌≤◌, true, false, List, ◌∷◌, ◌++◌, Option, Some, length, take}
+use Rattle.std.specs.Prelude.{◌≡◌, ℕ, ◌+◌, ◌*◌, ◌/◌, ◌^◌, ◌<◌, ◌≤◌, Bool, true, false, List, ◌∷◌, ◌++◌, Option, Some, Result, Ok, Err, length, take, drop, codes}
 use Rattle.std.specs.List.{list_all}
 use Rattle.std.specs.Char.{is_digit}
 use Rattle.std.specs.Str.Parse.{digits_value}
 use Rattle.er_event.specs.declared.steps.Kind.{Kind}
+use Rattle.er_event.specs.declared.steps.Mode.TheVariants as mode
 use Rattle.er_text.specs.declared.verbs.Version.{Version}
 use Rattle.er_text.specs.Lines.{words, word_at, has_bytes, is_ascii, is_comment}
 use Rattle.er_text.specs.Number.{number_of}
-use Rattle.er_text.specs.Naming.{is_name}
-use Rattle.er_text.specs.Events.{Operation, Accesses, EventLine}
+use Rattle.er_text.specs.Naming.{is_name, is_lock_name}
+use Rattle.er_trace.specs.Trace.{Recording}
+use Rattle.er_text.specs.Events.{Operation, Acquires, Releases, Accesses, EventLine, with_line}
 use Rattle.er_text.specs.Trace.{IsSite, IsOperation, Says}
+use Rattle.er_text.specs.Inner.Traces.{at_line, plain_at}
 
 -- a name, one space, and the rest
 abbrev pub IsLeadingName : List ℕ → List ℕ → List ℕ → Type 0
@@ -29,6 +32,17 @@ pub record AreLeadingDigits (bytes : List ℕ) (value len : ℕ) : Type 0 where
   pub value_is : digits_value 16 (take len bytes) ≡ value
   pub small : value < 2 ^ 48
 
+-- `0x`, at most 12 hexadecimal digits, of which there is one, and the rest: the word at that address
+pub record IsLeadingWord (bytes : List ℕ) (word : ℕ) (rest : List ℕ) : Type 0 where
+  pub digits : List ℕ
+  pub value : ℕ
+  pub len : ℕ
+  pub is : bytes ≡ codes "0x" ++ digits
+  pub front : AreLeadingDigits digits value len
+  pub some : len ≡ 0 → ⊥
+  pub behind : drop len digits ≡ rest
+  pub word_is : word ≡ value / 4
+
 -- behind the verb of an access
 pub record IsFastAccess (k : Kind) (bytes : List ℕ) (operation : Operation) : Type 0 where
   pub ascii : list_all is_ascii bytes ≡ true
@@ -42,6 +56,14 @@ pub record IsFastAccess (k : Kind) (bytes : List ℕ) (operation : Operation) : 
   pub names : IsSite behind site
   pub is : operation ≡ Accesses k (n / 4) site
 
+-- behind the verb of an acquire
+abbrev pub IsFastAcquire : List ℕ → Operation → Type 0
+IsFastAcquire bytes operation = (is_lock_name bytes ≡ true) × (operation ≡ Acquires bytes mode.Write)
+
+-- behind the verb of a release
+abbrev pub IsFastRelease : List ℕ → Operation → Type 0
+IsFastRelease bytes operation = (is_lock_name bytes ≡ true) × (operation ≡ Releases bytes mode.Write)
+
 -- behind a thread
 pub record IsFastOperation (bytes : List ℕ) (operation : Operation) : Type 0 where
   pub ascii : list_all is_ascii bytes ≡ true
@@ -53,3 +75,21 @@ pub record IsFastLine (line : List ℕ) (s : EventLine) : Type 0 where
   pub some : has_bytes (word_at 0 (words line)) ≡ true
   pub no_comment : is_comment line ≡ false
   pub says : (v : Version) → Says v (words line) s
+
+-- an operation of this kind was added to a thread's, or nothing was, or memory ran out
+abbrev pub AddsOperation : {E : Type 0} → (Operation → Type 0) → ℕ → List ℕ → Recording → Recording → Result Bool E → Type 0
+AddsOperation Is line thread old new (Ok true) = (operation : Operation) × Is operation × (new ≡ with_line line (record { thread = thread; operation = operation }) old)
+AddsOperation Is line thread old new (Ok false) = new ≡ old
+AddsOperation Is line thread old new (Err e) = Unit {0}
+
+-- the same of a line with its thread
+abbrev pub AddsLine : {E : Type 0} → (EventLine → Type 0) → ℕ → Recording → Recording → Result Bool E → Type 0
+AddsLine Is line old new (Ok true) = (s : EventLine) × Is s × (new ≡ with_line line s old)
+AddsLine Is line old new (Ok false) = new ≡ old
+AddsLine Is line old new (Err e) = Unit {0}
+
+-- a line behind the header was read, or nothing was, or memory ran out
+abbrev pub ReadsUsual : {E : Type 0} → ℕ → Option Version → List ℕ → Recording → Recording → Result Bool E → Type 0
+ReadsUsual line version bytes old new (Ok true) = plain_at (at_line line version old) line bytes ≡ Ok (at_line (line + 1) version new)
+ReadsUsual line version bytes old new (Ok false) = new ≡ old
+ReadsUsual line version bytes old new (Err e) = Unit {0}
