@@ -6,3 +6,4 @@ pub mod NamingLemmas
 pub mod Passes
 pub mod RaceLemmas
 pub mod FoundLemmas
+pub mod SettledLemmas

@@ -13,7 +13,8 @@
 //!
 //! [`WordBooks`] keeps the books of all words while the steps are answered, and no step. An access is named there as the caller likes,
 //! by its place or by what is to be said of it. It promises that each word's book goes on as the definitions say (`follow`), and what
-//! a book says of the joining (`joining`).
+//! a book says of the joining (`joining`). A step that leaves the state of each word as it was needs not be followed
+//! ([`a_kept_state_keeps_the_book`]).
 //!
 //! ```
 //! // The steps are `t1 write 0x1000` and `t2 write 0x1000`.
@@ -26,7 +27,7 @@
 
 pub use book::{Joint, Pair};
 pub use er_journal::{Explanation, Uncovered};
-pub use laws::an_explanation_explains;
+pub use laws::{a_kept_state_keeps_the_book, an_explanation_explains};
 pub use one_access::explain;
 pub use word_books::WordBooks;
 

@@ -1,5 +1,5 @@
 -- What all workers of a crew did in a batch.
-use Rattle.std.proofs.Common.{◌≡◌, ℕ, zero, suc, ◌+◌, ◌<◌, ◌≤◌, Bool, true, false, if◌then◌else◌, List, [], ◌∷◌, ◌++◌, length, map, take, drop, get_or, slice_get, Option, Some, None, IfSome, MatchOption, refl, ap, sym, subst, ◌∙◌, arith, ⊎_elim, ◌⊎◌, inl, inr}
+use Rattle.std.proofs.Common.{IsTrue, ◌≡◌, ℕ, zero, suc, ◌+◌, ◌<◌, ◌≤◌, Bool, true, false, if◌then◌else◌, List, [], ◌∷◌, ◌++◌, length, map, take, drop, get_or, slice_get, Option, Some, None, IfSome, MatchOption, refl, ap, sym, subst, ◌∙◌, arith, ⊎_elim, ◌⊎◌, inl, inr}
 use Rattle.std.proofs.lemmas.List.{length-map}
 use Rattle.std.proofs.lemmas.Option.{slice_get-get_or, get_or_from_slice_get}
 use Rattle.er_event.proofs.Lists.{get_front, get_last, length_push}
@@ -7,7 +7,7 @@ use Rattle.er_event.specs.declared.steps.Step.{Step}
 use Rattle.er_model.specs.Answers.{answer}
 use Rattle.er_model.proofs.Parts.{in_range}
 use Rattle.er_model.proofs.Search.{below_or_at}
-use Rattle.er_parallel.specs.Crews.{AreUnusual, Crewed, HasFollowed, HaveAnswered, IsAmong, IsAnswered}
+use Rattle.er_parallel.specs.Crews.{AreNoted, AreUnusual, Crewed, HasFollowed, HaveAnswered, IsAmong, IsAnswered}
 use Rattle.er_parallel.specs.Faults.{MayFail, fault_of}
 use Rattle.er_parallel.specs.Found.{usual}
 use Rattle.er_parallel.specs.Inner.Crewing.{AreFresh, HasFault, IsLeastFault, NoFaultBelow}
@@ -125,13 +125,13 @@ whole-back n (x ∷ xs) [] same is = absurd (omega (arith, same))
 whole-back n (x ∷ xs) (y ∷ ys) same is = rw is (ap (λ rest. x ∷ rest) (whole-back (length ys) xs ys (omega (arith, same)) refl))
 
 -- what each worker did
-abbrev pub AreTaken : ℕ → List Step → List Worker → List Worker → Type 0
-AreTaken shards batch old new = (past : List Step) (i : ℕ) (d : Worker) → i < length old → HasFollowed shards (length old) i past (get_or old i d).machine →
-    HasTaken past batch (record { shards = shards; worker = i; workers = length old }) (get_or new i d)
+abbrev pub AreTaken : ℕ → Bool → List Step → List Worker → List Worker → Type 0
+AreTaken shards noting batch old new = (past : List Step) (i : ℕ) (d : Worker) → i < length old → HasFollowed shards (length old) i past (get_or old i d).machine →
+    HasTaken past batch (record { shards = shards; worker = i; workers = length old; noting = noting }) (get_or new i d)
 
-module _ (past batch : List Step) (shards : ℕ) (old new : List Worker) (count : length new ≡ length old) (taken : AreTaken shards batch old new) (before : HaveAnswered (crewed shards old) past) where
+module _ (past batch : List Step) (shards : ℕ) (noting : Bool) (old new : List Worker) (count : length new ≡ length old) (taken : AreTaken shards noting batch old new) (before : HaveAnswered (crewed shards old) past) where
   abbrev share : ℕ → Share
-  share i = record { shards = shards; worker = i; workers = length old }
+  share i = record { shards = shards; worker = i; workers = length old; noting = noting }
 
   taken_at : (i : ℕ) (worker : Worker) → slice_get new i ≡ Some worker → HasTaken past batch (share i) worker
   taken_at i worker there =
@@ -196,6 +196,14 @@ module _ (past batch : List Step) (shards : ℕ) (old new : List Worker) (count 
               let one = get_some new i (omega (arith, low, count)) in
               ⊎_elim (λ usually. inl usually) (λ among. inr (among_all i k one.0 one.1 among))
               ((done_at i one.0 one.1).found.whole k step (in_range batch k step at) at refl)
+
+      pub done-noted : IsTrue noting → AreNoted past batch items
+      done-noted notes k step at =
+          let i : ℕ = worker_for shards (length old) step.event in
+          let low : i < length old = omega (arith, some) in
+          let one = get_some new i (omega (arith, low, count)) in
+          ⊎_elim (λ leaves. inl leaves) (λ among. inr (among_all i k one.0 one.1 among))
+          ((done_at i one.0 one.1).found.noted k step (in_range batch k step at) at refl notes)
 
     pub done-answered : (left : List Worker) → machines_of left ≡ machines_of new → HaveAnswered (crewed shards left) (past ++ batch)
     done-answered left same i machine is =

@@ -3,7 +3,7 @@ use Rattle.std.proofs.Common.{◌≡◌, ℕ, suc, add-one, ◌+◌, ◌%◌, �
 use Rattle.std.proofs.lemmas.Bool.{eqb-true}
 use Rattle.er_event.specs.declared.refusals.Refusal.{Refusal}
 use Rattle.er_event.specs.declared.steps.Event.{Event}
-use Rattle.er_event.specs.declared.steps.Event.TheVariants.{Acquire, Release, Access, Reuse, IgnoreOn, IgnoreOff, Show, Level}
+use Rattle.er_event.specs.declared.steps.Event.TheVariants.{Acquire, Release, Access, Reuse, IgnoreOn, IgnoreOff, Show, Level, Sync}
 use Rattle.er_event.specs.declared.addresses.PageRange.{PageRange}
 use Rattle.er_event.specs.declared.steps.Kind.{Kind}
 use Rattle.er_event.specs.declared.steps.Reply.{Reply}
@@ -62,6 +62,7 @@ usual-found IgnoreOn a is = rw is refl
 usual-found IgnoreOff a is = rw is refl
 usual-found (Show w) a is = rw is refl
 usual-found (Level n) a is = rw is refl
+usual-found (Sync sync) a is = rw is refl
 
 -- a step on words of other shards leaves a word as it was
 module _ (shards workers worker w t : ℕ) (h : Holdings) (before : WordState) (mine : shard_of shards w % workers ≡ worker) where
@@ -92,6 +93,7 @@ module _ (shards workers worker w t : ℕ) (h : Holdings) (before : WordState) (
   apart IgnoreOn other = refl
   apart IgnoreOff other = refl
   apart (Level n) other = refl
+  apart (Sync sync) other = refl
 
 -- a step's reply depends on the states of its own shard's words alone
 module _ (shards workers worker t : ℕ) (h : Holdings) (states others : ℕ → WordState) (same : (w : ℕ) → shard_of shards w % workers ≡ worker → states w ≡ others w) where
@@ -104,6 +106,7 @@ module _ (shards workers worker t : ℕ) (h : Holdings) (states others : ℕ →
   replied-same IgnoreOn mine = refl
   replied-same IgnoreOff mine = refl
   replied-same (Level n) mine = refl
+  replied-same (Sync sync) mine = refl
 
   -- and so does whether it asks for a set
   pub asks-same : (e : Event) → worker_for shards workers e ≡ worker → asks_by h states t e ≡ asks_by h others t e
@@ -115,6 +118,7 @@ module _ (shards workers worker t : ℕ) (h : Holdings) (states others : ℕ →
   asks-same IgnoreOn mine = refl
   asks-same IgnoreOff mine = refl
   asks-same (Level n) mine = refl
+  asks-same (Sync sync) mine = refl
 
 -- what was found of one step more, which has its usual answer or isn't the worker's
 found-usual : (k : ℕ) (found : Found) (step : Step) → IsFoundBelow k found → slice_get found.steps k ≡ Some step →

@@ -1,5 +1,5 @@
 -- A worker that has gone one step further in a batch.
-use Rattle.std.proofs.Common.{◌≡◌, ℕ, suc, ◌+◌, ◌%◌, ◌<◌, ◌==◌, Bool, true, false, cond, List, [], ◌∷◌, ◌++◌, length, slice_get, Option, Some, None, Result, Ok, Err, refl, ap, sym, subst, ◌∙◌, arith, ⊎_elim, ◌⊎◌, inl, inr}
+use Rattle.std.proofs.Common.{IsTrue, ◌≡◌, ℕ, suc, ◌+◌, ◌%◌, ◌<◌, ◌==◌, Bool, true, false, cond, List, [], ◌∷◌, ◌++◌, length, slice_get, Option, Some, None, Result, Ok, Err, refl, ap, sym, subst, ◌∙◌, arith, ⊎_elim, ◌⊎◌, inl, inr}
 use Rattle.std.proofs.lemmas.List.{length-append}
 use Rattle.er_event.specs.Refusal.{refusal_of}
 use Rattle.er_event.specs.declared.refusals.NoRoom.{NoRoom}
@@ -7,7 +7,7 @@ use Rattle.er_event.specs.declared.refusals.NoRoom.TheVariants.{TableFull}
 use Rattle.er_event.specs.declared.refusals.Refusal.{Refusal}
 use Rattle.er_event.specs.declared.refusals.Refusal.TheVariants as refusal
 use Rattle.er_event.specs.declared.steps.Event.{Event}
-use Rattle.er_event.specs.declared.steps.Event.TheVariants.{Acquire, Release, Access, Reuse, IgnoreOn, IgnoreOff, Show, Level}
+use Rattle.er_event.specs.declared.steps.Event.TheVariants.{Acquire, Release, Access, Reuse, IgnoreOn, IgnoreOff, Show, Level, Sync}
 use Rattle.er_event.specs.declared.steps.Mode.TheVariants.{Read, Write}
 use Rattle.er_event.specs.declared.steps.Reply.{Reply}
 use Rattle.er_event.specs.declared.steps.Reply.TheVariants.{Race, Done}
@@ -24,7 +24,7 @@ use Rattle.er_model.proofs.Parts.{in_range}
 use Rattle.er_model.proofs.Prefixes.{holdings-front, state-front}
 use Rattle.er_model.proofs.Search.{below_or_at}
 use Rattle.er_model.proofs.Threads.{holdings-step}
-use Rattle.er_parallel.specs.Crews.{IsAmong, IsAnswered, HasFollowed}
+use Rattle.er_parallel.specs.Crews.{IsAmong, IsAnswered, HasFollowed, LeavesWord}
 use Rattle.er_parallel.specs.Faults.{AsksForSet}
 use Rattle.er_parallel.specs.Found.{usual}
 use Rattle.er_parallel.specs.Inner.Taking.{HasCome, HasDone, IsFoundSoFar, IsOwn}
@@ -33,7 +33,7 @@ use Rattle.er_parallel.specs.declared.task.Share.{Share}
 use Rattle.er_parallel.specs.declared.unusual.Unusual.{Unusual}
 use Rattle.er_parallel.proofs.FollowingLemmas.{apart, replied-same, asks-same}
 use Rattle.er_replay.specs.Standing.{Replayed, holding, states}
-use Rattle.er_replay.specs.Wants.{asks_by}
+use Rattle.er_replay.specs.Wants.{asks_by, is_access}
 
 -- only an access is a race, so that its thread's holdings stay
 no_race : (o : Option Refusal) → answer_unless o Done ≡ Ok Race → ⊥
@@ -50,6 +50,7 @@ race_keeps h words t (Release l Write) is = absurd (no_race (refused_by h (Relea
 race_keeps h words t IgnoreOn is = absurd (no_race (refused_by h IgnoreOn) is)
 race_keeps h words t IgnoreOff is = absurd (no_race (refused_by h IgnoreOff) is)
 race_keeps h words t (Level n) is = absurd (no_race (refused_by h (Level n)) is)
+race_keeps h words t (Sync sync) is = absurd (no_race (refused_by h (Sync sync)) is)
 
 same_either : (b : Bool) (x h : Holdings) → x ≡ h → cond b x h ≡ h
 same_either true x h is = is
@@ -119,8 +120,9 @@ among_more items x k was = record { index = was.index; item = was.item; there = 
 
 module _ (past : List Step) (batch : List Step) (share : Share) (n : ℕ) (step : Step) (there : slice_get batch n ≡ Some step) (items : List Unusual) (far : IsFoundSoFar n past batch share items) where
   -- one step more, which has its usual answer or isn't the worker's
-  found_still : (IsOwn share step.event → answer (past ++ batch) (length past + n) ≡ usual step.event) → IsFoundSoFar (n + 1) past batch share items
-  found_still usually = record {
+  found_still : (IsOwn share step.event → answer (past ++ batch) (length past + n) ≡ usual step.event) →
+      (IsOwn share step.event → IsTrue share.noting → LeavesWord (past ++ batch) (length past + n) step.event) → IsFoundSoFar (n + 1) past batch share items
+  found_still usually leaves = record {
     found = far.found;
     below = λ j item at. (let low = far.below j item at in omega arith);
     whole = λ k other below at own. ⊎_elim
@@ -129,6 +131,13 @@ module _ (past : List Step) (batch : List Step) (share : Share) (n : ℕ) (step 
         let same : step ≡ other = some_same step other (sym there ∙ (ap (slice_get batch) (sym here) ∙ at)) in
         inl (ap (λ i. answer (past ++ batch) (length past + i)) here
         ∙ (usually (ap (λ (s : Step). worker_for share.shards share.workers s.event) same ∙ own) ∙ ap (λ (s : Step). usual s.event) same)))
+        (below_or_at k n (omega (arith, below)));
+    noted = λ k other below at own noting. ⊎_elim
+        (λ low. far.noted k other low at own noting)
+        (λ here.
+        let same : step ≡ other = some_same step other (sym there ∙ (ap (slice_get batch) (sym here) ∙ at)) in
+        let left = leaves (ap (λ (s : Step). worker_for share.shards share.workers s.event) same ∙ own) noting in
+        inl (subst (λ (i : ℕ). LeavesWord (past ++ batch) (length past + i) other.event) (sym here) (subst (λ (s : Step). LeavesWord (past ++ batch) (length past + n) s.event) same left)))
         (below_or_at k n (omega (arith, below)));
   }
 
@@ -172,10 +181,31 @@ module _ (past : List Step) (batch : List Step) (share : Share) (n : ℕ) (step 
           (λ low. ⊎_elim (λ usually. inl usually) (λ was. inr (among_more items x k was)) (far.whole k other low is own))
           (λ here. inr (record { index = length items; item = x; there = get_last items x; at = at ∙ sym here }))
           (below_or_at k n (omega (arith, below)));
+      noted = λ k other below is own noting. ⊎_elim
+          (λ low. ⊎_elim (λ leaves. inl leaves) (λ was. inr (among_more items x k was)) (far.noted k other low is own noting))
+          (λ here. inr (record { index = length items; item = x; there = get_last items x; at = at ∙ sym here }))
+          (below_or_at k n (omega (arith, below)));
     }
 
 add_one_more : (o n : ℕ) → suc (o + n) ≡ o + (n + 1)
 add_one_more o n = omega arith
+
+next_place : (o n : ℕ) → o + (n + 1) ≡ o + n + 1
+next_place o n = omega arith
+
+-- an access of a word of its own that leaves each word's state as it was
+leaves-word : (all : List Step) (shards workers worker k : ℕ) (event : Event) (before after : ℕ → WordState) → ((w : ℕ) → shard_of shards w % workers ≡ worker → before w ≡ state_at all w k) →
+    ((w : ℕ) → shard_of shards w % workers ≡ worker → after w ≡ state_at all w (k + 1)) → worker_for shards workers event ≡ worker → (IsTrue (is_access event) → (w : ℕ) → after w ≡ before w) →
+    LeavesWord all k event
+leaves-word all shards workers worker k (Access kind w site) before after was is mine same = sym (is w mine) ∙ (same refl w ∙ was w mine)
+leaves-word all shards workers worker k (Acquire l m) before after was is mine same = tt
+leaves-word all shards workers worker k (Release l m) before after was is mine same = tt
+leaves-word all shards workers worker k (Reuse range) before after was is mine same = tt
+leaves-word all shards workers worker k IgnoreOn before after was is mine same = tt
+leaves-word all shards workers worker k IgnoreOff before after was is mine same = tt
+leaves-word all shards workers worker k (Show w) before after was is mine same = tt
+leaves-word all shards workers worker k (Level n) before after was is mine same = tt
+leaves-word all shards workers worker k (Sync sync) before after was is mine same = tt
 
 -- where a batch begins
 pub come-none : (past : List Step) (batch : List Step) (share : Share) (items : List Unusual) (machine : Replayed) → items ≡ [] → HasFollowed share.shards share.workers share.worker past machine → HasCome 0 past batch share items machine
@@ -188,6 +218,7 @@ come-none past batch share items machine none follows =
         found = record { rise = λ i j one other less first second. cc; right = λ j item is. cc; owned = λ j item s is here. cc };
         below = λ j item is. cc;
         whole = λ k step below is own. absurd (omega arith);
+        noted = λ k step below is own noting. absurd (omega arith);
       });
     }
 
@@ -221,7 +252,7 @@ module _ (past : List Step) (batch : List Step) (share : Share) (n : ℕ) (step 
       held = held_now;
       words = λ w own. rw (← add_one_more (length past) n)
           (words_passed (past ++ batch) share.shards share.worker share.workers (length past + n) step placed before after come.held come.words follows other same w own);
-      found = found_still past batch share n step there items come.found (λ mine. absurd (other mine));
+      found = found_still past batch share n step there items come.found (λ mine. absurd (other mine)) (λ mine. absurd (other mine));
     }
 
     module _ (mine : IsOwn share step.event) (a : Result Reply Refusal) (given : a ≡ answered (holding before step.thread) (states before) step)
@@ -233,9 +264,14 @@ module _ (past : List Step) (batch : List Step) (share : Share) (n : ℕ) (step 
       answer_now : a ≡ answer (past ++ batch) (length past + n)
       answer_now = answer_taken (past ++ batch) share.shards share.worker share.workers (length past + n) step placed before after come.held come.words follows mine a given
 
+      -- what a step that is one of its own and isn't noted leaves as it is
+      leaves_now : (IsTrue (is_access step.event) → (w : ℕ) → states after w ≡ states before w) → LeavesWord (past ++ batch) (length past + n) step.event
+      leaves_now same = leaves-word (past ++ batch) share.shards share.workers share.worker (length past + n) step.event (states before) (states after) come.words
+          (λ w own. words_now w own ∙ ap (λ (i : ℕ). state_at (past ++ batch) w i) (next_place (length past) n)) mine same
+
       -- a step of its own with its usual answer
-      pub come-usual : a ≡ usual step.event → HasCome (n + 1) past batch share items after
-      come-usual usually = record { held = held_now; words = words_now; found = found_still past batch share n step there items come.found (λ _. sym answer_now ∙ usually) }
+      pub come-usual : a ≡ usual step.event → (IsTrue share.noting → IsTrue (is_access step.event) → (w : ℕ) → states after w ≡ states before w) → HasCome (n + 1) past batch share items after
+      come-usual usually same = record { held = held_now; words = words_now; found = found_still past batch share n step there items come.found (λ _. sym answer_now ∙ usually) (λ _ noting. leaves_now (same noting)) }
 
       -- a step of its own whose answer is put down
       pub come-found : (locks : List ℕ) (more : List Unusual) → (a ≡ Ok Race → locks ≡ (holding after step.thread).held) → more ≡ items ++ record { at = n; answer = a; held = locks } ∷ [] → HasCome (n + 1) past batch share more after

@@ -1,9 +1,11 @@
 -- What workers have answered so far, and which answers of a batch aren't the usual ones.
 use Rattle.std.specs.Prelude.{◌≡◌, ◌⊎◌, ◌<◌, ◌+◌, ◌%◌, ◌++◌, ℕ, List, length, slice_get, Some, Ok}
+use Rattle.er_event.specs.declared.steps.Event.{Event}
+use Rattle.er_event.specs.declared.steps.Event.TheVariants.{Acquire, Release, Access, Reuse, IgnoreOn, IgnoreOff, Show, Level, Sync}
 use Rattle.er_event.specs.declared.steps.Reply.TheVariants.{Race}
 use Rattle.er_event.specs.declared.steps.Step.{Step}
 use Rattle.er_journal.specs.Merges.{shard_of}
-use Rattle.er_model.specs.Answers.{answer, state_end}
+use Rattle.er_model.specs.Answers.{answer, state_at, state_end}
 use Rattle.er_model.specs.Holdings.{holdings_end}
 use Rattle.er_model.specs.Threads.{accepted, held}
 use Rattle.er_parallel.specs.Found.{usual}
@@ -41,6 +43,22 @@ pub record IsAmong (items : List Unusual) (k : ℕ) : Type 0 where
   pub item : Unusual
   pub there : slice_get items index ≡ Some item
   pub at : item.at ≡ k
+
+-- an access at position k leaves its word's state as it is
+abbrev pub LeavesWord : List Step → ℕ → Event → Type 0
+LeavesWord steps k (Access kind w site) = state_at steps w (k + 1) ≡ state_at steps w k
+LeavesWord steps k (Acquire l m) = Unit {0}
+LeavesWord steps k (Release l m) = Unit {0}
+LeavesWord steps k (Reuse range) = Unit {0}
+LeavesWord steps k IgnoreOn = Unit {0}
+LeavesWord steps k IgnoreOff = Unit {0}
+LeavesWord steps k (Show w) = Unit {0}
+LeavesWord steps k (Level n) = Unit {0}
+LeavesWord steps k (Sync sync) = Unit {0}
+
+-- after this past, each access of the batch that changes its word's state has an item
+abbrev pub AreNoted : List Step → List Step → List Unusual → Type 0
+AreNoted past batch items = (k : ℕ) (step : Step) → slice_get batch k ≡ Some step → LeavesWord (past ++ batch) (length past + k) step.event ⊎ IsAmong items k
 
 -- after this past, the items' positions in the batch rise, each has its answer, and each step without an item is answered as usual
 pub record AreUnusual (past batch : List Step) (items : List Unusual) : Type 0 where

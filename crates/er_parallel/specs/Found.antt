@@ -2,7 +2,7 @@
 use Rattle.std.specs.Prelude.{◌≡◌, ◌⊎◌, ℕ, ◌<◌, List, length, slice_get, Some, Result, Ok}
 use Rattle.er_event.specs.declared.refusals.Refusal.{Refusal}
 use Rattle.er_event.specs.declared.steps.Event.{Event}
-use Rattle.er_event.specs.declared.steps.Event.TheVariants.{Acquire, Release, Access, Reuse, IgnoreOn, IgnoreOff, Show, Level}
+use Rattle.er_event.specs.declared.steps.Event.TheVariants.{Acquire, Release, Access, Reuse, IgnoreOn, IgnoreOff, Show, Level, Sync}
 use Rattle.er_event.specs.declared.steps.Reply.{Reply}
 use Rattle.er_event.specs.declared.steps.Reply.TheVariants.{Done, Quiet}
 use Rattle.er_event.specs.declared.steps.Step.{Step}
@@ -19,6 +19,7 @@ usual IgnoreOn = Ok Done
 usual IgnoreOff = Ok Done
 usual (Show w) = Ok Done
 usual (Level n) = Ok Done
+usual (Sync sync) = Ok Done
 
 -- of so many workers, this one's answers to the steps of the list that aren't the usual ones, with their places
 pub record Found : Type 0 where

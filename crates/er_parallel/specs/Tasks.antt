@@ -1,7 +1,7 @@
 -- Which worker answers which step.
 use Rattle.std.specs.Prelude.{ℕ, ◌%◌, ◌≤◌, ◌<◌}
 use Rattle.er_event.specs.declared.steps.Event.{Event}
-use Rattle.er_event.specs.declared.steps.Event.TheVariants.{Acquire, Release, Access, Reuse, IgnoreOn, IgnoreOff, Show, Level}
+use Rattle.er_event.specs.declared.steps.Event.TheVariants.{Acquire, Release, Access, Reuse, IgnoreOn, IgnoreOff, Show, Level, Sync}
 use Rattle.er_journal.specs.Merges.{shard_of}
 use Rattle.er_parallel.specs.declared.task.Share.{Share}
 use Rattle.er_parallel.specs.declared.task.Task.{Task}
@@ -16,6 +16,7 @@ shard_for shards (Release l m) = 0
 shard_for shards IgnoreOn = 0
 shard_for shards IgnoreOff = 0
 shard_for shards (Level n) = 0
+shard_for shards (Sync sync) = 0
 
 -- the number of the worker that answers the event
 abbrev pub worker_for : ℕ → ℕ → Event → ℕ

@@ -1,7 +1,7 @@
 //! Workers that answer the steps of a list, one batch after another.
 ghost use Rattle.std.specs.Prelude.{◌≡◌, ◌⊎◌, ◌<◌, ◌≤◌, ◌+◌, ◌++◌, [], ℕ, List, length, slice_get, slice_index_or, IfOk, OnOk, IfErr, IsTrue, MatchOption, Some};
 ghost use Rattle.er_event.specs.declared.steps.Step.{Step as Steps};
-ghost use Rattle.er_parallel.specs.Crews.{AreUnusual, HaveAnswered};
+ghost use Rattle.er_parallel.specs.Crews.{AreNoted, AreUnusual, HaveAnswered};
 ghost use Rattle.er_parallel.specs.Faults.{MayFail};
 ghost use Rattle.er_parallel.specs.Crews.{HasFollowed};
 ghost use Rattle.er_parallel.specs.Inner.Crewing.{AreFresh, IsLeastFault, NoFaultBelow};
@@ -71,9 +71,9 @@ impl<'t> Crew<'t> {
         }
     }
 
-    /// Answers the next steps and returns the answers that aren't the usual ones, by rising position. Every other step of the batch has
-    /// its usual answer. Each worker has a thread of its own if one can be started. Otherwise the workers of a thread go one after
-    /// another.
+    /// Answers the next steps and returns those whose answers aren't the usual ones, by rising position. Every other step of the batch
+    /// has its usual answer. With `noting` the steps that are returned include each access that changed its word's state. Each worker
+    /// has a thread of its own if one can be started. Otherwise the workers of a thread go one after another.
     ///
     /// Each worker stops at the first step that finds no room. The fault is then that of the least shard whose step found none,
     /// `TableFull` or `Memory`. `Memory` also comes if the list of answers finds none. After a fault the workers may have answered
@@ -82,9 +82,11 @@ impl<'t> Crew<'t> {
         &mut self,
         rt: &R,
         steps: &[Step],
+        noting: bool,
     ) -> Result<Vec<Unusual>, ReplayFault>
         ensures goes_on { (past : List Steps) → HaveAnswered self.old past → OnOk result (HaveAnswered self.new (past ++ steps.now)) }
         ensures answers { (past : List Steps) → HaveAnswered self.old past → IfOk result (λ unusual. AreUnusual past steps.now unusual.items) }
+        ensures noted { (past : List Steps) → HaveAnswered self.old past → IsTrue noting → IfOk result (λ unusual. AreNoted past steps.now unusual.items) }
 
         // The table is full only if some step, as the list stands before it, asks for a set. No worker is lost.
         ensures fault { (past : List Steps) → HaveAnswered self.old past → IfErr result (λ why. MayFail (past ++ steps.now) why) }
@@ -95,6 +97,7 @@ impl<'t> Crew<'t> {
             self.shards,
             self.workers.as_mut_slice(),
             steps,
+            noting,
         )
     }
 }
@@ -106,14 +109,16 @@ fn take_batch<R: Threads + Wait + Sync>(
     shards: u32,
     workers: &mut [Worker<'_>],
     steps: &[Step],
+    noting: bool,
 ) -> Result<Vec<Unusual>, ReplayFault>
     requires { (1 ≤ shards) × (shards ≤ 64) × (1 ≤ length workers.old) × (length workers.old ≤ 16) }
     ensures count { length workers.new ≡ length workers.old }
     ensures goes_on { (past : List Steps) → HaveAnswered (record { shards = shards; machines = machines_of workers.old }) past → OnOk result (HaveAnswered (record { shards = shards; machines = machines_of workers.new }) (past ++ steps.now)) }
     ensures answers { (past : List Steps) → HaveAnswered (record { shards = shards; machines = machines_of workers.old }) past → IfOk result (λ unusual. AreUnusual past steps.now unusual.items) }
+    ensures noted { (past : List Steps) → HaveAnswered (record { shards = shards; machines = machines_of workers.old }) past → IsTrue noting → IfOk result (λ unusual. AreNoted past steps.now unusual.items) }
     ensures fault { (past : List Steps) → HaveAnswered (record { shards = shards; machines = machines_of workers.old }) past → IfErr result (λ why. MayFail (past ++ steps.now) why) }
 {
-    answer_each(rt, alloc, shards, workers, steps);
+    answer_each(rt, alloc, shards, workers, steps, noting);
     if let Some(fault) = least_fault(workers) {
         return Err(ReplayFault::from(fault.cause));
     }
@@ -206,11 +211,12 @@ fn answer_each<R: Threads + Wait + Sync>(
     shards: u32,
     workers: &mut [Worker<'_>],
     steps: &[Step],
+    noting: bool,
 )
     requires { (1 ≤ shards) × (shards ≤ 64) × (1 ≤ length workers.old) × (length workers.old ≤ 16) }
     ensures count { length workers.new ≡ length workers.old }
     ensures taken { (past : List Steps) (i : ℕ) (d : Workers) → i < length workers.old → HasFollowed shards (length workers.old) i past (slice_index_or workers.old i d).machine
-        → HasTaken past steps.now (record { shards = shards; worker = i; workers = length workers.old }) (slice_index_or workers.new i d) }
+        → HasTaken past steps.now (record { shards = shards; worker = i; workers = length workers.old; noting = noting }) (slice_index_or workers.new i d) }
 {
     let count = workers.len();
     thread::for_each_mut(
@@ -219,7 +225,7 @@ fn answer_each<R: Threads + Wait + Sync>(
         count,
         &|at: usize, worker: &mut Worker<'_>|
             requires { (1 ≤ shards) × (shards ≤ 64) × (at < count) × (count ≤ 16) }
-            ensures { (past : List Steps) → HasFollowed shards count at past worker.entry.now.machine → HasTaken past steps.entry.now (record { shards = shards; worker = at; workers = count }) worker.exit.now }
+            ensures { (past : List Steps) → HasFollowed shards count at past worker.entry.now.machine → HasTaken past steps.entry.now (record { shards = shards; worker = at; workers = count; noting = noting }) worker.exit.now }
         {
             worker.take(
                 rt,
@@ -229,6 +235,7 @@ fn answer_each<R: Threads + Wait + Sync>(
                     shards,
                     worker: at as u32,
                     workers: count as u32,
+                    noting,
                 },
             );
         },

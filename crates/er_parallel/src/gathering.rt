@@ -34,7 +34,8 @@ fn usual_answer(event: Event) -> Result<Reply, Refusal>
         | Event::IgnoreOn
         | Event::IgnoreOff
         | Event::Show(_)
-        | Event::Level(_) => Ok(Reply::Done),
+        | Event::Level(_)
+        | Event::Sync(_) => Ok(Reply::Done),
     }
 }
 

@@ -6,7 +6,8 @@
 //!
 //! A [`Crew`] answers a list batch after batch: `take` returns the answers of a batch that aren't the usual ones, each with its position
 //! ([`Unusual`]). It stands for the steps that it has taken (`HaveAnswered`), and its answers are those of the definitions for the whole
-//! list so far (`answers`), for any number of workers and shards.
+//! list so far (`answers`), for any number of workers and shards. If it is asked to, it also returns each access that changed its word's
+//! state (`noted`).
 //!
 //! A worker has a machine of its own, which answers the steps of the worker's shards and passes all others.
 //!
@@ -23,7 +24,7 @@
 //!
 //! ```text
 //! let mut crew = Crew::new(rt, alloc, &table, config, 4)?;
-//! let (unusual, read) = thread::join_mut(rt, &mut || crew.take(rt, steps), &mut || read_more(&mut next));
+//! let (unusual, read) = thread::join_mut(rt, &mut || crew.take(rt, steps, false), &mut || read_more(&mut next));
 //! ```
 #![tactic(auto)]
 

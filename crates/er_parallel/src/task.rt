@@ -16,12 +16,13 @@ pub(crate) struct Task<'s> {
 }
 
 /// A worker's share of all steps: of so many workers, the one of this number answers the steps of the shards that have its number modulo
-/// theirs. A step that is on no word goes with shard 0.
+/// theirs. A step that is on no word goes with shard 0. With `noting` it also keeps the accesses that changed their words' states.
 #[derive(Clone, Copy)]
 pub(crate) struct Share {
     pub(crate) shards: u32,
     pub(crate) worker: u32,
     pub(crate) workers: u32,
+    pub(crate) noting: bool,
 }
 
 /// The shard of an event's words. An event on no word goes with shard 0.
@@ -41,7 +42,8 @@ pub(crate) fn shard_for(shards: u32, event: Event) -> u32
         | Event::Release(..)
         | Event::IgnoreOn
         | Event::IgnoreOff
-        | Event::Level(_) => 0,
+        | Event::Level(_)
+        | Event::Sync(_) => 0,
     }
 }
 

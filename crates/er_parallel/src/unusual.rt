@@ -1,8 +1,9 @@
-//! An answer that isn't the usual one.
+//! A step that is kept with its answer.
 
 use er_event::{Lockset, Refusal, Reply};
 
-/// An answer that isn't the usual one. The usual answer to an access is `Quiet`, and to any other step `Done`.
+/// A step whose answer isn't the usual one. The usual answer to an access is `Quiet`, and to any other step `Done`. If changes are
+/// noted, it may also be an access that changed its word's state, with any answer.
 #[derive(Debug, Drop)]
 pub struct Unusual {
     /// The position of the step in its batch.

@@ -101,7 +101,8 @@ pub(crate) fn is_usual(step: &Step, answer: &Result<Reply, Refusal>) -> bool
         | Event::IgnoreOn
         | Event::IgnoreOff
         | Event::Show(_)
-        | Event::Level(_) => matches!(answer, Ok(Reply::Done)),
+        | Event::Level(_)
+        | Event::Sync(_) => matches!(answer, Ok(Reply::Done)),
     }
 }
 

@@ -1,5 +1,5 @@
 //! A worker of a crew: it answers the steps of its shards, and follows what the other steps make of their threads' holdings.
-ghost use Rattle.std.specs.Prelude.{◌≡◌, ◌+◌, ◌++◌, [], List, length, slice_get, IsTrue, IsSome, IfOk, OnOk, OnErr, IsErrOf, IfErr, MatchResult, Ok, Some};
+ghost use Rattle.std.specs.Prelude.{◌≡◌, ◌+◌, ◌++◌, [], ℕ, false, List, length, slice_get, IsTrue, IsFalse, IsSome, IfOk, OnOk, OnErr, IsErrOf, IfErr, MatchResult, Ok, Some};
 ghost use Rattle.er_event.specs.declared.steps.Step.{Step as Steps};
 ghost use Rattle.er_parallel.specs.Crews.{HasFollowed};
 ghost use Rattle.er_parallel.specs.Faults.{AsksForSet};
@@ -7,12 +7,15 @@ ghost use Rattle.er_parallel.specs.Found.{usual};
 ghost use Rattle.er_parallel.specs.Inner.Taking.{HasCome, HasDone, HasTaken};
 ghost use Rattle.er_parallel.specs.Tasks.{IsShare};
 ghost use Rattle.er_parallel.specs.Work.{MayBeFull};
-ghost use Rattle.er_replay.specs.Standing.{holding, Stands};
+ghost use Rattle.er_model.specs.Following.{answered, state_after};
+ghost use Rattle.er_model.specs.Holdings.{after_step};
+ghost use Rattle.er_replay.specs.Standing.{found_no_room, holding, states, Stands};
+ghost use Rattle.er_replay.specs.Wants.{asks_by, is_access};
 
 use crate::Unusual;
 use crate::task::{Share, shard_for, worker_for};
 use crate::worked::{WorkFault, is_usual};
-use er_event::{Lockset, NoRoom, Refusal, Reply, Step, ThreadId};
+use er_event::{Event, Lockset, NoRoom, Refusal, Reply, Step, ThreadId};
 use er_replay::{Machine, no_room};
 use er_table::LocksetTable;
 use std::alloc::{AllocError, Global};
@@ -88,7 +91,7 @@ fn answer_all<R: Wait>(
     Ok(())
 }
 
-// Takes the next step of a batch, and puts its answer down unless it is another worker's step or the answer is the usual one.
+// Takes the next step of a batch, and keeps its answer unless it is another worker's step, or a plain one.
 fn go_on<R: Wait>(
     rt: &R,
     alloc: Global,
@@ -109,8 +112,8 @@ fn go_on<R: Wait>(
         machine.pass(*step)?;
         return Ok(());
     }
-    let answer = machine.step(rt, *step);
-    if is_usual(step, &answer) {
+    let (answer, noted) = answer_one(rt, machine, step, share.noting);
+    if is_plain(step, &answer, noted) {
         return Ok(());
     }
     if let Some(cause) = no_room(&answer) {
@@ -119,6 +122,44 @@ fn go_on<R: Wait>(
     let held = locks_at_race(alloc, machine, thread, &answer)?;
     found.push_back(Unusual { at, answer, held })?;
     Ok(())
+}
+
+// The answer to a step, and whether the step is noted: with `noting` an access is noted if it may have changed its word's state.
+#[inline(always)]
+fn answer_one<R: Wait>(
+    rt: &R,
+    machine: &mut Machine<'_>,
+    step: &Step,
+    noting: bool,
+) -> (Result<Reply, Refusal>, bool)
+    ensures table_full { IsErrOf result.0 Refusal.TableFull → IsTrue (asks_by (holding machine.old step.now.thread) (states machine.old) step.now.thread step.now.event) }
+    ensures answered { IsFalse (found_no_room result.0) → result.0 ≡ answered (holding machine.old step.now.thread) (states machine.old) step.now }
+    ensures holdings { IsFalse (found_no_room result.0) → (t : ℕ) → holding machine.new t ≡ after_step (holding machine.old t) t step.now }
+    ensures states { IsFalse (found_no_room result.0) → (w : ℕ) → states machine.new w ≡ state_after (holding machine.old step.now.thread) (states machine.old w) w step.now }
+    ensures same { IsTrue noting → IsTrue (is_access step.now.event) → result.1 ≡ false → (w : ℕ) → states machine.new w ≡ states machine.old w }
+{
+    if noting && is_access(step) {
+        machine.step_noting(rt, *step)
+    } else {
+        (machine.step(rt, *step), false)
+    }
+}
+
+// Whether the step reads or writes a word.
+#[inline]
+fn is_access(step: &Step) -> bool
+    ensures { result ≡ is_access step.now.event }
+{
+    let Step { event, .. } = *step;
+    matches!(event, Event::Access(..))
+}
+
+// Whether the step isn't kept: its answer is the usual one, and it isn't noted.
+#[inline]
+fn is_plain(step: &Step, answer: &Result<Reply, Refusal>, noted: bool) -> bool
+    ensures { IsTrue result → (answer.now ≡ usual step.now.event) × (noted ≡ false) }
+{
+    !noted && is_usual(step, answer)
 }
 
 // The locks that the thread holds, if the answer is a race.

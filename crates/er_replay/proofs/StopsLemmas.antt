@@ -7,7 +7,7 @@ use Rattle.er_event.specs.declared.refusals.NoRoom.{NoRoom}
 use Rattle.er_event.specs.declared.refusals.NoRoom.TheVariants as room
 use Rattle.er_event.specs.declared.refusals.Refusal.{Refusal}
 use Rattle.er_event.specs.declared.steps.Event.{Event}
-use Rattle.er_event.specs.declared.steps.Event.TheVariants.{Acquire, Release, Access, Reuse, IgnoreOn, IgnoreOff, Show, Level}
+use Rattle.er_event.specs.declared.steps.Event.TheVariants.{Acquire, Release, Access, Reuse, IgnoreOn, IgnoreOff, Show, Level, Sync}
 use Rattle.er_event.specs.declared.steps.Mode.TheVariants.{Read, Write}
 use Rattle.er_event.specs.declared.steps.Reply.{Reply}
 use Rattle.er_event.specs.declared.steps.Step.{Step}
@@ -46,6 +46,7 @@ unnamed h (Access kind w site) = refl
 unnamed h (Reuse range) = refl
 unnamed h (Show w) = refl
 unnamed h (Level n) = refl
+unnamed h (Sync sync) = refl
 
 named : (cause : NoRoom) → is_no_room (refusal_of cause) ≡ true
 named room.JournalFull = refl

@@ -3,7 +3,7 @@ use Rattle.std.specs.Prelude.{ℕ, ◌==◌, nat_lt, Bool, true, false, not, ◌
 use Rattle.er_event.specs.declared.refusals.Refusal.{Refusal}
 use Rattle.er_event.specs.declared.refusals.Refusal.TheVariants.{TableFull, OutOfMemory}
 use Rattle.er_event.specs.declared.steps.Event.{Event}
-use Rattle.er_event.specs.declared.steps.Event.TheVariants.{Acquire, Release, Access, Reuse, IgnoreOn, IgnoreOff, Show, Level}
+use Rattle.er_event.specs.declared.steps.Event.TheVariants.{Acquire, Release, Access, Reuse, IgnoreOn, IgnoreOff, Show, Level, Sync}
 use Rattle.er_event.specs.declared.steps.WordState.{WordState}
 use Rattle.er_event.specs.declared.steps.WordState.TheVariants.{Virgin, Exclusive, Shared, SharedModified}
 use Rattle.er_model.specs.Holdings.{Holdings}
@@ -21,8 +21,8 @@ is_own Virgin t = false
 is_own (Shared candidates) t = false
 is_own (SharedModified candidates) t = false
 
--- what takes a lock, opens a bracket, sets a level or shows a word may want memory; what gives up a lock, closes a bracket or reuses
--- words wants none (an access is looked at by itself)
+-- what takes a lock, opens a bracket, sets a level or shows a word may want memory; what gives up a lock, closes a bracket, reuses
+-- words or orders threads wants none (an access is looked at by itself)
 abbrev pub wants_memory : Event → Bool
 wants_memory (Acquire l m) = true
 wants_memory IgnoreOn = true
@@ -32,6 +32,7 @@ wants_memory (Release l m) = false
 wants_memory IgnoreOff = false
 wants_memory (Reuse range) = false
 wants_memory (Access kind w site) = false
+wants_memory (Sync sync) = false
 
 -- the refusal says that there is no memory
 abbrev pub is_no_memory : Refusal → Bool

@@ -14,6 +14,9 @@
 //! and leaves the words. Such a machine may stand for no list. So `step` also says what it answers and changes by the machine's own
 //! holdings and states (`answered`, `holdings`, `states`).
 //!
+//! [`Machine::step_noting`] takes a step as `step` does, and says also whether the step may have changed a word's state. If it says no, each
+//! word has the state that it had (`unchanged`, and `same` by the machine's own states).
+//!
 //! ```text
 //! let table = LocksetTable::new(alloc, 1_048_576)?;
 //! let mut machine = Machine::new(alloc, &table)?;

@@ -1,9 +1,9 @@
 //! The machine: every thread's holdings and every word's state.
-ghost use Rattle.std.specs.Prelude.{◌≡◌, ◌<◌, ◌++◌, ◌∷◌, [], ◌&&◌, ℕ, List, IsTrue, IsFalse, IsOk, IsErr, IfOk, IfErr, IsErrOf, OnOk, OnErr, Err, None, Some};
+ghost use Rattle.std.specs.Prelude.{◌≡◌, ◌<◌, ◌++◌, ◌∷◌, [], ◌&&◌, ℕ, nat_lt, true, false, List, IsTrue, IsFalse, IsOk, IsErr, IfOk, IfErr, IsErrOf, MatchOption, OnOk, OnErr, Err, None, Some};
 ghost use Rattle.er_event.specs.declared.steps.Step.{Step as Steps};
 ghost use Rattle.er_held.specs.ThreadLocks.{changes_holdings};
 ghost use Rattle.er_model.specs.Answers.{answer_next, state_end};
-ghost use Rattle.er_model.specs.Following.{answered, marked, replied, state_after};
+ghost use Rattle.er_model.specs.Following.{answered, locks_for, marked, replied, state_after};
 ghost use Rattle.er_model.specs.Holdings.{refused_by, after_step, holdings_end};
 ghost use Rattle.er_model.specs.Table.{moved};
 ghost use Rattle.er_journal.specs.AnswerList.{is_state};
@@ -11,7 +11,7 @@ ghost use Rattle.er_model.specs.Events.{is_show};
 ghost use Rattle.er_replay.specs.Wants.{is_access, asks_by, may_want, wants_memory};
 
 use crate::threads::Threads;
-use er_event::{Event, Kind, Refusal, Reply, Step, ThreadId, Word, WordState};
+use er_event::{Event, Kind, Lockset, Refusal, Reply, Step, ThreadId, Word, WordState};
 use er_held::Held;
 use er_shadow::ShadowMap;
 use er_table::LocksetTable;
@@ -78,6 +78,36 @@ impl<'t> Machine<'t> {
         self.follow(rt, step)
     }
 
+    /// Takes one step as `step` does. Returns its answer, and whether the step may have changed a word's state: `true` at each reuse, and
+    /// at an access that changed what stands for its word, `false` at any other step.
+    #[inline(always)]
+    pub fn step_noting<R: Wait>(&mut self, rt: &R, step: Step) -> (Result<Reply, Refusal>, bool)
+        ensures answer { (past : List Steps) → Stands self.old past → IsFalse (found_no_room result.0) → result.0 ≡ answer_next past step }
+        ensures goes_on { (past : List Steps) → Stands self.old past → IsFalse (found_no_room result.0) → Stands self.new (past ++ step ∷ []) }
+        ensures unchanged { (past : List Steps) → Stands self.old past → IsFalse (found_no_room result.0) → result.1 ≡ false → (w : ℕ) → state_end (past ++ step ∷ []) w ≡ state_end past w }
+
+        // After any refusal the machine stands for the lists that it stood for.
+        ensures err { (past : List Steps) → Stands self.old past → OnErr result.0 (Stands self.new past) }
+
+        // As with `step`, the definitions' refusals come, and otherwise only a want of room.
+        ensures refused { (why : Refusal) → refused_by (holding self.old step.thread) step.event ≡ Some why → result.0 ≡ Err why }
+        ensures room { refused_by (holding self.old step.thread) step.event ≡ None → IfErr result.0 (λ why. IsTrue (may_want (holding self.old step.thread) (states self.old) step.thread step.event why)) }
+        ensures table_full { IsErrOf result.0 Refusal.TableFull → IsTrue (asks_by (holding self.old step.thread) (states self.old) step.thread step.event) }
+        ensures ignored { 0 < (holding self.old step.thread).depth → IsTrue (is_access step.event) → IsOk result.0 }
+
+        // A show alone is answered with a state, and changes nothing.
+        ensures shows { IsTrue (is_state result.0) → IsTrue (is_show step.event) }
+        ensures still { IsTrue (is_show step.event) → (past : List Steps) → Stands self.old past → Stands self.new past }
+
+        // The same by the machine's own holdings and states, for one that stands for no list because it has passed steps.
+        ensures answered { IsFalse (found_no_room result.0) → result.0 ≡ answered (holding self.old step.thread) (states self.old) step }
+        ensures holdings { IsFalse (found_no_room result.0) → (t : ℕ) → holding self.new t ≡ after_step (holding self.old t) t step }
+        ensures states { IsFalse (found_no_room result.0) → (w : ℕ) → states self.new w ≡ state_after (holding self.old step.thread) (states self.old w) w step }
+        ensures same { result.1 ≡ false → (w : ℕ) → states self.new w ≡ states self.old w }
+    {
+        self.follow_noting(rt, step)
+    }
+
     /// Takes what a step makes of its thread's holdings, and leaves every word as it is: for a step whose word another machine keeps. A
     /// step that the definitions refuse changes nothing. The only error is that there is no memory, which changes nothing either.
     pub fn pass(&mut self, step: Step) -> Result<(), AllocError>
@@ -90,7 +120,7 @@ impl<'t> Machine<'t> {
     {
         let Step { thread, event } = step;
         match event {
-            Event::Access(..) | Event::Reuse(_) | Event::Show(_) => Ok(()),
+            Event::Access(..) | Event::Reuse(_) | Event::Show(_) | Event::Sync(_) => Ok(()),
             Event::Acquire(..)
             | Event::Release(..)
             | Event::IgnoreOn
@@ -122,6 +152,7 @@ impl<'t> Machine<'t> {
                 Ok(Reply::Done)
             }
             Event::Show(word) => Ok(Reply::State(self.words.state_of(word)?)),
+            Event::Sync(_) => Ok(Reply::Done),
             Event::Acquire(..)
             | Event::Release(..)
             | Event::IgnoreOn
@@ -148,15 +179,61 @@ impl<'t> Machine<'t> {
         ensures threads { self.new.threads ≡ self.old.threads }
         ensures room { IfErr result (λ why. IsTrue (may_want (holding self.old thread) (states self.old) thread (Event.Access kind word 0) why)) }
     {
-        let held = self.threads.get(thread);
-        if held.ignoring() {
+        let Some(locks) = cover(self.threads.get(thread), kind) else {
             return Ok(Reply::Ignored);
-        }
-        let locks = match kind {
-            Kind::Read => held.held(),
-            Kind::Write => held.write_held(),
         };
         Ok(self.words.access(rt, thread, word, kind, locks)?)
+    }
+
+    // What `follow` does, and whether a word may have changed. Split for the prover.
+    #[inline(always)]
+    fn follow_noting<R: Wait>(&mut self, rt: &R, step: Step) -> (Result<Reply, Refusal>, bool)
+        ensures answer { IsFalse (found_no_room result.0) → result.0 ≡ answered (holding self.old step.thread) (states self.old) step }
+        ensures holdings { IsFalse (found_no_room result.0) → (t : ℕ) → holding self.new t ≡ after_step (holding self.old t) t step }
+        ensures states { IsFalse (found_no_room result.0) → (w : ℕ) → states self.new w ≡ state_after (holding self.old step.thread) (states self.old w) w step }
+        ensures same { result.1 ≡ false → (w : ℕ) → states self.new w ≡ states self.old w }
+        ensures same_holdings { OnErr result.0 ((t : ℕ) → holding self.new t ≡ holding self.old t) }
+        ensures same_states { OnErr result.0 ((w : ℕ) → states self.new w ≡ states self.old w) }
+        ensures refused { (why : Refusal) → refused_by (holding self.old step.thread) step.event ≡ Some why → result.0 ≡ Err why }
+        ensures room { refused_by (holding self.old step.thread) step.event ≡ None → IfErr result.0 (λ why. IsTrue (may_want (holding self.old step.thread) (states self.old) step.thread step.event why)) }
+    {
+        let Step { thread, event } = step;
+        match event {
+            Event::Access(kind, word, _) => match self.access_noting(rt, thread, kind, word) {
+                Ok((reply, changed)) => (Ok(reply), changed),
+                Err(why) => (Err(why), false),
+            },
+            Event::Reuse(_) => (self.follow(rt, step), true),
+            Event::Show(_)
+            | Event::Acquire(..)
+            | Event::Release(..)
+            | Event::IgnoreOn
+            | Event::IgnoreOff
+            | Event::Level(_)
+            | Event::Sync(_) => (self.follow(rt, step), false),
+        }
+    }
+
+    // What `access` does, and whether it changed its word.
+    #[inline(always)]
+    fn access_noting<R: Wait>(
+        &mut self,
+        rt: &R,
+        thread: ThreadId,
+        kind: Kind,
+        word: Word,
+    ) -> Result<(Reply, bool), Refusal>
+        ensures reply { IfOk result (λ answer. answer.0 ≡ replied (holding self.old thread) (states self.old) thread (Event.Access kind word 0)) }
+        ensures ok { OnOk result ((w : ℕ) → states self.new w ≡ moved (states self.old w) w (marked (holding self.old thread) thread (Event.Access kind word 0))) }
+        ensures same { IfOk result (λ answer. answer.1 ≡ false → (w : ℕ) → states self.new w ≡ states self.old w) }
+        ensures err { OnErr result ((w : ℕ) → states self.new w ≡ states self.old w) }
+        ensures threads { self.new.threads ≡ self.old.threads }
+        ensures room { IfErr result (λ why. IsTrue (may_want (holding self.old thread) (states self.old) thread (Event.Access kind word 0) why)) }
+    {
+        let Some(locks) = cover(self.threads.get(thread), kind) else {
+            return Ok((Reply::Ignored, false));
+        };
+        Ok(self.words.access_noting(rt, thread, word, kind, locks)?)
     }
 
     /// Each few steps reads the states of the words that the next few access, so that they come from memory side by side. `at` is the
@@ -197,4 +274,18 @@ impl<'t> Machine<'t> {
     {
         self.words.state_of(word)
     }
+}
+
+// The locks that cover an access of this kind, or none if its thread ignores, and the access isn't counted.
+#[inline(always)]
+fn cover(held: &Held, kind: Kind) -> Option<&Lockset>
+    ensures { MatchOption result (nat_lt 0 held.now.depth ≡ true) (λ locks. (nat_lt 0 held.now.depth ≡ false) × (locks.now ≡ locks_for held.now kind)) }
+{
+    if held.ignoring() {
+        return None;
+    }
+    Some(match kind {
+        Kind::Read => held.held(),
+        Kind::Write => held.write_held(),
+    })
 }

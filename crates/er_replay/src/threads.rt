@@ -118,6 +118,6 @@ fn change(held: &mut Held, event: Event) -> Result<(), Refusal>
         Event::IgnoreOn => held.ignore_on(),
         Event::IgnoreOff => held.ignore_off(),
         Event::Level(level) => held.set_level(level),
-        Event::Access(..) | Event::Reuse(_) | Event::Show(_) => Ok(()),
+        Event::Access(..) | Event::Reuse(_) | Event::Show(_) | Event::Sync(_) => Ok(()),
     }
 }

@@ -6,7 +6,7 @@ use Rattle.std.proofs.lemmas.Option.{slice_get-get_or}
 use Rattle.er_event.proofs.Lists.{get_front}
 use Rattle.er_event.specs.declared.refusals.Refusal.{Refusal}
 use Rattle.er_event.specs.declared.steps.Event.{Event}
-use Rattle.er_event.specs.declared.steps.Event.TheVariants.{Acquire, Release, Access, Reuse, IgnoreOn, IgnoreOff, Show, Level}
+use Rattle.er_event.specs.declared.steps.Event.TheVariants.{Acquire, Release, Access, Reuse, IgnoreOn, IgnoreOff, Show, Level, Sync}
 use Rattle.er_event.specs.declared.steps.Reply.{Reply}
 use Rattle.er_event.specs.declared.steps.Step.{Step}
 use Rattle.er_explain.specs.Racing.{is_race, places_below}
@@ -59,6 +59,7 @@ module _ (before after : Recording) (rules : List Target) (on : GoesOn before af
   event-same IgnoreOff named = refl
   event-same (Show w) named = refl
   event-same (Level n) named = refl
+  event-same (Sync sync) named = refl
 
   step-there : (k : ℕ) → k < length before.steps → slice_get after.steps k ≡ slice_get before.steps k
   step-there k below = ap (λ (steps : List Step). slice_get steps k) on.steps ∙ get_front before.steps on.more k below

@@ -5,3 +5,4 @@ pub mod GrowthLemmas
 pub mod LawLemmas
 pub mod NamedLemmas
 pub mod ReasonLemmas
+pub mod PlainLemmas

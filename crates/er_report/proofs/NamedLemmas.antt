@@ -9,7 +9,7 @@ use Rattle.er_event.specs.Lockset.{with_lock, without_lock, meet, is_level_lock,
 use Rattle.er_trace.specs.Names.{NameTable}
 use Rattle.er_trace.specs.Trace.{IsNamed, HasNames as HasNumbersNamed}
 use Rattle.er_event.specs.declared.steps.Event.{Event}
-use Rattle.er_event.specs.declared.steps.Event.TheVariants.{Acquire, Release, Access, Reuse, IgnoreOn, IgnoreOff, Show, Level}
+use Rattle.er_event.specs.declared.steps.Event.TheVariants.{Acquire, Release, Access, Reuse, IgnoreOn, IgnoreOff, Show, Level, Sync}
 use Rattle.er_event.specs.declared.steps.Kind.{Kind}
 use Rattle.er_event.specs.declared.steps.Kind.TheVariants.{Read as reading, Write as writing}
 use Rattle.er_event.specs.declared.steps.Mode.TheVariants.{Read, Write}
@@ -93,6 +93,7 @@ module _ (names : NameTable) where
   named_changed h IgnoreOn new old = record { any = old.any; write = old.write }
   named_changed h IgnoreOff new old = record { any = old.any; write = old.write }
   named_changed h (Level n) new old = record { any = named_at_level n h.held old.any; write = named_at_level n h.write_held old.write }
+  named_changed h (Sync sync) new old = old
   named_changed h (Access kind w site) new old = old
   named_changed h (Reuse range) new old = old
   named_changed h (Show w) new old = old
@@ -146,6 +147,7 @@ module _ (names : NameTable) where
   named_moved h before w t IgnoreOff own all old = old
   named_moved h before w t (Show word) own all old = old
   named_moved h before w t (Level n) own all old = old
+  named_moved h before w t (Sync sync) own all old = old
 
   -- a line
   named_reply : (number : ℕ) (locks : List ℕ) (reasons : List Because) (h : Holdings) (states : ℕ → WordState) (t : ℕ) (e : Event) → t < length names.threads
@@ -169,6 +171,7 @@ module _ (names : NameTable) where
   named_reply number locks reasons h states t IgnoreOn own new all because shown = All-nil (HasViewNames names)
   named_reply number locks reasons h states t IgnoreOff own new all because shown = All-nil (HasViewNames names)
   named_reply number locks reasons h states t (Level n) own new all because shown = All-nil (HasViewNames names)
+  named_reply number locks reasons h states t (Sync sync) own new all because shown = All-nil (HasViewNames names)
 
   named_event : (e : Event) → HasNumbersNamed names e → HasEventNames names e
   named_event (Acquire l m) new = λ _. new
@@ -179,6 +182,7 @@ module _ (names : NameTable) where
   named_event IgnoreOff new = tt
   named_event (Show w) new = tt
   named_event (Level n) new = tt
+  named_event (Sync sync) new = tt
 
   named_answer : (number : ℕ) (locks : List ℕ) (reasons : List Because) (h : Holdings) (states : ℕ → WordState) (step : Step) (o : Option Refusal) → IsNamed names step
       → HasLockNames names locks → All (HasReasonNames names) reasons → ((w : ℕ) → HasStateNames names (states w))
@@ -223,6 +227,7 @@ site_in names IgnoreOn new = tt
 site_in names IgnoreOff new = tt
 site_in names (Show w) new = tt
 site_in names (Level n) new = tt
+site_in names (Sync sync) new = tt
 
 pub site_named : (names : NameTable) (steps : List Step) → All (IsNamed names) steps → (k : ℕ) (step : Step) → slice_get steps k ≡ Some step
     → HasSiteName names step.event

@@ -8,7 +8,7 @@ use Rattle.std.proofs.lemmas.List.{append-nil, take_all, take_more_set, drop_all
 use Rattle.std.proofs.lemmas.Option.{slice_get_past}
 use Rattle.er_event.specs.declared.refusals.Refusal.{Refusal}
 use Rattle.er_event.specs.declared.steps.Event.{Event}
-use Rattle.er_event.specs.declared.steps.Event.TheVariants.{Acquire, Release, Access, Reuse, IgnoreOn, IgnoreOff, Show, Level}
+use Rattle.er_event.specs.declared.steps.Event.TheVariants.{Acquire, Release, Access, Reuse, IgnoreOn, IgnoreOff, Show, Level, Sync}
 use Rattle.er_event.specs.declared.steps.Kind.{Kind}
 use Rattle.er_event.specs.declared.steps.Reply.{Reply}
 use Rattle.er_event.specs.declared.steps.Reply.TheVariants.{Race, Done, Quiet, Ignored, State}
@@ -86,6 +86,7 @@ race-gains r number locks t IgnoreOn e accesses = absurd (accesses refl)
 race-gains r number locks t IgnoreOff e accesses = absurd (accesses refl)
 race-gains r number locks t (Show w) e accesses = absurd (accesses refl)
 race-gains r number locks t (Level n) e accesses = absurd (accesses refl)
+race-gains r number locks t (Sync sync) e accesses = absurd (accesses refl)
 
 answer-gains : (r : Recording) (number : ℕ) (locks : List ℕ) (step : Step) (k : ℕ) (a : Result Reply Refusal) → (a ≡ Ok Race → word_in step.event ≡ None → ⊥)
     → Gains r (option_to_list (explanation_where r.steps k a)) (answer_line number locks [] step a) (answer_line number locks (reasons_by r (explanation_where r.steps k a)) step a)

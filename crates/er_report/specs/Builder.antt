@@ -1,12 +1,14 @@
 -- A report that grows by one step after another.
-use Rattle.std.specs.Prelude.{◌≡◌, ◌++◌, ℕ, All, false, is_some, List, length, slice_get, slice_index, IsTrue, Option, IfSome, Some, None, Result}
+use Rattle.std.specs.Prelude.{◌≡◌, ◌≤◌, ◌<◌, ◌+◌, ◌++◌, ℕ, suc, All, Bool, true, false, is_some, List, length, slice_get, slice_index, IsTrue, Option, IfSome, Some, None, Result, Ok, Err}
 use Rattle.er_trace.specs.Names.{NameTable}
 use Rattle.er_trace.specs.Trace.{Recording, IsNamed}
 use Rattle.er_event.specs.declared.refusals.Refusal.{Refusal}
 use Rattle.er_event.specs.declared.steps.Reply.{Reply}
+use Rattle.er_event.specs.declared.steps.Reply.TheVariants.{Done, Quiet, Race, Ignored, State}
 use Rattle.er_event.specs.declared.steps.Step.{Step}
 use Rattle.er_explain.specs.Racing.{is_race, places_below}
-use Rattle.er_model.specs.Answers.{answer}
+use Rattle.er_model.specs.Answers.{answer, state_at}
+use Rattle.er_model.specs.Explanations.{word_of}
 use Rattle.er_model.specs.Threads.{accepted, held}
 use Rattle.er_report.specs.Kept.{Kept, Follows}
 use Rattle.er_report.specs.Report.{Summary, matching_rule_at, lines_below, count_below, rule_counts, is_printed, is_refused}
@@ -55,6 +57,27 @@ pub record IsStepAt (r : Recording) (k : ℕ) (names : NameTable) (number : ℕ)
   pub named : names ≡ r.names
   pub answered : given ≡ answer r.steps k
   pub locked : IsTrue (is_race given) → locks ≡ held (accepted r.steps k) step.thread
+
+-- the answer is no race, no refusal and no shown state: a report counts its step and says nothing else of it
+abbrev pub is_plain : Result Reply Refusal → Bool
+is_plain (Ok Done) = true
+is_plain (Ok Quiet) = true
+is_plain (Ok Ignored) = true
+is_plain (Ok Race) = false
+is_plain (Ok (State state)) = false
+is_plain (Err refusal) = false
+
+-- the n steps from position k on are answered so
+abbrev pub ArePlain : List Step → ℕ → ℕ → Type 0
+ArePlain steps k n = (i : ℕ) → k ≤ i → i < k + n → is_plain (answer steps i) ≡ true
+
+-- the step at position k is an access that leaves the state of its word as it was
+abbrev pub KeepsState : List Step → ℕ → Type 0
+KeepsState steps k = (w : ℕ) × (word_of (slice_get steps k) ≡ Some w) × (state_at steps w (suc k) ≡ state_at steps w k)
+
+-- each of the n steps from position k on is one
+abbrev pub KeepStates : List Step → ℕ → ℕ → Type 0
+KeepStates steps k n = (i : ℕ) → k ≤ i → i < k + n → KeepsState steps i
 
 -- the second recording goes on from the first: it has more steps and lines, and perhaps more names, and each site keeps its name
 pub record GoesOn (before after : Recording) : Type 0 where

@@ -3,7 +3,7 @@ use Rattle.std.specs.Prelude.{◌≡◌, ◌<◌, ◌≤◌, ℕ, false, List, l
 use Rattle.er_event.specs.Lockset.{is_level_lock}
 use Rattle.er_trace.specs.Names.{NameTable}
 use Rattle.er_event.specs.declared.steps.Event.{Event}
-use Rattle.er_event.specs.declared.steps.Event.TheVariants.{Acquire, Release, Access, Reuse, IgnoreOn, IgnoreOff, Show, Level}
+use Rattle.er_event.specs.declared.steps.Event.TheVariants.{Acquire, Release, Access, Reuse, IgnoreOn, IgnoreOff, Show, Level, Sync}
 use Rattle.er_event.specs.declared.steps.WordState.{WordState}
 use Rattle.er_event.specs.declared.steps.WordState.TheVariants.{Virgin, Exclusive, Shared, SharedModified}
 use Rattle.er_report.specs.Lines.{LineView, RaceView, RefusedView, ShownView, line_view}
@@ -30,6 +30,7 @@ HasEventNames names IgnoreOn = Unit {0}
 HasEventNames names IgnoreOff = Unit {0}
 HasEventNames names (Show word) = Unit {0}
 HasEventNames names (Level level) = Unit {0}
+HasEventNames names (Sync sync) = Unit {0}
 
 -- the site of an access has; the missing site needs none
 abbrev pub HasSiteName : NameTable → Event → Type 0
@@ -41,6 +42,7 @@ HasSiteName names IgnoreOn = Unit {0}
 HasSiteName names IgnoreOff = Unit {0}
 HasSiteName names (Show word) = Unit {0}
 HasSiteName names (Level level) = Unit {0}
+HasSiteName names (Sync sync) = Unit {0}
 
 -- the thread or the locks of a state have
 abbrev pub HasStateNames : NameTable → WordState → Type 0

@@ -1,11 +1,11 @@
 //! `ReportBuilder`, a report that grows by one step after another.
-ghost use Rattle.std.specs.Prelude.{◌≡◌, ◌<◌, ◌+◌, ◌^◌, ◌++◌, ◌∷◌, ◌&&◌, ℕ, [], All, List, Option, None, Some, cond, false, is_none, is_some, length, map, slice_get, slice_index, OnOk, OnErr, IfOk, IfSome};
+ghost use Rattle.std.specs.Prelude.{◌≡◌, ◌<◌, ◌+◌, ◌^◌, ◌++◌, ◌∷◌, ◌&&◌, ℕ, [], All, List, Option, None, Some, cond, false, is_none, is_some, length, map, slice_get, slice_index, OnOk, OnErr, IfOk, IfSome, IsTrue};
 ghost use Rattle.std.specs.Option.{option_to_list};
 ghost use Rattle.er_trace.specs.Trace.{Recording, IsNamed};
 ghost use Rattle.er_explain.specs.Racing.{is_race};
 ghost use Rattle.er_journal.specs.AnswerList.{shown};
 ghost use Rattle.er_journal.specs.declared.answers.Stopped.{Stopped as Stop};
-ghost use Rattle.er_report.specs.Builder.{IsBuilt, IsExplained, IsReported, IsStepAt};
+ghost use Rattle.er_report.specs.Builder.{ArePlain, IsBuilt, IsExplained, IsReported, IsStepAt, KeepStates};
 ghost use Rattle.er_report.specs.Inner.Adding.{empty_report, with_answer, HasRoom};
 ghost use Rattle.er_report.specs.Kept.{Follows};
 ghost use Rattle.er_report.specs.Lines.{line_view};
@@ -26,7 +26,8 @@ use std::marker::Model;
 
 /// The report of the steps so far, under some rules. It keeps no step: a line has what a report says of its step.
 ///
-/// If reasons are wanted, each step is to be explained right after it was added, and the builder keeps the books of all words.
+/// If reasons are wanted, each step that was added by itself is to be explained right after it, and the builder keeps the books of all
+/// words.
 /// Contracts see the report without reasons, the positions of the races that have lines, the rules, and what is kept for reasons. A
 /// call of `add` that finds no memory leaves the builder as it was.
 #[derive(Drop)]
@@ -103,6 +104,13 @@ impl<'r> ReportBuilder<'r> {
         self.report.races
     }
 
+    /// Whether reasons are wanted.
+    pub fn explains(&self) -> bool
+        ensures { result ≡ is_some self.now.kept }
+    {
+        self.explainer.is_some()
+    }
+
     /// Adds the next step: the line of the text that it came from, its answer, and the locks that its thread holds, in any mode,
     /// which are looked at for a race alone. `AllocError`: memory was refused, and the builder is as it was.
     pub fn add(
@@ -152,6 +160,19 @@ impl<'r> ReportBuilder<'r> {
         }
         add_step(self.alloc, &mut self.report, line, step, answer, rule, held)?;
         Ok(())
+    }
+
+    /// Adds that many steps at once. The answer to each must be `Done`, `Quiet` or `Ignored`. If reasons are wanted, each must also be an
+    /// access that leaves the state of its word as it was. None of them is to be explained.
+    pub fn add_plain(&mut self, count: u64)
+        requires room { self.old.report.steps + count < 2 ^ 64 }
+        ensures rules { self.new.rules ≡ self.old.rules }
+        ensures steps { self.new.report.steps ≡ self.old.report.steps + count }
+        ensures built { (r : Recording) (k : ℕ) → IsBuilt self.old r k → ArePlain r.steps k count → IsBuilt self.new r (k + count) }
+        ensures reported { (r : Recording) (k : ℕ) → IsReported self.old r k → ArePlain r.steps k count → (IsTrue (is_some self.old.kept) → KeepStates r.steps k count) → IsReported self.new r (k + count) }
+        ensures kept { self.new.kept ≡ self.old.kept }
+    {
+        self.report.steps += count;
     }
 
     /// Finds the reasons of the step that was added last, if reasons are wanted and it is a race that has a line. Each step is to be

@@ -15,6 +15,8 @@
 //! and not of steps. Rules are looked at for a race alone. If reasons are asked for, each step is also explained once it was added:
 //! the builder then keeps a book of each word that is accessed, and memory also goes by their number.
 //!
+//! Most steps have no line and leave no reason behind. Any number of them is added by one call ([`ReportBuilder::add_plain`]).
+//!
 //! ```
 //! // The trace is `t1 write 0x1000` and `t2 write 0x1000`, on lines 2 and 3.
 //! let report = summarise(alloc, &trace, &outcome, &Suppressions::new(alloc), false)?;

@@ -8,7 +8,9 @@ use Rattle.std.proofs.lemmas.Option.{slice_get_within, slice_get-get_or}
 use Rattle.er_event.proofs.Lists.{get_front}
 use Rattle.er_event.specs.declared.refusals.NoRoom.{NoRoom}
 use Rattle.er_event.specs.declared.steps.Event.{Event}
-use Rattle.er_event.specs.declared.steps.Event.TheVariants.{Acquire, Release, Access, Reuse, IgnoreOn, IgnoreOff, Show, Level}
+use Rattle.er_event.specs.declared.steps.Event.TheVariants.{Acquire, Release, Access, Reuse, IgnoreOn, IgnoreOff, Show, Level, Sync}
+use Rattle.er_event.specs.declared.steps.Sync.{Sync as SyncEvent}
+use Rattle.er_event.specs.declared.steps.Sync.TheVariants.{Start, Join, Signal, Await}
 use Rattle.er_event.specs.declared.steps.Step.{Step}
 use Rattle.er_journal.specs.declared.answers.Stopped.{Stopped}
 use Rattle.er_replay.specs.Standing.{Replayed, Stands}
@@ -25,7 +27,7 @@ use Rattle.er_text.specs.declared.reading.Batch.{Batch}
 use Rattle.er_text.specs.declared.reading.Batch.TheVariants.{More, End}
 use Rattle.er_text.specs.Named.{KeepsNumbers, KeepsNames}
 use Rattle.er_trace.specs.Names.{NameTable, no_names}
-use Rattle.er_trace.specs.Trace.{Recording, IsNamed, HasNames, no_steps, without_steps}
+use Rattle.er_trace.specs.Trace.{Recording, IsNamed, HasNames, HasOrderNames, no_steps, without_steps}
 
 -- numbers that have names still have them
 still : (old new : List (List ℕ)) (n : ℕ) → KeepsNumbers old new → n < length old → n < length new
@@ -36,6 +38,12 @@ still-site : (old new : List (List ℕ)) (n : ℕ) → KeepsNumbers old new → 
 still-site old new zero kept within = omega arith
 still-site old new (suc n) kept within = (let there : n < length new = still old new n kept (omega arith) in omega arith)
 
+order-named : (old new : NameTable) → KeepsNames old new → (sync : SyncEvent) → HasOrderNames old sync → HasOrderNames new sync
+order-named old new kept (Start thread) named = still old.threads new.threads thread kept.threads named
+order-named old new kept (Join thread) named = still old.threads new.threads thread kept.threads named
+order-named old new kept (Signal object) named = still old.locks new.locks object kept.locks named
+order-named old new kept (Await object) named = still old.locks new.locks object kept.locks named
+
 event-named : (old new : NameTable) → KeepsNames old new → (event : Event) → HasNames old event → HasNames new event
 event-named old new kept (Acquire l m) named = still old.locks new.locks l kept.locks named
 event-named old new kept (Release l m) named = still old.locks new.locks l kept.locks named
@@ -45,6 +53,7 @@ event-named old new kept IgnoreOn named = tt
 event-named old new kept IgnoreOff named = tt
 event-named old new kept (Show w) named = tt
 event-named old new kept (Level n) named = tt
+event-named old new kept (Sync sync) named = order-named old new kept sync named
 
 step-named : (old new : NameTable) → KeepsNames old new → (step : Step) → IsNamed old step → IsNamed new step
 step-named old new kept step named =

@@ -1,5 +1,5 @@
 -- A batch that workers have answered goes on behind the steps that are past.
-use Rattle.std.proofs.Common.{◌≡◌, ◌⊎◌, ◌<◌, ◌≤◌, ◌+◌, ℕ, true, false, List, [], ◌∷◌, ◌++◌, length, length-append, slice_get, slice_index, Option, Some, None, IfSome, is_some, Result, Ok, Err, refl, sym, ap, subst, ◌∙◌, inl, inr, arith}
+use Rattle.std.proofs.Common.{◌≡◌, ◌⊎◌, ◌<◌, ◌≤◌, ◌+◌, ℕ, suc, add-one, true, false, List, [], ◌∷◌, ◌++◌, length, length-append, slice_get, slice_index, Option, Some, None, IfSome, is_some, Result, Ok, Err, refl, sym, ap, subst, ◌∙◌, inl, inr, arith}
 use Rattle.std.specs.List.{All}
 use Rattle.std.proofs.lemmas.List.{append_assoc, append-nil}
 use Rattle.std.proofs.lemmas.List.Elements.{All-append, All-nil}
@@ -8,7 +8,7 @@ use Rattle.std.proofs.lemmas.Option.{slice_get_within}
 use Rattle.er_event.proofs.Lists.{get_behind, get_still}
 use Rattle.er_event.specs.declared.refusals.Refusal.{Refusal}
 use Rattle.er_event.specs.declared.steps.Event.{Event}
-use Rattle.er_event.specs.declared.steps.Event.TheVariants.{Acquire, Release, Access, Reuse, IgnoreOn, IgnoreOff, Show, Level}
+use Rattle.er_event.specs.declared.steps.Event.TheVariants.{Acquire, Release, Access, Reuse, IgnoreOn, IgnoreOff, Show, Level, Sync}
 use Rattle.er_event.specs.declared.steps.Reply.{Reply}
 use Rattle.er_event.specs.declared.steps.Reply.TheVariants.{Race}
 use Rattle.er_event.specs.declared.steps.Step.{Step}
@@ -18,24 +18,25 @@ use Rattle.er_explain.specs.Racing.{is_race}
 use Rattle.er_journal.specs.declared.answers.Stopped.{Stopped}
 use Rattle.er_model.proofs.Prefixes.{holdings-front, state-front}
 use Rattle.er_model.specs.Answers.{answer, state_at}
+use Rattle.er_model.specs.Explanations.{word_in, word_of}
 use Rattle.er_model.specs.Holdings.{Holdings, holdings_at}
 use Rattle.er_model.specs.Threads.{accepted, held}
-use Rattle.er_parallel.specs.Crews.{Crewed, AreUnusual, HaveAnswered, IsAmong, IsAnswered, Rise}
+use Rattle.er_parallel.specs.Crews.{Crewed, AreNoted, AreUnusual, HaveAnswered, LeavesWord, IsAmong, IsAnswered, Rise}
 use Rattle.er_parallel.specs.Faults.{AsksForSet, MayFail}
 use Rattle.er_parallel.specs.Found.{usual}
 use Rattle.er_parallel.specs.declared.faults.ReplayFault.{ReplayFault}
 use Rattle.er_parallel.specs.declared.faults.ReplayFault.TheVariants as replaying
 use Rattle.er_parallel.specs.declared.unusual.Unusual.{Unusual}
-use Rattle.er_replay.specs.Wants.{asks_by}
+use Rattle.er_replay.specs.Wants.{asks_by, is_access}
 use Rattle.er_report.proofs.GrowthLemmas.{reported-on}
-use Rattle.er_report.specs.Builder.{Built, GoesOn, IsReported, IsStepAt}
+use Rattle.er_report.specs.Builder.{Built, GoesOn, IsReported, IsStepAt, KeepsState, is_plain}
 use Rattle.er_report.specs.Report.{answered_steps, report_of, stop_line, told as summary}
 use Rattle.er_report.specs.declared.report.Report.{Report}
 use Rattle.er_run.proofs.PassLemmas.{all-named, read-part, read-whole}
 use Rattle.er_run.specs.Faults.{fault_of}
 use Rattle.er_run.specs.Inner.Passes.{recorded}
 use Rattle.er_run.specs.Inner.Reports.{IsFaultOfText, IsReportOfText}
-use Rattle.er_run.specs.Inner.Several.{BeginsWith, HasMore, HasReadAll, HasReadOn, HasReportedAll, IsNext, IsReadFault, Pending}
+use Rattle.er_run.specs.Inner.Several.{AreItems, BeginsWith, HasMore, HasReadAll, HasReadOn, HasReportedAll, IsNext, IsReadFault, Pending}
 use Rattle.er_run.specs.declared.fault.RunFault.TheVariants.{Read}
 use Rattle.er_text.proofs.BatchLaws.{forgotten}
 use Rattle.er_text.specs.Batches.{HasRead, GivesBatch, joined}
@@ -59,6 +60,30 @@ usual-quiet IgnoreOn = refl
 usual-quiet IgnoreOff = refl
 usual-quiet (Show w) = refl
 usual-quiet (Level n) = refl
+usual-quiet (Sync sync) = refl
+
+plain-usual : (event : Event) → is_plain (usual event) ≡ true
+plain-usual (Access kind w site) = refl
+plain-usual (Acquire l m) = refl
+plain-usual (Release l m) = refl
+plain-usual (Reuse range) = refl
+plain-usual IgnoreOn = refl
+plain-usual IgnoreOff = refl
+plain-usual (Show w) = refl
+plain-usual (Level n) = refl
+plain-usual (Sync sync) = refl
+
+-- an access that leaves its word leaves the state of it
+leaves-state : (steps : List Step) (k : ℕ) (event : Event) → is_access event ≡ true → LeavesWord steps k event → (w : ℕ) × (word_in event ≡ Some w) × (state_at steps w (suc k) ≡ state_at steps w k)
+leaves-state steps k (Access kind w site) accesses same = (w, refl, ap (state_at steps w) (sym (add-one k)) ∙ same)
+leaves-state steps k (Acquire l m) accesses same = cc
+leaves-state steps k (Release l m) accesses same = cc
+leaves-state steps k (Reuse range) accesses same = cc
+leaves-state steps k IgnoreOn accesses same = cc
+leaves-state steps k IgnoreOff accesses same = cc
+leaves-state steps k (Show w) accesses same = cc
+leaves-state steps k (Level n) accesses same = cc
+leaves-state steps k (Sync sync) accesses same = cc
 
 same-step : (one other : Step) → Some one ≡ Some other → one ≡ other
 same-step one other is = cc
@@ -110,6 +135,20 @@ module _ (past batch : List Step) (lines : List ℕ) (names : NameTable) (items 
       by (inl same) = sym same
       by (inr among) = absurd (among-none next before after among)
 
+  -- which is no race, no refusal and no state
+  pub usual-plain : (next : ℕ) → IsNext items next k → IsNext items next (k + 1) → is_plain (answer (past ++ batch) (length past + k)) ≡ true
+  usual-plain next before after = ap is_plain (sym (as-usual next before after []).answered) ∙ plain-usual step.event
+
+  -- and if it is an access that isn't noted, its word has the state that it had
+  pub unnoted : AreNoted past batch items → is_access step.event ≡ true → (next : ℕ) → IsNext items next k → IsNext items next (k + 1) → KeepsState (past ++ batch) (length past + k)
+  unnoted noted accesses next before after = by (noted k step here)
+    where
+      by : LeavesWord (past ++ batch) (length past + k) step.event ⊎ IsAmong items k → KeepsState (past ++ batch) (length past + k)
+      by (inl same) =
+          let found = leaves-state (past ++ batch) (length past + k) step.event accesses same in
+          (found.0, ap word_of there ∙ found.1, found.2)
+      by (inr among) = absurd (among-none next before after among)
+
 -- a step that asks for a set does so in every list that goes on from its own
 asks-still : (h other : Holdings) (states others : ℕ → WordState) (t : ℕ) (event : Event) → other ≡ h → ((w : ℕ) → others w ≡ states w)
     → asks_by other others t event ≡ asks_by h states t event
@@ -121,6 +160,7 @@ asks-still h other states others t IgnoreOn same words = refl
 asks-still h other states others t IgnoreOff same words = refl
 asks-still h other states others t (Show w) same words = refl
 asks-still h other states others t (Level n) same words = refl
+asks-still h other states others t (Sync sync) same words = refl
 
 asks-front : (steps more : List Step) → AsksForSet steps → AsksForSet (steps ++ more)
 asks-front steps more asks =
@@ -295,8 +335,8 @@ several-begun reader trace crew builder empty starts answered built told =
 module _ (told known rest : Option (List ℕ)) (old new : Reached) (t u : Recording) (batch : List Step) (numbers : List ℕ) (crew after : Crewed) (builder added : Built) (items : List Unusual)
     (given : Batch) (kept : KeepsNames t.names u.names) (named : All (IsNamed u.names) u.steps) (even : length u.lines ≡ length u.steps)
     (gives : (text : List ℕ) (steps : List Step) (lines : List ℕ) → HasRead text steps lines old known t → GivesBatch text steps lines new rest u (Ok given))
-    (goes : (past : List Step) → HaveAnswered crew past → HaveAnswered after (past ++ batch)) (answers : (past : List Step) → HaveAnswered crew past → AreUnusual past batch items)
-    (adds : (past : List Step) (lines : List ℕ) → length lines ≡ length past → AreUnusual past batch items → IsReported builder (recorded (past ++ batch) (lines ++ numbers) u.names) (length past)
+    (goes : (past : List Step) → HaveAnswered crew past → HaveAnswered after (past ++ batch)) (answers : (past : List Step) → HaveAnswered crew past → AreItems (is_some builder.kept) past batch items)
+    (adds : (past : List Step) (lines : List ℕ) → length lines ≡ length past → AreItems (is_some builder.kept) past batch items → IsReported builder (recorded (past ++ batch) (lines ++ numbers) u.names) (length past)
     → IsReported added (recorded (past ++ batch) (lines ++ numbers) u.names) (length past + length batch))
     (state : HasReadOn told known old t crew builder batch numbers) where
   pending : Pending after added u.names (state.past ++ batch) (state.lines ++ numbers) u.steps u.lines
@@ -348,8 +388,8 @@ given-of (Some text) known rest old new t u past lines given gives read = gives 
 
 -- after the last turn
 module _ (told : Option (List ℕ)) (limit : ℕ) (names : NameTable) (batch : List Step) (numbers : List ℕ) (crew : Crewed) (builder : Built) (all : HasReadAll told limit names crew builder batch numbers) where
-  pub reports-all : (added : Built) (items : List Unusual) → ((past : List Step) → HaveAnswered crew past → AreUnusual past batch items)
-      → ((past : List Step) (lines : List ℕ) → length lines ≡ length past → AreUnusual past batch items → IsReported builder (recorded (past ++ batch) (lines ++ numbers) names) (length past)
+  pub reports-all : (added : Built) (items : List Unusual) → ((past : List Step) → HaveAnswered crew past → AreItems (is_some builder.kept) past batch items)
+      → ((past : List Step) (lines : List ℕ) → length lines ≡ length past → AreItems (is_some builder.kept) past batch items → IsReported builder (recorded (past ++ batch) (lines ++ numbers) names) (length past)
       → IsReported added (recorded (past ++ batch) (lines ++ numbers) names) (length past + length batch))
       → HasReportedAll told limit names added
   reports-all added items answers adds =

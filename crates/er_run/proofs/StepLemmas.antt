@@ -1,23 +1,24 @@
 -- What a machine says of a step that comes after the first k is what the definitions say of the step at position k.
-use Rattle.std.proofs.Common.{◌≡◌, ◌<◌, ◌+◌, ◌==◌, ℕ, Bool, true, false, cond, List, [], ◌∷◌, ◌++◌, length, take, drop, slice_get, slice_index, Some, None, Result, Ok, refl, sym, ap, subst, ◌∙◌, ◌≤◌, arith}
+use Rattle.std.proofs.Common.{◌≡◌, ◌<◌, ◌+◌, ◌==◌, ℕ, Bool, true, false, cond, List, [], ◌∷◌, ◌++◌, length, take, drop, slice_get, slice_index, Some, None, Result, Ok, refl, sym, ap, subst, ◌∙◌, ◌≤◌, suc, add-one, arith}
 use Rattle.std.proofs.lemmas.List.{take_more, take-append-drop, length-take-le}
 use Rattle.std.proofs.lemmas.Option.{slice_get_within, get_or_from_slice_get}
 use Rattle.er_trace.specs.Names.{NameTable}
 use Rattle.er_trace.specs.Trace.{Recording}
 use Rattle.er_event.specs.declared.refusals.Refusal.{Refusal}
 use Rattle.er_event.specs.declared.steps.Event.{Event}
-use Rattle.er_event.specs.declared.steps.Event.TheVariants.{Acquire, Release, Access, Reuse, IgnoreOn, IgnoreOff, Show, Level}
+use Rattle.er_event.specs.declared.steps.Event.TheVariants.{Acquire, Release, Access, Reuse, IgnoreOn, IgnoreOff, Show, Level, Sync}
 use Rattle.er_event.specs.declared.steps.Reply.{Reply}
 use Rattle.er_event.specs.declared.steps.Reply.TheVariants.{Race}
 use Rattle.er_event.specs.declared.steps.Step.{Step}
 use Rattle.er_explain.proofs.RaceLemmas.{race-is}
 use Rattle.er_explain.proofs.FoundLemmas.{no-word}
-use Rattle.er_model.proofs.Prefixes.{answer-front, holdings-front, holdings-grow}
-use Rattle.er_model.specs.Answers.{answer, answer_next}
+use Rattle.er_model.proofs.Prefixes.{answer-front, holdings-front, holdings-grow, state-front}
+use Rattle.er_model.specs.Answers.{answer, answer_next, state_at, state_end}
 use Rattle.er_model.specs.Explanations.{word_in, word_of}
 use Rattle.er_model.specs.Holdings.{Holdings, changed_unless, refused_by, holdings, holdings_at, holdings_end}
 use Rattle.er_model.specs.Threads.{accepted, held}
-use Rattle.er_report.specs.Builder.{IsStepAt}
+use Rattle.er_replay.specs.Wants.{is_access}
+use Rattle.er_report.specs.Builder.{IsStepAt, KeepsState}
 
 -- an access leaves what its thread holds
 after-access : (h : Holdings) (event : Event) → (word_in event ≡ None → ⊥) → changed_unless (refused_by h event) h event ≡ h
@@ -29,10 +30,23 @@ after-access h IgnoreOn accesses = absurd (accesses refl)
 after-access h IgnoreOff accesses = absurd (accesses refl)
 after-access h (Show w) accesses = absurd (accesses refl)
 after-access h (Level n) accesses = absurd (accesses refl)
+after-access h (Sync sync) accesses = absurd (accesses refl)
 
 same-either : (b : Bool) (h other : Holdings) → other ≡ h → cond b other h ≡ h
 same-either true h other same = same
 same-either false h other same = refl
+
+-- the word of an access
+pub access-word : (event : Event) → is_access event ≡ true → (w : ℕ) × (word_in event ≡ Some w)
+access-word (Access kind w site) accesses = (w, refl)
+access-word (Acquire l m) accesses = cc
+access-word (Release l m) accesses = cc
+access-word (Reuse range) accesses = cc
+access-word IgnoreOn accesses = cc
+access-word IgnoreOff accesses = cc
+access-word (Show w) accesses = cc
+access-word (Level n) accesses = cc
+access-word (Sync sync) accesses = cc
 
 module _ (steps : List Step) (k : ℕ) (step : Step) (here : slice_get steps k ≡ Some step) where
   abbrev past : List Step
@@ -73,6 +87,26 @@ module _ (steps : List Step) (k : ℕ) (step : Step) (here : slice_get steps k �
       (after-access (holdings_end past t) step.event accesses)
       ∙ holdings-here t in
       ap (λ (h : Holdings). h.held) same
+
+  -- the states of a word there
+  state-before : (w : ℕ) → state_end past w ≡ state_at steps w k
+  state-before w =
+      ap (state_at past w) long
+      ∙ sym (state-front past (drop k steps) w k (omega (arith, long)))
+      ∙ ap (λ (all : List Step). state_at all w k) (take-append-drop k steps)
+
+  state-behind : (w : ℕ) → state_end (past ++ step ∷ []) w ≡ state_at steps w (suc k)
+  state-behind w =
+      ap (λ (front : List Step). state_end front w) past-next
+      ∙ ap (state_at (take (k + 1) steps) w) next-long
+      ∙ sym (state-front (take (k + 1) steps) (drop (k + 1) steps) w (k + 1) (omega (arith, next-long)))
+      ∙ ap (λ (all : List Step). state_at all w (k + 1)) (take-append-drop (k + 1) steps)
+      ∙ ap (state_at steps w) (add-one k)
+
+  pub keeps-here : is_access step.event ≡ true → ((w : ℕ) → state_end (past ++ step ∷ []) w ≡ state_end past w) → KeepsState steps k
+  keeps-here accesses same =
+      let word = access-word step.event accesses in
+      (word.0, ap word_of here ∙ word.1, sym (state-behind word.0) ∙ same word.0 ∙ state-before word.0)
 
 pub step-at : (r : Recording) (k : ℕ) (names : NameTable) (number : ℕ) (step : Step) (given : Result Reply Refusal) (locks : List ℕ)
     → slice_get r.steps k ≡ Some step → number ≡ slice_index r.lines k → names ≡ r.names → given ≡ answer_next (take k r.steps) step

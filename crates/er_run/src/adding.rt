@@ -1,13 +1,14 @@
 //! Adds the answers of several workers to a report.
-ghost use Rattle.std.specs.Prelude.{◌≡◌, ◌++◌, ◌+◌, ◌<◌, ◌≤◌, ◌^◌, ℕ, List, All, length, is_some, slice_get, slice_index, IfOk, MatchOption, OnOk, Some};
+ghost use Rattle.std.specs.Prelude.{◌≡◌, ◌++◌, ◌+◌, ◌<◌, ◌≤◌, ◌^◌, ℕ, List, All, length, is_some, slice_get, slice_index, IfOk, MatchOption, OnOk, Some, IsTrue, true};
 ghost use Rattle.er_event.specs.declared.steps.Step.{Step as Steps};
 ghost use Rattle.er_journal.specs.AnswerList.{shown};
 ghost use Rattle.er_parallel.specs.Crews.{AreUnusual, Rise};
 ghost use Rattle.er_parallel.specs.Found.{usual};
+ghost use Rattle.er_replay.specs.Wants.{is_access};
 ghost use Rattle.er_report.specs.Builder.{IsBuilt, IsReported};
 ghost use Rattle.er_report.specs.Names.{HasSiteName};
-ghost use Rattle.er_run.specs.Inner.Passes.{recorded};
-ghost use Rattle.er_run.specs.Inner.Several.{IsNext};
+ghost use Rattle.er_run.specs.Inner.Passes.{Lags, recorded};
+ghost use Rattle.er_run.specs.Inner.Several.{AreItems, IsNext};
 ghost use Rattle.er_trace.specs.Trace.{IsNamed};
 
 use er_event::{Event, Lockset, Step};
@@ -75,32 +76,84 @@ fn add_one(
     }
 }
 
-/// Adds the steps of a batch to the report, with their unusual answers and otherwise the usual ones.
+// Whether the report says nothing of the step at position k: its answer is the usual one, and if reasons are wanted it is an access that
+// isn't noted as one that changed its word.
+#[inline(always)]
+fn says_nothing(explains: bool, event: Event, items: &[Unusual], next: usize, k: usize) -> bool
+    ensures place { IsTrue result → Rise items.now → IsNext items.now next k → IsNext items.now next (k + 1) }
+    ensures access { IsTrue result → explains ≡ true → is_access event ≡ true }
+{
+    if item_at(items, next, k).is_some() {
+        return false;
+    }
+    !explains || matches!(event, Event::Access(..))
+}
+
+// Adds so many steps that have nothing to say, and then the step at position k of a batch. Returns how many of the items are behind.
+fn add_behind(
+    builder: &mut ReportBuilder<'_>,
+    plain: u64,
+    names: &Names,
+    line: u64,
+    step: &Step,
+    items: &[Unusual],
+    next: usize,
+    k: usize,
+    none: &Lockset,
+) -> Result<usize, AllocError>
+    requires room { builder.old.report.steps + plain + 1 < 2 ^ 64 }
+    requires site { HasSiteName names.now step.now.event }
+    requires next { next ≤ k }
+    requires small { k + 1 < 2 ^ 64 }
+    ensures rules { OnOk result (builder.new.rules ≡ builder.old.rules) }
+    ensures steps { OnOk result (builder.new.report.steps ≡ builder.old.report.steps + plain + 1) }
+    ensures explains { OnOk result (is_some builder.new.kept ≡ is_some builder.old.kept) }
+    ensures next { IfOk result (λ after. after ≤ k + 1) }
+    ensures place { Rise items.now → IsNext items.now next k → IfOk result (λ after. IsNext items.now after (k + 1)) }
+    ensures reported { (past batch : List Steps) (lines : List ℕ) → AreUnusual past batch items.now → IsNext items.now next k
+        → slice_get batch k ≡ Some step.now → line ≡ slice_index lines (length past + k) → Lags builder.old (recorded (past ++ batch) lines names.now) (length past + k) plain
+        → OnOk result (IsReported builder.new (recorded (past ++ batch) lines names.now) (length past + k + 1)) }
+{
+    builder.add_plain(plain);
+    let after = add_one(builder, names, line, step, items, next, k, none)?;
+    builder.explain(line, step)?;
+    Ok(after)
+}
+
+/// Adds the steps of a batch to the report, with their items' answers and otherwise the usual ones. If reasons are wanted, each access
+/// that changed its word must have an item.
 pub(crate) fn add_batch(
     alloc: Global,
     builder: &mut ReportBuilder<'_>,
     names: &Names,
     steps: &[Step],
     numbers: &[u64],
-    unusual: &[Unusual],
+    items: &[Unusual],
 ) -> Result<(), AllocError>
     requires level { length numbers.now ≡ length steps.now }
     requires named { All (IsNamed names.now) steps.now }
     ensures rules { OnOk result (builder.new.rules ≡ builder.old.rules) }
     ensures explains { OnOk result (is_some builder.new.kept ≡ is_some builder.old.kept) }
-    ensures reported { (past : List Steps) (lines : List ℕ) → length lines ≡ length past → AreUnusual past steps.now unusual.now
+    ensures reported { (past : List Steps) (lines : List ℕ) → length lines ≡ length past → AreItems (is_some builder.old.kept) past steps.now items.now
         → IsReported builder.old (recorded (past ++ steps.now) (lines ++ numbers.now) names.now) (length past)
         → OnOk result (IsReported builder.new (recorded (past ++ steps.now) (lines ++ numbers.now) names.now) (length past + length steps.now)) }
 {
     if steps.len() as u64 > u64::MAX - builder.steps() {
         return Err(AllocError);
     }
+    let explains = builder.explains();
     let none = Lockset::new(alloc);
     let mut next = 0;
+    let mut plain = 0;
     for (k, step) in steps.iter().enumerate() {
-        let line = numbers[k];
-        next = add_one(builder, names, line, step, unusual, next, k, &none)?;
-        builder.explain(line, step)?;
+        if says_nothing(explains, step.event, items, next, k) {
+            plain += 1;
+        } else {
+            let line = numbers[k];
+            next = add_behind(builder, plain, names, line, step, items, next, k, &none)?;
+            plain = 0;
+        }
     }
+    builder.add_plain(plain);
     Ok(())
 }

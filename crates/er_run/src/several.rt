@@ -1,8 +1,8 @@
 //! A replay by several workers, who answer one batch of lines while the next is read.
-ghost use Rattle.std.specs.Prelude.{◌≡◌, ◌+◌, ◌++◌, ◌<◌, ◌≤◌, ℕ, List, Option, All, None, [], false, true, length, is_some, IfSome, IfOk, IfErr, OnOk};
+ghost use Rattle.std.specs.Prelude.{◌≡◌, ◌+◌, ◌++◌, ◌<◌, ◌≤◌, ℕ, List, Option, All, None, [], false, true, length, is_some, IfSome, IfOk, IfErr, IsTrue, OnOk};
 ghost use Rattle.er_device.specs.Device.{inner_of, has_failed, taken_of};
 ghost use Rattle.er_event.specs.declared.steps.Step.{Step as Steps};
-ghost use Rattle.er_parallel.specs.Crews.{AreUnusual, HaveAnswered};
+ghost use Rattle.er_parallel.specs.Crews.{AreNoted, AreUnusual, HaveAnswered};
 ghost use Rattle.er_parallel.specs.Faults.{MayFail};
 ghost use Rattle.er_report.specs.Builder.{IsReported};
 ghost use Rattle.er_report.specs.Names.{HasNames};
@@ -57,13 +57,15 @@ fn answer_and_read<R: Threads + Wait + Sync, D: Read>(
     rt: &R,
     crew: &mut Crew<'_>,
     steps: &[Step],
+    noting: bool,
     lines: &mut TraceReader,
     reader: &mut Device<D>,
     trace: &mut Trace,
 ) -> (Result<Vec<Unusual>, ReplayFault>, Result<Batch, ReadFault>)
     requires open { has_failed reader.old ≡ false }
     ensures goes_on { (past : List Steps) → HaveAnswered crew.old past → OnOk result.0 (HaveAnswered crew.new (past ++ steps.now)) }
-    ensures answers { (past : List Steps) → HaveAnswered crew.old past → IfOk result.0 (λ unusual. AreUnusual past steps.now unusual.items) }
+    ensures answers { (past : List Steps) → HaveAnswered crew.old past → IfOk result.0 (λ items. AreUnusual past steps.now items.items) }
+    ensures noted { (past : List Steps) → HaveAnswered crew.old past → IsTrue noting → IfOk result.0 (λ items. AreNoted past steps.now items.items) }
     ensures workers_fault { (past : List Steps) → HaveAnswered crew.old past → IfErr result.0 (λ why. MayFail (past ++ steps.now) why) }
     ensures told { (text : List ℕ) (past : List Steps) (numbers : List ℕ)
         → HasRead text past numbers lines.old (D.remaining (inner_of reader.old)) trace.old
@@ -78,7 +80,7 @@ fn answer_and_read<R: Threads + Wait + Sync, D: Read>(
 {
     thread::join_mut(
         rt,
-        &mut || crew.take(rt, steps),
+        &mut || crew.take(rt, steps, noting),
         &mut || { lines.next_batch(reader, trace, BATCH_LINES) },
     )
 }
@@ -182,6 +184,7 @@ impl<'t, 'r> Shared<'t, 'r> {
             rt,
             &mut self.crew,
             self.steps.as_slice(),
+            self.builder.explains(),
             &mut self.lines,
             reader,
             &mut self.trace,
@@ -190,8 +193,8 @@ impl<'t, 'r> Shared<'t, 'r> {
             Ok(batch) => batch,
             Err(why) => return Err(RunFault::Read(why)),
         };
-        let unusual = match answers {
-            Ok(unusual) => unusual,
+        let items = match answers {
+            Ok(items) => items,
             Err(why) => {
                 return Err(fault_behind(&mut self.lines, reader, &mut self.trace, batch, why));
             }
@@ -202,7 +205,7 @@ impl<'t, 'r> Shared<'t, 'r> {
             self.trace.names(),
             self.steps.as_slice(),
             self.numbers.as_slice(),
-            unusual.as_slice(),
+            items.as_slice(),
         )?;
         move_batch(&mut self.trace, &mut self.steps, &mut self.numbers)?;
         match batch {
@@ -223,8 +226,11 @@ impl<'t, 'r> Shared<'t, 'r> {
         ensures explains { OnOk result (is_some self.new.builder.kept ≡ is_some self.old.builder.kept) }
         ensures failed { FailsBy false false result }
     {
-        let unusual = match self.crew.take(rt, self.steps.as_slice()) {
-            Ok(unusual) => unusual,
+        let items = match self
+            .crew
+            .take(rt, self.steps.as_slice(), self.builder.explains())
+        {
+            Ok(items) => items,
             Err(why) => return Err(RunFault::from(why)),
         };
         add_batch(
@@ -233,7 +239,7 @@ impl<'t, 'r> Shared<'t, 'r> {
             self.trace.names(),
             self.steps.as_slice(),
             self.numbers.as_slice(),
-            unusual.as_slice(),
+            items.as_slice(),
         )?;
         Ok(())
     }

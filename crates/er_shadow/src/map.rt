@@ -1,5 +1,5 @@
 //! Every word's state.
-ghost use Rattle.std.specs.Prelude.{◌≡◌, ◌<◌, ◌%◌, ℕ, nat_eq, slice_get, Some, None, IsTrue, IsOk, IfOk, IfSome, IfNone, OnOk, OnErr, IsErrOf};
+ghost use Rattle.std.specs.Prelude.{◌≡◌, ◌<◌, ◌%◌, ℕ, nat_eq, slice_get, Some, None, IsTrue, IsOk, IfOk, IfSome, IfNone, false, OnOk, OnErr, IsErrOf};
 ghost use Rattle.indexmap.specs.IndexMap.{get, keys, index_map_len, IsUnique};
 ghost use Rattle.er_event.specs.declared.steps.WordState.TheVariants.{Virgin, Exclusive};
 ghost use Rattle.er_journal.specs.Journals.{stamped};
@@ -85,30 +85,77 @@ impl<'t> ShadowMap<'t> {
         ensures own { states self.old word ≡ Exclusive thread → IsOk result }
         ensures refusals { ¬ IsErrOf result NoRoom.JournalFull }
     {
+        let (race, _) = self.advance(rt, thread, word, kind, locks)?;
+        Ok(reply_to(race))
+    }
+
+    /// One counted access, as `access` takes it. Returns also whether the access changed what stands for its word. If it did not, every
+    /// word has the state that it had.
+    pub fn access_noting<R: Wait>(
+        &mut self,
+        rt: &R,
+        thread: ThreadId,
+        word: Word,
+        kind: Kind,
+        locks: &Lockset,
+    ) -> Result<(Reply, bool), NoRoom>
+        ensures ok { OnOk result ((w : ℕ) → states self.new w ≡ moved (states self.old w) w (Counted thread kind word locks.now)) }
+        ensures reply { IfOk result (λ answer. answer.0 ≡ reply_if (reports (states self.old word) (advanced (states self.old word) thread kind locks.now))) }
+        ensures unchanged { IfOk result (λ answer. answer.1 ≡ false → (w : ℕ) → states self.new w ≡ states self.old w) }
+        ensures err { OnErr result ((w : ℕ) → states self.new w ≡ states self.old w) }
+        ensures full { IsErrOf result NoRoom.TableFull → IsTrue (needs_set (states self.old word) thread) }
+        ensures own { states self.old word ≡ Exclusive thread → IsOk result }
+        ensures refusals { ¬ IsErrOf result NoRoom.JournalFull }
+    {
+        let (race, changed) = self.advance(rt, thread, word, kind, locks)?;
+        Ok((reply_to(race), changed))
+    }
+
+    // Whether an access is reported as a race, and whether it changed what stands for its word. Each of its two callers has a copy of
+    // its own, so that `access` pays nothing for what it leaves out.
+    #[inline(always)]
+    fn advance<R: Wait>(
+        &mut self,
+        rt: &R,
+        thread: ThreadId,
+        word: Word,
+        kind: Kind,
+        locks: &Lockset,
+    ) -> Result<(bool, bool), NoRoom>
+        ensures ok { OnOk result ((w : ℕ) → states self.new w ≡ moved (states self.old w) w (Counted thread kind word locks.now)) }
+        ensures race { IfOk result (λ found. found.0 ≡ reports (states self.old word) (advanced (states self.old word) thread kind locks.now)) }
+        ensures unchanged { IfOk result (λ found. found.1 ≡ false → (w : ℕ) → states self.new w ≡ states self.old w) }
+        ensures err { OnErr result ((w : ℕ) → states self.new w ≡ states self.old w) }
+        ensures full { IsErrOf result NoRoom.TableFull → IsTrue (needs_set (states self.old word) thread) }
+        ensures own { states self.old word ≡ Exclusive thread → IsOk result }
+        ensures refusals { ¬ IsErrOf result NoRoom.JournalFull }
+    {
         let number = word.page();
         let place = place_of(word);
         match index_of_page(&self.pages, self.places.hint(number), number) {
             Some(index) => {
                 self.places.note(number, index);
                 let page = &mut self.pages[index];
+                let before = page.get(place);
                 let (shadow, race) = step(
                     rt,
                     &mut self.known,
                     &mut self.covers,
-                    page.get(place),
+                    before,
                     thread,
                     kind,
                     locks,
                 )?;
                 page.set(place, shadow);
-                Ok(reply_to(race))
+                let same = shadow == before;
+                Ok((race, !same))
             }
             None => {
                 let mut page = Page::new(self.alloc)?;
                 page.set(place, Shadow::exclusive(thread));
                 self.places.note(number, self.pages.len());
                 self.pages.insert(number, page)?;
-                Ok(Reply::Quiet)
+                Ok((false, true))
             }
         }
     }

@@ -1,11 +1,11 @@
 -- How far a worker has come in a batch.
-use Rattle.std.specs.Prelude.{◌≡◌, ◌⊎◌, ◌<◌, ◌+◌, ◌%◌, ◌++◌, ℕ, List, length, slice_get, Some, MatchOption}
+use Rattle.std.specs.Prelude.{IsTrue, ◌≡◌, ◌⊎◌, ◌<◌, ◌+◌, ◌%◌, ◌++◌, ℕ, List, length, slice_get, Some, MatchOption}
 use Rattle.er_event.specs.declared.steps.Event.{Event}
 use Rattle.er_event.specs.declared.steps.Step.{Step}
 use Rattle.er_journal.specs.Merges.{shard_of}
 use Rattle.er_model.specs.Answers.{answer, state_at}
 use Rattle.er_model.specs.Holdings.{holdings_at}
-use Rattle.er_parallel.specs.Crews.{IsAmong, IsAnswered, HasFollowed, Rise}
+use Rattle.er_parallel.specs.Crews.{IsAmong, IsAnswered, HasFollowed, LeavesWord, Rise}
 use Rattle.er_parallel.specs.Found.{usual}
 use Rattle.er_parallel.specs.Tasks.{worker_for}
 use Rattle.er_parallel.specs.Work.{MayBeFull}
@@ -24,12 +24,15 @@ pub record AreFound (own : Event → Type 0) (past batch : List Step) (items : L
   pub right : (j : ℕ) (item : Unusual) → slice_get items j ≡ Some item → IsAnswered past batch item
   pub owned : (j : ℕ) (item : Unusual) (step : Step) → slice_get items j ≡ Some item → slice_get batch item.at ≡ Some step → own step.event
 
--- after the first n steps of the batch a worker's items are below n, and each step of its own without an item is answered as usual
+-- after the first n steps of the batch a worker's items are below n, and each step of its own without an item is answered as usual; if it notes
+-- changes, such a step changes no word that it accesses
 pub record IsFoundSoFar (n : ℕ) (past : List Step) (batch : List Step) (share : Share) (items : List Unusual) : Type 0 where
   pub found : AreFound (IsOwn share) past batch items
   pub below : (j : ℕ) (item : Unusual) → slice_get items j ≡ Some item → item.at < n
   pub whole : (k : ℕ) (step : Step) → k < n → slice_get batch k ≡ Some step → IsOwn share step.event →
       (answer (past ++ batch) (length past + k) ≡ usual step.event) ⊎ IsAmong items k
+  pub noted : (k : ℕ) (step : Step) → k < n → slice_get batch k ≡ Some step → IsOwn share step.event → IsTrue share.noting →
+      LeavesWord (past ++ batch) (length past + k) step.event ⊎ IsAmong items k
 
 -- after the first n steps its machine has every thread's holdings and the states of its own shards' words, and it has its items
 pub record HasCome (n : ℕ) (past : List Step) (batch : List Step) (share : Share) (items : List Unusual) (machine : Replayed) : Type 0 where

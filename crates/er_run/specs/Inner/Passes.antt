@@ -1,11 +1,11 @@
 -- How far a replay has come that forgets its steps batch by batch.
-use Rattle.std.specs.Prelude.{◌≡◌, ℕ, ◌+◌, ◌<◌, All, List, [], length, take, Option, Some, None, IfSome}
+use Rattle.std.specs.Prelude.{◌≡◌, ℕ, ◌+◌, ◌<◌, All, List, [], length, take, Option, Some, None, IfSome, IsTrue, is_some}
 use Rattle.er_event.specs.declared.refusals.NoRoom.{NoRoom}
 use Rattle.er_event.specs.declared.steps.Step.{Step}
 use Rattle.er_journal.specs.declared.answers.Stopped.{Stopped}
 use Rattle.er_replay.specs.Standing.{Replayed, Stands}
 use Rattle.er_replay.specs.Stops.{MayStop}
-use Rattle.er_report.specs.Builder.{Built, IsReported}
+use Rattle.er_report.specs.Builder.{Built, ArePlain, IsReported, KeepStates}
 use Rattle.er_report.specs.Report.{answered_steps, stop_line}
 use Rattle.er_text.specs.Batches.{HasRead}
 use Rattle.er_text.specs.Places.{Reached}
@@ -21,6 +21,19 @@ recorded steps lines names = record { steps = steps; lines = lines; names = name
 pub record HasAnswered (machine : Replayed) (builder : Built) (r : Recording) (n : ℕ) : Type 0 where
   pub stands : Stands machine (take n r.steps)
   pub reported : IsReported builder r n
+
+-- the report is that of a recording's first n steps without the last of these, so many, which can be added at once
+pub record Lags (builder : Built) (r : Recording) (n plain : ℕ) : Type 0 where
+  pub start : ℕ
+  pub behind : start + plain ≡ n
+  pub reported : IsReported builder r start
+  pub answers : ArePlain r.steps start plain
+  pub keep : IsTrue (is_some builder.kept) → KeepStates r.steps start plain
+
+-- the machine stands for the recording's first n steps, and the report lags behind by so many
+pub record HasComeTo (machine : Replayed) (builder : Built) (r : Recording) (n plain : ℕ) : Type 0 where
+  pub stands : Stands machine (take n r.steps)
+  pub lags : Lags builder r n plain
 
 -- from the recording's step n on all were answered, or those up to one that found no room
 abbrev pub Answers : Replayed → Built → Recording → ℕ → Option Stopped → Type 0

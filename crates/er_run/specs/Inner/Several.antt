@@ -1,7 +1,7 @@
 -- How far a replay by several workers has come.
-use Rattle.std.specs.Prelude.{◌≡◌, ◌<◌, ◌≤◌, ◌++◌, ℕ, Bool, false, List, [], All, length, slice_get, Option, Some, IfSome, Err}
+use Rattle.std.specs.Prelude.{◌≡◌, ◌<◌, ◌≤◌, ◌++◌, ℕ, Bool, false, List, [], All, length, slice_get, Option, Some, IfSome, IsTrue, Err}
 use Rattle.er_event.specs.declared.steps.Step.{Step}
-use Rattle.er_parallel.specs.Crews.{Crewed, HaveAnswered}
+use Rattle.er_parallel.specs.Crews.{Crewed, AreNoted, AreUnusual, HaveAnswered}
 use Rattle.er_parallel.specs.declared.unusual.Unusual.{Unusual}
 use Rattle.er_report.specs.Builder.{Built, IsReported}
 use Rattle.er_run.specs.Inner.Passes.{recorded}
@@ -20,6 +20,11 @@ use Rattle.er_trace.specs.Trace.{Recording, IsNamed}
 pub record IsNext (items : List Unusual) (next k : ℕ) : Type 0 where
   pub below : (j : ℕ) (item : Unusual) → slice_get items j ≡ Some item → j < next → item.at < k
   pub above : (j : ℕ) (item : Unusual) → slice_get items j ≡ Some item → next ≤ j → k ≤ item.at
+
+-- these are the unusual answers of a batch, and the accesses that changed their words if these are noted
+pub record AreItems (noting : Bool) (past batch : List Step) (items : List Unusual) : Type 0 where
+  pub unusual : AreUnusual past batch items
+  pub noted : IsTrue noting → AreNoted past batch items
 
 -- the workers have answered these past steps, which are in the report, and none of the batch behind them
 pub record Pending (crew : Crewed) (builder : Built) (names : NameTable) (past : List Step) (lines : List ℕ) (batch : List Step) (numbers : List ℕ) : Type 0 where

@@ -1,36 +1,61 @@
--- Each step of the batch is added and explained.
-use Rattle.std.proofs.Common.{◌≡◌, ◌∙◌, ◌<◌, ◌+◌, ◌++◌, ℕ, List, Option, is_some, length, slice_get, slice_index, Some, refl, ap, subst, arith}
+-- Each step of the batch is counted, or added behind those that were counted.
+use Rattle.std.proofs.Common.{◌≡◌, ◌∙◌, ◌<◌, ◌+◌, ◌++◌, ℕ, List, is_some, length, slice_get, slice_index, Some, refl, sym, subst, arith}
 use Rattle.std.proofs.lemmas.Option.{slice_get_read}
-use Rattle.er_event.proofs.Lists.{get_behind}
 use Rattle.er_event.specs.declared.steps.Step.{Step}
-use Rattle.er_report.proofs.BuilderLemmas.{still-explained}
-use Rattle.er_report.specs.Builder.{IsBuilt, IsReported}
-use Rattle.er_report.specs.Kept.{Kept}
-use Rattle.er_run.specs.Inner.Passes.{recorded}
+use Rattle.er_run.specs.Inner.Passes.{Lags, recorded}
 use Rattle.er_trace.specs.Trace.{Recording}
+use Rattle.er_run.proofs.LagLemmas.{lags-more, lags-none}
 use Rattle.er_run.proofs.PassLemmas.{number-behind}
+use Rattle.er_run.proofs.SeveralLemmas.{unnoted, usual-plain}
 use Rattle.er_run.proofs.adding.add_batch.Goals as goal
+use Rattle.er_run.proofs.adding.add_batch.Goals.{then-says_nothing, else-says_nothing+in_ok-next}
 
 pub loop-k-preserved : goal.loop-k-preserved
-loop-k-preserved c = record {
-  steps = c.in_ok-explain.ensures.steps ∙ c.in_ok-next.ensures.steps ∙ ap (λ (n : ℕ). n + 1) c.loop-k.invariant.steps ∙ omega arith;
-  rules = c.in_ok-explain.ensures.rules ∙ c.in_ok-next.ensures.rules ∙ c.loop-k.invariant.rules;
-  explains = c.in_ok-explain.ensures.explains ∙ ap (λ (o : Option Kept). is_some o) c.in_ok-next.ensures.kept ∙ c.loop-k.invariant.explains;
-  within = c.in_ok-next.ensures.next;
-  place = λ rise. c.in_ok-next.ensures.place rise (c.loop-k.invariant.place rise);
-  reported = λ past lines long unusual before.
-      let k : ℕ = c.loop-k.k in
-      let at : ℕ = length past + k in
-      let r : Recording = recorded (past ++ c.args.steps.now) (lines ++ c.args.numbers.now) c.args.names.now in
-      let step : Step = c.index-steps-k.result in
-      let here : slice_get c.args.steps.now k ≡ Some step = slice_get_read c.args.steps.now _ k step refl (omega arith) c.index-steps-k.is in
-      let there : slice_get r.steps at ≡ Some step = get_behind past c.args.steps.now k at refl ∙ here in
-      let reported : IsReported c.loop-k.builder r at = c.loop-k.invariant.reported past lines long unusual before in
-      let line = number-behind lines c.args.numbers.now (length past) k long in
-      let built : IsBuilt c.add_one.new.builder r (at + 1) =
-      c.in_ok-next.ensures.built past c.args.steps.now (lines ++ c.args.numbers.now) unusual (c.loop-k.invariant.place unusual.rise) here line reported.built in
-      let one : at + 1 ≡ length past + (k + 1) = omega arith in
-      subst (IsReported c.explain.new.self r) one
-      (c.in_ok-explain.ensures.explained r at built
-      (still-explained c.loop-k.builder c.add_one.new.builder r at c.in_ok-next.ensures.rules c.in_ok-next.ensures.kept reported.explained) there line);
-}
+loop-k-preserved c =
+    let k : ℕ = c.loop-k.k in
+    let plain : ℕ = c.loop-k.plain in
+    let step : Step = c.index-steps-k.result in
+    let here : slice_get c.args.steps.now k ≡ Some step = slice_get_read c.args.steps.now _ k step refl (omega arith) c.index-steps-k.is in
+    elim c.if-says_nothing.branch [
+      | then-says_nothing w ↦ record {
+        steps = rw (w.builder-is, w.plain-is) (let so_far = c.loop-k.invariant.steps in omega arith);
+        rules = rw w.builder-is c.loop-k.invariant.rules;
+        explains = rw w.builder-is c.loop-k.invariant.explains;
+        within = rw w.next-is (let so_far = c.loop-k.invariant.within in omega arith);
+        place = λ rise. rw w.next-is (c.says_nothing.ensures.place w.if-says_nothing.true rise (c.loop-k.invariant.place rise));
+        reported = λ past lines long items before.
+            let at : ℕ = length past + k in
+            let numbers : List ℕ = lines ++ c.args.numbers.now in
+            let r : Recording = recorded (past ++ c.args.steps.now) numbers c.args.names.now in
+            let lags : Lags c.loop-k.builder r at plain = c.loop-k.invariant.reported past lines long items before in
+            let place = c.loop-k.invariant.place items.unusual.rise in
+            let next = c.says_nothing.ensures.place w.if-says_nothing.true items.unusual.rise place in
+            let one : at + 1 ≡ length past + (k + 1) = omega arith in
+            rw (w.builder-is, w.plain-is)
+            (subst (λ (n : ℕ). Lags c.loop-k.builder r n (plain + 1)) one
+            (lags-more c.loop-k.builder r at plain lags
+            (usual-plain past c.args.steps.now numbers c.args.names.now c.args.items.now items.unusual k (slice_index numbers at) step here refl c.loop-k.next place next)
+            (λ wanted.
+            let asked = sym c.loop-k.invariant.explains ∙ wanted in
+            unnoted past c.args.steps.now numbers c.args.names.now c.args.items.now items.unusual k (slice_index numbers at) step here refl (items.noted asked)
+            (c.says_nothing.ensures.access w.if-says_nothing.true (c.explains-explains.ensures ∙ asked)) c.loop-k.next place next)));
+      }
+      | else-says_nothing+in_ok-next w ↦ record {
+        steps = rw (w.builder-is, w.plain-is) (let so_far = c.loop-k.invariant.steps in let added = w.in_ok-next.ensures.steps in omega arith);
+        rules = rw w.builder-is (w.in_ok-next.ensures.rules ∙ c.loop-k.invariant.rules);
+        explains = rw w.builder-is (w.in_ok-next.ensures.explains ∙ c.loop-k.invariant.explains);
+        within = rw w.next-is w.in_ok-next.ensures.next;
+        place = λ rise. rw w.next-is (w.in_ok-next.ensures.place rise (c.loop-k.invariant.place rise));
+        reported = λ past lines long items before.
+            let at : ℕ = length past + k in
+            let numbers : List ℕ = lines ++ c.args.numbers.now in
+            let r : Recording = recorded (past ++ c.args.steps.now) numbers c.args.names.now in
+            let lags : Lags c.loop-k.builder r at plain = c.loop-k.invariant.reported past lines long items before in
+            let line = number-behind lines c.args.numbers.now (length past) k long in
+            let one : at + 1 ≡ length past + (k + 1) = omega arith in
+            rw (w.builder-is, w.plain-is)
+            (subst (λ (n : ℕ). Lags w.add_behind.new.builder r n 0) one
+            (lags-none w.add_behind.new.builder r (at + 1)
+            (w.in_ok-next.ensures.reported past c.args.steps.now numbers items.unusual (c.loop-k.invariant.place items.unusual.rise) here line lags)));
+      }
+    ]

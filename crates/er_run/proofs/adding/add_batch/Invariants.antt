@@ -1,20 +1,21 @@
 use Rattle.std.proofs.Common.{◌≡◌, ◌++◌, ◌+◌, ◌≤◌, ℕ, List, length, is_some}
 use Rattle.er_event.specs.declared.steps.Step.{Step as Steps}
-use Rattle.er_parallel.specs.Crews.{AreUnusual, Rise}
+use Rattle.er_parallel.specs.Crews.{Rise}
 use Rattle.er_report.specs.Builder.{IsReported}
-use Rattle.er_run.specs.Inner.Passes.{recorded}
-use Rattle.er_run.specs.Inner.Several.{IsNext}
+use Rattle.er_run.specs.Inner.Passes.{Lags, recorded}
+use Rattle.er_run.specs.Inner.Several.{AreItems, IsNext}
 use Rattle.er_run.proofs.adding.add_batch.Given as goal
 
--- behind any steps that were answered, the report has the first k steps of the batch, and the items of these are behind
+-- behind any steps that were answered, the report has the first k steps of the batch but for those that are counted, and the items of
+-- these k steps are behind
 abbrev pub invariant-loop-k : goal.invariant-loop-k
 invariant-loop-k l = record {
-  steps : l.builder.report.steps ≡ l.fn.builder.report.steps + l.k;
+  steps : l.builder.report.steps + l.plain ≡ l.fn.builder.report.steps + l.k;
   rules : l.builder.rules ≡ l.fn.builder.rules;
   explains : is_some l.builder.kept ≡ is_some l.fn.builder.kept;
   within : l.next ≤ l.k;
-  place : Rise l.unusual → IsNext l.unusual l.next l.k;
-  reported : (past : List Steps) (lines : List ℕ) → length lines ≡ length past → AreUnusual past l.steps l.unusual
+  place : Rise l.items → IsNext l.items l.next l.k;
+  reported : (past : List Steps) (lines : List ℕ) → length lines ≡ length past → AreItems (is_some l.fn.builder.kept) past l.steps l.items
       → IsReported l.fn.builder (recorded (past ++ l.steps) (lines ++ l.numbers) l.names) (length past)
-      → IsReported l.builder (recorded (past ++ l.steps) (lines ++ l.numbers) l.names) (length past + l.k);
+      → Lags l.builder (recorded (past ++ l.steps) (lines ++ l.numbers) l.names) (length past + l.k) l.plain;
 }

@@ -19,3 +19,7 @@ returns-clause-answers g c past before = c.take_batch.ensures.answers past
 pub returns-clause-fault : goal.returns-clause-fault
 returns-clause-fault g c past before = c.take_batch.ensures.fault past
     (subst (λ (ws : List Worker). HaveAnswered (crewed c.self.inside.shards ws) past) (sym c.as_mut_slice.ensures.value) (subst (λ (s : Crewed). HaveAnswered s past) (sym c.self.view_is) before))
+
+pub returns-clause-noted : goal.returns-clause-noted
+returns-clause-noted g c past before = c.take_batch.ensures.noted past
+    (subst (λ (ws : List Worker). HaveAnswered (crewed c.self.inside.shards ws) past) (sym c.as_mut_slice.ensures.value) (subst (λ (s : Crewed). HaveAnswered s past) (sym c.self.view_is) before))

@@ -1,8 +1,8 @@
 -- A batch that the workers have answered goes into the report, and the one that was read takes its place.
-use Rattle.std.proofs.Common.{◌≡◌, ◌+◌, ◌++◌, ℕ, List, Option, Result, IfErr, IfOk, OnOk, length, refl, subst}
+use Rattle.std.proofs.Common.{◌≡◌, ◌∙◌, ◌+◌, ◌++◌, ℕ, List, Option, Result, IfErr, IfOk, OnOk, is_some, length, refl, subst}
 use Rattle.er_device.specs.Device.{inner_of}
 use Rattle.er_event.specs.declared.steps.Step.{Step}
-use Rattle.er_parallel.specs.Crews.{AreUnusual, HaveAnswered}
+use Rattle.er_parallel.specs.Crews.{AreNoted, AreUnusual, HaveAnswered}
 use Rattle.er_parallel.specs.Faults.{MayFail}
 use Rattle.er_parallel.specs.declared.faults.ReplayFault.{ReplayFault}
 use Rattle.er_report.specs.Builder.{IsReported}
@@ -49,14 +49,18 @@ returns-in-More-clause-come g c = λ told state more.
     let u : Recording = c.answer_and_read-answers.new.trace in
     let grows : Grows t u = subst (λ (r : Result Batch ReadFault). OnOk r (Grows t u)) c.in-Ok.is c.answer_and_read-answers.ensures.grows in
     reads-on told known rest c.args.self.now.lines c.answer_and_read-answers.new.lines t u c.args.self.now.steps.items c.args.self.now.numbers.items c.args.self.now.crew
-    c.answer_and_read-answers.new.crew c.args.self.now.builder c.add_batch.new.builder c.in-Ok-answers.unusual.items c.in-Ok.batch grows.names c.in_ok-move_batch.ensures.named
+    c.answer_and_read-answers.new.crew c.args.self.now.builder c.add_batch.new.builder c.in-Ok-answers.items.items c.in-Ok.batch grows.names c.in_ok-move_batch.ensures.named
     c.in_ok-move_batch.ensures.level
     (λ text past lines read. subst (λ (r : Result Batch ReadFault). GivesBatch text past lines c.answer_and_read-answers.new.lines rest u r) c.in-Ok.is
     (c.answer_and_read-answers.ensures.told text past lines read))
     (λ past answered. rw c.as_slice.ensures.value at (subst (λ (r : Result _ ReplayFault). OnOk r (HaveAnswered c.answer_and_read-answers.new.crew (past ++ c.as_slice.result.now))) c.in-Ok-answers.is
     (c.answer_and_read-answers.ensures.goes_on past answered)))
-    (λ past answered. rw c.as_slice.ensures.value at (subst (λ (r : Result _ ReplayFault). IfOk r (λ unusual. AreUnusual past c.as_slice.result.now unusual.items)) c.in-Ok-answers.is
-    (c.answer_and_read-answers.ensures.answers past answered)))
+    (λ past answered. record {
+      unusual = rw c.as_slice.ensures.value at (subst (λ (r : Result _ ReplayFault). IfOk r (λ items. AreUnusual past c.as_slice.result.now items.items)) c.in-Ok-answers.is
+          (c.answer_and_read-answers.ensures.answers past answered));
+      noted = λ wanted. rw c.as_slice.ensures.value at (subst (λ (r : Result _ ReplayFault). IfOk r (λ items. AreNoted past c.as_slice.result.now items.items)) c.in-Ok-answers.is
+          (c.answer_and_read-answers.ensures.noted past answered (c.explains.ensures ∙ wanted)));
+    })
     (rw (c.as_slice-2.ensures.value, c.as_slice-3.ensures.value, c.as_slice-4.ensures.value, c.names.ensures) at c.in_ok-add_batch.ensures.reported)
     state c.in-More.is c.move_batch.new.trace c.in_ok-move_batch.ensures.trace c.move_batch.new.steps.items c.in_ok-move_batch.ensures.steps c.move_batch.new.numbers.items
     c.in_ok-move_batch.ensures.numbers
@@ -69,14 +73,18 @@ returns-clause-ended g c = λ told state ended.
     let u : Recording = c.answer_and_read-answers.new.trace in
     let grows : Grows t u = subst (λ (r : Result Batch ReadFault). OnOk r (Grows t u)) c.in-Ok.is c.answer_and_read-answers.ensures.grows in
     reads-all told known rest c.args.self.now.lines c.answer_and_read-answers.new.lines t u c.args.self.now.steps.items c.args.self.now.numbers.items c.args.self.now.crew
-    c.answer_and_read-answers.new.crew c.args.self.now.builder c.add_batch.new.builder c.in-Ok-answers.unusual.items c.in-Ok.batch grows.names c.in_ok-move_batch.ensures.named
+    c.answer_and_read-answers.new.crew c.args.self.now.builder c.add_batch.new.builder c.in-Ok-answers.items.items c.in-Ok.batch grows.names c.in_ok-move_batch.ensures.named
     c.in_ok-move_batch.ensures.level
     (λ text past lines read. subst (λ (r : Result Batch ReadFault). GivesBatch text past lines c.answer_and_read-answers.new.lines rest u r) c.in-Ok.is
     (c.answer_and_read-answers.ensures.told text past lines read))
     (λ past answered. rw c.as_slice.ensures.value at (subst (λ (r : Result _ ReplayFault). OnOk r (HaveAnswered c.answer_and_read-answers.new.crew (past ++ c.as_slice.result.now))) c.in-Ok-answers.is
     (c.answer_and_read-answers.ensures.goes_on past answered)))
-    (λ past answered. rw c.as_slice.ensures.value at (subst (λ (r : Result _ ReplayFault). IfOk r (λ unusual. AreUnusual past c.as_slice.result.now unusual.items)) c.in-Ok-answers.is
-    (c.answer_and_read-answers.ensures.answers past answered)))
+    (λ past answered. record {
+      unusual = rw c.as_slice.ensures.value at (subst (λ (r : Result _ ReplayFault). IfOk r (λ items. AreUnusual past c.as_slice.result.now items.items)) c.in-Ok-answers.is
+          (c.answer_and_read-answers.ensures.answers past answered));
+      noted = λ wanted. rw c.as_slice.ensures.value at (subst (λ (r : Result _ ReplayFault). IfOk r (λ items. AreNoted past c.as_slice.result.now items.items)) c.in-Ok-answers.is
+          (c.answer_and_read-answers.ensures.noted past answered (c.explains.ensures ∙ wanted)));
+    })
     (rw (c.as_slice-2.ensures.value, c.as_slice-3.ensures.value, c.as_slice-4.ensures.value, c.names.ensures) at c.in_ok-add_batch.ensures.reported)
     state c.in-End.is c.answer_and_read-answers.ensures.limit c.move_batch.new.trace.names (rw c.in_ok-move_batch.ensures.trace refl) c.move_batch.new.steps.items
     c.in_ok-move_batch.ensures.steps c.move_batch.new.numbers.items c.in_ok-move_batch.ensures.numbers

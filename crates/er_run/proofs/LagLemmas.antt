@@ -1,0 +1,61 @@
+-- A report that lags behind by steps that have nothing to say.
+use Rattle.std.proofs.Common.{◌≡◌, ◌∙◌, ◌<◌, ◌≤◌, ◌+◌, ◌++◌, ◌∷◌, [], ℕ, suc, true, is_some, List, Result, Some, IsTrue, slice_get, take, ap, sym, subst, arith, ⊎_elim}
+use Rattle.er_event.specs.declared.refusals.Refusal.{Refusal}
+use Rattle.er_event.specs.declared.steps.Reply.{Reply}
+use Rattle.er_event.specs.declared.steps.Step.{Step}
+use Rattle.er_model.proofs.Search.{below_or_at}
+use Rattle.er_model.specs.Answers.{answer, answer_next, state_end}
+use Rattle.er_replay.specs.Standing.{Replayed, Stands}
+use Rattle.er_replay.specs.Wants.{is_access}
+use Rattle.er_report.specs.Builder.{Built, ArePlain, IsReported, KeepsState, KeepStates, is_plain}
+use Rattle.er_run.proofs.StepLemmas.{answer-here, keeps-here, past-next}
+use Rattle.er_run.specs.Inner.Passes.{HasComeTo, Lags}
+use Rattle.er_trace.specs.Trace.{Recording}
+
+-- by none
+pub lags-none : (builder : Built) (r : Recording) (n : ℕ) → IsReported builder r n → Lags builder r n 0
+lags-none builder r n reported =
+    record {
+      start = n;
+      behind = omega arith;
+      reported = reported;
+      answers = λ i from to. absurd (omega arith);
+      keep = λ wanted i from to. absurd (omega arith);
+    }
+
+-- by one more
+pub lags-more : (builder : Built) (r : Recording) (n plain : ℕ) → Lags builder r n plain → is_plain (answer r.steps n) ≡ true → (IsTrue (is_some builder.kept) → KeepsState r.steps n)
+    → Lags builder r (n + 1) (plain + 1)
+lags-more builder r n plain lags here keeps =
+    let behind : lags.start + plain ≡ n = lags.behind in
+    record {
+      start = lags.start;
+      behind = omega arith;
+      reported = lags.reported;
+      answers = λ i from to.
+          ⊎_elim (λ low. lags.answers i from (omega arith)) (λ same. rw same here) (below_or_at i n (omega arith));
+      keep = λ wanted i from to.
+          ⊎_elim (λ low. lags.keep wanted i from (omega arith)) (λ same. subst (KeepsState r.steps) (sym same) (keeps wanted)) (below_or_at i n (omega arith));
+    }
+
+-- until they are added
+pub lags-end : (before after : Built) (r : Recording) (n plain : ℕ) → Lags before r n plain
+    → ((s : Recording) (k : ℕ) → IsReported before s k → ArePlain s.steps k plain → (IsTrue (is_some before.kept) → KeepStates s.steps k plain) → IsReported after s (k + plain))
+    → IsReported after r n
+lags-end before after r n plain lags adds = subst (IsReported after r) lags.behind (adds r lags.start lags.reported lags.answers lags.keep)
+
+-- a step that has nothing to say, and one that was added
+module _ (old new : Replayed) (r : Recording) (n plain : ℕ) (step : Step) (here : slice_get r.steps n ≡ Some step) (next : Stands new (take n r.steps ++ step ∷ [])) where
+  pub come-plain : (builder : Built) (given : Result Reply Refusal) → HasComeTo old builder r n plain → given ≡ answer_next (take n r.steps) step → is_plain given ≡ true
+      → (IsTrue (is_some builder.kept) → (is_access step.event ≡ true) × ((w : ℕ) → state_end (take n r.steps ++ step ∷ []) w ≡ state_end (take n r.steps) w))
+      → HasComeTo new builder r (n + 1) (plain + 1)
+  come-plain builder given come answered nothing keeps =
+      record {
+        stands = subst (Stands new) (past-next r.steps n step here) next;
+        lags = lags-more builder r n plain come.lags (ap is_plain (sym (answer-here r.steps n step here) ∙ sym answered) ∙ nothing)
+            (λ wanted. let known = keeps wanted in keeps-here r.steps n step here known.0 known.1);
+      }
+
+  pub come-told : (after : Built) → IsReported after r (n + 1) → HasComeTo new after r (n + 1) 0
+  come-told after reported =
+      record { stands = subst (Stands new) (past-next r.steps n step here) next; lags = lags-none after r (n + 1) reported }
