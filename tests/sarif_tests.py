@@ -21,6 +21,7 @@ from json_tests import document_of, plain
 from site_tests import DID, TOP, preloaded, run, run_with
 
 RULES = [{"id": f"race/{kind}", "shortDescription": {"text": f"A {kind} that no lock protects"}} for kind in ("read", "write")]
+RULES.append({"id": "race/suppressed", "shortDescription": {"text": "Races that a rule of suppressions takes"}})
 # Sites, with the file and the line that they name.
 PLACES = {
     "pool.c:8": ("pool.c", 8),
@@ -72,6 +73,29 @@ def results_of(document):
         }
 
 
+def rule_text(rule):
+    if isinstance(rule, bytes):
+        return f"site {rule.decode()}"
+    first, last = rule
+    return f"words 0x{4 * first:012x} {4 * (last + 1 - first)}" if first <= last else "words 0 0"
+
+
+def suppressed_of(rules, counts):
+    """The results of the rules that took races."""
+    for number, (rule, count) in enumerate(zip(rules, counts, strict=True), 1):
+        if count:
+            text = rule_text(rule)
+            yield {
+                "ruleId": "race/suppressed",
+                "level": "error",
+                "message": {"text": f"Races that a rule takes: {text}"},
+                "occurrenceCount": count,
+                **({"locations": [location(rule.decode())]} if isinstance(rule, bytes) and rule != b"-" else {}),
+                "partialFingerprints": {"rule/v1": text},
+                "suppressions": [{"kind": "external", "justification": f"rule {number}"}],
+            }
+
+
 def text_of(results):
     driver = plain({"driver": {"name": "eraser", "rules": RULES}})
     rows = ",".join("\n" + plain(result) for result in results)
@@ -81,7 +105,10 @@ def text_of(results):
 
 def expected(text, rules):
     output, errors, status = reference.replay(text, rules or b"", explain=True)
-    return (text_of(results_of(document_of(output))) if status < 2 else output).encode(), errors.encode(), status
+    if status < 2:
+        document = document_of(output)
+        output = text_of([*results_of(document), *suppressed_of(reference.rules_of(rules or b""), document["suppressions"])])
+    return output.encode(), errors.encode(), status
 
 
 # ---- What SARIF requires
@@ -107,16 +134,18 @@ def faults(log):
                 place = found.get("physicalLocation")
                 if place and (not place.get("artifactLocation", {}).get("uri") or place.get("region", {}).get("startLine", 0) < 1):
                     yield "no place"
+            if not all(found.get("kind") in ("inSource", "external") for found in result.get("suppressions", [])):
+                yield "no kind of suppression"
             if not all(isinstance(value, str) for value in result.get("partialFingerprints", {"": None}).values()):
                 yield "no fingerprints"
-            if not all(found.get("message", {}).get("text") for found in result.get("relatedLocations", [{}])):
+            if not all(found.get("message", {}).get("text") for found in result.get("relatedLocations", [] if "suppressions" in result else [{}])):
                 yield "no related message"
 
 
 # ---- The program
 
 def log_tests(record):
-    results = doubles = 0
+    results = doubles = taken = 0
     for name, text, rules in site_tests.texts():
         wanted, found = expected(text, rules), run_with(rules, text, "--format", "sarif")
         record(f"{name} as SARIF", found == wanted, f"{found}, {wanted}"[:2000])
@@ -126,11 +155,12 @@ def log_tests(record):
             log = json.loads(found[0])
             wrong = list(faults(log))
             record(f"{name} as SARIF by what SARIF requires", not wrong, f"{wrong}")
-            counts = [result["occurrenceCount"] for result in log["runs"][0]["results"]]
-            results, doubles = results + len(counts), doubles + sum(count > 1 for count in counts)
-            races = int(re.search(rb"races (\d+)", run_with(rules, text)[0])[1])
-            record(f"{name} as SARIF has each race once", sum(counts) == races, f"{counts}, {races}")
-    record("logs have results, and results that stand for several races", results > 100 and doubles > 20, f"{results}, {doubles}")
+            shown = [result["occurrenceCount"] for result in log["runs"][0]["results"] if "suppressions" not in result]
+            hidden = [result["occurrenceCount"] for result in log["runs"][0]["results"] if "suppressions" in result]
+            results, doubles, taken = results + len(shown), doubles + sum(count > 1 for count in shown), taken + len(hidden)
+            races, suppressed = (int(count) for count in re.search(rb"races (\d+), suppressed (\d+)", run_with(rules, text)[0]).groups())
+            record(f"{name} as SARIF has each race once", (sum(shown), sum(hidden)) == (races, suppressed), f"{shown}, {hidden}")
+    record("logs have results, results that stand for several races, and suppressed ones", results > 100 and doubles > 20 and taken > 20, f"{results}, {doubles}, {taken}")
     lines = ["eraser trace 1"] + [f"t{who} write {4 * k} {site}" for who in (1, 2) for k, site in enumerate(PLACES)]
     log = json.loads(run(["replay", "--format", "sarif", "-"], "\n".join(lines).encode())[0])
     found = [result["locations"][0] for result in log["runs"][0]["results"]]
@@ -170,12 +200,12 @@ def refusal_tests(record, preloaded):
 
 def required_tests(record):
     """The check of what SARIF requires finds what is missing."""
-    good = json.loads(expected(b"eraser trace 1\nt1 write 0 a:1\nt2 write 0 a:1\n", None)[0])
-    record("a log with one result", not list(faults(good)) and len(good["runs"][0]["results"]) == 1)
+    good = json.loads(expected(b"eraser trace 1\nt1 write 0 a:1\nt2 write 0 a:1\nt1 write 4 b:1\nt2 write 4 b:1\n", b"site b:1\n")[0])
+    record("a log with one result and a suppressed one", not list(faults(good)) and len(good["runs"][0]["results"]) == 2)
     for path in (["version"], ["runs"], ["runs", 0, "tool"], ["runs", 0, "tool", "driver", "name"], ["runs", 0, "tool", "driver", "rules", 1], ["runs", 0, "results", 0, "message"],
                  ["runs", 0, "results", 0, "level"], ["runs", 0, "results", 0, "occurrenceCount"], ["runs", 0, "results", 0, "partialFingerprints"],
                  ["runs", 0, "results", 0, "locations", 0, "physicalLocation", "artifactLocation"], ["runs", 0, "results", 0, "locations", 0, "physicalLocation", "region"],
-                 ["runs", 0, "results", 0, "relatedLocations", 0, "message"]):
+                 ["runs", 0, "results", 0, "relatedLocations", 0, "message"], ["runs", 0, "results", 1, "suppressions", 0, "kind"]):
         other = json.loads(json.dumps(good))
         owner = other
         for name in path[:-1]:

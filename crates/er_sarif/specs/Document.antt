@@ -1,4 +1,4 @@
--- The SARIF of a report: a result for each site and kind of race.
+-- The SARIF of a report: a result for each site and kind of race, and one for each rule that takes races.
 use Rattle.std.specs.Prelude.{ℕ, zero, suc, ◌+◌, ◌-◌, ◌==◌, cond, List, [], ◌∷◌, ◌++◌, take, drop, length, count_by, slice_get, Option, Some, None, codes, decimal}
 use Rattle.er_event.specs.Lockset.{is_level_lock, level_base}
 use Rattle.er_event.specs.declared.steps.Kind.{Kind}
@@ -10,9 +10,11 @@ use Rattle.er_report.specs.declared.report.Label.{Label}
 use Rattle.er_report.specs.declared.report.Label.TheVariants as label
 use Rattle.er_report.specs.declared.report.Line.{Line}
 use Rattle.er_report.specs.declared.report.Line.TheVariants.{Race, Refused, Shown}
+use Rattle.er_rules.specs.Rules.{Target, AtSite, AtWords}
 use Rattle.er_sarif.specs.Places.{file_end}
 use Rattle.er_sites.specs.Table.{reads_at, writes_at}
 use Rattle.er_trace.specs.Names.{NameTable}
+use Rattle.er_triage.specs.Texts.{target_text}
 
 -- a name inside a string
 unfoldable pub thread_words : NameTable → ℕ → List ℕ
@@ -120,6 +122,44 @@ unfoldable pub results_below : NameTable → List Line → ℕ → List (List �
 results_below names lines zero = []
 results_below names lines (suc n) = results_below names lines n ++ results_at names lines n (slice_get lines n)
 
+-- the rule of this text, which takes races, and how many
+unfoldable pub taken_text : List ℕ → ℕ → List ℕ
+taken_text rule count =
+    codes "{\"ruleId\":\"race/suppressed\",\"level\":\"error\",\"message\":{\"text\":\"Races that a rule takes: " ++ escaped_text rule ++ codes "\"}" ++ count_member count
+
+-- where they are, if the rule is for a site that has a name
+abbrev pub target_location : Target → List ℕ
+target_location (AtSite (Some name)) = location_member name
+target_location (AtSite None) = []
+target_location (AtWords words) = []
+
+-- that they count as suppressed, by the rule of this text and number; the fingerprint is the same in each run
+unfoldable pub suppression_text : List ℕ → ℕ → List ℕ
+suppression_text rule number =
+    codes ",\"partialFingerprints\":{\"rule/v1\":\"" ++ escaped_text rule ++ codes "\"},\"suppressions\":[{\"kind\":\"external\",\"justification\":\"rule " ++ decimal number ++ codes "\"}]}"
+
+-- the result of a rule that takes races
+unfoldable pub suppressed_text : ℕ → ℕ → Target → List ℕ
+suppressed_text number count target = taken_text (target_text target) count ++ target_location target ++ suppression_text (target_text target) number
+
+-- a rule has a result if it takes a race
+abbrev pub suppressed_of : ℕ → Option ℕ → Target → List (List ℕ)
+suppressed_of number None target = []
+suppressed_of number (Some count) target = cond (count == 0) [] (suppressed_text number count target ∷ [])
+
+abbrev pub suppressed_at : List ℕ → ℕ → Option Target → List (List ℕ)
+suppressed_at counts k None = []
+suppressed_at counts k (Some target) = suppressed_of (k + 1) (slice_get counts k) target
+
+-- the results of the first n rules, by how many races each rule takes; rules are numbered from 1
+unfoldable pub suppressed_below : List ℕ → List Target → ℕ → List (List ℕ)
+suppressed_below counts targets zero = []
+suppressed_below counts targets (suc n) = suppressed_below counts targets n ++ suppressed_at counts n (slice_get targets n)
+
+-- the results of the lines, and behind them those of the rules
+abbrev pub all_results : NameTable → List Line → List ℕ → List Target → List (List ℕ)
+all_results names lines counts targets = results_below names lines (length lines) ++ suppressed_below counts targets (length targets)
+
 abbrev pub version_text : List ℕ
 version_text = codes "{\"$schema\":\"https://json.schemastore.org/sarif-2.1.0.json\",\n\"version\":\"2.1.0\",\n\"runs\":[{\n\"tool\":{\"driver\":"
 
@@ -128,16 +168,19 @@ abbrev pub read_rule_text : List ℕ
 read_rule_text = codes "{\"name\":\"eraser\",\"rules\":[{\"id\":\"race/read\",\"shortDescription\":{\"text\":\"A read that no lock protects\"}},"
 
 abbrev pub write_rule_text : List ℕ
-write_rule_text = codes "{\"id\":\"race/write\",\"shortDescription\":{\"text\":\"A write that no lock protects\"}}]}},\n\"results\":["
+write_rule_text = codes "{\"id\":\"race/write\",\"shortDescription\":{\"text\":\"A write that no lock protects\"}},"
+
+abbrev pub suppressed_rule_text : List ℕ
+suppressed_rule_text = codes "{\"id\":\"race/suppressed\",\"shortDescription\":{\"text\":\"Races that a rule of suppressions takes\"}}]}},\n\"results\":["
 
 -- what stands before the results
 unfoldable pub start_text : List ℕ
-start_text = version_text ++ read_rule_text ++ write_rule_text
+start_text = version_text ++ read_rule_text ++ write_rule_text ++ suppressed_rule_text
 
 -- and after them
 unfoldable pub end_text : List ℕ
 end_text = codes "]}]}\n"
 
 -- the whole document
-unfoldable pub sarif_text : NameTable → List Line → List ℕ
-sarif_text names lines = start_text ++ rows_text (results_below names lines (length lines)) ++ end_text
+unfoldable pub sarif_text : NameTable → List Line → List ℕ → List Target → List ℕ
+sarif_text names lines counts targets = start_text ++ rows_text (all_results names lines counts targets) ++ end_text

@@ -3,31 +3,36 @@ ghost use Rattle.std.specs.Prelude.{◌≡◌, ◌++◌, All, IfOk, OnOk, false}
 ghost use Rattle.er_device.specs.Device.{inner_of, has_failed, taken_of};
 ghost use Rattle.er_print.specs.Written.{WritesReport, FailsWriting};
 ghost use Rattle.er_report.specs.Names.{HasNames};
+ghost use Rattle.er_rules.specs.Rules.{targets_of};
 ghost use Rattle.er_sarif.specs.Document.{end_text, sarif_text, start_text};
 
 use crate::results::put_results;
+use crate::suppressed::put_suppressed;
 use er_device::Device;
 use er_print::WriteFault;
 use er_report::{Line, Report};
+use er_rules::Suppressions;
 use er_sites::count_races;
 use er_trace::Names;
 use std::alloc::{AllocError, Global};
 use std::io::Write;
 
-/// Writes the races of a report as SARIF, with these names for its numbers. The document is whole before its first byte is written.
+/// Writes the races of a report as SARIF, with these names for its numbers, and how many races each of these rules took. The document is
+/// whole before its first byte is written.
 pub fn write_sarif<W: Write>(
     alloc: Global,
     writer: &mut Device<W>,
     report: &Report,
     names: &Names,
+    rules: &Suppressions,
 ) -> Result<(), WriteFault>
     requires open { has_failed writer.old ≡ false }
     requires names { All (HasNames names.now) report.now.lines.items }
-    ensures bytes { WritesReport (W.contents (inner_of writer.old)) (W.contents (inner_of writer.new)) (sarif_text names.now report.now.lines.items) result }
+    ensures bytes { WritesReport (W.contents (inner_of writer.old)) (W.contents (inner_of writer.new)) (sarif_text names.now report.now.lines.items report.now.rule_counts.items (targets_of rules.now)) result }
     ensures failed { FailsWriting (has_failed writer.new) result }
     ensures taken { taken_of writer.new ≡ taken_of writer.old }
 {
-    let Ok(text) = sarif_text(alloc, &report.lines, names) else {
+    let Ok(text) = sarif_text(alloc, &report.lines, &report.rule_counts, names, rules) else {
         return Err(WriteFault::Memory);
     };
     if writer.write_all(&text).is_err() {
@@ -37,14 +42,21 @@ pub fn write_sarif<W: Write>(
 }
 
 #[tactic(auto, unfolding(crate::specs::Document::sarif_text))]
-fn sarif_text(alloc: Global, lines: &[Line], names: &Names) -> Result<Vec<u8>, AllocError>
+fn sarif_text(
+    alloc: Global,
+    lines: &[Line],
+    rule_counts: &[u64],
+    names: &Names,
+    rules: &Suppressions,
+) -> Result<Vec<u8>, AllocError>
     requires { All (HasNames names.now) lines.now }
-    ensures { IfOk result (λ text. text.items ≡ sarif_text names.now lines.now) }
+    ensures { IfOk result (λ text. text.items ≡ sarif_text names.now lines.now rule_counts.now (targets_of rules.now)) }
 {
     let total = count_races(alloc, lines)?;
     let mut text = Vec::new(alloc);
     put_start(&mut text)?;
-    put_results(alloc, &mut text, names, lines, &total)?;
+    let is_first = put_results(alloc, &mut text, names, lines, &total)?;
+    put_suppressed(alloc, &mut text, rule_counts, rules, is_first)?;
     put_end(&mut text)?;
     Ok(text)
 }
@@ -60,7 +72,10 @@ fn put_start(out: &mut Vec<u8>) -> Result<(), AllocError>
         b"{\"name\":\"eraser\",\"rules\":[{\"id\":\"race/read\",\"shortDescription\":{\"text\":\"A read that no lock protects\"}},",
     )?;
     out.extend_from_slice(
-        b"{\"id\":\"race/write\",\"shortDescription\":{\"text\":\"A write that no lock protects\"}}]}},\n\"results\":[",
+        b"{\"id\":\"race/write\",\"shortDescription\":{\"text\":\"A write that no lock protects\"}},",
+    )?;
+    out.extend_from_slice(
+        b"{\"id\":\"race/suppressed\",\"shortDescription\":{\"text\":\"Races that a rule of suppressions takes\"}}]}},\n\"results\":[",
     )?;
     Ok(())
 }

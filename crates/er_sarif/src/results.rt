@@ -18,17 +18,19 @@ use er_sites::{Counts, count_at, count_line};
 use er_trace::Names;
 use std::alloc::{AllocError, Global};
 
-/// Puts the results of the lines, each on a line of its own. The counts are those of all races of the lines.
+/// Puts the results of the lines, each on a line of its own, and returns whether there is none. The counts are those of all races of the
+/// lines.
 pub(crate) fn put_results(
     alloc: Global,
     out: &mut Vec<u8>,
     names: &Names,
     lines: &[Line],
     total: &Counts,
-) -> Result<(), AllocError>
+) -> Result<bool, AllocError>
     requires named { All (HasNames names.now) lines.now }
     requires total { AreCounts lines.now total.now }
-    ensures { OnOk result (out.new.items ≡ out.old.items ++ rows_text (results_below names.now lines.now (length lines.now))) }
+    ensures text { OnOk result (out.new.items ≡ out.old.items ++ rows_text (results_below names.now lines.now (length lines.now))) }
+    ensures first { IfOk result (λ first. first ≡ has_none (results_below names.now lines.now (length lines.now))) }
 {
     prove!(lines.len() < 1 << 63);
     let mut reads = Vec::new(alloc);
@@ -40,7 +42,7 @@ pub(crate) fn put_results(
         is_first = put_next(out, names, line, before, count, is_first)?;
         count_line(&mut reads, &mut writes, line)?;
     }
-    Ok(())
+    Ok(is_first)
 }
 
 // How many races there are like the line, by these counts.

@@ -19,7 +19,7 @@
 pub use first::keep_first_races;
 pub use joined::append_rules;
 pub use known::{KnownRace, known_races};
-pub use texts::{known_races_text, left_out_text, unused_rules_text};
+pub use texts::{known_races_text, left_out_text, put_rule, unused_rules_text};
 pub use wishes::{Triaged, Wishes, triage};
 
 mod first;

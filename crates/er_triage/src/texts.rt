@@ -167,7 +167,8 @@ fn put_if_unused(
     out.extend_from_slice(b"\n")
 }
 
-fn put_rule(out: &mut Vec<u8>, rule: &Rule) -> Result<(), AllocError>
+/// Puts a rule as a suppression text has it, without a line feed.
+pub fn put_rule(out: &mut Vec<u8>, rule: &Rule) -> Result<(), AllocError>
     ensures { OnOk result (out.new.items ≡ out.old.items ++ target_text (target_of rule.now)) }
 {
     match rule {

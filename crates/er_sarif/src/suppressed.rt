@@ -1,0 +1,126 @@
+//! A result for each rule of suppressions that takes races.
+ghost use Rattle.std.specs.Prelude.{◌≡◌, ◌++◌, ◌&&◌, ◌==◌, ℕ, List, length, slice_get, IfOk, OnOk};
+ghost use Rattle.er_json.specs.Document.{rows_text};
+ghost use Rattle.er_json.specs.Inner.Sections.{has_none, next_text};
+ghost use Rattle.er_rules.specs.Rules.{target_of, targets_of};
+ghost use Rattle.er_sarif.specs.Document.{suppressed_below, suppressed_of, suppressed_text, suppression_text, taken_text, target_location};
+ghost use Rattle.er_triage.specs.Texts.{target_text};
+
+use crate::members::{put_count, put_location};
+use er_json::{put_escaped, put_separator};
+use er_print::put_number;
+use er_rules::{Rule, Suppressions};
+use er_triage::put_rule;
+use std::alloc::{AllocError, Global};
+
+/// Puts the results of the rules behind other results, each on a line of its own. `is_first` says that there is no other result.
+pub(crate) fn put_suppressed(
+    alloc: Global,
+    out: &mut Vec<u8>,
+    rule_counts: &[u64],
+    rules: &Suppressions,
+    is_first: bool,
+) -> Result<(), AllocError>
+    ensures { (old : List ℕ) (rows : List (List ℕ)) → is_first ≡ has_none rows → out.old.items ≡ old ++ rows_text rows
+        → OnOk result (out.new.items ≡ old ++ rows_text (rows ++ suppressed_below rule_counts.now (targets_of rules.now) (length (targets_of rules.now)))) }
+{
+    let mut still_first = is_first;
+    for (place, rule) in rules.rules.iter().enumerate() {
+        let count = count_at(rule_counts, place);
+        still_first = put_next(alloc, out, place as u64 + 1, count, rule, still_first)?;
+    }
+    Ok(())
+}
+
+// The count in a place, if the list is that long.
+fn count_at(counts: &[u64], place: usize) -> Option<u64>
+    ensures { result ≡ slice_get counts.now place }
+{
+    counts.get(place).copied()
+}
+
+// Puts the result of a rule if it takes a race, and returns whether the next one is the first.
+fn put_next(
+    alloc: Global,
+    out: &mut Vec<u8>,
+    number: u64,
+    count: Option<u64>,
+    rule: &Rule,
+    is_first: bool,
+) -> Result<bool, AllocError>
+    ensures text { OnOk result (out.new.items ≡ out.old.items ++ next_text is_first (suppressed_of number count (target_of rule.now))) }
+    ensures first { IfOk result (λ still. still ≡ (is_first && has_none (suppressed_of number count (target_of rule.now)))) }
+{
+    let Some(count) = count else {
+        return Ok(is_first);
+    };
+    if count == 0 {
+        return Ok(is_first);
+    }
+    put_separator(out, is_first)?;
+    put_result(alloc, out, number, count, rule)?;
+    Ok(false)
+}
+
+#[tactic(auto, unfolding(crate::specs::Document::suppressed_text))]
+fn put_result(
+    alloc: Global,
+    out: &mut Vec<u8>,
+    number: u64,
+    count: u64,
+    rule: &Rule,
+) -> Result<(), AllocError>
+    ensures { OnOk result (out.new.items ≡ out.old.items ++ suppressed_text number count (target_of rule.now)) }
+{
+    let text = text_of(alloc, rule)?;
+    put_taken(out, &text, count)?;
+    put_place(out, rule)?;
+    put_suppression(out, &text, number)
+}
+
+// A rule as a suppression text has it.
+fn text_of(alloc: Global, rule: &Rule) -> Result<Vec<u8>, AllocError>
+    ensures { IfOk result (λ text. text.items ≡ target_text (target_of rule.now)) }
+{
+    let mut text = Vec::new(alloc);
+    put_rule(&mut text, rule)?;
+    Ok(text)
+}
+
+// Opens a result with the rule of this text and how many races it takes.
+#[tactic(auto, unfolding(crate::specs::Document::taken_text))]
+fn put_taken(out: &mut Vec<u8>, rule: &[u8], count: u64) -> Result<(), AllocError>
+    ensures { OnOk result (out.new.items ≡ out.old.items ++ taken_text rule.now count) }
+{
+    out.extend_from_slice(
+        b"{\"ruleId\":\"race/suppressed\",\"level\":\"error\",\"message\":{\"text\":\"Races that a rule takes: ",
+    )?;
+    put_escaped(out, rule)?;
+    out.extend_from_slice(b"\"}")?;
+    put_count(out, count)
+}
+
+// Puts where the races are, if the rule is for a site that has a name.
+fn put_place(out: &mut Vec<u8>, rule: &Rule) -> Result<(), AllocError>
+    ensures { OnOk result (out.new.items ≡ out.old.items ++ target_location (target_of rule.now)) }
+{
+    match rule {
+        Rule::Site(Some(name)) => put_location(out, name.as_bytes()),
+        Rule::Site(None) | Rule::Words(_) => Ok(()),
+    }
+}
+
+// Puts that the races count as suppressed, by the rule of this text and number, and closes the result.
+#[tactic(auto, unfolding(crate::specs::Document::suppression_text))]
+fn put_suppression(out: &mut Vec<u8>, rule: &[u8], number: u64) -> Result<(), AllocError>
+    ensures { OnOk result (out.new.items ≡ out.old.items ++ suppression_text rule.now number) }
+{
+    out.extend_from_slice(b",\"partialFingerprints\":{\"rule/v1\":\"")?;
+    put_escaped(out, rule)?;
+    out.extend_from_slice(
+        b"\"},\"suppressions\":[{\"kind\":\"external\",\"justification\":\"rule ",
+    )?;
+    put_number(out, number)?;
+    out.extend_from_slice(b"\"}]}")?;
+    Ok(())
+}
