@@ -1,10 +1,11 @@
 -- From the parts of a replay in another form to the whole.
-use Rattle.std.proofs.Common.{◌≡◌, ℕ, Bool, List, Option, Some, None, Result, Ok, Err, IfSome, IfOk, IfErr, IsFalse, take, refl, subst}
+use Rattle.std.proofs.Common.{◌≡◌, ℕ, Bool, List, [], Option, Some, None, Result, Ok, Err, IfSome, IfOk, IfErr, IsFalse, take, refl, subst}
 use Rattle.std.specs.Io.KnownBytes.{Appends}
 use Rattle.er_formats.specs.Forms.{IsForm, IsReplayedAs, IsFailedAs}
 use Rattle.er_formats.specs.Inner.Writes.{WritesForm, WritesFound}
 use Rattle.er_formats.specs.declared.forms.Form.{Form}
-use Rattle.er_formats.specs.declared.forms.Form.TheVariants.{BySite, Json, Sarif}
+use Rattle.er_formats.specs.declared.forms.Form.TheVariants.{BySite, Json, Sarif, Html}
+use Rattle.er_html.specs.Page.{html_text}
 use Rattle.er_json.specs.Document.{json_text}
 use Rattle.er_print.specs.Written.{WritesReport}
 use Rattle.er_print.specs.declared.fault.WriteFault.{WriteFault}
@@ -24,24 +25,30 @@ use Rattle.er_sites.specs.Written.{WritesSites}
 use Rattle.er_trace.specs.Names.{NameTable}
 
 -- the text for people is a form
-pub of-sites : {X : Type 0} (old new : Option (List ℕ)) (names : NameTable) (report : Report) (result : Result X WriteFault) → WritesSites old new names report result
-    → WritesForm BySite old new names report result
-of-sites old new names report (Ok x) written = (sites_text names report written.0, ((written.0, (written.1.0, refl)), written.1.1))
-of-sites old new names report (Err writing.Memory) written = written
-of-sites old new names report (Err writing.Write) written = (sites_text names report written.0, ((written.0, (written.1.0, refl)), written.1.1))
+pub of-sites : {X : Type 0} (old new : Option (List ℕ)) (names : NameTable) (rules : List Target) (report : Report) (result : Result X WriteFault) → WritesSites old new names report result
+    → WritesForm BySite old new names rules report result
+of-sites old new names rules report (Ok x) written = (sites_text names report written.0, ((written.0, (written.1.0, refl)), written.1.1))
+of-sites old new names rules report (Err writing.Memory) written = written
+of-sites old new names rules report (Err writing.Write) written = (sites_text names report written.0, ((written.0, (written.1.0, refl)), written.1.1))
 
 -- and so is the document
-pub of-json : {X : Type 0} (old new : Option (List ℕ)) (names : NameTable) (report : Report) (result : Result X WriteFault)
-    → WritesReport old new (json_text names (summary report)) result → WritesForm Json old new names report result
-of-json old new names report (Ok x) written = (json_text names (summary report), (refl, written))
-of-json old new names report (Err writing.Memory) written = written
-of-json old new names report (Err writing.Write) written = (json_text names (summary report), (refl, written))
+pub of-json : {X : Type 0} (old new : Option (List ℕ)) (names : NameTable) (rules : List Target) (report : Report) (result : Result X WriteFault)
+    → WritesReport old new (json_text names (summary report)) result → WritesForm Json old new names rules report result
+of-json old new names rules report (Ok x) written = (json_text names (summary report), (refl, written))
+of-json old new names rules report (Err writing.Memory) written = written
+of-json old new names rules report (Err writing.Write) written = (json_text names (summary report), (refl, written))
 
-pub of-sarif : {X : Type 0} (old new : Option (List ℕ)) (names : NameTable) (report : Report) (result : Result X WriteFault)
-    → WritesReport old new (sarif_text names report.lines.items) result → WritesForm Sarif old new names report result
-of-sarif old new names report (Ok x) written = (sarif_text names report.lines.items, (refl, written))
-of-sarif old new names report (Err writing.Memory) written = written
-of-sarif old new names report (Err writing.Write) written = (sarif_text names report.lines.items, (refl, written))
+pub of-sarif : {X : Type 0} (old new : Option (List ℕ)) (names : NameTable) (rules : List Target) (report : Report) (result : Result X WriteFault)
+    → WritesReport old new (sarif_text names report.lines.items report.rule_counts.items rules) result → WritesForm Sarif old new names rules report result
+of-sarif old new names rules report (Ok x) written = (sarif_text names report.lines.items report.rule_counts.items rules, (refl, written))
+of-sarif old new names rules report (Err writing.Memory) written = written
+of-sarif old new names rules report (Err writing.Write) written = (sarif_text names report.lines.items report.rule_counts.items rules, (refl, written))
+
+pub of-html : {X : Type 0} (old new : Option (List ℕ)) (names : NameTable) (rules : List Target) (report : Report) (result : Result X WriteFault)
+    → WritesReport old new (html_text names (summary report) []) result → WritesForm Html old new names rules report result
+of-html old new names rules report (Ok x) written = (html_text names (summary report) [], (refl, written))
+of-html old new names rules report (Err writing.Memory) written = written
+of-html old new names rules report (Err writing.Write) written = (html_text names (summary report) [], (refl, written))
 
 module _ (form : Form) (told : Option (List ℕ)) (limit : ℕ) (rules : List Target) (explain : Bool) (old new : Option (List ℕ)) (names : NameTable) (report : Report) where
   -- the report of a text is that of a run of its trace
@@ -49,7 +56,7 @@ module _ (form : Form) (told : Option (List ℕ)) (limit : ℕ) (rules : List Ta
   run-of text built = record { stop = built.stop; within = built.run.within; cause = built.run.cause; says = built.says }
 
   -- the whole form was written
-  pub whole : (result : Result Verdict RunFault) → IfSome told (λ text. IsReportOfText text limit rules explain names report) → WritesFound form old new names report result
+  pub whole : (result : Result Verdict RunFault) → IfSome told (λ text. IsReportOfText text limit rules explain names report) → WritesFound form old new names rules report result
       → IfOk result (λ verdict. IfSome told (λ text. IsReplayedAs form text limit rules explain old new verdict))
   whole (Err why) built written = tt
   whole (Ok verdict) built written = by told built
@@ -62,13 +69,13 @@ module _ (form : Form) (told : Option (List ℕ)) (limit : ℕ) (rules : List Ta
         bytes = written.1.0;
         trace = built.run.trace;
         run = run-of text built;
-        whole = subst (λ (n : NameTable). IsForm form n report written.1.0) built.names written.1.1.0;
+        whole = subst (λ (n : NameTable). IsForm form n rules report written.1.0) built.names written.1.1.0;
         written = written.1.1.1;
         verdict = written.0;
       }
 
   -- or a beginning of it, or nothing
-  pub part : (result : Result Verdict RunFault) → IfSome told (λ text. IsReportOfText text limit rules explain names report) → WritesFound form old new names report result
+  pub part : (result : Result Verdict RunFault) → IfSome told (λ text. IsReportOfText text limit rules explain names report) → WritesFound form old new names rules report result
       → IsFailedAs form told limit rules explain old new result
   part (Ok verdict) built written = tt
   part (Err (Read fault)) built written = absurd written
@@ -86,20 +93,20 @@ module _ (form : Form) (told : Option (List ℕ)) (limit : ℕ) (rules : List Ta
         count = written.1.1.0;
         trace = built.run.trace;
         run = run-of text built;
-        whole = subst (λ (n : NameTable). IsForm form n report written.0) built.names written.1.0;
+        whole = subst (λ (n : NameTable). IsForm form n rules report written.0) built.names written.1.0;
         written = written.1.1.1;
       }
 
-pub nothing : (form : Form) (old new : Option (List ℕ)) (names : NameTable) (report : Report) (result : Result Verdict RunFault) → WritesFound form old new names report result
+pub nothing : (form : Form) (old new : Option (List ℕ)) (names : NameTable) (rules : List Target) (report : Report) (result : Result Verdict RunFault) → WritesFound form old new names rules report result
     → IfErr result (WritesNothing old new)
-nothing form old new names report (Ok verdict) written = tt
-nothing form old new names report (Err (Read fault)) written = absurd written
-nothing form old new names report (Err (Replay fault)) written = absurd written
-nothing form old new names report (Err Memory) written = absurd written
-nothing form old new names report (Err (Write writing.Memory)) written = written
-nothing form old new names report (Err (Write writing.Write)) written = tt
+nothing form old new names rules report (Ok verdict) written = tt
+nothing form old new names rules report (Err (Read fault)) written = absurd written
+nothing form old new names rules report (Err (Replay fault)) written = absurd written
+nothing form old new names rules report (Err Memory) written = absurd written
+nothing form old new names rules report (Err (Write writing.Memory)) written = written
+nothing form old new names rules report (Err (Write writing.Write)) written = tt
 
-pub unstopped : (form : Form) (old new : Option (List ℕ)) (names : NameTable) (report : Report) (result : Result Verdict RunFault) → report.stop ≡ None
-    → WritesFound form old new names report result → IfOk result (λ verdict. IsFalse (is_stopped verdict))
-unstopped form old new names report (Ok verdict) none written = rw written.0 (not_stopped report.stop report.races none)
-unstopped form old new names report (Err why) none written = tt
+pub unstopped : (form : Form) (old new : Option (List ℕ)) (names : NameTable) (rules : List Target) (report : Report) (result : Result Verdict RunFault) → report.stop ≡ None
+    → WritesFound form old new names rules report result → IfOk result (λ verdict. IsFalse (is_stopped verdict))
+unstopped form old new names rules report (Ok verdict) none written = rw written.0 (not_stopped report.stop report.races none)
+unstopped form old new names rules report (Err why) none written = tt

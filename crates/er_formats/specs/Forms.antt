@@ -1,8 +1,9 @@
 -- What a replay comes to whose report is written in another form.
-use Rattle.std.specs.Prelude.{◌≡◌, ℕ, Bool, List, take, Option, Result}
+use Rattle.std.specs.Prelude.{◌≡◌, ℕ, Bool, List, [], take, Option, Result}
 use Rattle.std.specs.Io.KnownBytes.{Appends}
 use Rattle.er_formats.specs.declared.forms.Form.{Form}
-use Rattle.er_formats.specs.declared.forms.Form.TheVariants.{BySite, Json, Sarif}
+use Rattle.er_formats.specs.declared.forms.Form.TheVariants.{BySite, Json, Sarif, Html}
+use Rattle.er_html.specs.Page.{html_text}
 use Rattle.er_json.specs.Document.{json_text}
 use Rattle.er_report.specs.Report.{told as summary}
 use Rattle.er_report.specs.declared.report.Report.{Report}
@@ -18,11 +19,13 @@ use Rattle.er_text.specs.Trace.{IsTrace}
 use Rattle.er_trace.specs.Names.{NameTable}
 use Rattle.er_trace.specs.Trace.{Recording}
 
--- these bytes are the form of the report: by site those of a table of its races, as JSON and as SARIF its one document
-abbrev pub IsForm : Form → NameTable → Report → List ℕ → Type 0
-IsForm BySite names report bytes = (rows : List SiteRow) × (IsTable report.lines.items rows × (bytes ≡ sites_text names report rows))
-IsForm Json names report bytes = bytes ≡ json_text names (summary report)
-IsForm Sarif names report bytes = bytes ≡ sarif_text names report.lines.items
+-- these bytes are the form of the report under these rules: by site those of a table of its races, as JSON and as SARIF its one
+-- document, and as HTML its page without excerpts
+abbrev pub IsForm : Form → NameTable → List Target → Report → List ℕ → Type 0
+IsForm BySite names rules report bytes = (rows : List SiteRow) × (IsTable report.lines.items rows × (bytes ≡ sites_text names report rows))
+IsForm Json names rules report bytes = bytes ≡ json_text names (summary report)
+IsForm Sarif names rules report bytes = bytes ≡ sarif_text names report.lines.items report.rule_counts.items rules
+IsForm Html names rules report bytes = bytes ≡ html_text names (summary report) []
 
 -- the text is a trace, and what was written is the form of a report of a run of it under these rules
 pub record IsReplayedAs (form : Form) (text : List ℕ) (limit : ℕ) (rules : List Target) (explain : Bool) (old new : Option (List ℕ)) (told : Verdict) : Type 0 where
@@ -31,7 +34,7 @@ pub record IsReplayedAs (form : Form) (text : List ℕ) (limit : ℕ) (rules : L
   pub bytes : List ℕ
   pub trace : IsTrace text limit recording
   pub run : IsReportOfRun recording rules explain report
-  pub whole : IsForm form recording.names report bytes
+  pub whole : IsForm form recording.names rules report bytes
   pub written : Appends old new bytes
   pub verdict : told ≡ is_verdict_of report
 
@@ -43,7 +46,7 @@ pub record IsBegunAs (form : Form) (text : List ℕ) (limit : ℕ) (rules : List
   pub count : ℕ
   pub trace : IsTrace text limit recording
   pub run : IsReportOfRun recording rules explain report
-  pub whole : IsForm form recording.names report bytes
+  pub whole : IsForm form recording.names rules report bytes
   pub written : Appends old new (take count bytes)
 
 -- where there is a fault: one of the text is its first, one of the workers is theirs, and a failed write left a beginning of the form

@@ -10,6 +10,7 @@ ghost use Rattle.er_run.specs.Limits.{bytes_past_limit};
 ghost use Rattle.er_run.specs.Replays.{WritesNothing, FailsBy, is_stopped};
 
 use er_device::Device;
+use er_html::write_html;
 use er_json::write_json;
 use er_print::WriteFault;
 use er_report::Report;
@@ -32,6 +33,8 @@ pub enum Form {
     Json,
     /// A SARIF log with a result for each site and kind of race (`er_sarif`).
     Sarif,
+    /// A page around the JSON document, without lines of source files (`er_html`).
+    Html,
 }
 
 /// Reads a trace text, replays it, and writes its report in a form, without the races that the rules take. It reads, replays and ends
@@ -58,7 +61,7 @@ where
     ensures whole { 1 < options.now.workers → IfOk result (λ verdict. IsFalse (is_stopped verdict)) }
 {
     match replay_report(rt, rt.alloc(), reader, suppressions, options) {
-        Ok(found) => write_found(rt.alloc(), writer, &found, form),
+        Ok(found) => write_found(rt.alloc(), writer, &found, suppressions, form),
         Err(why) => Err(why),
     }
 }
@@ -68,14 +71,22 @@ fn write_found<W: Write>(
     alloc: Global,
     writer: &mut Device<W>,
     found: &ReplayedTrace,
+    suppressions: &Suppressions,
     form: Form,
 ) -> Result<Verdict, RunFault>
     requires writer { has_failed writer.old ≡ false }
     requires named { All (HasNames found.now.trace.names) found.now.report.lines.items }
-    ensures found { WritesFound form (W.contents (inner_of writer.old)) (W.contents (inner_of writer.new)) found.now.trace.names found.now.report result }
+    ensures found { WritesFound form (W.contents (inner_of writer.old)) (W.contents (inner_of writer.new)) found.now.trace.names (targets_of suppressions.now) found.now.report result }
     ensures failed { FailsBy false (has_failed writer.new) result }
 {
-    match write_form(alloc, writer, &found.report, found.trace.names(), form) {
+    match write_form(
+        alloc,
+        writer,
+        &found.report,
+        found.trace.names(),
+        suppressions,
+        form,
+    ) {
         Ok(()) => Ok(verdict_of(&found.report)),
         Err(why) => Err(RunFault::Write(why)),
     }
@@ -86,16 +97,18 @@ fn write_form<W: Write>(
     writer: &mut Device<W>,
     report: &Report,
     names: &Names,
+    suppressions: &Suppressions,
     form: Form,
 ) -> Result<(), WriteFault>
     requires writer { has_failed writer.old ≡ false }
     requires named { All (HasNames names.now) report.now.lines.items }
-    ensures bytes { WritesForm form (W.contents (inner_of writer.old)) (W.contents (inner_of writer.new)) names.now report.now result }
+    ensures bytes { WritesForm form (W.contents (inner_of writer.old)) (W.contents (inner_of writer.new)) names.now (targets_of suppressions.now) report.now result }
     ensures failed { FailsWriting (has_failed writer.new) result }
 {
     match form {
         Form::BySite => write_sites(alloc, writer, report, names),
         Form::Json => write_json(alloc, writer, report, names),
-        Form::Sarif => write_sarif(alloc, writer, report, names),
+        Form::Sarif => write_sarif(alloc, writer, report, names, suppressions),
+        Form::Html => write_html(alloc, writer, report, names, &[]),
     }
 }

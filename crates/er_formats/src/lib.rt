@@ -1,7 +1,8 @@
-//! A replay whose report is written in another form: by site for people, as JSON for programs, or as SARIF for code hosts.
+//! A replay whose report is written in another form: by site or as a page for people, as JSON for programs, or as SARIF for code
+//! hosts.
 //!
 //! Begin with [`replay_as`]. It reads a trace text, replays it, and writes the report in a [`Form`]. Each form has a crate of its own that
-//! makes the bytes: `er_sites`, `er_json` and `er_sarif`.
+//! makes the bytes: `er_sites`, `er_json`, `er_sarif` and `er_html`.
 //!
 //! What it promises, by the names of clauses, if the reader and the writer tell their bytes: what was written is exactly that form of a
 //! report of a run of the text's trace under the rules (`form`), a fault of the text is the text's first fault (`fault`), and nothing

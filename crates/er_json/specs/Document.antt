@@ -5,7 +5,7 @@ use Rattle.er_event.specs.Refusal.{text_of, refusal_of}
 use Rattle.er_event.specs.declared.refusals.NoRoom.{NoRoom}
 use Rattle.er_event.specs.declared.refusals.Refusal.{Refusal}
 use Rattle.er_event.specs.declared.steps.Event.{Event}
-use Rattle.er_event.specs.declared.steps.Event.TheVariants.{Acquire, Release, Access, Reuse, IgnoreOn, IgnoreOff, Show, Level}
+use Rattle.er_event.specs.declared.steps.Event.TheVariants.{Acquire, Release, Access, Reuse, IgnoreOn, IgnoreOff, Show, Level, Sync}
 use Rattle.er_event.specs.declared.steps.Kind.{Kind}
 use Rattle.er_event.specs.declared.steps.Kind.TheVariants as kind
 use Rattle.er_event.specs.declared.steps.Mode.{Mode}
@@ -13,7 +13,7 @@ use Rattle.er_event.specs.declared.steps.Mode.TheVariants as mode
 use Rattle.er_event.specs.declared.steps.Step.{Step}
 use Rattle.er_event.specs.declared.steps.WordState.{WordState}
 use Rattle.er_event.specs.declared.steps.WordState.TheVariants.{Virgin, Exclusive, Shared, SharedModified}
-use Rattle.er_print.specs.Printed.{address_text, name_at}
+use Rattle.er_print.specs.Printed.{address_text, name_at, order_text}
 use Rattle.er_report.specs.Lines.{LineView, RaceView, RefusedView, ShownView}
 use Rattle.er_report.specs.Report.{Summary}
 use Rattle.er_report.specs.declared.report.Because.{Because}
@@ -123,6 +123,7 @@ event_member names (Access kind word site) = plain_event_member (access_verb kin
 event_member names (Reuse range) = plain_event_member (codes "reuse")
 event_member names (Show word) = plain_event_member (codes "show")
 event_member names (Level level) = plain_event_member (codes "level")
+event_member names (Sync sync) = plain_event_member (order_text sync)
 
 unfoldable pub why_member : Refusal → List ℕ
 why_member refusal = codes ",\"why\":\"" ++ text_of refusal ++ codes "\"}"

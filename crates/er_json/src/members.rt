@@ -5,7 +5,7 @@ ghost use Rattle.er_report.specs.Names.{HasEventNames, HasLabelName, HasLockName
 
 use crate::values::{put_lock, put_locks, put_thread};
 use er_event::{Event, Kind, LockId, Lockset, Mode, Refusal, ThreadId, Word, WordState};
-use er_print::{put_address, put_number};
+use er_print::{order_verb, put_address, put_number};
 use er_report::Label;
 use er_trace::Names;
 use std::alloc::AllocError;
@@ -93,6 +93,7 @@ pub(crate) fn put_event(out: &mut Vec<u8>, names: &Names, event: Event) -> Resul
         Event::Reuse(_) => put_plain_event(out, b"reuse"),
         Event::Show(_) => put_plain_event(out, b"show"),
         Event::Level(_) => put_plain_event(out, b"level"),
+        Event::Sync(sync) => put_plain_event(out, order_verb(sync)),
     }
 }
 

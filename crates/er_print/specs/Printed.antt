@@ -6,7 +6,9 @@ use Rattle.er_trace.specs.Names.{NameTable}
 use Rattle.er_event.specs.Refusal.{text_of, refusal_of}
 use Rattle.er_event.specs.declared.refusals.NoRoom.{NoRoom}
 use Rattle.er_event.specs.declared.steps.Event.{Event}
-use Rattle.er_event.specs.declared.steps.Event.TheVariants.{Acquire, Release, Access, Reuse, IgnoreOn, IgnoreOff, Show, Level}
+use Rattle.er_event.specs.declared.steps.Event.TheVariants.{Acquire, Release, Access, Reuse, IgnoreOn, IgnoreOff, Show, Level, Sync}
+use Rattle.er_event.specs.declared.steps.Sync.{Sync as SyncEvent}
+use Rattle.er_event.specs.declared.steps.Sync.TheVariants.{Start, Join, Signal, Await}
 use Rattle.er_event.specs.declared.steps.Kind.{Kind}
 use Rattle.er_event.specs.declared.steps.Kind.TheVariants as kind
 use Rattle.er_event.specs.declared.steps.Mode.{Mode}
@@ -65,6 +67,13 @@ abbrev pub release_text : Mode → List ℕ
 release_text mode.Write = codes "unlock "
 release_text mode.Read = codes "runlock "
 
+-- the verbs of order events
+abbrev pub order_text : SyncEvent → List ℕ
+order_text (Start thread) = codes "start"
+order_text (Join thread) = codes "join"
+order_text (Signal object) = codes "signal"
+order_text (Await object) = codes "await"
+
 -- what a thread asked for: the verb, and the lock of a lock event. Events that are never refused are their verbs alone
 abbrev pub event_text : NameTable → Event → List ℕ
 event_text names (Acquire lock mode) = acquire_text mode ++ lock_text names lock
@@ -75,6 +84,7 @@ event_text names (Access kind word site) = kind_text kind
 event_text names (Reuse range) = codes "reuse"
 event_text names (Show word) = codes "show"
 event_text names (Level level) = codes "level"
+event_text names (Sync sync) = order_text sync
 
 abbrev pub candidates_text : NameTable → List ℕ → List ℕ
 candidates_text names locks = codes ", candidates " ++ locks_text names locks

@@ -1,10 +1,10 @@
 //! Threads, locks and sites by their names, and what a step or a state says of them.
 ghost use Rattle.std.specs.Prelude.{◌≡◌, ◌++◌, ◌<◌, ◌≤◌, length, OnOk};
 ghost use Rattle.er_report.specs.Names.{HasLabelName, HasLockName, HasLockNames, HasEventNames, HasStateNames};
-ghost use Rattle.er_print.specs.Printed.{name_at, site_text, lock_text, label_text, more_locks, locks_text, kind_text, acquire_text, release_text, event_text, candidates_text, state_text};
+ghost use Rattle.er_print.specs.Printed.{name_at, site_text, lock_text, label_text, more_locks, locks_text, kind_text, acquire_text, release_text, event_text, order_text, candidates_text, state_text};
 
 use crate::numbers::put_number;
-use er_event::{Event, Kind, LockId, Lockset, Mode, Site, ThreadId, WordState};
+use er_event::{Event, Kind, LockId, Lockset, Mode, Site, Sync, ThreadId, WordState};
 use er_report::Label;
 use er_trace::Names;
 use std::alloc::AllocError;
@@ -123,6 +123,19 @@ pub(crate) fn put_event(out: &mut Vec<u8>, names: &Names, event: Event) -> Resul
         Event::Reuse(_) => out.extend_from_slice(b"reuse"),
         Event::Show(_) => out.extend_from_slice(b"show"),
         Event::Level(_) => out.extend_from_slice(b"level"),
+        Event::Sync(sync) => out.extend_from_slice(order_verb(sync)),
+    }
+}
+
+/// The verb of an event that orders threads.
+pub fn order_verb(sync: Sync) -> &'static [u8]
+    ensures { result.now ≡ order_text sync }
+{
+    match sync {
+        Sync::Start(_) => b"start".as_slice(),
+        Sync::Join(_) => b"join".as_slice(),
+        Sync::Signal(_) => b"signal".as_slice(),
+        Sync::Await(_) => b"await".as_slice(),
     }
 }
 

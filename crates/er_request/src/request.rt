@@ -29,7 +29,9 @@ pub struct Replay<'a> {
     pub trace: &'a str,
     /// How the report is written.
     pub format: Format,
-    /// Whether races are explained, as they are by site and as SARIF.
+    /// The path of the folder that has the source files, if the page is to show lines of them. Given only with [`Format::Html`].
+    pub source: Option<&'a str>,
+    /// Whether races are explained, as they are by site, as SARIF and as HTML.
     pub explain: bool,
     /// In how many shards the words are, from 1 to 64.
     pub shards: u32,
@@ -55,6 +57,8 @@ pub enum Format {
     Json,
     /// As a SARIF log.
     Sarif,
+    /// As a page of HTML.
+    Html,
 }
 
 /// Which of the six workloads to run.
@@ -128,9 +132,15 @@ fn with_forms<'a>(alloc: Global, command: Command<'a>) -> Result<Command<'a>, Al
         .default_value("text")
         .conflicts_with("by-site")?
         .help(
-            "How the report is written: as text for scripts, as JSON for programs, or as SARIF for code hosts",
+            "How the report is written: as text for scripts, as JSON for programs, as SARIF for code hosts, or as one page of HTML for people",
         );
-    command.arg(explain)?.arg(by_site)?.arg(format)
+    let source = Arg::new(alloc, "source")
+        .long("source")
+        .value_name("DIR")
+        .help(
+            "With --format html, show the lines around each site, from the files below this folder",
+        );
+    command.arg(explain)?.arg(by_site)?.arg(format)?.arg(source)
 }
 
 // The options that say how the trace is replayed.
@@ -170,7 +180,7 @@ fn replay_command<'a>(alloc: Global) -> Result<Command<'a>, AllocError> {
     command.arg(trace)
 }
 
-const FORMS: [&str; 3] = ["text", "json", "sarif"];
+const FORMS: [&str; 4] = ["text", "json", "sarif", "html"];
 
 const NAMES: [&str; 6] = [
     "locked-counter",
@@ -245,13 +255,14 @@ fn format_of(by_site: bool, form: &str) -> Option<Format> {
         (false, "text") => Some(Format::Text),
         (false, "json") => Some(Format::Json),
         (false, "sarif") => Some(Format::Sarif),
+        (false, "html") => Some(Format::Html),
         _ => None,
     }
 }
 
 // Whether races are explained in this format without being asked for.
 fn has_reasons(format: Format) -> bool {
-    matches!(format, Format::BySite | Format::Sarif)
+    matches!(format, Format::BySite | Format::Sarif | Format::Html)
 }
 
 // The values of an option that may be given several times.
@@ -284,6 +295,7 @@ fn replay_of<'a>(found: &ArgMatches<'a>, suppressions: Vec<&'a str>) -> Option<R
         max_races: found.get_one::<u64>("max-races"),
         trace: found.get_str("trace")?,
         format,
+        source: found.get_str("source"),
         explain: has_reasons(format) || found.get_flag("explain"),
         shards,
         workers,
@@ -314,11 +326,23 @@ fn demo_request<'a>(found: &ArgMatches<'a>) -> Option<Request<'a>> {
     Some(Request::Demo(demo_of(found.get_str("name")?)?))
 }
 
+// Whether source files are named for a report that shows none.
+fn lacks_page(request: &Request<'_>) -> bool {
+    match request {
+        Request::Replay(replay) => replay.source.is_some() && replay.format != Format::Html,
+        Request::Demo(_) => false,
+    }
+}
+
 /// Reads a command line, of which the first word is the program's name.
 pub fn read_request<'a>(alloc: Global, words: &'a [String]) -> Result<Request<'a>, Error> {
     let mut command = eraser_command(alloc)?;
     let matches = command.try_get_matches_from_mut(words)?;
     match request_of(alloc, &matches)? {
+        Some(request) if lacks_page(&request) => Err(command.error(
+            ErrorKind::ArgumentConflict,
+            "--source goes with --format html alone",
+        )?),
         Some(request) => Ok(request),
         None => Err(command.error(ErrorKind::InvalidValue, "a value is out of its range")?),
     }

@@ -16,11 +16,11 @@ returns-in-Ok-clause-fault g c =
     c.write_found.result c.in-Ok.ensures.report c.write_found.ensures.found
 
 pub returns-in-Ok-clause-nothing : goal.returns-in-Ok-clause-nothing
-returns-in-Ok-clause-nothing g c = nothing c.args.form _ _ c.in-Ok.found.trace.names c.in-Ok.found.report c.write_found.result c.write_found.ensures.found
+returns-in-Ok-clause-nothing g c = nothing c.args.form _ _ c.in-Ok.found.trace.names _ c.in-Ok.found.report c.write_found.result c.write_found.ensures.found
 
 pub returns-in-Ok-clause-whole : goal.returns-in-Ok-clause-whole
 returns-in-Ok-clause-whole g c =
-    λ several. unstopped c.args.form _ _ c.in-Ok.found.trace.names c.in-Ok.found.report c.write_found.result (c.in-Ok.ensures.whole several) c.write_found.ensures.found
+    λ several. unstopped c.args.form _ _ c.in-Ok.found.trace.names _ c.in-Ok.found.report c.write_found.result (c.in-Ok.ensures.whole several) c.write_found.ensures.found
 
 pub returns-in-Err-clause-fault : goal.returns-in-Err-clause-fault
 returns-in-Err-clause-fault g c = unwritten _ (g.D.Read.remaining (inner_of c.args.reader.now)) c.args.options.now.byte_limit c.in-Err.why c.in-Err.ensures.fault

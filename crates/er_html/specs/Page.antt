@@ -1,0 +1,51 @@
+-- A report as a page: the JSON of the report and that of the excerpts, each in a block of data, between parts that are always the same.
+use Rattle.std.specs.Prelude.{◌≢◌, ℕ, ◌==◌, nat_lt, cond, All, List, [], ◌∷◌, ◌++◌, flat_map, codes, decimal, string_bytes}
+use Rattle.er_html.specs.declared.excerpts.Excerpt.{Excerpt}
+use Rattle.er_html.specs.declared.picture.TheConstants.{PICTURE}
+use Rattle.er_html.specs.declared.script.TheConstants.{SCRIPT}
+use Rattle.er_html.specs.declared.shell.TheConstants.{BEFORE_SCRIPT, BETWEEN, BODY, CLOSING, OPENING}
+use Rattle.er_html.specs.declared.style.TheConstants.{STYLE}
+use Rattle.er_json.specs.Document.{array_text, escaped, json_text, string_text}
+use Rattle.er_report.specs.Report.{Summary}
+use Rattle.er_trace.specs.Names.{NameTable}
+
+-- a byte of a block: a less-than sign, which could end the block, is written as JSON's escape of it
+abbrev pub inert : ℕ → List ℕ
+inert byte = cond (byte == 60) (codes "\\u003c") (byte ∷ [])
+
+-- JSON as a block: it says the same, with no less-than sign
+unfoldable pub block_text : List ℕ → List ℕ
+block_text json = flat_map inert json
+
+-- no byte is a less-than sign
+abbrev pub IsInert : List ℕ → Type 0
+IsInert bytes = All (λ byte. byte ≢ 60) bytes
+
+-- a byte of a source file in a string: a tab and a line feed are JSON's escapes of them, and another control character is a space
+abbrev pub source_byte : ℕ → List ℕ
+source_byte byte = cond (byte == 10) (codes "\\n") (cond (byte == 9) (codes "\\t") (cond (nat_lt byte 32) (32 ∷ []) (escaped byte)))
+
+-- the lines of an excerpt, and the end of its object
+unfoldable pub source_member : List ℕ → List ℕ
+source_member text = codes ",\"text\":\"" ++ flat_map source_byte text ++ codes "\"}"
+
+-- an excerpt as an object
+unfoldable pub excerpt_text : Excerpt → List ℕ
+excerpt_text excerpt =
+    codes "\n{\"site\":" ++ string_text (string_bytes excerpt.site) ++ codes ",\"line\":" ++ decimal excerpt.first_line ++ source_member (string_bytes excerpt.text)
+
+-- all of them
+unfoldable pub excerpts_text : List Excerpt → List ℕ
+excerpts_text excerpts = array_text excerpt_text excerpts
+
+-- what stands before the report
+unfoldable pub head_text : List ℕ
+head_text = OPENING.now ++ STYLE.now ++ BODY.now
+
+-- what stands behind the excerpts
+unfoldable pub tail_text : List ℕ
+tail_text = BEFORE_SCRIPT.now ++ PICTURE.now ++ SCRIPT.now ++ CLOSING.now
+
+-- the whole page
+unfoldable pub html_text : NameTable → Summary → List Excerpt → List ℕ
+html_text names s excerpts = head_text ++ block_text (json_text names s) ++ BETWEEN.now ++ block_text (excerpts_text excerpts) ++ tail_text

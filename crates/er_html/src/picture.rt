@@ -1,0 +1,148 @@
+//! The script's first half: the picture of a race, and its story in sentences.
+
+/// The functions that draw and tell.
+pub(crate) const PICTURE: &[u8] = br#"
+"use strict";
+
+// Makes an element with attributes, and puts these in it: texts as text, never as markup.
+function make(tag, attributes, ...parts) {
+  const isDrawn = make.drawn.has(tag);
+  const element = isDrawn ? document.createElementNS("http://www.w3.org/2000/svg", tag) : document.createElement(tag);
+  for (const name of Object.keys(attributes)) element.setAttribute(name, attributes[name]);
+  for (const part of parts) element.append(part);
+  return element;
+}
+make.drawn = new Set(["svg", "g", "rect", "line", "circle", "text", "title"]);
+
+const did = (kind) => (kind === "write" ? "wrote" : "read");
+const listed = (names) => (names.length ? names.join(", ") : "none");
+const shortened = (name, most) => (name.length > most ? "\u2026" + name.slice(1 - most) : name);
+
+// The accesses that a race names, in the order of the trace, each with what the report says of it.
+//
+// A lock that is named as not covering a later access covers each access from the joining up to that one, so the candidate set after
+// each access is known.
+function accessesOf(race) {
+  const byLine = new Map();
+  for (const reason of race.reasons) {
+    if (!byLine.has(reason.line)) {
+      byLine.set(reason.line, { line: reason.line, thread: reason.thread, kind: reason.kind, isFirst: false, isJoined: false, isWrite: false, lost: [] });
+    }
+    const access = byLine.get(reason.line);
+    if (reason.label === "first") access.isFirst = true;
+    if (reason.label === "joined") access.isJoined = true;
+    if (reason.label === "write") access.isWrite = true;
+    if (reason.label === "not covering") access.lost.push(reason.lock);
+  }
+  const accesses = [...byLine.values()].sort((a, b) => a.line - b.line);
+  let left = race.reasons.filter((reason) => reason.label === "not covering").map((reason) => reason.lock);
+  let isShared = false;
+  for (const access of accesses) {
+    isShared = isShared || access.isJoined;
+    const lost = new Set(access.lost);
+    left = left.filter((lock) => !lost.has(lock));
+    access.candidates = isShared ? left : null;
+    access.isRace = access.line === race.line;
+  }
+  return accesses;
+}
+
+// The locks of a race's picture: those that protected the word for a time, each with the row where that ended, and those held at the race.
+function locksOf(race, accesses) {
+  const joined = accesses.findIndex((access) => access.isJoined), last = accesses.length - 1;
+  const locks = new Map();
+  accesses.forEach((access, row) => {
+    for (const lock of access.lost) locks.set(lock, { name: lock, from: joined, lostAt: row, heldAt: null });
+  });
+  for (const lock of race.held) {
+    if (!locks.has(lock)) locks.set(lock, { name: lock, from: last, lostAt: null, heldAt: last });
+    else locks.get(lock).heldAt = last;
+  }
+  return [...locks.values()];
+}
+
+// The picture of a race: a row for each access, a lane for each thread, a bar for each lock while it protects the word.
+function pictureOf(race) {
+  const accesses = accessesOf(race);
+  const locks = locksOf(race, accesses);
+  const threads = [...new Set(accesses.map((access) => access.thread))];
+  const rowHeight = 38, laneWidth = 118, barWidth = 34, left = 92;
+  const top = locks.length ? 96 : 40;
+  const locksAt = left + threads.length * laneWidth;
+  const textAt = locksAt + locks.length * barWidth + 16;
+  const longest = accesses.reduce((most, access) => Math.max(most, shortened(listed(access.candidates || []), 40).length), 14);
+  const width = textAt + 20 + longest * 8, height = top + accesses.length * rowHeight + 8;
+  const laneOf = new Map(threads.map((thread, place) => [thread, left + place * laneWidth + 14]));
+  const rowAt = (row) => top + row * rowHeight + rowHeight / 2;
+  const picture = make("svg", { class: "picture", viewBox: `0 0 ${width} ${height}`, width, height, role: "img" },
+    make("title", {}, `The accesses of ${race.address} up to the race on line ${race.line}, the locks that protected them, and the candidate set after each`));
+  accesses.forEach((access, row) => {
+    if (access.isRace) picture.append(make("rect", { class: "row-race", x: 0, y: rowAt(row) - rowHeight / 2, width, height: rowHeight }));
+    picture.append(make("line", { class: "rule", x1: 0, y1: rowAt(row) + rowHeight / 2, x2: width, y2: rowAt(row) + rowHeight / 2 }));
+  });
+  for (const thread of threads) {
+    const x = laneOf.get(thread);
+    picture.append(make("text", { class: "mono head", x: x - 6, y: top - 14 }, make("title", {}, thread), shortened(thread, 13)));
+    picture.append(make("line", { class: "lane", x1: x, y1: top - 6, x2: x, y2: height - 8 }));
+  }
+  picture.append(make("text", { class: "faint", x: 4, y: top - 14 }, "trace"));
+  picture.append(make("text", { class: "faint", x: textAt, y: top - 14 }, "candidate set"));
+  locks.forEach((lock, place) => drawLock(picture, lock, locksAt + place * barWidth + barWidth / 2, top, rowAt, rowHeight));
+  accesses.forEach((access, row) => drawAccess(picture, access, laneOf.get(access.thread), rowAt(row), textAt));
+  return picture;
+}
+
+// A bar while the lock protects the word, a cross where it does not, and a dashed bar at a race where it is held and no help.
+function drawLock(picture, lock, x, top, rowAt, rowHeight) {
+  const place = `translate(${x - 2} ${top - 12}) rotate(-40)`;
+  picture.append(make("text", { class: "mono", x: 0, y: 0, transform: place }, make("title", {}, lock.name), shortened(lock.name, 16)));
+  if (lock.heldAt !== null) {
+    const y = rowAt(lock.heldAt) - 12;
+    picture.append(make("rect", { class: "useless", x: x - 8, y, width: 16, height: 24, rx: 3 }, make("title", {}, `${lock.name} is held here, and no help`)));
+  }
+  if (lock.lostAt === null) return;
+  const first = rowAt(lock.from) - rowHeight / 2 + 4, end = rowAt(lock.lostAt);
+  if (lock.from < lock.lostAt) picture.append(make("rect", { class: "bar", x: x - 6, y: first, width: 12, height: end - first - 12, rx: 3 }));
+  picture.append(make("line", { class: "cut", x1: x - 5, y1: end - 5, x2: x + 5, y2: end + 5 }));
+  picture.append(make("line", { class: "cut", x1: x - 5, y1: end + 5, x2: x + 5, y2: end - 5 }));
+}
+
+function drawAccess(picture, access, x, y, textAt) {
+  picture.append(make("text", { class: "faint", x: 4, y: y + 5 }, `line ${access.line}`));
+  picture.append(make("circle", { class: access.kind === "write" ? "write" : "read", cx: x, cy: y, r: 6 }));
+  picture.append(make("text", { class: access.isRace ? "alarm" : "", x: x + 12, y: y + 5 }, access.isRace ? `${access.kind}: race` : access.kind));
+  let told = "one thread so far";
+  if (access.candidates) told = access.candidates.length ? shortened(listed(access.candidates), 40) : "empty";
+  const names = access.candidates ? listed(access.candidates) : told;
+  picture.append(make("text", { class: access.candidates ? (access.candidates.length ? "mono" : "alarm") : "faint", x: textAt, y: y + 5 }, make("title", {}, names), told));
+}
+
+// What the picture shows, in sentences.
+function storyOf(race) {
+  const accesses = accessesOf(race);
+  const story = make("ol", { class: "story" });
+  for (const access of accesses) {
+    const item = make("li", access.isRace ? { class: "race" } : {}, `Line ${access.line}: `, sentenceOf(access, race));
+    story.append(item);
+  }
+  return story;
+}
+
+function sentenceOf(access, race) {
+  let text = `${access.thread} ${did(access.kind)} the word`;
+  if (access.lost.length) text += ` without the protection of ${listed(access.lost)}`;
+  if (access.isRace) text += race.held.length ? `, holding ${heldOf(access, race)}` : ", holding no lock";
+  text += ".";
+  if (access.isFirst) text += " It was the first to use it.";
+  if (access.isJoined) text += " It was the second thread to use it: from here on all accesses need a lock in common.";
+  if (access.isWrite && !access.isJoined) text += " It is the first write since then.";
+  if (access.isRace) return text + " No lock protected all accesses since the second thread came: this is the race.";
+  if (access.candidates) text += access.candidates.length ? ` Still possible: ${listed(access.candidates)}.` : " No lock is left that protects it.";
+  return text;
+}
+
+// A lock that was held at the race and did not protect it was held only to read. At a joining that is so for all of them.
+function heldOf(access, race) {
+  return race.held.map((lock) => (access.isJoined || access.lost.includes(lock) ? `${lock} (but only to read)` : lock)).join(", ");
+}
+"#;

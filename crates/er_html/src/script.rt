@@ -1,0 +1,236 @@
+//! The script's second half: the sites, the tables, the filter, and the start.
+
+/// The functions that make the page.
+pub(crate) const SCRIPT: &[u8] = br##"
+// How many rows of a table are made at once, how many examples are open at first, and how many races of a site are listed.
+const ROWS = 500, OPEN = 3, LISTED = 50;
+
+function dataOf(id) {
+  return JSON.parse(document.getElementById(id).textContent);
+}
+
+const counted = (count, one, many) => `${count.toLocaleString("en")} ${count === 1 ? one : many}`;
+
+// The sites of the races, most words first. Sites with as many words stay in the order of their first races.
+function sitesOf(races) {
+  const sites = new Map();
+  for (const race of races) {
+    const name = race.site === null ? "-" : race.site;
+    let site = sites.get(name);
+    if (!site) {
+      site = { name, words: 0, kinds: new Set(), threads: new Set(), locks: new Set(), races: [] };
+      sites.set(name, site);
+    }
+    site.words += 1;
+    site.kinds.add(race.kind);
+    site.threads.add(race.thread);
+    for (const lock of race.held) site.locks.add(lock);
+    if (site.races.length < LISTED) site.races.push(race);
+  }
+  const sorted = [...sites.values()].sort((a, b) => b.words - a.words);
+  sorted.forEach((site, place) => {
+    site.id = `site-${place + 1}`;
+    site.text = [site.name, ...site.kinds, ...site.threads, ...site.locks].join(" ").toLowerCase();
+  });
+  return sorted;
+}
+
+const kindsOf = (site) => ["read", "write"].filter((kind) => site.kinds.has(kind)).join(", ");
+
+const named = (name) => make("span", { class: "name" }, name);
+
+// A table of rows that are made as they are asked for: the first ones at once, more by a button.
+function tableOf(caption, columns, rows, rowOf) {
+  const body = make("tbody", {});
+  const head = make("tr", {}, ...columns.map(([name, isNumber]) => make("th", isNumber ? { scope: "col", class: "number" } : { scope: "col" }, name)));
+  const table = make("table", {}, make("caption", {}, caption), make("thead", {}, head), body);
+  const more = make("button", { type: "button" });
+  let made = 0;
+  function grow() {
+    const end = Math.min(rows.length, made + ROWS);
+    while (made < end) body.append(rowOf(rows[made++]));
+    more.hidden = made >= rows.length;
+    more.textContent = `Show ${Math.min(ROWS, rows.length - made)} more of ${counted(rows.length, "row", "rows")}`;
+  }
+  more.addEventListener("click", grow);
+  grow();
+  return make("div", { class: "wide" }, table, more);
+}
+
+const cell = (part, isNumber) => make("td", isNumber ? { class: "number" } : {}, part);
+
+function rowOfSite(site) {
+  const link = make("a", { href: "#" + site.id, class: "name" }, site.name);
+  return make("tr", {}, cell(site.words.toLocaleString("en"), true), cell(kindsOf(site)), cell(site.threads.size, true), cell(site.locks.size, true), cell(link));
+}
+
+// The lines of the source around a site, with the site's line marked.
+function sourceOf(excerpt) {
+  const here = Number((/:(\d+)$/.exec(excerpt.site) || [])[1]);
+  const texts = excerpt.text.split("\n");
+  if (texts.length > 1 && !texts[texts.length - 1]) texts.pop();
+  const lines = texts.map((text, place) => {
+    const number = excerpt.line + place;
+    return make("span", number === here ? { class: "here" } : {}, make("span", { class: "margin" }, String(number)), text || " ");
+  });
+  return make("pre", { class: "source", tabindex: "0", "aria-label": `Source lines around ${excerpt.site}` }, ...lines);
+}
+
+// An example of a site's races, with the picture, the story and the source lines.
+function exampleOf(site, excerpt) {
+  const race = site.races[0];
+  const body = make("div", { class: "body" });
+  body.append(make("p", {}, named(race.thread), ` ${did(race.kind)} the word at `, named(race.address), ` on line ${race.line} of the trace`,
+    race.held.length ? ", holding " : ", holding no lock", race.held.length ? named(listed(race.held)) : "", ", and no lock protects it."));
+  if (race.reasons.length) {
+    body.append(make("h3", {}, "How the locks ran out"), make("div", { class: "wide", tabindex: "0", role: "group", "aria-label": "Picture of the race" }, pictureOf(race)), storyOf(race));
+  }
+  if (excerpt) body.append(make("h3", {}, "Source"), sourceOf(excerpt));
+  body.append(make("h3", {}, "All races here"), make("p", {}, "Threads: ", named(listed([...site.threads])), ". Locks held at some of them: ", named(listed([...site.locks])), "."));
+  const caption = site.words > LISTED ? `The first ${LISTED} of ${counted(site.words, "race", "races")}` : counted(site.words, "race", "races");
+  body.append(tableOf(caption, [["Line", true], ["Thread"], ["Kind"], ["Word"], ["Locks held"]], site.races, (one) =>
+    make("tr", {}, cell(one.line, true), cell(named(one.thread)), cell(one.kind), cell(named(one.address)), cell(named(listed(one.held))))));
+  return body;
+}
+
+// A site's part of the page. What is in it is made when it is opened first.
+function partOf(site, excerpts) {
+  const summary = make("summary", {}, named(site.name), make("span", { class: "soft" }, ` \u2014 ${counted(site.words, "word", "words")}, ${kindsOf(site)}, ${counted(site.threads.size, "thread", "threads")}`));
+  const part = make("details", { id: site.id, class: "site" }, summary);
+  part.fill = () => {
+    if (!part.isFilled) part.append(exampleOf(site, excerpts.get(site.name)));
+    part.isFilled = true;
+  };
+  part.addEventListener("toggle", () => part.open && part.fill());
+  return part;
+}
+
+function openPart(part) {
+  part.fill();
+  part.open = true;
+}
+
+// The sites whose names, kinds, threads and locks contain all words of the filter.
+function matching(sites, filter) {
+  const words = filter.toLowerCase().split(/\s+/).filter((word) => word);
+  return sites.filter((site) => words.every((word) => site.text.includes(word)));
+}
+
+// What a part of the address says, as it is if its escapes are damaged.
+function plainOf(text) {
+  try {
+    return decodeURIComponent(text);
+  } catch {
+    return text;
+  }
+}
+
+function sitesSection(sites, excerpts) {
+  const input = make("input", { id: "filter", type: "search", autocomplete: "off", spellcheck: "false" });
+  const form = make("form", { role: "search" }, make("label", { for: "filter" }, "Filter by site, kind, thread or lock"), input);
+  const status = make("p", { class: "soft", role: "status", id: "matches" });
+  const list = make("div", {}), parts = make("div", {});
+  function show() {
+    const found = matching(sites, input.value);
+    status.textContent = `${counted(found.length, "site", "sites")} of ${sites.length.toLocaleString("en")}`;
+    list.replaceChildren(tableOf("Most words first", [["Words", true], ["Kinds"], ["Threads", true], ["Locks", true], ["Site"]], found, rowOfSite));
+    parts.replaceChildren(...found.slice(0, ROWS).map((site) => partOf(site, excerpts)));
+    [...parts.children].slice(0, OPEN).forEach(openPart);
+  }
+  // A link to a site opens its part, and makes the part if it is not among the first.
+  function follow() {
+    const [, key, value] = /^#(filter=|site-\d+$)(.*)/.exec(location.hash) || [];
+    if (key === "filter=") {
+      input.value = plainOf(value);
+      show();
+    } else if (key) {
+      const site = sites.find((one) => "#" + one.id === location.hash);
+      let part = document.getElementById(key);
+      if (!part && site) parts.append((part = partOf(site, excerpts)));
+      if (part && part.fill) {
+        openPart(part);
+        part.scrollIntoView();
+        part.firstChild.focus();
+      }
+    }
+  }
+  form.addEventListener("submit", (event) => event.preventDefault());
+  input.addEventListener("input", show);
+  window.addEventListener("hashchange", follow);
+  window.addEventListener("beforeprint", () => [...parts.children].slice(0, 100).forEach(openPart));
+  show();
+  return [make("section", {}, make("h2", {}, "Sites with races"), form, status, list, make("h2", {}, "An example of each"), parts), follow];
+}
+
+function verdictOf(report, sites) {
+  const { races } = report.totals;
+  if (report.stop) return `The replay stopped at line ${report.stop.line}: ${report.stop.why}`;
+  if (!races) return "No race in this trace";
+  return `${counted(races, "race", "races")} at ${counted(sites.length, "site", "sites")}`;
+}
+
+// What the exit status of the program was, and why.
+function exitOf(report) {
+  if (report.stop) return "The exit status is 3, as the replay ran out of room. The report is that of the steps before.";
+  return report.totals.races ? "The exit status is 1, as there is a race that no suppression takes." : "The exit status is 0, as there is no race that no suppression takes.";
+}
+
+function headOf(report, sites) {
+  const title = verdictOf(report, sites);
+  document.title = `${title} \u2014 eraser`;
+  const head = make("header", {}, make("h1", {}, title), make("p", {}, exitOf(report)));
+  const totals = make("dl", { class: "totals" });
+  for (const name of ["steps", "races", "suppressed", "refused"]) totals.append(make("div", {}, make("dt", {}, name), make("dd", {}, report.totals[name].toLocaleString("en"))));
+  head.append(totals);
+  if (report.races.length < report.totals.races) {
+    head.append(make("p", { class: "notice" }, `This page has the first ${counted(report.races.length, "race", "races")} alone.`));
+  }
+  return head;
+}
+
+// The refused steps, the words that were shown and the suppressions, each if there are any.
+function restOf(report) {
+  const parts = [];
+  if (report.refused.length) {
+    parts.push(make("h2", {}, "Refused steps"), make("p", {}, "These steps can't be: the trace is damaged, or the program did what its locks don't allow. A refused step changes nothing."),
+      tableOf(counted(report.refused.length, "refused step", "refused steps"), [["Line", true], ["Thread"], ["Step"], ["Lock"], ["Why"]], report.refused, (one) =>
+        make("tr", {}, cell(one.line, true), cell(named(one.thread)), cell(one.event), cell(named(one.lock === null ? "" : one.lock)), cell(one.why))));
+  }
+  if (report.shown.length) {
+    parts.push(make("h2", {}, "Words that were shown"), tableOf(counted(report.shown.length, "word", "words"), [["Line", true], ["Word"], ["State"], ["Owner"], ["Candidates"]], report.shown, (one) =>
+      make("tr", {}, cell(one.line, true), cell(named(one.address)), cell(one.state), cell(named(one.owner || "")), cell(named(one.candidates ? listed(one.candidates) : "")))));
+  }
+  if (report.suppressions.length) {
+    const rules = report.suppressions.map((count, place) => [place + 1, count]);
+    parts.push(make("h2", {}, "Suppressions"), tableOf(counted(rules.length, "rule", "rules"), [["Rule", true], ["Races that it took", true]], rules, ([rule, count]) =>
+      make("tr", {}, cell(rule, true), cell(count.toLocaleString("en"), true))));
+  }
+  return make("section", {}, ...parts);
+}
+
+function guide() {
+  return make("details", {}, make("summary", {}, "How to read this page"), make("div", { class: "body" },
+    make("p", {}, "A word is 4 bytes of memory. Once a second thread uses it, each access should be made under a lock that all the others are made under too. The candidate set of a word is the locks that can still be this lock: those that protected every access since the second thread came."),
+    make("p", {}, "If the set is empty, and the word was written since then, the access is reported as a race. A word is counted once, until its memory gets a new use."),
+    make("p", {}, "In a picture time goes down. A filled dot is a write and a hollow one a read. A bar is a lock as long as it protects the word, and a cross is the access that it did not protect. A dashed bar is a lock that was held at the race and is no help: it did not protect an earlier access, or was held only to read.")));
+}
+
+function start() {
+  const report = dataOf("report"), sources = dataOf("sources");
+  const excerpts = new Map(sources.map((excerpt) => [excerpt.site, excerpt]));
+  const sites = sitesOf(report.races);
+  const page = document.getElementById("page");
+  page.append(headOf(report, sites), guide());
+  let follow = () => {};
+  if (sites.length) {
+    const [section, followed] = sitesSection(sites, excerpts);
+    page.append(section);
+    follow = followed;
+  }
+  page.append(restOf(report));
+  follow();
+  page.dataset.ready = "true";
+}
+
+start();
+"##;

@@ -1,0 +1,191 @@
+//! Lines of source files, for a report as a page.
+ghost use Rattle.std.specs.Prelude.{◌≡◌, ◌<◌, ◌≤◌, All, length, IfErr};
+ghost use Rattle.er_exit.specs.declared.faults.Fault.TheVariants.{Memory};
+ghost use Rattle.er_report.specs.Names.{HasNames};
+
+use er_exit::Fault;
+use er_html::Excerpt;
+use er_report::{Line, Report};
+use er_trace::Names;
+use std::alloc::{AllocError, Global};
+use std::collections::HashSet;
+use std::fs;
+use std::fs::File;
+use std::io::{ErrorKind, Read};
+use std::rt::Files;
+
+// How many sites are looked up: those of the first races.
+const MOST_SITES: usize = 1000;
+
+// How many bytes of a file are read.
+const MOST_BYTES: u64 = 16_777_216;
+
+// How many lines are shown on each side of a site's line.
+const LINES_AROUND: u64 = 5;
+
+// How many bytes of a line are shown.
+const MOST_COLUMNS: usize = 400;
+
+/// The lines around the sites of a report's races, of each file that is found below the folder. Without a folder there are none.
+pub(crate) fn excerpts_of<R>(
+    rt: &R,
+    folder: Option<&str>,
+    report: &Report,
+    names: &Names,
+) -> Result<Vec<Excerpt>, Fault>
+where
+    R: Files + AllocGlobal,
+    requires named { All (HasNames names.now) report.now.lines.items }
+    ensures fault { IfErr result (λ fault. fault ≡ Memory) }
+{
+    let Some(folder) = folder else {
+        return Ok(Vec::new(rt.alloc()));
+    };
+    match excerpts_below(rt, folder, &report.lines, names) {
+        Ok(excerpts) => Ok(excerpts),
+        Err(_) => Err(Fault::Memory),
+    }
+}
+
+fn excerpts_below<R>(
+    rt: &R,
+    folder: &str,
+    lines: &[Line],
+    names: &Names,
+) -> Result<Vec<Excerpt>, AllocError>
+where
+    R: Files + AllocGlobal,
+    requires { All (HasNames names.now) lines.now }
+{
+    let mut tried: HashSet<u32> = HashSet::new(rt.alloc());
+    let mut excerpts = Vec::new(rt.alloc());
+    for line in lines {
+        if tried.len() >= MOST_SITES {
+            break;
+        }
+        let Some((number, site)) = site_of(line, names) else {
+            continue;
+        };
+        if tried.insert(number)? {
+            put_excerpt_of(rt, folder, site, &mut excerpts)?;
+        }
+    }
+    Ok(excerpts)
+}
+
+// The number and the name of a race's site. None for other lines and for the missing site.
+fn site_of<'n>(line: &Line, names: &'n Names) -> Option<(u32, &'n str)>
+    requires { HasNames names.now line.now }
+{
+    match line {
+        Line::Race { site, .. } if site.number() > 0 => {
+            Some((site.number(), names.site_name(*site)))
+        }
+        _ => None,
+    }
+}
+
+// Puts the lines around a site, if its file is found and has that line.
+fn put_excerpt_of<R>(
+    rt: &R,
+    folder: &str,
+    site: &str,
+    excerpts: &mut Vec<Excerpt>,
+) -> Result<(), AllocError>
+where
+    R: Files + AllocGlobal,
+{
+    let Some((file, line)) = place_of(site) else {
+        return Ok(());
+    };
+    let file = file.strip_prefix(folder).unwrap_or(file);
+    let path = format!(in rt.alloc(); "{folder}/{file}")?;
+    let Some(text) = text_at(rt, path.as_str())? else {
+        return Ok(());
+    };
+    let first_line = line.saturating_sub(LINES_AROUND).max(1);
+    let kept = lines_between(
+        rt.alloc(),
+        &text,
+        first_line,
+        line,
+        line.saturating_add(LINES_AROUND),
+    )?;
+    let Some(kept) = kept else {
+        return Ok(());
+    };
+    excerpts.push(Excerpt {
+        site: String::from_str(rt.alloc(), site)?,
+        first_line,
+        text: String::from_utf8_lossy(rt.alloc(), &kept)?,
+    })?;
+    Ok(())
+}
+
+// The file and the line of a site. None if it names none, and if the file's name could lead out of the folder.
+fn place_of(site: &str) -> Option<(&str, u64)> {
+    let (file, digits) = site.rsplit_once(':')?;
+    let line = digits.parse::<u64>().ok()?;
+    if file.is_empty() || file.contains("..") || line == 0 {
+        return None;
+    }
+    Some((file, line))
+}
+
+// Whether it is an ordinary file: a FIFO could wait for ever.
+fn is_ordinary<R: Files>(rt: &R, path: &str) -> bool {
+    match fs::metadata(rt, path) {
+        Ok(found) => found.is_file(),
+        Err(_) => false,
+    }
+}
+
+// The beginning of an ordinary file. None if it can't be opened or read.
+fn text_at<R>(rt: &R, path: &str) -> Result<Option<Vec<u8>>, AllocError>
+where
+    R: Files + AllocGlobal,
+{
+    if !is_ordinary(rt, path) {
+        return Ok(None);
+    }
+    let Ok(file) = File::open(rt, path) else {
+        return Ok(None);
+    };
+    let mut text = Vec::new(rt.alloc());
+    match file.take(MOST_BYTES).read_to_end(&mut text) {
+        Ok(_) => Ok(Some(text)),
+        Err(why) if why.kind() == ErrorKind::OutOfMemory => Err(AllocError),
+        Err(_) => Ok(None),
+    }
+}
+
+// The lines from the first to the last one, each cut to its first bytes. None if the text ends before the line that is wanted.
+fn lines_between(
+    alloc: Global,
+    text: &[u8],
+    first: u64,
+    wanted: u64,
+    last: u64,
+) -> Result<Option<Vec<u8>>, AllocError> {
+    let mut kept = Vec::new(alloc);
+    let mut line: u64 = 1;
+    let mut column: usize = 0;
+    for byte in text {
+        if *byte != b'\n' {
+            column = column.saturating_add(1);
+            if line >= first && column <= MOST_COLUMNS {
+                kept.push(*byte)?;
+            }
+            continue;
+        }
+        line = line.saturating_add(1);
+        column = 0;
+        if line > last {
+            break;
+        }
+        if line > first {
+            kept.push(b'\n')?;
+        }
+    }
+    Ok(if line < wanted { None } else { Some(kept) })
+}

@@ -1,0 +1,433 @@
+#!/usr/bin/env python3
+"""Reads the page of `eraser replay --format html` back, and opens it in a browser.
+
+- the page is the same for every report, but for two blocks of JSON: one is the document of `--format json --explain`, the other the lines
+  of source files that `--source` finds
+- in a headless Chromium the page has the sites of a second reading, its filter and its examples work by keyboard, it loads nothing, and no
+  name and no source line is ever markup
+
+`tests/run` calls `tests`. By itself this file runs these tests alone, or with `--screenshot FILE` makes a picture of a page.
+"""
+
+import base64
+import hashlib
+import json
+import os
+import pathlib
+import re
+import subprocess
+import sys
+import tempfile
+
+sys.path.insert(0, str(pathlib.Path(__file__).parent))
+sys.dont_write_bytecode = True
+import browser
+import reference
+import site_tests
+from alone import run_alone
+from json_tests import document_of
+from site_tests import TOP, preloaded, run, run_with
+
+PAGE = re.compile(rb'(.*<script type="application/json" id="report">\n)(.*)(</script>\n<script type="application/json" id="sources">\n)(.*)(\n</script>\n<script>.*)', re.S)
+BUSY = b"""eraser trace 1
+main lock queue_lock
+main write 0x406180 pool.cpp:12
+main unlock queue_lock
+w1 lock queue_lock
+w1 lock stats_lock
+w1 rlock table
+w1 write 0x406180 pool.cpp:18
+w1 runlock table
+w1 unlock stats_lock
+w1 unlock queue_lock
+w2 lock queue_lock
+w2 write 0x406180 pool.cpp:18
+w2 unlock queue_lock
+w1 lock stats_lock
+w1 lock table
+w1 write 0x406180 pool.cpp:35
+w1 unlock table
+w1 unlock stats_lock
+w1 read 0x5000 pool.cpp:40
+w2 write 0x5000 pool.cpp:41
+w1 write 0x5004 pool.cpp:41
+w2 write 0x5004 pool.cpp:41
+w2 write 0x5008
+w1 write 0x5008
+w2 unlock queue_lock
+w2 show 0x5008
+"""
+POOL = """// A pool of workers.
+#include <mutex>
+
+std::mutex queue_lock, stats_lock, table;
+int done;
+int jobs, spare;
+
+void open_pool()
+{
+    std::lock_guard hold(queue_lock);
+    // No worker has started yet.
+    done = 0;
+}
+
+void finish_job()
+{
+    std::scoped_lock hold(queue_lock, stats_lock);
+    done++;
+}
+
+void report()
+{
+    std::lock_guard hold(stats_lock);
+    show("<b>jobs</b>", done);
+}
+
+// Starts a new round,
+// with all workers at rest.
+void restart()
+{
+    std::scoped_lock hold(stats_lock, table);
+    // The workers count under queue_lock,
+    // which is not held here.
+    spare = 0;
+    done = 0;
+}
+
+int look()
+{
+    if (jobs > 0) return spare;
+    jobs = 1;
+    return 0;
+}
+"""
+# The same with lines that would be markup, if a page took them so.
+TRAPS = {"under queue_lock,": "</script><script>window.hostile = 1</script>", "which is not held here.": '<!-- <img src=x onerror="window.hostile = 2"> &lt;'}
+HOSTILE = ["</script><script>window.hostile = 3</script>", "<img src=x onerror='window.hostile = 4'>:7", "<!-- <script>", "&lt;b&gt;", "]]>", "javascript:window.hostile=5", "__proto__", "constructor"]
+
+
+# ---- The bytes of a page
+
+def blocks_of(page):
+    """What is the same in every page, the report, and the excerpts."""
+    before, report, between, sources, behind = PAGE.fullmatch(page).groups()
+    return (before, between, behind), report, sources
+
+
+def page_tests(record):
+    shells, raced = set(), 0
+    for name, text, rules in site_tests.texts():
+        page, errors, status = run_with(rules, text, "--format", "html")
+        document = run_with(rules, text, "--format", "json", "--explain")
+        record(f"{name} as a page, errors and status", (errors, status) == document[1:], f"{errors}, {status}")
+        if status >= 2:
+            record(f"{name} as a page is nothing", page == document[0] == b"", f"{page}")
+            continue
+        shell, report, sources = blocks_of(page)
+        shells.add(shell)
+        record(f"{name} as a page has the document", b"<" not in report and json.loads(report) == json.loads(document[0]), f"{report}, {document[0]}")
+        record(f"{name} as a page has its bytes", report.replace(b"\\u003c", b"<") == document[0] and sources == b"[]", f"{report}, {sources}")
+        record(f"{name} as a page with --explain", run_with(rules, text, "--format", "html", "--explain")[0] == page)
+        wanted = reference.replay(text, rules or b"", explain=True)[0]
+        record(f"{name} as a page has the reference's report", json.loads(report) == document_of(wanted), f"{report}")
+        raced += status
+    record("pages have races", raced > 50, f"{raced}")
+    record("all pages have one shell", len(shells) == 1, f"{len(shells)}")
+    by_workers = run(["replay", "--format", "html", "--workers", "3", "-"], BUSY)
+    record("a page by several workers", by_workers == run(["replay", "--format", "html", "-"], BUSY))
+    return shells.pop()
+
+
+def digest(text):
+    return "'sha256-" + base64.b64encode(hashlib.sha256(text).digest()).decode() + "'"
+
+
+def shell_tests(record, shell):
+    """The page loads nothing, and the browser is told to use this style and this script alone."""
+    before, _, behind = shell
+    policy = re.search(rb'http-equiv="Content-Security-Policy" content="([^"]*)"', before)[1].decode()
+    style = re.search(rb"<style>(.*)</style>", before, re.S)[1]
+    script = re.fullmatch(rb"\n</script>\n<script>(.*)</script>\n</body>\n</html>\n", behind, re.S)[1]
+    wanted = f"default-src 'none'; style-src {digest(style)}; script-src {digest(script)}; base-uri 'none'; form-action 'none'"
+    record("the page's policy", policy == wanted, f"it should be: {wanted}")
+    whole = b"".join(shell)
+    for word in (b"src=", b"url(", b"@import", b"href=\"", b"innerHTML", b"insertAdjacentHTML", b"document.write", b"eval(", b"fetch(", b"XMLHttpRequest"):
+        record(f"the page has no {word.decode()}", word not in whole)
+    links = set(re.findall(rb"https?://[^\"' ]*", whole))
+    record("the page names no address but that of SVG", links == {b"http://www.w3.org/2000/svg"}, f"{links}")
+
+
+# ---- Source files
+
+def excerpt(site, text, line):
+    """The lines around a line of a text, by a second reading of docs/FORMATS.md."""
+    lines = text.split(b"\n")
+    kept = lines[max(0, line - 6) : line + 5]
+    plain = b"\n".join(one[:400] for one in kept).decode(errors="replace")
+    return {"site": site, "line": max(1, line - 5), "text": re.sub(r"[\0-\x08\x0b-\x1f]", " ", plain)}
+
+
+def source_tests(record):
+    with tempfile.TemporaryDirectory() as name:
+        folder = pathlib.Path(name) / "tree"
+        (folder / "sub").mkdir(parents=True)
+        rows = b"".join(b"\t%d\x01 \\ \" <%s>\r\n" % (k, b"z" * (k * 40)) for k in range(1, 31))
+        files = {"pool.cpp": POOL.encode(), "sub/rows.c": rows, "one.c": b"one", "bad.c": b"a\nb\xff\xfec\xe2\x82\n\xc3\xa9\n" * 9, "empty.c": b"", "sub/dot..c": b"x"}
+        for path, text in files.items():
+            (folder / path).write_bytes(text)
+        (folder / "sub/secret.c").write_bytes(b"1\n2\n3\n")
+        (pathlib.Path(name) / "outside.c").write_bytes(b"secret\n" * 9)
+        lines = {"pool.cpp": [1, 12, 35, 41], "sub/rows.c": [1, 6, 25, 30], "one.c": [1], "bad.c": [2, 14]}
+        there = [(f"{path}:{line}", path, line) for path, wanted in lines.items() for line in wanted]
+        there.append((f"{folder}/sub/secret.c:2", "sub/secret.c", 2))
+        missing = ["pool.cpp", "pool.cpp:", "pool.cpp:0", "pool.cpp:99", "pool.cpp:x", "pool.cpp:1:", "none.c:1", "sub:1", "../outside.c:1", "sub/../../outside.c:1",
+                   "sub/dot..c:1", f"{name}/outside.c:1", "empty.c:2", ":1", "1", "pool.cpp:99999999999999999999", "pool.cpp:18446744073709551615"]
+        sites = [site for site, _, _ in there] + missing
+        text = "eraser trace 1\n" + "".join(f"{thread} write {4 * place} {site}\n" for place, site in enumerate(sites) for thread in ("t1", "t2"))
+        for options in (["--source", str(folder)], ["--source", f"{folder}/"], ["--max-races", "100", "--source", str(folder)]):
+            page, errors, status = run(["replay", "--format", "html", *options, "-"], text.encode())
+            _, report, sources = blocks_of(page)
+            wanted = [excerpt(site, (folder / path).read_bytes(), line) for site, path, line in there]
+            found = json.loads(sources)
+            record(f"source lines of {options[:-1]}", (found, errors, status) == (wanted, b"", 1), f"{found}, {wanted}, {errors}, {status}")
+            record(f"source lines have no sign of markup with {options[:-1]}", b"<" not in sources and b"<" not in report)
+            record(f"the report beside source lines of {options[:-1]}", report.replace(b"\\u003c", b"<") == run(["replay", "--format", "json", "--explain", "-"], text.encode())[0])
+        found = run(["replay", "--format", "html", "--source", "/nonexistent", "-"], text.encode())
+        record("no folder of sources", found == run(["replay", "--format", "html", "-"], text.encode()))
+        many = "eraser trace 1\n" + "".join(f"{thread} write {4 * k} pool.cpp:{k % 40 + 1}0{k}\n" for k in range(1200) for thread in ("t1", "t2")) + "t1 write 0 pool.cpp:3\nt1 write 8000 pool.cpp:3\nt2 write 8000 pool.cpp:3\n"
+        found = json.loads(blocks_of(run(["replay", "--format", "html", "--source", str(folder), "-"], many.encode())[0])[2])
+        record("sites are looked up to a limit", found == [], f"{found}"[:200])
+    for words in (["--source", "."], ["--source", ".", "--format", "json"], ["--source", ".", "--by-site"], ["--source"], ["--format", "html", "--by-site"]):
+        output, errors, status = run(["replay", *words, "-"], b"eraser trace 1\n")
+        record(f"{words} are wrong arguments", (output, status) == (b"", 2) and errors.startswith(b"error: "), f"{output}, {errors}, {status}")
+
+
+def refusal_tests(record, preloaded):
+    """Each allocation refused in turn, each write failed."""
+    with tempfile.TemporaryDirectory() as folder:
+        library, count = preloaded(folder, "refuse"), pathlib.Path(folder) / "count"
+        (pathlib.Path(folder) / "work.c").write_bytes(b"line\n" * 30)
+        words = ["replay", "--format", "html", "--source", folder, str(TOP / "examples/explained.trace")]
+        whole = run(words)
+        for nth in range(1, 100000):
+            found = run(words, env={**os.environ, "LD_PRELOAD": str(library), "REFUSE": str(nth), "REFUSE_FOUND": str(count)})
+            if not count.exists():
+                record("a page with all allocations", found == whole and nth > 20 and b'"line":15,"text"' in whole[0], f"{nth}")
+                break
+            count.unlink()
+            is_stopped = found[1:] == (b"", 3) and json.loads(blocks_of(found[0])[1])["stop"]["why"] == "out of memory"
+            record(f"a page without allocation {nth}", found in (whole, (b"", b"out of memory\n", 3)) or is_stopped, f"{found}"[-300:])
+    with open("/dev/full", "wb") as full:
+        done = subprocess.run([str(site_tests.PROGRAM), *words[:3], words[-1]], stdout=full, stderr=subprocess.PIPE, timeout=120)
+        record("a page on a full device", (done.stderr, done.returncode) == (b"write fault\n", 4), f"{done}")
+
+
+# ---- The page in a browser
+
+def table_of(document):
+    """The rows of the sites, by a second reading: words, kinds, threads, locks, site."""
+    sites = {}
+    for race in document["races"]:
+        sites.setdefault("-" if race["site"] is None else race["site"], []).append(race)
+    rows = sorted(sites.items(), key=lambda one: -len(one[1]))
+    for site, races in rows:
+        kinds = ", ".join(kind for kind in ("read", "write") if any(race["kind"] == kind for race in races))
+        yield [f"{len(races):,}", kinds, str(len({race["thread"] for race in races})), str(len({lock for race in races for lock in race["held"]})), site]
+
+
+def candidates_of(race):
+    """What the last column of a picture says: the candidate set after each access that the race names."""
+    reasons = race["reasons"]
+    joined = next(reason["line"] for reason in reasons if reason["label"] == "joined")
+    lost = {reason["lock"]: reason["line"] for reason in reasons if reason["label"] == "not covering"}
+    for line in sorted({reason["line"] for reason in reasons}):
+        left = [lock for lock, at in lost.items() if at > line]
+        yield f"line {line}", "one thread so far" if line < joined else ", ".join(left) or "empty"
+
+
+TABLE = "[...document.querySelectorAll('main > section table')][0]"
+ROWS = f"[...{TABLE}.tBodies[0].rows].map(row => [...row.cells].map(cell => cell.textContent))"
+PICTURES = "[...document.querySelectorAll('svg.picture')].map(svg => [...svg.querySelectorAll('text')].map(text => text.lastChild.textContent))"
+
+
+def opened(page, folder, one, fragment=""):
+    path = pathlib.Path(folder) / "page.html"
+    path.write_bytes(page)
+    one.open(path.as_uri() + fragment)
+
+
+def is_calm(one):
+    """The page is made, nothing went wrong, and nothing but the page was loaded."""
+    return one.value("document.getElementById('page').dataset.ready") == "true" and not one.troubles and len(one.loaded) == 1
+
+
+def content_tests(record, one, folder):
+    texts = [(name, text, rules) for name, text, rules in site_tests.texts() if not name.startswith("random")][:25] + [("a busy trace", BUSY, None)]
+    for name, text, rules in texts:
+        page, _, status = run_with(rules, text, "--format", "html")
+        if status >= 2:
+            continue
+        document = json.loads(run_with(rules, text, "--format", "json", "--explain")[0])
+        opened(page, folder, one)
+        record(f"the page of {name} is made", is_calm(one), f"{one.troubles}, {one.loaded}")
+        wanted = list(table_of(document))
+        if len(wanted) <= 500 and wanted:
+            found = one.value(ROWS)
+            record(f"the sites of the page of {name}", found == wanted, f"{found}, {wanted}")
+            shown = {race["site"] or "-": race for race in reversed(document["races"])}
+            pictures = one.value(PICTURES)
+            for row, picture in zip(wanted[:3], pictures):
+                race = shown[row[4]]
+                pairs = [(picture[k], picture[k + 2]) for k in range(len(picture) - 2) if picture[k].startswith("line ")]
+                record(f"a picture of {name}", pairs == list(candidates_of(race)), f"{picture}, {pairs}")
+        totals = one.value("[...document.querySelectorAll('.totals dd')].map(dd => dd.textContent)")
+        record(f"the totals of the page of {name}", totals == [f"{count:,}" for count in document["totals"].values()], f"{totals}")
+
+
+def keyboard_tests(record, one, folder):
+    """The filter and the examples, by the keys of a keyboard alone."""
+    opened(run(["replay", "--format", "html", "-"], BUSY)[0], folder, one)
+    for _ in range(10):
+        if one.value("document.activeElement.id") == "filter":
+            break
+        one.press("Tab")
+    record("the filter by keyboard", one.value("document.activeElement.id") == "filter")
+    one.type("POOL.cpp table")
+    record("the filter leaves the sites with its words", [row[4] for row in one.value(ROWS)] == ["pool.cpp:35"], f"{one.value(ROWS)}")
+    record("the filter counts", one.value("document.getElementById('matches').textContent") == "1 site of 3", one.value("document.getElementById('matches').textContent"))
+    for _ in range(10):
+        if one.value("document.activeElement.tagName") == "SUMMARY":
+            break
+        one.press("Tab")
+    for wanted in (False, True):
+        one.press("Enter", "\r")
+        record(f"an example by keyboard, open {wanted}", one.value("document.activeElement.parentElement.open") is wanted)
+    record("the page with a filter is calm", not one.troubles, f"{one.troubles}")
+    opened(run(["replay", "--format", "html", "-"], BUSY)[0], folder, one, "#filter=pool.cpp%3A41")
+    record("a filter in the address", [row[4] for row in one.value(ROWS)] == ["pool.cpp:41"] and is_calm(one), f"{one.value(ROWS)}, {one.troubles}")
+    opened(run(["replay", "--format", "html", "-"], BUSY)[0], folder, one, "#filter=%")
+    record("a damaged filter in the address", is_calm(one) and len(one.value(ROWS)) in (0, 3), f"{one.troubles}")
+    opened(run(["replay", "--format", "html", "-"], BUSY)[0], folder, one, "#site-2")
+    record("an example in the address", one.value("document.getElementById('site-2').open") is True and is_calm(one), f"{one.troubles}")
+
+
+def is_harmless(one):
+    """No script of a name ran, and no name became an element."""
+    return one.value("[typeof window.hostile, document.scripts.length, document.images.length, document.querySelectorAll('b, iframe, object').length]") == ["undefined", 3, 0, 0]
+
+
+def hostile_tests(record, one, folder):
+    """Names and source lines that would be markup, if a page took them so."""
+    source = POOL
+    for plain, trap in TRAPS.items():
+        source = source.replace(plain, trap)
+    (pathlib.Path(folder) / "pool.cpp").write_text(source)
+    page = run(["replay", "--format", "html", "--source", folder, "-"], BUSY)[0]
+    opened(page, folder, one)
+    shown = one.value("[...document.querySelectorAll('pre.source')].map(pre => pre.textContent).join('')")
+    record("hostile source lines are text", is_calm(one) and is_harmless(one) and all(trap in shown for trap in TRAPS.values()), f"{one.troubles}, {shown}")
+    marked = one.value("[...document.querySelectorAll('pre.source .here')].map(line => line.textContent)")
+    record("the line of the site is marked", marked == ["41    jobs = 1;", "35    done = 0;"], f"{marked}")
+    # No trace has such names, so they are put into a page as the program would put them.
+    (before, between, behind), report, _ = blocks_of(page)
+    document = json.loads(report)
+    document["races"] = [{"line": 9 * place + 9, "thread": name, "kind": "write", "address": name, "site": name, "held": [name], "reasons": [
+        {"line": 1, "thread": name, "kind": "read", "label": "first", "lock": None}, {"line": 2, "thread": "t" + name, "kind": "write", "label": "joined", "lock": None},
+        {"line": 9 * place + 9, "thread": name, "kind": "write", "label": "not covering", "lock": name}]} for place, name in enumerate(HOSTILE)]
+    document["refused"] = [{"line": 1, "thread": name, "event": name, "lock": name, "why": name} for name in HOSTILE]
+    document["shown"] = [{"line": 1, "address": name, "state": name, "owner": name, "candidates": [name]} for name in HOSTILE]
+    sources = json.dumps([{"site": name, "line": 1, "text": name} for name in HOSTILE]).encode()
+    block = json.dumps(document).encode()
+    opened(b"".join((before, block.replace(b"<", b"\\u003c"), between, sources.replace(b"<", b"\\u003c"), behind)), folder, one)
+    one.value("document.querySelectorAll('details').forEach(part => { part.open = true; })")
+    one.value("new Promise(done => setTimeout(done, 300))")
+    sites = [row[4] for row in one.value(ROWS)]
+    record("hostile names are text", is_calm(one) and is_harmless(one) and sites == HOSTILE, f"{one.troubles}, {sites}")
+    record("hostile names have pictures", len(one.value(PICTURES)) == len(HOSTILE), f"{len(one.value(PICTURES))}")
+    # And if a block were not escaped, the policy would keep the script from running.
+    opened(b"".join((before, b"{}</script><script>window.hostile = 6</script><img src=x onerror='window.hostile = 7'>", between, b"[]", behind)), folder, one)
+    record("the policy lets no other script run", one.value("typeof window.hostile") == "undefined" and any("Content Security Policy" in trouble for trouble in one.troubles), f"{one.troubles}")
+
+
+def screen_tests(record, one, folder):
+    """A phone's width, dark mode, and paper."""
+    (pathlib.Path(folder) / "pool.cpp").write_text(POOL)
+    page = run(["replay", "--format", "html", "--source", folder, "-"], BUSY)[0]
+    for width in (320, 390, 1280):
+        one.call("Emulation.setDeviceMetricsOverride", width=width, height=800, deviceScaleFactor=1, mobile=False)
+        opened(page, folder, one)
+        found = one.value("document.documentElement.scrollWidth")
+        record(f"the page is {width} wide and no wider", found <= width, f"{found}")
+    colours = []
+    for scheme in ("light", "dark"):
+        one.call("Emulation.setEmulatedMedia", media="screen", features=[{"name": "prefers-color-scheme", "value": scheme}])
+        opened(page, folder, one)
+        colours.append(one.value("getComputedStyle(document.body).backgroundColor + getComputedStyle(document.querySelector('svg text')).fill"))
+    record("dark mode has other colours", len(set(colours)) == 2, f"{colours}")
+    one.call("Emulation.setEmulatedMedia", media="print", features=[{"name": "prefers-color-scheme", "value": "dark"}])
+    opened(page, folder, one)
+    paper = one.value("[getComputedStyle(document.body).backgroundColor, getComputedStyle(document.querySelector('form')).display]")
+    record("paper is white and has no filter", paper == ["rgb(255, 255, 255)", "none"], f"{paper}")
+    one.value("document.querySelectorAll('details').forEach(part => { part.open = false; })")
+    printed = base64.b64decode(one.call("Page.printToPDF")["data"])
+    opens = one.value("[...document.querySelectorAll('details.site')].every(part => part.open)")
+    record("every example is open on paper", printed.startswith(b"%PDF") and opens, f"{len(printed)}")
+    one.call("Emulation.setEmulatedMedia", media="screen", features=[])
+
+
+def large_tests(record, one, folder):
+    """300,000 races: the page groups them, and makes rows and pictures as they are asked for."""
+    lines = [f"{thread} write {4 * k} part{k % 2000}.cpp:{k % 700 + 1}" for k in range(300_000) for thread in ("t1", "t2")]
+    page = run(["replay", "--format", "html", "-"], ("eraser trace 1\n" + "\n".join(lines) + "\n").encode())[0]
+    opened(page, folder, one)
+    sites = len({(k % 2000, k % 700) for k in range(300_000)})
+    title = one.value("document.querySelector('h1').textContent")
+    record("a page of 300,000 races", is_calm(one) and title == f"300,000 races at {sites:,} sites", f"{title}, {one.troubles}")
+    counts = []
+    for _ in range(2):
+        counts.append(one.value(f"{TABLE}.tBodies[0].rows.length"))
+        one.value(f"{TABLE}.parentElement.querySelector('button').click()")
+    record("rows are made as they are asked for", counts == [500, 1000] and one.value("document.querySelectorAll('svg.picture').length") == 3, f"{counts}")
+    one.value("document.getElementById('filter').focus()")
+    one.type("part7.cpp")
+    found = one.value(ROWS)
+    record("the filter of a large page", found and all(row[4].startswith("part7.cpp:") for row in found), f"{found}"[:300])
+    one.value(f"location.hash = '#site-{sites}'; new Promise(done => setTimeout(done, 300))")
+    record("the last site of a large page by its address", one.value(f"document.getElementById('site-{sites}').open") is True)
+
+
+def browser_tests(record):
+    with tempfile.TemporaryDirectory() as folder, browser.Browser() as one:
+        content_tests(record, one, folder)
+        keyboard_tests(record, one, folder)
+        hostile_tests(record, one, folder)
+        screen_tests(record, one, folder)
+        large_tests(record, one, folder)
+
+
+def screenshot(path):
+    """The picture of docs/: the busy trace, with its source."""
+    with tempfile.TemporaryDirectory() as folder, browser.Browser() as one:
+        (pathlib.Path(folder) / "pool.cpp").write_text(POOL)
+        one.call("Emulation.setDeviceMetricsOverride", width=1000, height=1420, deviceScaleFactor=1, mobile=False)
+        opened(run(["replay", "--format", "html", "--source", folder, "-"], BUSY)[0], folder, one, "#filter=table")
+        pathlib.Path(path).write_bytes(base64.b64decode(one.call("Page.captureScreenshot", format="png")["data"]))
+
+
+def tests(record, preloaded):
+    """Returns what could not be run, for want of a browser."""
+    shell_tests(record, page_tests(record))
+    source_tests(record)
+    refusal_tests(record, preloaded)
+    if browser.found() is None:
+        print("NOT RUN: the tests of the page in a browser. Install chromium, as ./check does.")
+        return ["the page in a browser"]
+    browser_tests(record)
+    return []
+
+
+if __name__ == "__main__":
+    if sys.argv[1:2] == ["--screenshot"]:
+        screenshot(sys.argv[2])
+    else:
+        run_alone(tests, preloaded)
