@@ -16,8 +16,12 @@ _eraser() {
         _eraser_files
         return
         ;;
+    replay:--source)
+        _eraser_folders
+        return
+        ;;
     replay:--format)
-        _eraser_words "text json sarif"
+        _eraser_words "text json sarif html"
         return
         ;;
     replay:--workers)
@@ -33,7 +37,7 @@ _eraser() {
     case $command:$word in
     :-*) _eraser_words "--help --version -h -V" ;;
     :*) _eraser_words "replay demo help" ;;
-    replay:-?*) _eraser_words "--suppress --write-rules --unused-rules --max-races --explain --by-site --format --workers --shards --byte-limit --help -h" ;;
+    replay:-?*) _eraser_words "--suppress --write-rules --unused-rules --max-races --explain --by-site --format --source --workers --shards --byte-limit --help -h" ;;
     replay:*) _eraser_files ;;
     demo:-*) _eraser_words "--help -h" ;;
     demo:*) _eraser_words "locked-counter racy-counter init-then-read rw-table reuse-pool ignored-stats" ;;
@@ -49,6 +53,11 @@ _eraser_words() {
 _eraser_files() {
     compopt -o filenames 2>/dev/null
     mapfile -t COMPREPLY < <(compgen -f -- "$word")
+}
+
+_eraser_folders() {
+    compopt -o filenames 2>/dev/null
+    mapfile -t COMPREPLY < <(compgen -d -- "$word")
 }
 
 complete -F _eraser eraser

@@ -10,6 +10,7 @@ ghost use Rattle.er_triage.specs.Notes.{AreNotes};
 ghost use Rattle.eraser.specs.Notes.{AsksNoNotes, GetsNotes};
 ghost use Rattle.eraser.specs.Replays.{EndsAs, IsPlain, ReplaysTo};
 
+use crate::advice::report_replay_fault;
 use crate::faults::fault_of;
 use crate::rules::suppressions_of;
 use crate::sorting::{Ended, replay_and_sort, status_of};
@@ -30,13 +31,14 @@ use std::thread::Threads;
 
 /// Runs one command line, whose first word is the program's name, and returns the exit status: 0 if no race was printed,
 /// 1 if some race was, 2 for wrong arguments or a text with a fault, 3 for want of room, 4 for a file that can't be
-/// opened, read or written.
+/// opened, read or written. If the errors are read by people, the line of a replay's fault is followed by what helps them.
 pub fn command<R, I, O, E>(
     rt: &R,
     words: &[String],
     input: &mut Device<I>,
     output: &mut Device<O>,
     errors: &mut Device<E>,
+    for_people: bool,
 ) -> u8
 where
     R: Files + AllocGlobal + Threads + Wait + Sync,
@@ -54,7 +56,7 @@ where
     ensures refused { result ≡ 2 → Keeps (O.contents (inner_of output.old)) (O.contents (inner_of output.new)) }
 {
     match read_request(rt.alloc(), words) {
-        Ok(request) => run_request(rt, request, input, output, errors),
+        Ok(request) => run_request(rt, request, input, output, errors, for_people),
         Err(error) => refused(rt.alloc(), &error, output, errors),
     }
 }
@@ -65,6 +67,7 @@ fn run_request<R, I, O, E>(
     input: &mut Device<I>,
     output: &mut Device<O>,
     errors: &mut Device<E>,
+    for_people: bool,
 ) -> u8
 where
     R: Files + AllocGlobal + Threads + Wait + Sync,
@@ -79,11 +82,54 @@ where
     ensures silent { AsksNoNotes request.entry → result ≤ 1 → Keeps (E.contents (inner_of errors.old)) (E.contents (inner_of errors.new)) }
     ensures refused { result ≡ 2 → Keeps (O.contents (inner_of output.old)) (O.contents (inner_of output.new)) }
 {
-    let outcome = match request {
-        Request::Replay(replay) => run_replay(rt, &replay, input, output),
-        Request::Demo(demo) => run_workload_of(rt, demo, output),
-    };
-    match outcome {
+    match request {
+        Request::Replay(replay) => end_replay(rt, &replay, input, output, errors, for_people),
+        Request::Demo(demo) => end_demo(rt, demo, output, errors),
+    }
+}
+
+// Runs a replay, and writes its notes, or its fault and what helps people.
+fn end_replay<R, I, O, E>(
+    rt: &R,
+    replay: &Replay<'_>,
+    input: &mut Device<I>,
+    output: &mut Device<O>,
+    errors: &mut Device<E>,
+    for_people: bool,
+) -> u8
+where
+    R: Files + AllocGlobal + Threads + Wait + Sync,
+    I: Read,
+    O: Write,
+    E: Write,
+    requires input { has_failed input.old ≡ false }
+    requires output { has_failed output.old ≡ false }
+    requires errors { has_failed errors.old ≡ false }
+    ensures status { result ≤ 4 }
+    ensures quiet { result ≤ 1 → GetsNotes (E.contents (inner_of errors.old)) (E.contents (inner_of errors.new)) (has_failed errors.new) }
+    ensures silent { replay.now.unused_rules ≡ false → replay.now.max_races ≡ None → result ≤ 1 → Keeps (E.contents (inner_of errors.old)) (E.contents (inner_of errors.new)) }
+    ensures refused { result ≡ 2 → Keeps (O.contents (inner_of output.old)) (O.contents (inner_of output.new)) }
+{
+    match run_replay(rt, replay, input, output) {
+        Ok(ended) => note(ended, errors),
+        Err(fault) => report_replay_fault(rt, replay, fault, errors, for_people),
+    }
+}
+
+// Runs a demo, and writes its fault.
+fn end_demo<R, O, E>(rt: &R, demo: Demo, output: &mut Device<O>, errors: &mut Device<E>) -> u8
+where
+    R: AllocGlobal + Threads + Wait + Sync,
+    O: Write,
+    E: Write,
+    requires output { has_failed output.old ≡ false }
+    requires errors { has_failed errors.old ≡ false }
+    ensures status { result ≤ 4 }
+    ensures quiet { result ≤ 1 → GetsNotes (E.contents (inner_of errors.old)) (E.contents (inner_of errors.new)) (has_failed errors.new) }
+    ensures silent { result ≤ 1 → Keeps (E.contents (inner_of errors.old)) (E.contents (inner_of errors.new)) }
+    ensures refused { result ≡ 2 → Keeps (O.contents (inner_of output.old)) (O.contents (inner_of output.new)) }
+{
+    match run_workload_of(rt, demo, output) {
         Ok(ended) => note(ended, errors),
         Err(fault) => report_fault(rt.alloc(), fault, errors),
     }
@@ -221,7 +267,10 @@ where
 fn asks_more(replay: &Replay<'_>) -> bool
     ensures { IsPlain replay.now → result ≡ false }
 {
-    replay.write_rules.is_some() || replay.unused_rules || replay.max_races.is_some()
+    replay.write_rules.is_some()
+        || replay.unused_rules
+        || replay.max_races.is_some()
+        || (matches!(replay.format, Format::Html) && replay.source.is_some())
 }
 
 // Replays what the reader gives, and writes the report in the format that was asked for.
@@ -247,6 +296,7 @@ where
         Format::BySite => replay_as(rt, source, output, suppressions, options, Form::BySite),
         Format::Json => replay_as(rt, source, output, suppressions, options, Form::Json),
         Format::Sarif => replay_as(rt, source, output, suppressions, options, Form::Sarif),
+        Format::Html => replay_as(rt, source, output, suppressions, options, Form::Html),
     };
     match replayed {
         Ok(verdict) => Ok(verdict),

@@ -4,16 +4,18 @@
 //! standard output of this toolchain keeps no byte back, so a byte whose write failed is never sent again.
 #![tactic(auto)]
 
+mod advice;
 mod command;
 mod faults;
 mod rules;
 mod sorting;
+mod sources;
 
 pub use command::command;
 use er_device::Device;
 use er_exit::{Fault, report_fault};
 use std::env;
-use std::io::ErrorKind;
+use std::io::{ErrorKind, IsTerminal};
 use std::process::ExitCode;
 
 fn words_of(rt: &HostRuntime) -> Result<Vec<String>, Fault> {
@@ -29,6 +31,7 @@ fn words_of(rt: &HostRuntime) -> Result<Vec<String>, Fault> {
 }
 
 fn main(rt: HostRuntime) -> ExitCode {
+    let for_people = rt.stderr().is_terminal();
     let mut errors = Device::new(rt.stderr());
     let status = match words_of(&rt) {
         Ok(words) => command(
@@ -37,6 +40,7 @@ fn main(rt: HostRuntime) -> ExitCode {
             &mut Device::new(rt.stdin()),
             &mut Device::new(rt.stdout()),
             &mut errors,
+            for_people,
         ),
         Err(fault) => report_fault(rt.alloc(), fault, &mut errors),
     };

@@ -1,4 +1,4 @@
-//! A replay of which more is asked for than a report.
+//! A replay of which more is asked for than a report of its trace.
 ghost use Rattle.std.specs.Prelude.{◌≡◌, ◌≢◌, ◌≤◌, [], All, false, None, IfOk, IfErr};
 ghost use Rattle.er_device.specs.Device.{inner_of, has_failed};
 ghost use Rattle.er_exit.specs.declared.faults.Fault.TheVariants.{Memory, WriteRules};
@@ -9,8 +9,10 @@ ghost use Rattle.eraser.specs.Replays.{verdict_status};
 
 use crate::faults::fault_of;
 use crate::rules::write_rules;
+use crate::sources::excerpts_of;
 use er_device::Device;
 use er_exit::Fault;
+use er_html::{Excerpt, write_html};
 use er_json::write_json;
 use er_print::{WriteFault, write_report};
 use er_report::Report;
@@ -72,11 +74,14 @@ where
         Err(why) => return Err(fault_of(why)),
     };
     let triaged = sorted(rt.alloc(), report, &trace, suppressions, replay)?;
+    let excerpts = excerpts_of(rt, replay.source, &triaged.report, trace.names())?;
     write_as(
         rt.alloc(),
         replay.format,
         &triaged.report,
         trace.names(),
+        suppressions,
+        &excerpts,
         output,
     )?;
     finish(rt, replay.write_rules, triaged)
@@ -114,12 +119,14 @@ fn wishes_of(replay: &Replay<'_>) -> Wishes
     }
 }
 
-// Writes the report in the format that was asked for.
+// Writes the report in the format that was asked for, with the excerpts of source files if it is a page.
 fn write_as<O: Write>(
     alloc: Global,
     format: Format,
     report: &Report,
     names: &Names,
+    suppressions: &Suppressions,
+    excerpts: &[Excerpt],
     output: &mut Device<O>,
 ) -> Result<(), Fault>
     requires output { has_failed output.old ≡ false }
@@ -130,7 +137,8 @@ fn write_as<O: Write>(
         Format::Text => write_report(alloc, output, report, names),
         Format::BySite => write_sites(alloc, output, report, names),
         Format::Json => write_json(alloc, output, report, names),
-        Format::Sarif => write_sarif(alloc, output, report, names),
+        Format::Sarif => write_sarif(alloc, output, report, names, suppressions),
+        Format::Html => write_html(alloc, output, report, names, excerpts),
     };
     match written {
         Ok(()) => Ok(()),

@@ -1,0 +1,188 @@
+#!/usr/bin/env python3
+"""What is written behind a fault's line if standard error is a terminal, and that nothing is if it isn't.
+
+`tests/run` calls `tests`. By itself this file runs these tests alone. A row has a file's bytes, and what a person is shown of it below the fault's line.
+
+- each frequent cause of a fault: the file, the line with a mark under the place, the hint
+- files that can't be opened or read: the system's reason
+- the standard input and a FIFO aren't read again
+- a byte that a terminal could take for a command is escaped, and no line is over 120 columns
+- each allocation refused in turn: the fault's line, with or without what follows, or the line of a want of memory
+"""
+
+import os
+import pathlib
+import pty
+import subprocess
+import sys
+import tempfile
+import threading
+import tty
+
+sys.dont_write_bytecode = True
+from alone import run_alone
+from site_tests import preloaded
+
+TOP = pathlib.Path(__file__).resolve().parent.parent
+PROGRAM = TOP / "crates/eraser/out/eraser"
+VERBS = "verbs are lock, unlock, rlock, runlock, read, write, reuse, ignore-on, ignore-off, show"
+NAMES = "a name has 1 to 128 letters, digits and _ . : / - and no lock is named none"
+HEADER = b"eraser trace 1\n"
+
+# The file's bytes, the fault's line, the line as it is shown and how many columns stand before the mark in it (None: no line is shown), the hint.
+TRACES = {
+    "CR LF": (b"eraser trace 1\r\nt1 write 0x1000\r\n", "line 1: no header", (r"eraser trace 1\r", 14),
+              r"the line ends with CR LF; take the CRs away: tr -d '\r' < FILE"),
+    "CR LF behind the header": (HEADER + b"t1 write 0x1000\r\n", "line 2: bad number", (r"t1 write 0x1000\r", 15),
+                                r"the line ends with CR LF; take the CRs away: tr -d '\r' < FILE"),
+    "byte-order mark": (b"\xef\xbb\xbf" + HEADER, "line 1: not ascii", (r"\xef\xbb\xbferaser trace 1", 0),
+                        "the file begins with a byte-order mark; take its first three bytes away"),
+    "UTF-16": (b"\xff\xfee\0r\0", "line 1: not ascii", (r"\xff\xfee\x00r\x00", 0), "the file is in UTF-16; convert it: iconv -f UTF-16 -t ASCII FILE"),
+    "gzip": (b"\x1f\x8b\x08\x00", "line 1: not ascii", (r"\x1f\x8b\x08\x00", 4), "the file is compressed by gzip; try: gzip -dc FILE | eraser replay -"),
+    "zstd": (b"\x28\xb5\x2f\xfd\x04", "line 1: not ascii", (r"(\xb5/\xfd\x04", 1), "the file is compressed by zstd; try: zstd -dc FILE | eraser replay -"),
+    "xz": (b"\xfd7zXZ\0\0", "line 1: not ascii", (r"\xfd7zXZ\x00\x00", 0), "the file is compressed by xz; try: xz -dc FILE | eraser replay -"),
+    "zip": (b"PK\x03\x04\x14\0", "line 1: no header", (r"PK\x03\x04\x14\x00", 0), "the file is a zip archive; unpack it first"),
+    "no header": (b"# a comment\n\nt1 write 0x1000\n", "line 3: no header", ("t1 write 0x1000", 0), "the first line of a trace is its header, eraser trace 1"),
+    "an empty file": (b"", "line 1: no header", None, "the first line of a trace is its header, eraser trace 1"),
+    "an unknown version": (b"eraser trace 9\n", "line 1: no header", ("eraser trace 9", 0), "the header has a version that this program does not know"),
+    "a verb of text 2": (HEADER + b"t1 level 3\n", "line 2: bad verb", ("t1 level 3", 3), "the verb level needs the header eraser trace 2"),
+    "an unknown verb": (HEADER + b"t1  wirte 0x1000\n", "line 2: bad verb", ("t1  wirte 0x1000", 4), VERBS),
+    "a plus in a thread": (HEADER + b"t+1 lock m\n", "line 2: bad name", ("t+1 lock m", 1), NAMES),
+    "a plus in a site": (HEADER + b"t1 write 0x1000 f+3\n", "line 2: bad name", ("t1 write 0x1000 f+3", 17), NAMES),
+    "a lock named none": (HEADER + b"t1 lock none\n", "line 2: bad name", ("t1 lock none", 0), NAMES),
+    "a command to the terminal": (HEADER + b"t1 lock \x1b[2J\n", "line 2: bad name", (r"t1 lock \x1b[2J", 8), NAMES),
+    "a tab": (HEADER + b"t1\tlock a+\n", "line 2: bad name", (r"t1\tlock a+", 10), NAMES),
+    "no number": (HEADER + b"t1 write 0y10\n", "line 2: bad number", ("t1 write 0y10", 0),
+                  "a number has decimal digits, or 0x and hexadecimal digits, and is below 2^64"),
+    "a comment behind a step": (HEADER + b"t1 write 0x1000 # init\n", "line 2: extra operand", ("t1 write 0x1000 # init", 16), "a comment needs a line of its own"),
+    "a word too many": (HEADER + b"t1 ignore-on now\n", "line 2: extra operand", ("t1 ignore-on now", 13), None),
+    "a word too few": (HEADER + b"t1 write\n", "line 2: missing operand", ("t1 write", 8), "the line ends early; was the file cut off?"),
+    "a large reuse": (HEADER + b"t1 reuse 0x1000 4194305\n", "line 2: size too large", ("t1 reuse 0x1000 4194305", 16), "a reuse has at most 4194304 bytes; write several"),
+    "a great address": (HEADER + b"t1 read 0x1000000000000\n", "line 2: address out of range", ("t1 read 0x1000000000000", 8), "addresses are below 2^48"),
+    "a high level": (b"eraser trace 2\nt1 level 32\n", "line 2: level too high", ("t1 level 32", 9), "levels are 0 to 31"),
+    "a long line": (HEADER + b"a" * 1100 + b"\n", "line 2: line too long", ("a" * 100 + "..", 0), "a line has at most 1024 bytes; is this a text?"),
+    "a very long line": (HEADER + b"\0" * 300000, "line 2: line too long", (r"\x00" * 25 + "..", 0), "a line has at most 1024 bytes; is this a text?"),
+    "a place far to the right": (HEADER + b"t1 write 0x1000 " + b"a" * 100 + b"+\n", "line 2: bad name", (".." + "a" * 20 + "+", 22), NAMES),
+    "the last line": (HEADER + b"t1 read 4\n" * 5000 + b"t1 hop", "line 5002: bad verb", ("t1 hop", 3), VERBS),
+}
+
+RULES = {
+    "an unknown rule": (b"# known\nsites a.c:1\n", "suppressions line 2: bad verb", ("sites a.c:1", 0), "a rule is: site SITE, or: words ADDRESS BYTES"),
+    "an address of a rule": (b"words 0x1000000000000 4\n", "suppressions line 1: address out of range", ("words 0x1000000000000 4", 6), "addresses are below 2^48"),
+    "rules with CR LF": (b"site a.c:1\r\n", "suppressions line 1: bad name", (r"site a.c:1\r", 10), r"the line ends with CR LF; take the CRs away: tr -d '\r' < FILE"),
+}
+
+
+def shown(words, folder, text=b"", **more):
+    """What the program writes to a terminal as its errors, and its exit status."""
+    master, slave = pty.openpty()
+    tty.setraw(slave)
+    pieces = []
+
+    def read():
+        try:
+            while piece := os.read(master, 65536):
+                pieces.append(piece)
+        except OSError:
+            pass
+
+    reader = threading.Thread(target=read)
+    reader.start()
+    done = subprocess.run([str(PROGRAM), *words], cwd=folder, input=text, stdout=subprocess.PIPE, stderr=slave, timeout=120, **more)
+    os.close(slave)
+    reader.join()
+    os.close(master)
+    return b"".join(pieces), done.stdout, done.returncode
+
+
+def advice(path, line, hint):
+    told = f"  in {path}:\n" if path else ""
+    if line:
+        told += f"    {line[0]}\n    {' ' * line[1]}^\n"
+    return told + (f"  hint: {hint}\n" if hint else "")
+
+
+def is_tame(text):
+    return all(byte == 10 or 32 <= byte <= 126 for byte in text) and all(len(line) <= 120 for line in text.split(b"\n"))
+
+
+def texts(record, folder):
+    for rows, path, before in ((TRACES, "t.trace", []), (RULES, "t.rules", ["--suppress", "t.rules"])):
+        (folder / "t.trace").write_bytes(HEADER)
+        for name, (text, fault, line, hint) in rows.items():
+            (folder / path).write_bytes(text)
+            words = ["replay", *before, "t.trace"]
+            wanted = f"{fault}\n{advice(path, line, hint)}".encode()
+            found = shown(words, folder)
+            record(f"for people: {name}", found == (wanted, b"", 2) and is_tame(wanted), f"{found[0].decode()}\nwanted {wanted.decode()}")
+            plain = subprocess.run([str(PROGRAM), *words], cwd=folder, capture_output=True)
+            record(f"not for people: {name}", (plain.stderr, plain.stdout, plain.returncode) == (f"{fault}\n".encode(), b"", 2), f"{plain}")
+    (folder / "t.trace").write_bytes(HEADER + b"t1 read 4\n")
+    found = shown(["replay", "--byte-limit", "20", "t.trace"], folder)
+    wanted = b"line 2: text too long\n" + advice("t.trace", ("t1 read 4", 0), "the option --byte-limit BYTES takes a longer text").encode()
+    record("for people: the limit of bytes", found == (wanted, b"", 2), f"{found}")
+
+
+def files(record, folder):
+    (folder / "good.trace").write_bytes(HEADER)
+    (folder / "folder").mkdir()
+    (folder / "good.rules").write_bytes(b"site a.c:1\n")
+    (folder / "bad.rules").write_bytes(b"sites a.c:1\n")
+    (folder / "loop.trace").symlink_to("loop.trace")
+    folder_text = "    it is a folder\n"
+    rows = (
+        (["none.trace"], "cannot open trace", "none.trace", "    No such file or directory (os error 2)\n", 4),
+        (["loop.trace"], "cannot open trace", "loop.trace", "    Too many levels of symbolic links (os error 40)\n", 4),
+        (["good.trace/x"], "cannot open trace", "good.trace/x", "    Not a directory (os error 20)\n", 4),
+        (["folder"], "read fault", "folder", folder_text, 4),
+        (["--suppress", "folder", "good.trace"], "read fault", "folder", folder_text, 4),
+        (["--suppress", "good.rules", "--suppress", "folder", "good.trace"], "read fault in suppressions file 2", "folder", folder_text, 4),
+        (["--suppress", "none.rules", "good.trace"], "cannot open suppressions", "none.rules", "    No such file or directory (os error 2)\n", 4),
+        (["--suppress", "good.rules", "--suppress", "bad.rules", "good.trace"], "suppressions file 2 line 1: bad verb", "bad.rules",
+         "    sites a.c:1\n    ^\n  hint: a rule is: site SITE, or: words ADDRESS BYTES\n", 2),
+    )
+    for words, fault, path, more, status in rows:
+        found = shown(["replay", *words], folder)
+        record(f"for people: {words}", found[0] == f"{fault}\n  in {path}:\n{more}".encode() and found[2] == status, f"{found}")
+    found = shown(["replay", "--write-rules", "none/w.rules", "good.trace"], folder)
+    wanted = b"cannot write rules\n  in none/w.rules:\n    No such file or directory (os error 2)\n"
+    record("for people: rules that can't be written", (found[0], found[2]) == (wanted, 4), f"{found}")
+    found = shown(["replay", "-"], folder, HEADER + b"t1 hop\n")
+    record("for people: the standard input", found[0] == f"line 2: bad verb\n  hint: {VERBS}\n".encode(), f"{found}")
+    os.mkfifo(folder / "fifo")
+    feeder = threading.Thread(target=lambda: (folder / "fifo").write_bytes(HEADER + b"t1 hop\n"))
+    feeder.start()
+    found = shown(["replay", "fifo"], folder)
+    feeder.join()
+    record("for people: a FIFO is opened once", found[0] == f"line 2: bad verb\n  in fifo:\n  hint: {VERBS}\n".encode(), f"{found}")
+    found = shown(["demo", "racy-counter"], folder)
+    record("for people: a demo has nothing to say", found[0] == b"", f"{found}")
+
+
+def refused(record, folder, build):
+    (folder / "t.trace").write_bytes(HEADER + b"t1 hop\n")
+    fault, memory = b"line 2: bad verb\n", b"out of memory\n"
+    more = advice("t.trace", ("t1 hop", 3), VERBS).encode()
+    library, count, seen = build(folder, "refuse"), folder / "count", set()
+    for nth in range(1, 100000):
+        env = {**os.environ, "LD_PRELOAD": str(library), "REFUSE": str(nth), "REFUSE_FOUND": str(count)}
+        found = shown(["replay", "t.trace"], folder, env=env)
+        if not count.exists():
+            record("for people: with all allocations", found == (fault + more, b"", 2), f"{found}")
+            break
+        count.unlink()
+        seen.add(found[0])
+        is_right = found in ((memory, b"", 3), (memory + more, b"", 2), (fault, b"", 2), (fault + more, b"", 2))
+        record(f"for people: without allocation {nth}", is_right, f"{found}")
+    record("for people: some allocation left the rest out", fault in seen and memory + more in seen, f"{seen}")
+
+
+def tests(record, build):
+    with tempfile.TemporaryDirectory() as folder:
+        for part in (texts, files, lambda record, folder: refused(record, folder, build)):
+            with tempfile.TemporaryDirectory(dir=folder) as inner:
+                part(record, pathlib.Path(inner))
+
+
+if __name__ == "__main__":
+    run_alone(tests, preloaded)
