@@ -54,7 +54,7 @@ static const char usage[] =
     "      --suppress RULES    leave out the races that these rules take (docs/FORMATS.md)\n"
     "      --explain           name the accesses that make each race\n"
     "      --by-site           report the races by their sites, most words first\n"
-    "      --format FORM       write the report as `text` (the default), `json` or `sarif`\n"
+    "      --format FORM       write the report as `text` (the default), `json`, `sarif` or `html`\n"
     "      --exit-status WHOSE end with the status of the `program` (the default) or of the `report`\n"
     "      --limit BYTES       record at most so much text; 0: no limit. The default is 268435456\n"
     "      --paths             name sites by their whole path\n"
@@ -96,11 +96,11 @@ static bool is_report(const char *text)
 /* What the replay would refuse is refused before the program has run. */
 static const char *read_format(const char *text)
 {
-    if (strcmp(text, "text") != 0 && strcmp(text, "json") != 0 && strcmp(text, "sarif") != 0) {
-        fprintf(stderr, "record: --format is 'text', 'json' or 'sarif', not '%s'\n", text);
-        exit(STATUS_FAILED);
-    }
-    return text;
+    static const char *const forms[] = {"text", "json", "sarif", "html"};
+    for (size_t place = 0; place < sizeof forms / sizeof *forms; place++)
+        if (strcmp(text, forms[place]) == 0) return text;
+    fprintf(stderr, "record: --format is 'text', 'json', 'sarif' or 'html', not '%s'\n", text);
+    exit(STATUS_FAILED);
 }
 
 static void read_options(int count, char **words)
