@@ -55,6 +55,7 @@ def faulty(name, text, line, kind):
 RACE = "race: t2 write x at -, holds none"
 DEEP = "; ".join(["t1 ignore-on"] * 256)
 LOCKS = "; ".join(f"t1 lock l{n}" for n in range(1, 66))
+ORDERED = "eraser trace 3"
 PAGES = range(0, 32768, 4096)
 EIGHT = "; ".join(f"{thread} write {page}" for thread in ("t1", "t2") for page in PAGES)
 SHRINK = (
@@ -104,6 +105,16 @@ REPLAYED = [
          header="eraser trace 2"),
     told("locks_at_the_highest_level", f"t1 level 31; {LOCKS}", "line 67: refused: t1 lock l65: too many locks held", (66, 0, 0, 1),
          header="eraser trace 2"),
+    told("order_changes_no_lockset", "t1 write x; t1 start t2; t2 write x; t2 signal q; t1 await q; t1 join t2; t1 write x; t1 show x",
+         f"line 4: {RACE}; line 9: state x: shared-modified, candidates none", (8, 1, 0, 0), 1, header=ORDERED),
+    told("order_is_never_refused", "t1 await q; t1 signal q; t1 lock q; t2 signal q; t1 join t9; t1 join t9; t1 start t9; t3 start t9; t9 ignore-on; t9 start t8",
+         "", (10, 0, 0, 0), header=ORDERED),
+    told("joins_a_thread_that_acts", "t2 write x; t1 join t2; t2 write x; t2 show x", "line 5: state x: exclusive t2", (4, 0, 0, 0), header=ORDERED),
+    told("levels_in_text_three", "t1 level 1; t1 write x; t2 write x; t1 show x",
+         "line 4: race: t2 write x at -, holds none; line 5: state x: shared-modified, candidates none", (4, 1, 0, 0), 1, header=ORDERED),
+    told("a_thread_named_end", "end write x; t1 start t2; end", "", (2, 0, 0, 0), header=ORDERED),
+    Case("comments_behind_the_end", b"eraser trace 3\nt1 write 4\n\tend \n# c\n\n  ", output_of(totals(1, 0, 0, 0))),
+    Case("an_end_without_line_feed", b"eraser trace 3\nend", output_of(totals(0, 0, 0, 0))),
     Case("no_last_end", b"eraser trace 1\nt1 write 0x1000", output_of(totals(1, 0, 0, 0))),
     Case("skipped_lines", b"\n# c\neraser trace 1\nt1 show 4\n", output_of(f"line 4: state 0x000000000004: virgin; {totals(1, 0, 0, 0)}")),
     Case("longest_comment", b"eraser trace 1\n#" + b"a" * 1023 + b"\n", output_of(totals(0, 0, 0, 0))),
@@ -121,12 +132,33 @@ FAULTY = [
     faulty("bad_lock_name", text_of("t1 lock none"), 2, "bad name"),
     faulty("bad_digit", text_of("t1 read 0xg"), 2, "bad number"),
     faulty("number_too_great", text_of("t1 read 18446744073709551616"), 2, "bad number"),
-    faulty("header_of_no_version", b"eraser trace 3\n", 1, "no header"),
+    faulty("header_of_no_version", b"eraser trace 4\n", 1, "no header"),
     faulty("size_too_large", text_of("t1 reuse x 4194305"), 2, "size too large"),
     faulty("address_out_of_range", text_of("t1 read 0x1000000000000"), 2, "address out of range"),
     faulty("reuse_out_of_range", text_of("t1 reuse 0xffffffffffff 2"), 2, "address out of range"),
     faulty("level_too_high", text_of("t1 level 32", "eraser trace 2"), 2, "level too high"),
     faulty("level_in_text_one", text_of("t1 level 3"), 2, "bad verb"),
+    *(faulty(f"{verb}_in_text_{word}", text_of(f"t1 {verb} a", f"eraser trace {number}"), 2, "bad verb")
+      for verb in ("start", "join", "signal", "await") for word, number in (("one", 1), ("two", 2))),
+    *(faulty(f"{verb}_of_nothing", text_of(f"t1 {verb}", ORDERED), 2, "missing operand") for verb in ("start", "join", "signal", "await")),
+    *(faulty(f"{verb}_of_two", text_of(f"t1 {verb} a b", ORDERED), 2, "extra operand") for verb in ("start", "join", "signal", "await")),
+    *(faulty(f"{verb}_of_a_bad_name", text_of(f"t1 {verb} a!", ORDERED), 2, "bad name") for verb in ("start", "join", "signal", "await")),
+    *(faulty(f"{verb}_of_none", text_of(f"t1 {verb} none", ORDERED), 2, "bad name") for verb in ("signal", "await")),
+    faulty("starts_itself", text_of("t1 start t1", ORDERED), 2, "own thread"),
+    faulty("starts_itself_late", text_of("t1 write x; t1 start t1", ORDERED), 3, "own thread"),
+    faulty("joins_itself", text_of("t1 write x; t1 join t1", ORDERED), 3, "own thread"),
+    faulty("starts_a_thread_with_a_step", text_of("t2 write x; t1 start t2", ORDERED), 3, "already running"),
+    faulty("starts_a_thread_that_reused_nothing", text_of("t2 reuse x 0; t1 start t2", ORDERED), 3, "already running"),
+    faulty("starts_a_thread_that_was_started_and_acts", text_of("t1 start t2; t3 start t2; t2 write x; t1 start t2", ORDERED), 5, "already running"),
+    faulty("starts_a_thread_that_acts_by_a_rare_verb", text_of("t1 join t2; t2 show x; t1 start t2", ORDERED), 4, "already running"),
+    faulty("starts_the_first_thread", text_of("t1 start t2; t2 start t1", ORDERED), 3, "already running"),
+    faulty("a_step_behind_the_end", text_of("t1 write x; end; t1 write x", ORDERED), 4, "after end"),
+    faulty("a_second_end", text_of("end; end", ORDERED), 3, "after end"),
+    faulty("no_line_behind_the_end", text_of("end; t1", ORDERED), 3, "after end"),
+    faulty("not_ascii_behind_the_end", b"eraser trace 3\nend\n# \x80\n", 3, "not ascii"),
+    faulty("end_with_an_operand", text_of("end 1", ORDERED), 2, "bad verb"),
+    faulty("end_in_text_two", text_of("end", "eraser trace 2"), 2, "missing operand"),
+    faulty("end_for_a_header", b"end\n", 1, "no header"),
 ]
 
 # Lines of a trace that have one fault, or two of which the earlier kind is reported.

@@ -19,6 +19,8 @@ VERBS = {
     b"reuse": (2, 2), b"ignore-on": (0, 0), b"ignore-off": (0, 0), b"show": (1, 1),
 }
 LEVEL_VERB = {b"level": (1, 1)}
+ORDER_VERBS = {b"start": (1, 1), b"join": (1, 1), b"signal": (1, 1), b"await": (1, 1)}
+VERBS_OF = {b"1": VERBS, b"2": VERBS | LEVEL_VERB, b"3": VERBS | LEVEL_VERB | ORDER_VERBS}
 BYTE_LIMIT = 268435456
 
 
@@ -41,8 +43,11 @@ def is_name(word, of_lock=False):
 def operands_fault(verb, words):
     """The kind of the leftmost operand that isn't what its place asks."""
     for place, word in enumerate(words):
-        if verb in (b"lock", b"unlock", b"rlock", b"runlock"):
+        if verb in (b"lock", b"unlock", b"rlock", b"runlock", b"signal", b"await"):
             if not is_name(word, of_lock=True):
+                return "bad name"
+        elif verb in (b"start", b"join"):
+            if not is_name(word):
                 return "bad name"
         elif verb in (b"read", b"write") and place == 1:
             if not is_name(word):
@@ -57,7 +62,7 @@ def event_of(line, words, version):
         raise Fault(line, "bad name")
     if len(words) < 2:
         raise Fault(line, "missing operand")
-    verbs = VERBS if version == b"1" else VERBS | LEVEL_VERB
+    verbs = VERBS_OF[version]
     if words[1] not in verbs:
         raise Fault(line, "bad verb")
     least, most = verbs[words[1]]
@@ -105,14 +110,24 @@ def content_of(text):
 
 def events_of(text):
     """The event lines of a trace, each with its line, or its first fault."""
-    events, version = [], None
+    events, version, ended = [], None, False
     for at, words in content_of(text):
         if version is None:
-            if words is None or len(words) != 3 or words[:2] != [b"eraser", b"trace"] or words[2] not in (b"1", b"2"):
+            if words is None or len(words) != 3 or words[:2] != [b"eraser", b"trace"] or words[2] not in VERBS_OF:
                 raise Fault(at, "no header")
             version = words[2]
         elif words is not None:
-            events.append((at, event_of(at, words, version)))
+            if ended:
+                raise Fault(at, "after end")
+            if version == b"3" and words == [b"end"]:
+                ended = True
+                continue
+            thread, verb, operands = event_of(at, words, version)
+            if verb in (b"start", b"join") and operands[0] == thread:
+                raise Fault(at, "own thread")
+            if verb == b"start" and any(other == operands[0] for _, (other, _, _) in events):
+                raise Fault(at, "already running")
+            events.append((at, (thread, verb, operands)))
     return events
 
 
@@ -245,7 +260,7 @@ class Replay:
         self.lines.append(f"line {line}: state 0x{at * 4:012x}: {state}")
 
     def step(self, line, thread, verb, operands):
-        if verb in (b"lock", b"unlock", b"rlock", b"runlock"):
+        if verb in (b"lock", b"unlock", b"rlock", b"runlock", b"signal", b"await"):
             self.locks.setdefault(operands[0], len(self.locks))
         why = self.refusal(thread, verb, operands)
         if why:
@@ -275,6 +290,8 @@ class Replay:
             self.level[thread] = number(operands[0])
         elif verb == b"show":
             self.show(line, operands)
+        elif verb in ORDER_VERBS:
+            pass  # It is Done, and no lockset changes.
         else:
             self.access(line, thread, verb, operands)
 
@@ -297,15 +314,20 @@ def replay(text, rules=b"", explain=False):
     return "".join(line + "\n" for line in run.lines), "", 1 if run.races else 0
 
 
-def random_line(dice, has_levels):
+def random_line(dice, version, acting):
+    """A line of a text of this version, behind lines in which these threads act."""
     thread = f"t{dice.randrange(4)}"
     address = dice.choice(["0x1000", "0x1004", "4100", "0x1ffc", "0x2000", "0x00003000", "0xffffffffffff"])
     lock = f"m{dice.randrange(3)}"
     verb = dice.choices(
-        ["lock", "unlock", "rlock", "runlock", "read", "write", "reuse", "ignore-on", "ignore-off", "show", "level"],
-        [8, 8, 5, 5, 14, 14, 2, 1, 2, 4, 3 if has_levels else 0])[0]
-    if verb in ("lock", "unlock", "rlock", "runlock"):
+        ["lock", "unlock", "rlock", "runlock", "read", "write", "reuse", "ignore-on", "ignore-off", "show", "level", "start", "join", "signal", "await"],
+        [8, 8, 5, 5, 14, 14, 2, 1, 2, 4, 3 if version > "1" else 0] + [2 if version > "2" else 0] * 4)[0]
+    if verb in ("lock", "unlock", "rlock", "runlock", "signal", "await"):
         return f"{thread} {verb} {lock}"
+    if verb in ("start", "join"):
+        # Most of them have no fault. The last two threads never act.
+        others = [f"t{n}" for n in range(6) if f"t{n}" != thread and (verb == "join" or f"t{n}" not in acting)]
+        return f"{thread} {verb} {dice.choice(others) if dice.randrange(40) else f't{dice.randrange(4)}'}"
     if verb in ("read", "write"):
         return f"{thread} {verb} {address}" + dice.choice(["", " a.c:7", "\tb/c.rs:12"])
     if verb == "reuse":
@@ -317,8 +339,13 @@ def random_line(dice, has_levels):
 
 def random_trace(seed):
     dice = random.Random(seed)
-    version = dice.choice("1112")
-    lines = [f"eraser trace {version}"] + [random_line(dice, version == "2") for _ in range(dice.randrange(120))]
+    version = dice.choice("11122333333")
+    lines, acting = [f"eraser trace {version}"], set()
+    for _ in range(dice.randrange(120)):
+        lines.append(random_line(dice, version, acting))
+        acting.add(lines[-1].split(" ")[0])
+    if version == "3" and dice.randrange(2):
+        lines += [dice.choice(["end", " end\t"])] + [random_line(dice, version, acting)] * (dice.randrange(6) == 0)
     for _ in range(dice.randrange(3)):
         lines.insert(dice.randrange(len(lines) + 1), dice.choice(["", "# a comment", "  \t"]))
     text = "\n".join(lines).encode() + dice.choice([b"", b"\n"])

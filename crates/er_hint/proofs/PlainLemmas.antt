@@ -9,7 +9,7 @@ use Rattle.er_hint.specs.Written.{AddsPlain, hint_line, line_text, path_text, re
 use Rattle.er_device.specs.Device.{WritesPrefix}
 use Rattle.er_hint.specs.Hints.{hint_text}
 use Rattle.er_hint.specs.declared.hints.Hint.{Hint}
-use Rattle.er_hint.specs.declared.hints.Hint.TheVariants.{Nothing, Gzip, Zstd, Xz, Zip, ByteOrderMark, WideText, CarriageReturn, NoHeader, UnknownVersion, LaterVerb, Verbs, Rules, Names, Numbers, Ascii, Comment, CutOff, LongLine, LongText, Addresses, Sizes, Levels}
+use Rattle.er_hint.specs.declared.hints.Hint.TheVariants.{Nothing, Gzip, Zstd, Xz, Zip, ByteOrderMark, WideText, CarriageReturn, NoHeader, UnknownVersion, LaterVerb, Verbs, Rules, Names, Numbers, Ascii, Comment, CutOff, LongLine, LongText, Addresses, Sizes, Levels, OrderVerb, OwnThread, Running, AfterEnd}
 
 pub plain_append : (front back : List ℕ) → is_plain front ≡ true → is_plain back ≡ true → is_plain (front ++ back) ≡ true
 plain_append front back first second = list_all-append is_plain_byte front back ∙ ap (λ (b : Bool). b && is_plain back) first ∙ second
@@ -118,6 +118,10 @@ plain_hint_text LongText = refl
 plain_hint_text Addresses = refl
 plain_hint_text Sizes = refl
 plain_hint_text Levels = refl
+plain_hint_text OrderVerb = refl
+plain_hint_text OwnThread = refl
+plain_hint_text Running = refl
+plain_hint_text AfterEnd = refl
 
 pub plain_hint : (hint : Hint) → is_plain (hint_line (hint_text hint)) ≡ true
 plain_hint hint = plain_hint_line (hint_text hint) (plain_hint_text hint)

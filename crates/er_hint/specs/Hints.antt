@@ -6,7 +6,7 @@ use Rattle.er_text.specs.declared.faults.TextKind.TheVariants.{LineTooLong, Text
 use Rattle.er_text.specs.declared.faults.TextKind.TheVariants as kind
 use Rattle.er_hint.specs.Places.{word_start}
 use Rattle.er_hint.specs.declared.hints.Hint.{Hint}
-use Rattle.er_hint.specs.declared.hints.Hint.TheVariants.{Nothing, Gzip, Zstd, Xz, Zip, ByteOrderMark, WideText, CarriageReturn, NoHeader, UnknownVersion, LaterVerb, Verbs, Rules, Names, Numbers, Ascii, Comment, CutOff, LongLine, LongText, Addresses, Sizes, Levels}
+use Rattle.er_hint.specs.declared.hints.Hint.TheVariants.{Nothing, Gzip, Zstd, Xz, Zip, ByteOrderMark, WideText, CarriageReturn, NoHeader, UnknownVersion, LaterVerb, Verbs, Rules, Names, Numbers, Ascii, Comment, CutOff, LongLine, LongText, Addresses, Sizes, Levels, OrderVerb, OwnThread, Running, AfterEnd}
 
 -- the hint in words
 abbrev pub hint_text : Hint → List ℕ
@@ -33,6 +33,10 @@ hint_text LongText = codes "the option --byte-limit BYTES takes a longer text"
 hint_text Addresses = codes "addresses are below 2^48"
 hint_text Sizes = codes "a reuse has at most 4194304 bytes; write several"
 hint_text Levels = codes "levels are 0 to 31"
+hint_text OrderVerb = codes "the verbs start, join, signal and await need the header eraser trace 3"
+hint_text OwnThread = codes "a thread neither starts nor joins itself"
+hint_text Running = codes "a thread is started before its first line; was its name used before?"
+hint_text AfterEnd = codes "nothing but comments follows the line end; are these two traces?"
 
 -- the bytes begin so
 abbrev pub begins : List ℕ → List ℕ → Bool
@@ -52,10 +56,15 @@ file_hint head =
 abbrev pub header_hint : List ℕ → Hint
 header_hint line = cond (begins line (codes "eraser trace ")) UnknownVersion NoHeader
 
--- the verb is of text 2, or of none
+-- a verb of text 3 stands in front
+abbrev pub begins_order : List ℕ → Bool
+begins_order bytes = begins bytes (codes "start") || begins bytes (codes "join") || begins bytes (codes "signal") || begins bytes (codes "await")
+
+-- the verb is of text 2, or of text 3, or of none
 abbrev pub verb_hint : Bool → List ℕ → Hint
 verb_hint true line = Rules
-verb_hint false line = cond (begins (drop (word_start 1 line) line) (codes "level")) LaterVerb Verbs
+verb_hint false line =
+    cond (begins (drop (word_start 1 line) line) (codes "level")) LaterVerb (cond (begins_order (drop (word_start 1 line) line)) OrderVerb Verbs)
 
 -- a comment behind a step
 abbrev pub extra_hint : List ℕ → Hint
@@ -79,6 +88,9 @@ kind_hint BadNumber of_rules line = Numbers
 kind_hint SizeTooLarge of_rules line = Sizes
 kind_hint AddressOutOfRange of_rules line = Addresses
 kind_hint LevelTooHigh of_rules line = Levels
+kind_hint kind.OwnThread of_rules line = OwnThread
+kind_hint kind.AlreadyRunning of_rules line = Running
+kind_hint kind.AfterEnd of_rules line = AfterEnd
 
 abbrev pub line_hint : TextKind → Bool → List ℕ → Hint
 line_hint kind of_rules line = cond (ends_with_return line) CarriageReturn (kind_hint kind of_rules line)

@@ -1,6 +1,6 @@
 //! What to do about a fault.
 ghost use Rattle.std.specs.Prelude.{◌≡◌};
-ghost use Rattle.er_hint.specs.Hints.{begins, ends_with_return, extra_hint, file_hint, header_hint, hint_of, hint_text, kind_hint, line_hint, verb_hint};
+ghost use Rattle.er_hint.specs.Hints.{begins, begins_order, ends_with_return, extra_hint, file_hint, header_hint, hint_of, hint_text, kind_hint, line_hint, verb_hint};
 
 use crate::places::word_start;
 use er_text::TextKind;
@@ -54,6 +54,14 @@ pub enum Hint {
     Sizes,
     /// A level is too high.
     Levels,
+    /// A verb of text 3 stands in a text before it.
+    OrderVerb,
+    /// A thread starts or joins itself.
+    OwnThread,
+    /// A thread is started that acts in a line before.
+    Running,
+    /// A line stands behind the line `end`.
+    AfterEnd,
 }
 
 impl Hint {
@@ -90,6 +98,11 @@ impl Hint {
             Hint::Addresses => "addresses are below 2^48",
             Hint::Sizes => "a reuse has at most 4194304 bytes; write several",
             Hint::Levels => "levels are 0 to 31",
+            Hint::OrderVerb =>
+                "the verbs start, join, signal and await need the header eraser trace 3",
+            Hint::OwnThread => "a thread neither starts nor joins itself",
+            Hint::Running => "a thread is started before its first line; was its name used before?",
+            Hint::AfterEnd => "nothing but comments follows the line end; are these two traces?",
         }
     }
 }
@@ -148,9 +161,21 @@ fn verb_hint(of_rules: bool, line: &[u8]) -> Hint
         Hint::Rules
     } else if begins(&line[word_start(line, 1)..], b"level") {
         Hint::LaterVerb
+    } else if begins_order(&line[word_start(line, 1)..]) {
+        Hint::OrderVerb
     } else {
         Hint::Verbs
     }
+}
+
+// Whether a verb of text 3 stands in front.
+fn begins_order(bytes: &[u8]) -> bool
+    ensures { result ≡ begins_order bytes.now }
+{
+    begins(bytes, b"start")
+        || begins(bytes, b"join")
+        || begins(bytes, b"signal")
+        || begins(bytes, b"await")
 }
 
 fn extra_hint(line: &[u8]) -> Hint
@@ -185,6 +210,9 @@ fn kind_hint(kind: TextKind, of_rules: bool, line: &[u8]) -> Hint
         TextKind::SizeTooLarge => Hint::Sizes,
         TextKind::AddressOutOfRange => Hint::Addresses,
         TextKind::LevelTooHigh => Hint::Levels,
+        TextKind::OwnThread => Hint::OwnThread,
+        TextKind::AlreadyRunning => Hint::Running,
+        TextKind::AfterEnd => Hint::AfterEnd,
     }
 }
 

@@ -17,7 +17,10 @@ pub(crate) fn place_of(kind: TextKind, of_rules: bool, line: &[u8]) -> usize
         TextKind::NotAscii => first_at(line, |byte| byte >= 128),
         TextKind::BadName => first_at(line, is_foreign),
         TextKind::BadVerb => word_start(line, verb),
-        TextKind::AddressOutOfRange | TextKind::LevelTooHigh => word_start(line, verb + 1),
+        TextKind::AddressOutOfRange
+        | TextKind::LevelTooHigh
+        | TextKind::OwnThread
+        | TextKind::AlreadyRunning => word_start(line, verb + 1),
         TextKind::SizeTooLarge => word_start(line, verb + 2),
         TextKind::MissingOperand => line.len(),
         TextKind::ExtraOperand => extra_at(line),

@@ -65,6 +65,14 @@ pub lock_named : (r s : Recording) (name : List ℕ) (lock thread : ℕ) → thr
     → (thread < length s.names.threads) × (lock < length s.names.locks)
 lock_named r s name lock thread known n e = rw (e, n) (known, number_below r.names.locks name)
 
+kept_below : (names : List (List ℕ)) (name : List ℕ) (n : ℕ) (b : Bool) → n < length names → n < length (cond b names (names ++ name ∷ []))
+kept_below names name n true known = known
+kept_below names name n false known = let more = length-append names (name ∷ []) in omega (arith, more, known)
+
+pub other_named : (r s : Recording) (name : List ℕ) (other thread : ℕ) → thread < length r.names.threads → other ≡ number_of r.names.threads name → s ≡ with_thread_name r name
+    → (thread < length s.names.threads) × (other < length s.names.threads)
+other_named r s name other thread known n e = rw (e, n) (kept_below r.names.threads name thread (is_known r.names.threads name) known, number_below r.names.threads name)
+
 pub site_named : (r s : Recording) (name : Option (List ℕ)) (site thread : ℕ) → thread < length r.names.threads → site ≡ site_number r name → s ≡ with_site_of r name
     → (thread < length s.names.threads) × (site ≤ length s.names.sites)
 site_named r s None site thread known n e = rw (e, n) (known, omega arith)

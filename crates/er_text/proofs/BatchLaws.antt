@@ -15,12 +15,15 @@ use Rattle.er_text.specs.declared.verbs.Version.{Version}
 use Rattle.er_text.specs.Places.{Reached}
 use Rattle.er_text.specs.Batches.{joined, HasRead, GivesBatch}
 use Rattle.er_text.specs.Lines.{Placed, placed, has_content, words, width, is_ascii}
-use Rattle.er_text.specs.Events.{EventLine, Operation, Acquires, Releases, Accesses, Reuses, IgnoresOn, IgnoresOff, Shows, Levels, with_operation}
-use Rattle.er_text.specs.Trace.{version_in}
+use Rattle.er_text.specs.Events.{EventLine, Operation, Acquires, Releases, Accesses, Reuses, IgnoresOn, IgnoresOff, Shows, Levels, Starts, Joins, Signals, Awaits, with_operation}
+use Rattle.er_text.specs.declared.stages.Stage.{Stage}
+use Rattle.er_text.specs.declared.stages.Stage.TheVariants.{Front, Events, Ended}
+use Rattle.er_text.specs.Trace.{version_in, is_end}
 use Rattle.er_text.specs.Inner.Parsing.{parsed_of}
+use Rattle.er_text.specs.Inner.Idle.{order_fault, idle_past}
 use Rattle.er_text.specs.Inner.Lending.{lines_left}
 use Rattle.er_text.specs.Inner.Reading.{read_line, go_on, read_lines, Continues}
-use Rattle.er_text.specs.Inner.Traces.{Progress, at_front, progress, skip, add_parsed, open_with, read_words, read_content, finish_as, finish, Batches}
+use Rattle.er_text.specs.Inner.Traces.{Progress, at_front, progress, skip, add_event, add_parsed, open_with, closed, read_words, read_content, finish_as, finish, Batches}
 use Rattle.er_text.proofs.TraceLaws.{trace_is, fault_is}
 
 abbrev recording : NameTable → List Step → List ℕ → Recording
@@ -44,6 +47,10 @@ operation_joined steps lines line thread IgnoresOn r = behind steps _ lines _ r 
 operation_joined steps lines line thread IgnoresOff r = behind steps _ lines _ r _
 operation_joined steps lines line thread (Shows w) r = behind steps _ lines _ r _
 operation_joined steps lines line thread (Levels n) r = behind steps _ lines _ r _
+operation_joined steps lines line thread (Starts other) r = behind steps _ lines _ r _
+operation_joined steps lines line thread (Joins other) r = behind steps _ lines _ r _
+operation_joined steps lines line thread (Signals object) r = behind steps _ lines _ r _
+operation_joined steps lines line thread (Awaits object) r = behind steps _ lines _ r _
 
 -- behind the steps that were taken away
 abbrev after : List Step → List ℕ → Progress → Progress
@@ -53,21 +60,32 @@ abbrev mapped : {T U E : Type 0} → (T → U) → Result T E → Result U E
 mapped f (Ok t) = Ok (f t)
 mapped f (Err e) = Err e
 
+event_after : (steps : List Step) (lines : List ℕ) (line : ℕ) (p : Progress) (s : EventLine) (fault : Option TextKind)
+    → add_event line (after steps lines p) s fault ≡ mapped (after steps lines) (add_event line p s fault)
+event_after steps lines line p s (Some k) = refl
+event_after steps lines line p s None =
+    let told = operation_joined steps lines line _ s.operation _ in
+    ap (λ (t : Recording). Ok (record p { number = p.number + 1; idle = idle_past p.told.names.threads t.names.threads s p.idle; told = t })) told
+
 parsed_after : (steps : List Step) (lines : List ℕ) (line : ℕ) (p : Progress) (r : Result EventLine TextKind)
     → add_parsed line (after steps lines p) r ≡ mapped (after steps lines) (add_parsed line p r)
 parsed_after steps lines line p (Err k) = refl
-parsed_after steps lines line p (Ok s) =
-    let told = operation_joined steps lines line _ s.operation _ in
-    ap (λ (t : Recording). Ok (record p { number = p.number + 1; told = t })) told
+parsed_after steps lines line p (Ok s) = event_after steps lines line p s (order_fault p.told.names.threads p.idle s)
 
 opened_after : (steps : List Step) (lines : List ℕ) (p : Progress) (v : Option Version) → open_with (after steps lines p) v ≡ mapped (after steps lines) (open_with p v)
 opened_after steps lines p None = refl
 opened_after steps lines p (Some v) = refl
 
-words_after : (steps : List Step) (lines : List ℕ) (opened : Option Version) (line : ℕ) (p : Progress) (ws : List (List ℕ))
-    → read_words opened line (after steps lines p) ws ≡ mapped (after steps lines) (read_words opened line p ws)
-words_after steps lines None line p ws = opened_after steps lines p (version_in ws)
-words_after steps lines (Some v) line p ws = parsed_after steps lines line p (parsed_of v ws)
+closed_after : (steps : List Step) (lines : List ℕ) (ended : Bool) (line : ℕ) (p : Progress) (r : Result EventLine TextKind)
+    → cond ended (Ok (closed (after steps lines p))) (add_parsed line (after steps lines p) r) ≡ mapped (after steps lines) (cond ended (Ok (closed p)) (add_parsed line p r))
+closed_after steps lines true line p r = refl
+closed_after steps lines false line p r = parsed_after steps lines line p r
+
+words_after : (steps : List Step) (lines : List ℕ) (stage : Stage) (line : ℕ) (p : Progress) (ws : List (List ℕ))
+    → read_words stage line (after steps lines p) ws ≡ mapped (after steps lines) (read_words stage line p ws)
+words_after steps lines Front line p ws = opened_after steps lines p (version_in ws)
+words_after steps lines (Events v) line p ws = closed_after steps lines (is_end v ws) line p (parsed_of v ws)
+words_after steps lines Ended line p ws = refl
 
 chosen : {T : Type 0} (f : T → T) (b : Bool) (r s : Result T TextKind) (t : T) → s ≡ mapped f r → cond b s (Ok (f t)) ≡ mapped f (cond b r (Ok t))
 chosen f true r s t e = e
@@ -75,8 +93,8 @@ chosen f false r s t e = refl
 
 content_after : (steps : List Step) (lines : List ℕ) (p : Progress) (line : Placed) → read_content (after steps lines p) line ≡ mapped (after steps lines) (read_content p line)
 content_after steps lines p line =
-    chosen (after steps lines) (has_content line) (read_words p.version line.number p (words line.line.bytes)) (read_words p.version line.number (after steps lines p) (words line.line.bytes)) (skip p)
-    (words_after steps lines p.version line.number p (words line.line.bytes))
+    chosen (after steps lines) (has_content line) (read_words p.stage line.number p (words line.line.bytes)) (read_words p.stage line.number (after steps lines p) (words line.line.bytes)) (skip p)
+    (words_after steps lines p.stage line.number p (words line.line.bytes))
 
 limited : {T : Type 0} (f : T → T) (a b c : Bool) (r s : Result T TextKind) → s ≡ mapped f r
     → cond a (Err LineTooLong) (cond b (Err TextTooLong) (cond (not c) (Err NotAscii) s)) ≡ mapped f (cond a (Err LineTooLong) (cond b (Err TextTooLong) (cond (not c) (Err NotAscii) r)))
@@ -104,12 +122,13 @@ lines_after limit steps lines (line ∷ left) p =
     ap (go_on line (read_lines limit read_content left)) (line_after limit steps lines p line)
     ∙ goes_after limit steps lines line left (read_line limit read_content p line) (λ q. lines_after limit steps lines left q)
 
-finished : (steps : List Step) (lines : List ℕ) (opened : Option Version) (p : Progress) → finish_as opened (after steps lines p) ≡ mapped (joined steps lines) (finish_as opened p)
-finished steps lines None p = refl
-finished steps lines (Some v) p = refl
+finished : (steps : List Step) (lines : List ℕ) (stage : Stage) (p : Progress) → finish_as stage (after steps lines p) ≡ mapped (joined steps lines) (finish_as stage p)
+finished steps lines Front p = refl
+finished steps lines (Events v) p = refl
+finished steps lines Ended p = refl
 
 finish_after : (steps : List Step) (lines : List ℕ) (r : Result Progress TextFault) → finish (mapped (after steps lines) r) ≡ mapped (joined steps lines) (finish r)
-finish_after steps lines (Ok p) = finished steps lines p.version p
+finish_after steps lines (Ok p) = finished steps lines p.stage p
 finish_after steps lines (Err f) = refl
 
 -- what the whole text comes to, by what the lines that were left came to

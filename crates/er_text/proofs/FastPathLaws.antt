@@ -1,5 +1,5 @@
 -- Lines in their usual form say what the grammar says of their words.
-use Rattle.std.proofs.Common.{◌≡◌, ◌+◌, ◌==◌, ℕ, zero, suc, append-nil, ◌^◌, ◌≤◌, true, false, not, ◌&&◌, cond, List, [], ◌∷◌, ◌++◌, length, take, drop, get_or, filter, Option, Some, None, Ok, nat_lt, nat_le, codes, refl, sym, ap, ◌∙◌, subst, arith}
+use Rattle.std.proofs.Common.{◌≡◌, ◌+◌, ◌==◌, ℕ, Bool, zero, suc, append-nil, ◌^◌, ◌≤◌, true, false, not, ◌&&◌, cond, List, [], ◌∷◌, ◌++◌, length, take, drop, get_or, filter, Option, Some, None, Ok, nat_lt, nat_le, ◌/◌, codes, refl, sym, ap, ◌∙◌, subst, arith}
 use Rattle.std.specs.List.{list_all, slice_split, All}
 use Rattle.std.specs.Char.{is_digit}
 use Rattle.std.specs.Str.{bytes_eq}
@@ -17,11 +17,20 @@ use Rattle.er_text.specs.declared.verbs.Version.{Version}
 use Rattle.er_text.specs.Lines.{is_gap, is_ascii, is_comment, has_bytes, words, word_at}
 use Rattle.er_text.specs.Number.{number_of}
 use Rattle.er_text.specs.Naming.{is_name_byte, is_name, is_lock_name}
-use Rattle.er_text.specs.Events.{Operation, Acquires, Releases, Accesses, EventLine, with_line}
-use Rattle.er_text.specs.Inner.Traces.{Progress, add_parsed, read_words, plain_at}
+use Rattle.er_text.specs.Events.{Operation, Acquires, Releases, Accesses, EventLine, with_operation, with_line}
+use Rattle.er_text.specs.declared.stages.Stage.{Stage}
+use Rattle.er_text.specs.declared.stages.Stage.TheVariants.{Events}
+use Rattle.er_trace.specs.Names.{number_of as place_of}
+use Rattle.er_trace.specs.Trace.{Recording, with_thread_name}
+use Rattle.er_text.specs.Trace.{kind_word}
+use Rattle.er_text.specs.Inner.Parsing.{parsed_of}
+use Rattle.er_text.specs.Inner.Idle.{last_actor, without_idle, order_fault, waits_for, is_known_name}
+use Rattle.er_text.specs.Inner.Traces.{Progress, past_event, add_event, add_parsed, closed, read_words, plain_at}
 use Rattle.er_text.specs.Inner.FastPath.{IsLeadingName, AreLeadingDigits, IsLeadingWord, IsFastAccess, IsFastOperation, IsFastLine}
 use Rattle.er_text.proofs.ByteLemmas.{name_ascii}
 use Rattle.er_text.proofs.ParsingAgain.{says_parsed}
+use Rattle.er_text.proofs.IdleLemmas.{no_fault, last_added}
+use Rattle.er_text.proofs.EventWords.{not_end}
 
 -- no byte of it is a gap
 abbrev IsGapless : List ℕ → Type 0
@@ -137,6 +146,29 @@ access_site k bytes word rest site s operation led spaced named told =
 lock_is_name : (w : List ℕ) → is_lock_name w ≡ true → is_name w ≡ true
 lock_is_name w e = (and_parts (is_name w) (not (bytes_eq w (codes "none"))) e).0
 
+access_one : (line thread w : ℕ) (k : Kind) (site : Option (List ℕ)) (r : Recording) → last_actor (with_operation line thread (Accesses k w site) r).steps ≡ Some thread
+access_one line thread w k None r = last_added r.steps _
+access_one line thread w k (Some site) r = last_added r.steps _
+
+pub access_tells : (k : Kind) (bytes rest : List ℕ) (operation : Operation) → list_all is_ascii bytes ≡ list_all is_ascii rest → words bytes ≡ kind_word k ∷ words rest
+    → IsFastAccess k rest operation → IsFastOperation bytes operation
+access_tells k bytes rest operation ascii whole a =
+    subst (IsFastOperation bytes) (sym a.is) (record {
+      ascii = ascii ∙ a.ascii;
+      says = λ v thread. (
+        a.address,
+        a.n,
+        a.behind,
+        ap (λ (w : List (List ℕ)). thread ∷ w) (whole ∙ ap (λ (w : List (List ℕ)). kind_word k ∷ w) a.words_are),
+        a.number,
+        a.small,
+        refl,
+        a.names,
+      );
+      alone = refl;
+      one = λ line thread r. access_one line thread (a.n / 4) k a.site r;
+    })
+
 pub lock_tells : (bytes rest : List ℕ) (operation : Operation) → bytes ≡ codes "lock " ++ rest → is_lock_name rest ≡ true → operation ≡ Acquires rest mode.Write → IsFastOperation bytes operation
 lock_tells bytes rest operation is named told =
     let parts = name_parts rest (lock_is_name rest named) in
@@ -146,6 +178,8 @@ lock_tells bytes rest operation is named told =
         ap (λ (w : List (List ℕ)). thread ∷ w) (ap words is ∙ ap (λ (w : List (List ℕ)). codes "lock" ∷ w) (word_alone rest parts.gapless parts.some)),
         named,
       );
+      alone = refl;
+      one = λ line thread r. last_added r.steps _;
     })
 
 pub unlock_tells : (bytes rest : List ℕ) (operation : Operation) → bytes ≡ codes "unlock " ++ rest → is_lock_name rest ≡ true → operation ≡ Releases rest mode.Write → IsFastOperation bytes operation
@@ -157,6 +191,8 @@ unlock_tells bytes rest operation is named told =
         ap (λ (w : List (List ℕ)). thread ∷ w) (ap words is ∙ ap (λ (w : List (List ℕ)). codes "unlock" ∷ w) (word_alone rest parts.gapless parts.some)),
         named,
       );
+      alone = refl;
+      one = λ line thread r. last_added r.steps _;
     })
 
 pub missing_site : (site dash : List ℕ) → is_name site ≡ true → true ≡ bytes_eq site dash → dash ≡ codes "-" → IsSiteWord site None
@@ -197,12 +233,25 @@ line_says line name rest operation front tells =
       some = ap (λ (w : List (List ℕ)). has_bytes (word_at 0 w)) ws ∙ parts.some;
       no_comment = ap is_comment front.0 ∙ no_comment name rest parts.some parts.named;
       says = λ v. (front.1, rw ws (tells.says v name));
+      alone = tells.alone;
+      one = λ number r. tells.one number (place_of r.names.threads name) (with_thread_name r name);
     }
 
 -- a line in its usual form, behind the header, is read as what it says
-pub usual_reads : (p : Progress) (line : ℕ) (bytes : List ℕ) (s : EventLine) (v : Version) → p.version ≡ Some v → IsFastLine bytes s
-    → plain_at p line bytes ≡ Ok (record p { number = p.number + 1; told = with_line line s p.told })
+pub usual_reads : (p : Progress) (line : ℕ) (bytes : List ℕ) (s : EventLine) (v : Version) → p.stage ≡ Events v → IsFastLine bytes s
+    → plain_at p line bytes ≡ Ok (record p { number = p.number + 1; idle = without_idle p.idle (place_of p.told.names.threads s.thread); told = with_line line s p.told })
 usual_reads p line bytes s v is says =
-    let words_read : read_words p.version line p (words bytes) ≡ Ok (record p { number = p.number + 1; told = with_line line s p.told }) =
-    ap (λ (o : Option Version). read_words o line p (words bytes)) is ∙ ap (add_parsed line p) (says_parsed v (words bytes) s (says.says v)) in
-    rw (says.ascii, says.some, says.no_comment) words_read
+    let told = says.says v in
+    let fault : order_fault p.told.names.threads p.idle s ≡ None = no_fault p.told.names.threads p.idle s.thread s.operation says.alone in
+    let past : past_event line p s ≡ record p { number = p.number + 1; idle = without_idle p.idle (place_of p.told.names.threads s.thread); told = with_line line s p.told } =
+    ap (λ (o : Option (List ℕ)). record p {
+      number = p.number + 1;
+      idle = waits_for (is_known_name p.told.names.threads o) (with_line line s p.told).names.threads o (without_idle p.idle (place_of p.told.names.threads s.thread));
+      told = with_line line s p.told;
+    }) says.alone in
+    let words_read : read_words p.stage line p (words bytes) ≡ Ok (past_event line p s) =
+    ap (λ (o : Stage). read_words o line p (words bytes)) is
+    ∙ ap (λ (b : Bool). cond b (Ok (closed p)) (add_parsed line p (parsed_of v (words bytes)))) (not_end v (words bytes) s.thread s.operation told.1)
+    ∙ ap (add_parsed line p) (says_parsed v (words bytes) s told)
+    ∙ ap (add_event line p s) fault in
+    rw (says.ascii, says.some, says.no_comment) (words_read ∙ ap Ok past)

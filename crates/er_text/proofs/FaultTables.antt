@@ -16,8 +16,8 @@ use Rattle.er_text.specs.Lines.{has_bytes, word_at}
 use Rattle.er_text.specs.Number.{number_of}
 use Rattle.er_text.specs.Naming.{is_name, is_lock_name}
 use Rattle.er_text.specs.Verbs.{verb_of, least_of, most_of}
-use Rattle.er_text.specs.Events.{Operation, Acquires, Releases, Accesses, Reuses, Shows, Levels, EventLine, run_of}
-use Rattle.er_text.specs.Inner.Parsing.{and_then, map_ok, or_fault, number_in, lock_in, site_in, word_in, level_in, is_outside, run_in, access_in, reuse_in, operands_in, count_of, operation_in, parsed_of}
+use Rattle.er_text.specs.Events.{Operation, Acquires, Releases, Accesses, Reuses, Shows, Levels, Starts, Joins, Signals, Awaits, EventLine, run_of}
+use Rattle.er_text.specs.Inner.Parsing.{and_then, map_ok, or_fault, number_in, name_in, lock_in, site_in, word_in, level_in, is_outside, run_in, access_in, reuse_in, operands_in, count_of, operation_in, parsed_of}
 use Rattle.er_text.specs.FirstFault.{first_kind}
 use Rattle.er_text.specs.Trace.{operand_kinds, verb_kinds, event_kinds}
 use Rattle.er_text.proofs.SpellingLaws.{equal, AreWhole}
@@ -36,6 +36,9 @@ named false w = refl
 
 lock_faults : (f : List ℕ → Operation) (w : List ℕ) → first_kind ((not (is_lock_name w), BadName) ∷ []) ≡ fault_of (map_ok f (lock_in w))
 lock_faults f w = named (is_lock_name w) w ∙ sym (fault_of-map f (lock_in w))
+
+name_faults : (f : List ℕ → Operation) (w : List ℕ) → first_kind ((not (is_name w), BadName) ∷ []) ≡ fault_of (map_ok f (name_in w))
+name_faults f w = named (is_name w) w ∙ sym (fault_of-map f (name_in w))
 
 -- what follows a number
 pub number_faults : {X : Type 0} (r : Option ℕ) (rows : ℕ → List (Bool × TextKind)) (f : ℕ → Result X TextKind) → ((n : ℕ) → first_kind (rows n) ≡ fault_of (f n))
@@ -108,6 +111,10 @@ operand_faults verb.Show ops =
     number_faults (number_of (word_at 0 ops)) (λ n. (nat_le (2 ^ 48) n, AddressOutOfRange) ∷ []) (λ n. map_ok Shows (word_in n)) (λ n. word_faults (nat_le (2 ^ 48) n) n Shows)
 operand_faults verb.Level ops =
     number_faults (number_of (word_at 0 ops)) (λ n. (nat_lt 31 n, LevelTooHigh) ∷ []) (λ n. map_ok Levels (level_in n)) (λ n. level_faults (nat_lt 31 n) n)
+operand_faults verb.Start ops = name_faults Starts (word_at 0 ops)
+operand_faults verb.Join ops = name_faults Joins (word_at 0 ops)
+operand_faults verb.Signal ops = lock_faults Signals (word_at 0 ops)
+operand_faults verb.Await ops = lock_faults Awaits (word_at 0 ops)
 
 abbrev pub count : List (List ℕ) → ℕ
 count ops = count_of (word_at 0 ops) (word_at 1 ops) (word_at 2 ops)
@@ -134,6 +141,10 @@ least_small verb.IgnoreOn = omega arith
 least_small verb.IgnoreOff = omega arith
 least_small verb.Show = omega arith
 least_small verb.Level = omega arith
+least_small verb.Start = omega arith
+least_small verb.Join = omega arith
+least_small verb.Signal = omega arith
+least_small verb.Await = omega arith
 
 most_small : (v : Verb) → most_of v ≤ 2
 most_small verb.Lock = omega arith
@@ -147,6 +158,10 @@ most_small verb.IgnoreOn = omega arith
 most_small verb.IgnoreOff = omega arith
 most_small verb.Show = omega arith
 most_small verb.Level = omega arith
+most_small verb.Start = omega arith
+most_small verb.Join = omega arith
+most_small verb.Signal = omega arith
+most_small verb.Await = omega arith
 
 abbrev Agree : ℕ → ℕ → ℕ → ℕ → Type 0
 Agree n k least most = (nat_lt n least ≡ nat_lt k least) × (nat_lt most n ≡ nat_lt most k)

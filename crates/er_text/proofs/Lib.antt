@@ -25,3 +25,5 @@ pub mod PlaceLemmas
 pub mod BatchLaws
 pub mod BlockLemmas
 pub mod GrowthLemmas
+pub mod IdleLemmas
+pub mod EventWords

@@ -9,9 +9,11 @@ use Rattle.er_event.specs.declared.addresses.PageRange.{PageRange}
 use Rattle.er_event.specs.declared.steps.Event.{Event}
 use Rattle.er_event.specs.declared.steps.Event.TheVariants as event
 use Rattle.er_event.specs.declared.steps.Step.{Step}
+use Rattle.er_event.specs.declared.steps.Sync.{Sync as Order}
+use Rattle.er_event.specs.declared.steps.Sync.TheVariants as order
 use Rattle.er_text.specs.declared.verbs.Version.{Version}
 use Rattle.er_text.specs.Lines.{Placed, words}
-use Rattle.er_text.specs.Events.{EventLine, Operation, Acquires, Releases, Accesses, Reuses, IgnoresOn, IgnoresOff, Shows, Levels, run_parts, with_operation, with_line}
+use Rattle.er_text.specs.Events.{EventLine, Operation, Acquires, Releases, Accesses, Reuses, IgnoresOn, IgnoresOff, Shows, Levels, Starts, Joins, Signals, Awaits, run_parts, with_operation, with_line}
 use Rattle.er_text.specs.Trace.{Says, AllSay, with_lines, IsTrace}
 use Rattle.er_text.specs.Named.{KeepsNumbers, KeepsNames, IsSiteNumber, Does, AreNamed}
 use Rattle.er_text.proofs.SpellingLaws.{equal}
@@ -73,6 +75,10 @@ does_kept old new IgnoresOn e on is = is
 does_kept old new IgnoresOff e on is = is
 does_kept old new (Shows w) e on is = is
 does_kept old new (Levels n) e on is = is
+does_kept old new (Starts other) e on is = (is.0, is.1, on.threads is.0 other is.2)
+does_kept old new (Joins other) e on is = (is.0, is.1, on.threads is.0 other is.2)
+does_kept old new (Signals object) e on is = (is.0, is.1, on.locks is.0 object is.2)
+does_kept old new (Awaits object) e on is = (is.0, is.1, on.locks is.0 object is.2)
 
 named_kept : (v : Version) (events : List Placed) (old new : NameTable) (steps : List Step) (lines : List ℕ) → KeepsNames old new → AreNamed v events old steps lines
     → AreNamed v events new steps lines
@@ -131,6 +137,37 @@ site_does sites site =
     let back : number_of sites site + 1 - 1 ≡ number_of sites site = omega arith in
     (omega arith, rw back (name_there sites site))
 
+-- the names once a thread and another one have appeared
+abbrev with_threads : NameTable → List ℕ → List ℕ → NameTable
+with_threads names thread other = record names { threads = with_name (with_name names.threads thread) other }
+
+-- a start or a join
+other_named : (v : Version) (events : List Placed) (r : Recording) (p : Placed) (s : EventLine) (other : List ℕ) (f : ℕ → Order) → Contains events p → Says v (words p.line.bytes) s
+    → AreNamed v events r.names r.steps r.lines
+    → Does (with_threads r.names s.thread other) s.operation (event.Sync (f (number_of (with_name r.names.threads s.thread) other)))
+    → AreNamed v events (with_threads r.names s.thread other)
+    (r.steps ++ record { thread = number_of r.names.threads s.thread; event = event.Sync (f (number_of (with_name r.names.threads s.thread) other)) } ∷ []) (r.lines ++ p.number ∷ [])
+other_named v events r p s other f there says are does =
+    let names = with_threads r.names s.thread other in
+    let on = name_goes_on (with_name r.names.threads s.thread) other in
+    step_named v events r names p s (record { thread = number_of r.names.threads s.thread; event = event.Sync (f (number_of (with_name r.names.threads s.thread) other)) }) there says
+    (record { threads = λ n x e. on n x (name_goes_on r.names.threads s.thread n x e); locks = λ n x e. e; sites = λ n x e. e })
+    (on (number_of r.names.threads s.thread) s.thread (name_there r.names.threads s.thread)) does are
+
+-- the names once a thread and an object have appeared
+abbrev with_object : NameTable → List ℕ → List ℕ → NameTable
+with_object names thread object = record { threads = with_name names.threads thread; locks = with_name names.locks object; sites = names.sites }
+
+-- a signal or an await
+object_named : (v : Version) (events : List Placed) (r : Recording) (p : Placed) (s : EventLine) (object : List ℕ) (f : ℕ → Order) → Contains events p → Says v (words p.line.bytes) s
+    → AreNamed v events r.names r.steps r.lines → Does (with_object r.names s.thread object) s.operation (event.Sync (f (number_of r.names.locks object)))
+    → AreNamed v events (with_object r.names s.thread object)
+    (r.steps ++ record { thread = number_of r.names.threads s.thread; event = event.Sync (f (number_of r.names.locks object)) } ∷ []) (r.lines ++ p.number ∷ [])
+object_named v events r p s object f there says are does =
+    step_named v events r (with_object r.names s.thread object) p s (record { thread = number_of r.names.threads s.thread; event = event.Sync (f (number_of r.names.locks object)) }) there says
+    (record { threads = name_goes_on r.names.threads s.thread; locks = name_goes_on r.names.locks object; sites = λ n x e. e })
+    (name_there r.names.threads s.thread) does are
+
 -- what one event line tells
 operation_named : (v : Version) (events : List Placed) (r : Recording) (p : Placed) (s : EventLine) (d : Operation) → Contains events p → Says v (words p.line.bytes) s → s.operation ≡ d
     → AreNamed v events r.names r.steps r.lines
@@ -172,6 +209,14 @@ operation_named v events r p s (Shows w) there says operation are =
 operation_named v events r p s (Levels n) there says operation are =
     step_named v events r (with_thread_name r s.thread).names p s (record { thread = number_of r.names.threads s.thread; event = event.Level n }) there says
     (thread_on r s.thread) (name_there r.names.threads s.thread) (rw operation refl) are
+operation_named v events r p s (Starts other) there says operation are =
+    other_named v events r p s other order.Start there says are (rw operation (number_of (with_name r.names.threads s.thread) other, refl, name_there (with_name r.names.threads s.thread) other))
+operation_named v events r p s (Joins other) there says operation are =
+    other_named v events r p s other order.Join there says are (rw operation (number_of (with_name r.names.threads s.thread) other, refl, name_there (with_name r.names.threads s.thread) other))
+operation_named v events r p s (Signals object) there says operation are =
+    object_named v events r p s object order.Signal there says are (rw operation (number_of r.names.locks object, refl, name_there r.names.locks object))
+operation_named v events r p s (Awaits object) there says operation are =
+    object_named v events r p s object order.Await there says are (rw operation (number_of r.names.locks object, refl, name_there r.names.locks object))
 
 all_named : (v : Version) (events lines : List Placed) (event_lines : List EventLine) (r : Recording) → AllSay v lines event_lines → ((p : Placed) → Contains lines p → Contains events p)
     → AreNamed v events r.names r.steps r.lines

@@ -13,8 +13,8 @@ use Rattle.er_text.specs.Lines.{has_bytes}
 use Rattle.er_text.specs.Number.{number_of}
 use Rattle.er_text.specs.Naming.{is_name, is_lock_name}
 use Rattle.er_text.specs.Verbs.{verb_of}
-use Rattle.er_text.specs.Events.{Operation, Acquires, Releases, Accesses, Reuses, IgnoresOn, IgnoresOff, Shows, Levels, EventLine, run_of}
-use Rattle.er_text.specs.Inner.Parsing.{lock_in, site_in, word_in, level_in, run_in, parsed_of}
+use Rattle.er_text.specs.Events.{Operation, Acquires, Releases, Accesses, Reuses, IgnoresOn, IgnoresOff, Shows, Levels, Starts, Joins, Signals, Awaits, EventLine, run_of}
+use Rattle.er_text.specs.Inner.Parsing.{name_in, lock_in, site_in, word_in, level_in, run_in, parsed_of}
 use Rattle.er_text.specs.Trace.{acquire_word, release_word, kind_word, IsSite, IsOperation, Says}
 use Rattle.er_text.proofs.SpellingLaws.{spelled_verb}
 
@@ -45,6 +45,9 @@ run_again a n small low within =
 
 lock_again : (l : List ℕ) → is_lock_name l ≡ true → lock_in l ≡ Ok l
 lock_again l lock = rw lock refl
+
+name_again : (w : List ℕ) → is_name w ≡ true → name_in w ≡ Ok w
+name_again w name = rw name refl
 
 locked : (version : Version) (t l : List ℕ) (m : Mode) → is_name t ≡ true → is_lock_name l ≡ true
     → parsed_of version (t ∷ acquire_word m ∷ l ∷ []) ≡ Ok (record { thread = t; operation = Acquires l m })
@@ -91,6 +94,22 @@ leveled : (version : Version) (t a : List ℕ) (n : ℕ) → verb_of version (co
     → parsed_of version (t ∷ codes "level" ∷ a ∷ []) ≡ Ok (record { thread = t; operation = Levels n })
 leveled version t a n known name number low = rw (known, name, some_number a n number, number, level_again n low) refl
 
+started : (version : Version) (t u : List ℕ) → verb_of version (codes "start") ≡ Some verb.Start → is_name t ≡ true → is_name u ≡ true
+    → parsed_of version (t ∷ codes "start" ∷ u ∷ []) ≡ Ok (record { thread = t; operation = Starts u })
+started version t u known name other = rw (known, name, name_again u other, some_name u other) refl
+
+joined : (version : Version) (t u : List ℕ) → verb_of version (codes "join") ≡ Some verb.Join → is_name t ≡ true → is_name u ≡ true
+    → parsed_of version (t ∷ codes "join" ∷ u ∷ []) ≡ Ok (record { thread = t; operation = Joins u })
+joined version t u known name other = rw (known, name, name_again u other, some_name u other) refl
+
+signaled : (version : Version) (t x : List ℕ) → verb_of version (codes "signal") ≡ Some verb.Signal → is_name t ≡ true → is_lock_name x ≡ true
+    → parsed_of version (t ∷ codes "signal" ∷ x ∷ []) ≡ Ok (record { thread = t; operation = Signals x })
+signaled version t x known name lock = rw (known, name, lock_again x lock, some_lock x lock) refl
+
+awaited : (version : Version) (t x : List ℕ) → verb_of version (codes "await") ≡ Some verb.Await → is_name t ≡ true → is_lock_name x ≡ true
+    → parsed_of version (t ∷ codes "await" ∷ x ∷ []) ≡ Ok (record { thread = t; operation = Awaits x })
+awaited version t x known name lock = rw (known, name, lock_again x lock, some_lock x lock) refl
+
 operation_again : (version : Version) (ws : List (List ℕ)) (t : List ℕ) (operation : Operation) → is_name t ≡ true → IsOperation version ws t operation
     → parsed_of version ws ≡ Ok (record { thread = t; operation = operation })
 operation_again version ws t (Acquires l m) name is = ap (parsed_of version) is.0 ∙ locked version t l m name is.1
@@ -107,6 +126,10 @@ operation_again version ws t (Shows w) name is =
     ap (parsed_of version) is.2 ∙ showed version t is.0 is.1 name is.3 is.4 ∙ ap (λ (n : ℕ). Ok (record { thread = t; operation = Shows n })) (sym is.5)
 operation_again version ws t (Levels n) name is =
     ap (parsed_of version) is.1 ∙ leveled version t is.0 n (spelled_verb version verb.Level is.4) name is.2 is.3
+operation_again version ws t (Starts other) name is = ap (parsed_of version) is.0 ∙ started version t other (spelled_verb version verb.Start is.2) name is.1
+operation_again version ws t (Joins other) name is = ap (parsed_of version) is.0 ∙ joined version t other (spelled_verb version verb.Join is.2) name is.1
+operation_again version ws t (Signals object) name is = ap (parsed_of version) is.0 ∙ signaled version t object (spelled_verb version verb.Signal is.2) name is.1
+operation_again version ws t (Awaits object) name is = ap (parsed_of version) is.0 ∙ awaited version t object (spelled_verb version verb.Await is.2) name is.1
 
 -- the words of an event line are read as what they say
 pub says_parsed : (version : Version) (ws : List (List ℕ)) (s : EventLine) → Says version ws s → parsed_of version ws ≡ Ok s

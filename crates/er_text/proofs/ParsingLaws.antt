@@ -16,7 +16,7 @@ use Rattle.er_text.specs.Lines.{word_at}
 use Rattle.er_text.specs.Number.{number_of}
 use Rattle.er_text.specs.Naming.{is_name, is_lock_name}
 use Rattle.er_text.specs.Verbs.{verb_of}
-use Rattle.er_text.specs.Events.{Operation, Acquires, Releases, Accesses, Reuses, IgnoresOn, IgnoresOff, Shows, Levels, EventLine, run_of}
+use Rattle.er_text.specs.Events.{Operation, Acquires, Releases, Accesses, Reuses, IgnoresOn, IgnoresOff, Shows, Levels, Starts, Joins, Signals, Awaits, EventLine, run_of}
 use Rattle.er_text.specs.Inner.Parsing.{and_then, map_ok, or_fault, number_in, name_in, lock_in, site_in, word_in, level_in, run_in, access_in, reuse_in, operands_in, counted_in, operation_in, parsed_of}
 use Rattle.er_text.specs.Trace.{acquire_word, release_word, kind_word, IsSite, IsOperation, Says}
 use Rattle.er_text.proofs.SpellingLaws.{equal, AreWhole, spelling, IsKnown, verb_spelled}
@@ -189,6 +189,33 @@ leveled version t w a ops d known word one e =
     let l = level_tested (nat_lt 31 n.0) n.0 f.0 refl f.1 in
     rw (← f.2) (a, spelled t w (codes "level") ops (a ∷ []) word one, number_found (number_of a) n.0 n.1 ∙ ap Some l.0, l.1, known)
 
+-- a start or a join, and a signal or an await
+abbrev NamesThread : (List ℕ → Operation) → Version → List ℕ → Verb → Type 0
+NamesThread f version t v =
+    (other : List ℕ) → is_name other ≡ true → IsKnown version v → IsOperation version (t ∷ spelling v ∷ other ∷ []) t (f other)
+
+abbrev NamesObject : (List ℕ → Operation) → Version → List ℕ → Verb → Type 0
+NamesObject f version t v =
+    (object : List ℕ) → is_lock_name object ≡ true → IsKnown version v → IsOperation version (t ∷ spelling v ∷ object ∷ []) t (f object)
+
+thread_named : (f : List ℕ → Operation) (version : Version) (t w a : List ℕ) (v : Verb) (ops : List (List ℕ)) (d : Operation) → NamesThread f version t v → IsKnown version v
+    → w ≡ spelling v → ops ≡ a ∷ [] → map_ok f (name_in a) ≡ Ok d → IsOperation version (t ∷ w ∷ ops) t d
+thread_named f version t w a v ops d says known word one e =
+    let m = mapped f (name_in a) d e in
+    let n = name_found a m.0 m.1 in
+    let whole = spelled t w (spelling v) ops (m.0 ∷ []) word (one ∙ ap (λ (x : List ℕ). x ∷ []) n.0) in
+    let told : IsOperation version (t ∷ w ∷ ops) t (f m.0) = subst (λ (ws : List (List ℕ)). IsOperation version ws t (f m.0)) (sym whole) (says m.0 n.1 known) in
+    subst (IsOperation version (t ∷ w ∷ ops) t) m.2 told
+
+object_named : (f : List ℕ → Operation) (version : Version) (t w a : List ℕ) (v : Verb) (ops : List (List ℕ)) (d : Operation) → NamesObject f version t v → IsKnown version v
+    → w ≡ spelling v → ops ≡ a ∷ [] → map_ok f (lock_in a) ≡ Ok d → IsOperation version (t ∷ w ∷ ops) t d
+object_named f version t w a v ops d says known word one e =
+    let m = mapped f (lock_in a) d e in
+    let n = lock_found a m.0 m.1 in
+    let whole = spelled t w (spelling v) ops (m.0 ∷ []) word (one ∙ ap (λ (x : List ℕ). x ∷ []) n.0) in
+    let told : IsOperation version (t ∷ w ∷ ops) t (f m.0) = subst (λ (ws : List (List ℕ)). IsOperation version ws t (f m.0)) (sym whole) (says m.0 n.1 known) in
+    subst (IsOperation version (t ∷ w ∷ ops) t) m.2 told
+
 operation_says : (version : Version) (t w : List ℕ) (v : Verb) (ops : List (List ℕ)) (d : Operation) → w ≡ spelling v → IsKnown version v → AreWhole ops
     → counted_in v (count ops) (word_at 0 ops) (word_at 1 ops) ≡ Ok d → IsOperation version (t ∷ w ∷ ops) t d
 operation_says version t w verb.Lock ops d word known whole e =
@@ -226,6 +253,18 @@ operation_says version t w verb.Show ops d word known whole e =
 operation_says version t w verb.Level ops d word known whole e =
     let c = counted (nat_lt (count ops) 1) (nat_lt 1 (count ops)) (operands_in verb.Level (word_at 0 ops) (word_at 1 ops)) d e in
     leveled version t w (word_at 0 ops) ops d known word (one_operand ops whole c.0 c.1) c.2
+operation_says version t w verb.Start ops d word known whole e =
+    let c = counted (nat_lt (count ops) 1) (nat_lt 1 (count ops)) (operands_in verb.Start (word_at 0 ops) (word_at 1 ops)) d e in
+    thread_named Starts version t w (word_at 0 ops) verb.Start ops d (λ other name third. (refl, name, third)) known word (one_operand ops whole c.0 c.1) c.2
+operation_says version t w verb.Join ops d word known whole e =
+    let c = counted (nat_lt (count ops) 1) (nat_lt 1 (count ops)) (operands_in verb.Join (word_at 0 ops) (word_at 1 ops)) d e in
+    thread_named Joins version t w (word_at 0 ops) verb.Join ops d (λ other name third. (refl, name, third)) known word (one_operand ops whole c.0 c.1) c.2
+operation_says version t w verb.Signal ops d word known whole e =
+    let c = counted (nat_lt (count ops) 1) (nat_lt 1 (count ops)) (operands_in verb.Signal (word_at 0 ops) (word_at 1 ops)) d e in
+    object_named Signals version t w (word_at 0 ops) verb.Signal ops d (λ object name third. (refl, name, third)) known word (one_operand ops whole c.0 c.1) c.2
+operation_says version t w verb.Await ops d word known whole e =
+    let c = counted (nat_lt (count ops) 1) (nat_lt 1 (count ops)) (operands_in verb.Await (word_at 0 ops) (word_at 1 ops)) d e in
+    object_named Awaits version t w (word_at 0 ops) verb.Await ops d (λ object name third. (refl, name, third)) known word (one_operand ops whole c.0 c.1) c.2
 
 verb_says : (version : Version) (t w : List ℕ) (v : Option Verb) (ops : List (List ℕ)) (d : Operation) → verb_of version w ≡ v → AreWhole ops
     → operation_in v (word_at 0 ops) (word_at 1 ops) (word_at 2 ops) ≡ Ok d → IsOperation version (t ∷ w ∷ ops) t d

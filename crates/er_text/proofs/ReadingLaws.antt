@@ -37,10 +37,10 @@ pub size_of : (text : List ℕ) → total (lines_of text) ≡ length text
 size_of [] = refl
 size_of (b ∷ bs) = size_step b bs (is_end b) refl (size_of bs)
 
--- what is read of a line agrees with the table of its faults, and with what it makes known
-pub record Agrees {T S : Type 0} (content : T → Placed → Result T TextKind) (kinds : S → Placed → List (Bool × TextKind)) (next : S → Placed → S) (view : T → S) : Type 0 where
-  pub faults : (t : T) (p : Placed) → first_kind (kinds (view t) p) ≡ fault_of (content t p)
-  pub moves : (t u : T) (p : Placed) → content t p ≡ Ok u → view u ≡ next (view t) p
+-- what is read of a line agrees with the table of its faults, and with what it makes known, where what was read so far stands for what is known
+pub record Agrees {T S : Type 0} (content : T → Placed → Result T TextKind) (kinds : S → Placed → List (Bool × TextKind)) (next : S → Placed → S) (Stands : T → S → Type 0) : Type 0 where
+  pub faults : (t : T) (known : S) (p : Placed) → Stands t known → first_kind (kinds known p) ≡ fault_of (content t p)
+  pub moves : (t u : T) (known : S) (p : Placed) → Stands t known → content t p ≡ Ok u → Stands u (next known p)
 
 chain : {T : Type 0} (a b c : Bool) (kinds : List (Bool × TextKind)) (r : Result T TextKind) → first_kind kinds ≡ fault_of r
     → first_kind ((a, LineTooLong) ∷ (b, TextTooLong) ∷ (not c, NotAscii) ∷ kinds)
@@ -51,12 +51,13 @@ chain false false false kinds r e = refl
 chain false false true kinds r e = e
 
 -- the first fault of a line is the one that stops the reading
-line_faults : {T S : Type 0} (limit : ℕ) (content : T → Placed → Result T TextKind) (kinds : S → Placed → List (Bool × TextKind)) (next : S → Placed → S) (view : T → S)
-    → Agrees content kinds next view → (t : T) (p : Placed) → p.start ≤ limit
-    → first_kind (line_kinds limit (kinds (view t) p) p) ≡ fault_of (read_line limit content t p)
-line_faults limit content kinds next view agrees t p within =
+line_faults : {T S : Type 0} (limit : ℕ) (content : T → Placed → Result T TextKind) (kinds : S → Placed → List (Bool × TextKind)) (next : S → Placed → S) (Stands : T → S → Type 0)
+    → Agrees content kinds next Stands → (t : T) (known : S) (p : Placed) → Stands t known → p.start ≤ limit
+    → first_kind (line_kinds limit (kinds known p) p) ≡ fault_of (read_line limit content t p)
+line_faults limit content kinds next Stands agrees t known p stands within =
     let test : nat_le p.start limit ≡ true = grind (arith, nat_tests, within) in
-    rw test (chain (nat_lt 1024 (length p.line.bytes)) (nat_lt limit (p.start + width p.line)) (list_all is_ascii p.line.bytes) (kinds (view t) p) (content t p) (agrees.faults t p))
+    rw test
+    (chain (nat_lt 1024 (length p.line.bytes)) (nat_lt limit (p.start + width p.line)) (list_all is_ascii p.line.bytes) (kinds known p) (content t p) (agrees.faults t known p stands))
 
 -- a line that is read
 pub record Passed {T : Type 0} (limit : ℕ) (content : T → Placed → Result T TextKind) (t : T) (p : Placed) (u : T) : Type 0 where
@@ -141,61 +142,59 @@ all_again limit content n s (line ∷ lines) t u h =
     again_step limit content n s line lines t u (content t (here n s line)) (λ v g. all_again limit content (n + 1) (s + width line) lines v u g) refl h.size h.plain h.read
 
 -- a reading that comes to its end has met no fault
-none_step : {T S : Type 0} (limit : ℕ) (content : T → Placed → Result T TextKind) (kinds : S → Placed → List (Bool × TextKind)) (next : S → Placed → S) (view : T → S)
-    (n s : ℕ) (line : Line) (lines : List Line) (t u : T) (r : Result T TextKind) → Agrees content kinds next view → s ≤ limit
-    → ((v : T) → s + width line ≤ limit → read_lines limit content (placed_from (n + 1) (s + width line) lines) v ≡ Ok u
-    → HasNone limit kinds next (view v) (placed_from (n + 1) (s + width line) lines) × (known_after next (view v) (placed_from (n + 1) (s + width line) lines) ≡ view u))
+none_step : {T S : Type 0} (limit : ℕ) (content : T → Placed → Result T TextKind) (kinds : S → Placed → List (Bool × TextKind)) (next : S → Placed → S) (Stands : T → S → Type 0)
+    (n s : ℕ) (line : Line) (lines : List Line) (t u : T) (known : S) (r : Result T TextKind) → Agrees content kinds next Stands → Stands t known → s ≤ limit
+    → ((v : T) (k : S) → Stands v k → s + width line ≤ limit → read_lines limit content (placed_from (n + 1) (s + width line) lines) v ≡ Ok u
+    → HasNone limit kinds next k (placed_from (n + 1) (s + width line) lines) × Stands u (known_after next k (placed_from (n + 1) (s + width line) lines)))
     → read_line limit content t (here n s line) ≡ r → go_on (here n s line) (read_lines limit content (placed_from (n + 1) (s + width line) lines)) r ≡ Ok u
-    → HasNone limit kinds next (view t) (placed_from n s (line ∷ lines)) × (known_after next (view t) (placed_from n s (line ∷ lines)) ≡ view u)
-none_step limit content kinds next view n s line lines t u (Err k) agrees within more is e = absurd (cc)
-none_step {S = S} limit content kinds next view n s line lines t u (Ok v) agrees within more is e =
+    → HasNone limit kinds next known (placed_from n s (line ∷ lines)) × Stands u (known_after next known (placed_from n s (line ∷ lines)))
+none_step limit content kinds next Stands n s line lines t u known (Err k) agrees stands within more is e = absurd (cc)
+none_step limit content kinds next Stands n s line lines t u known (Ok v) agrees stands within more is e =
     let h = line_passed limit content t v (here n s line) is in
-    let none = line_faults limit content kinds next view agrees t (here n s line) within ∙ ap fault_of is in
-    let moved = agrees.moves t v (here n s line) h.read in
-    let rest = more v h.fits e in
-    let others = placed_from (n + 1) (s + width line) lines in
-    ((none, subst (λ (x : S). HasNone limit kinds next x others) moved rest.0), ap (λ (x : S). known_after next x others) (sym moved) ∙ rest.1)
+    let none = line_faults limit content kinds next Stands agrees t known (here n s line) stands within ∙ ap fault_of is in
+    let rest = more v (next known (here n s line)) (agrees.moves t v known (here n s line) stands h.read) h.fits e in
+    ((none, rest.0), rest.1)
 
-pub none_met : {T S : Type 0} (limit : ℕ) (content : T → Placed → Result T TextKind) (kinds : S → Placed → List (Bool × TextKind)) (next : S → Placed → S) (view : T → S)
-    (n s : ℕ) (lines : List Line) (t u : T) → Agrees content kinds next view → s ≤ limit → read_lines limit content (placed_from n s lines) t ≡ Ok u
-    → HasNone limit kinds next (view t) (placed_from n s lines) × (known_after next (view t) (placed_from n s lines) ≡ view u)
-none_met limit content kinds next view n s [] t u agrees within e = (tt, ap view (cc))
-none_met limit content kinds next view n s (line ∷ lines) t u agrees within e =
-    none_step limit content kinds next view n s line lines t u (read_line limit content t (here n s line)) agrees within
-    (λ v w h. none_met limit content kinds next view (n + 1) (s + width line) lines v u agrees w h) refl e
+pub none_met : {T S : Type 0} (limit : ℕ) (content : T → Placed → Result T TextKind) (kinds : S → Placed → List (Bool × TextKind)) (next : S → Placed → S) (Stands : T → S → Type 0)
+    (n s : ℕ) (lines : List Line) (t u : T) (known : S) → Agrees content kinds next Stands → Stands t known → s ≤ limit
+    → read_lines limit content (placed_from n s lines) t ≡ Ok u
+    → HasNone limit kinds next known (placed_from n s lines) × Stands u (known_after next known (placed_from n s lines))
+none_met {T = T} limit content kinds next Stands n s [] t u known agrees stands within e = let same : t ≡ u = cc in (tt, subst (λ (x : T). Stands x known) same stands)
+none_met limit content kinds next Stands n s (line ∷ lines) t u known agrees stands within e =
+    none_step limit content kinds next Stands n s line lines t u known (read_line limit content t (here n s line)) agrees stands within
+    (λ v k is w h. none_met limit content kinds next Stands (n + 1) (s + width line) lines v u k agrees is w h) refl e
 
 -- lines without a fault are read to their end
-free_step : {T S : Type 0} (limit : ℕ) (content : T → Placed → Result T TextKind) (kinds : S → Placed → List (Bool × TextKind)) (next : S → Placed → S) (view : T → S)
-    (n s : ℕ) (line : Line) (lines : List Line) (t : T) (r : Result T TextKind) → Agrees content kinds next view → s ≤ limit
-    → ((v : T) → s + width line ≤ limit → HasNone limit kinds next (view v) (placed_from (n + 1) (s + width line) lines)
+free_step : {T S : Type 0} (limit : ℕ) (content : T → Placed → Result T TextKind) (kinds : S → Placed → List (Bool × TextKind)) (next : S → Placed → S) (Stands : T → S → Type 0)
+    (n s : ℕ) (line : Line) (lines : List Line) (t : T) (known : S) (r : Result T TextKind) → Agrees content kinds next Stands → Stands t known → s ≤ limit
+    → ((v : T) (k : S) → Stands v k → s + width line ≤ limit → HasNone limit kinds next k (placed_from (n + 1) (s + width line) lines)
     → (u : T) × (read_lines limit content (placed_from (n + 1) (s + width line) lines) v ≡ Ok u))
-    → read_line limit content t (here n s line) ≡ r → HasNone limit kinds next (view t) (placed_from n s (line ∷ lines))
+    → read_line limit content t (here n s line) ≡ r → HasNone limit kinds next known (placed_from n s (line ∷ lines))
     → (u : T) × (go_on (here n s line) (read_lines limit content (placed_from (n + 1) (s + width line) lines)) r ≡ Ok u)
-free_step limit content kinds next view n s line lines t (Err k) agrees within more is none =
-    let kind = sym (line_faults limit content kinds next view agrees t (here n s line) within ∙ ap fault_of is) ∙ none.0 in absurd (cc)
-free_step {S = S} limit content kinds next view n s line lines t (Ok v) agrees within more is none =
+free_step limit content kinds next Stands n s line lines t known (Err k) agrees stands within more is none =
+    let kind = sym (line_faults limit content kinds next Stands agrees t known (here n s line) stands within ∙ ap fault_of is) ∙ none.0 in absurd (cc)
+free_step limit content kinds next Stands n s line lines t known (Ok v) agrees stands within more is none =
     let h = line_passed limit content t v (here n s line) is in
-    let moved = agrees.moves t v (here n s line) h.read in
-    more v h.fits (subst (λ (x : S). HasNone limit kinds next x (placed_from (n + 1) (s + width line) lines)) (sym moved) none.1)
+    more v (next known (here n s line)) (agrees.moves t v known (here n s line) stands h.read) h.fits none.1
 
-pub free_read : {T S : Type 0} (limit : ℕ) (content : T → Placed → Result T TextKind) (kinds : S → Placed → List (Bool × TextKind)) (next : S → Placed → S) (view : T → S)
-    (n s : ℕ) (lines : List Line) (t : T) → Agrees content kinds next view → s ≤ limit → HasNone limit kinds next (view t) (placed_from n s lines)
-    → (u : T) × (read_lines limit content (placed_from n s lines) t ≡ Ok u)
-free_read limit content kinds next view n s [] t agrees within none = (t, refl)
-free_read limit content kinds next view n s (line ∷ lines) t agrees within none =
-    free_step limit content kinds next view n s line lines t (read_line limit content t (here n s line)) agrees within
-    (λ v w h. free_read limit content kinds next view (n + 1) (s + width line) lines v agrees w h) refl none
+pub free_read : {T S : Type 0} (limit : ℕ) (content : T → Placed → Result T TextKind) (kinds : S → Placed → List (Bool × TextKind)) (next : S → Placed → S) (Stands : T → S → Type 0)
+    (n s : ℕ) (lines : List Line) (t : T) (known : S) → Agrees content kinds next Stands → Stands t known → s ≤ limit
+    → HasNone limit kinds next known (placed_from n s lines) → (u : T) × (read_lines limit content (placed_from n s lines) t ≡ Ok u)
+free_read limit content kinds next Stands n s [] t known agrees stands within none = (t, refl)
+free_read limit content kinds next Stands n s (line ∷ lines) t known agrees stands within none =
+    free_step limit content kinds next Stands n s line lines t known (read_line limit content t (here n s line)) agrees stands within
+    (λ v k is w h. free_read limit content kinds next Stands (n + 1) (s + width line) lines v k agrees is w h) refl none
 
 -- the fault that stops a reading is the first of the lines that are left
-first_step : {T S : Type 0} (limit : ℕ) (content : T → Placed → Result T TextKind) (kinds : S → Placed → List (Bool × TextKind)) (next : S → Placed → S) (view : T → S)
-    (n s : ℕ) (line : Line) (lines : List Line) (t : T) (f : TextFault) (r : Result T TextKind) → Agrees content kinds next view → s ≤ limit
-    → ((v : T) → s + width line ≤ limit → read_lines limit content (placed_from (n + 1) (s + width line) lines) v ≡ Err f
-    → IsFirstFaulty limit kinds next (view v) (placed_from (n + 1) (s + width line) lines) f)
+first_step : {T S : Type 0} (limit : ℕ) (content : T → Placed → Result T TextKind) (kinds : S → Placed → List (Bool × TextKind)) (next : S → Placed → S) (Stands : T → S → Type 0)
+    (n s : ℕ) (line : Line) (lines : List Line) (t : T) (known : S) (f : TextFault) (r : Result T TextKind) → Agrees content kinds next Stands → Stands t known → s ≤ limit
+    → ((v : T) (k : S) → Stands v k → s + width line ≤ limit → read_lines limit content (placed_from (n + 1) (s + width line) lines) v ≡ Err f
+    → IsFirstFaulty limit kinds next k (placed_from (n + 1) (s + width line) lines) f)
     → read_line limit content t (here n s line) ≡ r → go_on (here n s line) (read_lines limit content (placed_from (n + 1) (s + width line) lines)) r ≡ Err f
-    → IsFirstFaulty limit kinds next (view t) (placed_from n s (line ∷ lines)) f
-first_step limit content kinds next view n s line lines t f (Err k) agrees within more is e =
+    → IsFirstFaulty limit kinds next known (placed_from n s (line ∷ lines)) f
+first_step limit content kinds next Stands n s line lines t known f (Err k) agrees stands within more is e =
     let same : record { line = n; kind = k } ≡ f = cc in
-    let kind = line_faults limit content kinds next view agrees t (here n s line) within ∙ ap fault_of is in (
+    let kind = line_faults limit content kinds next Stands agrees t known (here n s line) stands within ∙ ap fault_of is in (
       [],
       here n s line,
       placed_from (n + 1) (s + width line) lines,
@@ -204,29 +203,19 @@ first_step limit content kinds next view n s line lines t f (Err k) agrees withi
       kind ∙ ap (λ (x : TextFault). Some x.kind) same,
       sym (ap (λ (x : TextFault). x.line) same),
     )
-first_step {S = S} limit content kinds next view n s line lines t f (Ok v) agrees within more is e =
+first_step limit content kinds next Stands n s line lines t known f (Ok v) agrees stands within more is e =
     let h = line_passed limit content t v (here n s line) is in
-    let none = line_faults limit content kinds next view agrees t (here n s line) within ∙ ap fault_of is in
-    let moved = agrees.moves t v (here n s line) h.read in
-    let found = more v h.fits e in
-    let P : S → Type 0 = λ x. HasNone limit kinds next x found.0 in
-    let Q : S → Type 0 = λ x. first_kind (line_kinds limit (kinds (known_after next x found.0) found.1) found.1) ≡ Some f.kind in (
-      here n s line ∷ found.0,
-      found.1,
-      found.2,
-      ap (λ (ls : List Placed). here n s line ∷ ls) found.3,
-      (none, subst P moved found.4),
-      subst Q moved found.5,
-      found.6,
-    )
+    let none = line_faults limit content kinds next Stands agrees t known (here n s line) stands within ∙ ap fault_of is in
+    let found = more v (next known (here n s line)) (agrees.moves t v known (here n s line) stands h.read) h.fits e in
+    (here n s line ∷ found.0, found.1, found.2, ap (λ (ls : List Placed). here n s line ∷ ls) found.3, (none, found.4), found.5, found.6)
 
-pub first_found : {T S : Type 0} (limit : ℕ) (content : T → Placed → Result T TextKind) (kinds : S → Placed → List (Bool × TextKind)) (next : S → Placed → S) (view : T → S)
-    (n s : ℕ) (lines : List Line) (t : T) (f : TextFault) → Agrees content kinds next view → s ≤ limit → read_lines limit content (placed_from n s lines) t ≡ Err f
-    → IsFirstFaulty limit kinds next (view t) (placed_from n s lines) f
-first_found limit content kinds next view n s [] t f agrees within e = absurd (cc)
-first_found limit content kinds next view n s (line ∷ lines) t f agrees within e =
-    first_step limit content kinds next view n s line lines t f (read_line limit content t (here n s line)) agrees within
-    (λ v w h. first_found limit content kinds next view (n + 1) (s + width line) lines v f agrees w h) refl e
+pub first_found : {T S : Type 0} (limit : ℕ) (content : T → Placed → Result T TextKind) (kinds : S → Placed → List (Bool × TextKind)) (next : S → Placed → S) (Stands : T → S → Type 0)
+    (n s : ℕ) (lines : List Line) (t : T) (known : S) (f : TextFault) → Agrees content kinds next Stands → Stands t known → s ≤ limit
+    → read_lines limit content (placed_from n s lines) t ≡ Err f → IsFirstFaulty limit kinds next known (placed_from n s lines) f
+first_found limit content kinds next Stands n s [] t known f agrees stands within e = absurd (cc)
+first_found limit content kinds next Stands n s (line ∷ lines) t known f agrees stands within e =
+    first_step limit content kinds next Stands n s line lines t known f (read_line limit content t (here n s line)) agrees stands within
+    (λ v k is w h. first_found limit content kinds next Stands (n + 1) (s + width line) lines v k f agrees is w h) refl e
 
 -- the first fault of the lines that are left stops the reading
 no_line : (before : List Placed) (q : Placed) (after : List Placed) → [] ≡ before ++ q ∷ after → ⊥
@@ -264,27 +253,25 @@ passes limit kinds next known p lines f (b ∷ before) q after is split none kin
     let Q : Placed → Type 0 = λ x. first_kind (line_kinds limit (kinds (known_after next (next known x) before) q) q) ≡ Some f.kind in
     (before, q, after, others, subst P same none.1, subst Q same kind, number)
 
-stop_step : {T S : Type 0} (limit : ℕ) (content : T → Placed → Result T TextKind) (kinds : S → Placed → List (Bool × TextKind)) (next : S → Placed → S) (view : T → S)
-    (n s : ℕ) (line : Line) (lines : List Line) (t : T) (f : TextFault) (r : Result T TextKind) → Agrees content kinds next view → s ≤ limit
-    → ((v : T) → s + width line ≤ limit → IsFirstFaulty limit kinds next (view v) (placed_from (n + 1) (s + width line) lines) f
+stop_step : {T S : Type 0} (limit : ℕ) (content : T → Placed → Result T TextKind) (kinds : S → Placed → List (Bool × TextKind)) (next : S → Placed → S) (Stands : T → S → Type 0)
+    (n s : ℕ) (line : Line) (lines : List Line) (t : T) (known : S) (f : TextFault) (r : Result T TextKind) → Agrees content kinds next Stands → Stands t known → s ≤ limit
+    → ((v : T) (k : S) → Stands v k → s + width line ≤ limit → IsFirstFaulty limit kinds next k (placed_from (n + 1) (s + width line) lines) f
     → read_lines limit content (placed_from (n + 1) (s + width line) lines) v ≡ Err f)
-    → read_line limit content t (here n s line) ≡ r → IsFirstFaulty limit kinds next (view t) (placed_from n s (line ∷ lines)) f
+    → read_line limit content t (here n s line) ≡ r → IsFirstFaulty limit kinds next known (placed_from n s (line ∷ lines)) f
     → go_on (here n s line) (read_lines limit content (placed_from (n + 1) (s + width line) lines)) r ≡ Err f
-stop_step limit content kinds next view n s line lines t f (Err k) agrees within more is h =
-    let kind = line_faults limit content kinds next view agrees t (here n s line) within ∙ ap fault_of is in
-    ap Err (stops limit kinds next (view t) (here n s line) (placed_from (n + 1) (s + width line) lines) f k h.0 h.1 h.2 kind h.3 h.4 h.5 h.6)
-stop_step {S = S} limit content kinds next view n s line lines t f (Ok v) agrees within more is h =
+stop_step limit content kinds next Stands n s line lines t known f (Err k) agrees stands within more is h =
+    let kind = line_faults limit content kinds next Stands agrees t known (here n s line) stands within ∙ ap fault_of is in
+    ap Err (stops limit kinds next known (here n s line) (placed_from (n + 1) (s + width line) lines) f k h.0 h.1 h.2 kind h.3 h.4 h.5 h.6)
+stop_step limit content kinds next Stands n s line lines t known f (Ok v) agrees stands within more is h =
     let passed = line_passed limit content t v (here n s line) is in
-    let kind = line_faults limit content kinds next view agrees t (here n s line) within ∙ ap fault_of is in
-    let moved = agrees.moves t v (here n s line) passed.read in
-    let others = placed_from (n + 1) (s + width line) lines in
-    let found = passes limit kinds next (view t) (here n s line) others f h.0 h.1 h.2 kind h.3 h.4 h.5 h.6 in
-    more v passed.fits (subst (λ (x : S). IsFirstFaulty limit kinds next x others f) (sym moved) found)
+    let kind = line_faults limit content kinds next Stands agrees t known (here n s line) stands within ∙ ap fault_of is in
+    let found = passes limit kinds next known (here n s line) (placed_from (n + 1) (s + width line) lines) f h.0 h.1 h.2 kind h.3 h.4 h.5 h.6 in
+    more v (next known (here n s line)) (agrees.moves t v known (here n s line) stands passed.read) passed.fits found
 
-pub first_stops : {T S : Type 0} (limit : ℕ) (content : T → Placed → Result T TextKind) (kinds : S → Placed → List (Bool × TextKind)) (next : S → Placed → S) (view : T → S)
-    (n s : ℕ) (lines : List Line) (t : T) (f : TextFault) → Agrees content kinds next view → s ≤ limit → IsFirstFaulty limit kinds next (view t) (placed_from n s lines) f
-    → read_lines limit content (placed_from n s lines) t ≡ Err f
-first_stops limit content kinds next view n s [] t f agrees within h = absurd (no_line h.0 h.1 h.2 h.3)
-first_stops limit content kinds next view n s (line ∷ lines) t f agrees within h =
-    stop_step limit content kinds next view n s line lines t f (read_line limit content t (here n s line)) agrees within
-    (λ v w g. first_stops limit content kinds next view (n + 1) (s + width line) lines v f agrees w g) refl h
+pub first_stops : {T S : Type 0} (limit : ℕ) (content : T → Placed → Result T TextKind) (kinds : S → Placed → List (Bool × TextKind)) (next : S → Placed → S) (Stands : T → S → Type 0)
+    (n s : ℕ) (lines : List Line) (t : T) (known : S) (f : TextFault) → Agrees content kinds next Stands → Stands t known → s ≤ limit
+    → IsFirstFaulty limit kinds next known (placed_from n s lines) f → read_lines limit content (placed_from n s lines) t ≡ Err f
+first_stops limit content kinds next Stands n s [] t known f agrees stands within h = absurd (no_line h.0 h.1 h.2 h.3)
+first_stops limit content kinds next Stands n s (line ∷ lines) t known f agrees stands within h =
+    stop_step limit content kinds next Stands n s line lines t known f (read_line limit content t (here n s line)) agrees stands within
+    (λ v k is w g. first_stops limit content kinds next Stands (n + 1) (s + width line) lines v k f agrees is w g) refl h

@@ -18,19 +18,19 @@ use Rattle.er_text.proofs.ReadingLaws.{Agrees, whole_words, size_of, all_passed,
 use Rattle.er_text.proofs.RuleLaws.{rule_faults, rule_says, rule_again}
 
 -- rules make nothing known to later lines
-abbrev nothing_of : List Target → Unit {0}
-nothing_of rules = tt
+abbrev Anything : List Target → Unit {0} → Type 0
+Anything rules nothing = Unit {0}
 
 content_faults : (some : Bool) (kinds : List (Bool × TextKind)) (rules : List Target) (r : Result (List Target) TextKind) → first_kind kinds ≡ fault_of r
     → first_kind (cond some kinds []) ≡ fault_of {X = List Target} (cond some r (Ok rules))
 content_faults true kinds rules r e = e
 content_faults false kinds rules r e = refl
 
-rules_agree : Agrees add_line rule_content_kinds still_nothing nothing_of
+rules_agree : Agrees add_line rule_content_kinds still_nothing Anything
 rules_agree = record {
-  faults = λ rules p. content_faults (has_content p) (rule_kinds (words p.line.bytes)) rules (map_ok (with_rule rules) (rule_of (words p.line.bytes)))
+  faults = λ rules nothing p stands. content_faults (has_content p) (rule_kinds (words p.line.bytes)) rules (map_ok (with_rule rules) (rule_of (words p.line.bytes)))
       (rule_faults (words p.line.bytes) (whole_words p.line.bytes) ∙ sym (fault_of-map (with_rule rules) (rule_of (words p.line.bytes))));
-  moves = λ rules more p e. refl;
+  moves = λ rules more nothing p stands e. tt;
 }
 
 -- what lines add to the rules
@@ -99,10 +99,10 @@ rules_read limit text rules is =
     (record { size = omega (arith, short, size_of text); plain = is.plain; read = added (placed text) [] rules (rules, is.rules, refl) })
 
 fault_is : (limit : ℕ) (text : List ℕ) (f : TextFault) → rules_in limit text ≡ Err f → IsRulesFault text limit f
-fault_is limit text f e = first_found limit add_line rule_content_kinds still_nothing nothing_of 1 0 (lines_of text) [] f rules_agree (omega arith) e
+fault_is limit text f e = first_found limit add_line rule_content_kinds still_nothing Anything 1 0 (lines_of text) [] tt f rules_agree tt (omega arith) e
 
 fault_read : (limit : ℕ) (text : List ℕ) (f : TextFault) → IsRulesFault text limit f → rules_in limit text ≡ Err f
-fault_read limit text f h = first_stops limit add_line rule_content_kinds still_nothing nothing_of 1 0 (lines_of text) [] f rules_agree (omega arith) h
+fault_read limit text f h = first_stops limit add_line rule_content_kinds still_nothing Anything 1 0 (lines_of text) [] tt f rules_agree tt (omega arith) h
 
 -- of a text and a limit: rules or a fault, and no two of them
 outcome : (text : List ℕ) (limit : ℕ) (r : Result (List Target) TextFault) → rules_in limit text ≡ r

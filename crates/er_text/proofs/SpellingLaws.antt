@@ -5,11 +5,11 @@ use Rattle.std.specs.Str.{bytes_eq}
 use Rattle.std.proofs.lemmas.Bool.{and_parts}
 use Rattle.std.proofs.lemmas.Slice.Eq.{bytes_eq-Decides}
 use Rattle.er_text.specs.declared.verbs.Verb.{Verb}
-use Rattle.er_text.specs.declared.verbs.Verb.TheVariants.{Lock, Unlock, ReadLock, ReadUnlock, Read, Write, Reuse, IgnoreOn, IgnoreOff, Show, Level}
+use Rattle.er_text.specs.declared.verbs.Verb.TheVariants.{Lock, Unlock, ReadLock, ReadUnlock, Read, Write, Reuse, IgnoreOn, IgnoreOff, Show, Level, Start, Join, Signal, Await}
 use Rattle.er_text.specs.declared.verbs.Version.{Version}
-use Rattle.er_text.specs.declared.verbs.Version.TheVariants.{One, Two}
+use Rattle.er_text.specs.declared.verbs.Version.TheVariants.{One, Two, Three}
 use Rattle.er_text.specs.Lines.{has_bytes, word_at}
-use Rattle.er_text.specs.Verbs.{version_word, header_version, verb_of, rarer_verb_of, level_verb}
+use Rattle.er_text.specs.Verbs.{version_word, has_levels, is_third, header_version, verb_of, rarer_verb_of, order_verb_of}
 use Rattle.er_text.specs.Trace.{header_words, version_in}
 
 pub equal : (xs ys : List ℕ) → bytes_eq xs ys ≡ true → xs ≡ ys
@@ -32,9 +32,17 @@ spelling IgnoreOn = codes "ignore-on"
 spelling IgnoreOff = codes "ignore-off"
 spelling Show = codes "show"
 spelling Level = codes "level"
+spelling Start = codes "start"
+spelling Join = codes "join"
+spelling Signal = codes "signal"
+spelling Await = codes "await"
 
 abbrev pub IsKnown : Version → Verb → Type 0
-IsKnown version Level = version ≡ Two
+IsKnown version Level = has_levels version ≡ true
+IsKnown version Start = is_third version ≡ true
+IsKnown version Join = is_third version ≡ true
+IsKnown version Signal = is_third version ≡ true
+IsKnown version Await = is_third version ≡ true
 IsKnown version Lock = Unit {0}
 IsKnown version Unlock = Unit {0}
 IsKnown version ReadLock = Unit {0}
@@ -57,21 +65,32 @@ tested version w x v rest true is known more e =
     subst P same (equal w (spelling x) is, known)
 tested version w x v rest false is known more e = more e
 
-leveled : (version : Version) (w : List ℕ) (v : Verb) (b : Bool) → bytes_eq w (codes "level") ≡ b → cond b (level_verb version) None ≡ Some v → IsSpelled version w v
-leveled One w v true is e = absurd (cc)
-leveled Two w v true is e =
+leveled : (version : Version) (w : List ℕ) (v : Verb) (rest : Option Verb) (b has : Bool) → bytes_eq w (codes "level") ≡ b → has_levels version ≡ has
+    → (rest ≡ Some v → IsSpelled version w v) → cond b (cond has (Some Level) None) rest ≡ Some v → IsSpelled version w v
+leveled version w v rest true true is known more e =
     let same : Level ≡ v = cc in
-    let P : Verb → Type 0 = λ y. IsSpelled Two w y in
-    subst P same (equal w (codes "level") is, refl)
-leveled One w v false is e = absurd (cc)
-leveled Two w v false is e = absurd (cc)
+    let P : Verb → Type 0 = λ y. IsSpelled version w y in
+    subst P same (equal w (codes "level") is, known)
+leveled version w v rest true false is known more e = absurd (cc)
+leveled version w v rest false has is known more e = more e
+
+order_spelled : (version : Version) (w : List ℕ) (v : Verb) (third : Bool) → is_third version ≡ third
+    → cond (not third) None
+    (cond (bytes_eq w (codes "start")) (Some Start) (cond (bytes_eq w (codes "join")) (Some Join) (cond (bytes_eq w (codes "signal")) (Some Signal) (cond (bytes_eq w (codes "await")) (Some Await) None)))) ≡ Some v
+    → IsSpelled version w v
+order_spelled version w v false is e = absurd (cc)
+order_spelled version w v true is e =
+    tested version w Start v _ (bytes_eq w (codes "start")) refl is
+    (tested version w Join v _ (bytes_eq w (codes "join")) refl is
+    (tested version w Signal v _ (bytes_eq w (codes "signal")) refl is
+    (tested version w Await v None (bytes_eq w (codes "await")) refl is (λ h. absurd (cc))))) e
 
 rarer_spelled : (version : Version) (w : List ℕ) (v : Verb) → rarer_verb_of version w ≡ Some v → IsSpelled version w v
 rarer_spelled version w v e =
     tested version w Reuse v _ (bytes_eq w (codes "reuse")) refl tt
     (tested version w IgnoreOn v _ (bytes_eq w (codes "ignore-on")) refl tt
     (tested version w IgnoreOff v _ (bytes_eq w (codes "ignore-off")) refl tt
-    (tested version w Show v _ (bytes_eq w (codes "show")) refl tt (leveled version w v (bytes_eq w (codes "level")) refl)))) e
+    (tested version w Show v _ (bytes_eq w (codes "show")) refl tt (leveled version w v (order_verb_of version w) (bytes_eq w (codes "level")) (has_levels version) refl refl (λ h. order_spelled version w v (is_third version) refl h))))) e
 
 -- a word that is read as a verb spells it
 pub verb_spelled : (version : Version) (w : List ℕ) (v : Verb) → verb_of version w ≡ Some v → (w ≡ spelling v) × IsKnown version v
@@ -95,7 +114,11 @@ spelled_verb version Reuse known = refl
 spelled_verb version IgnoreOn known = refl
 spelled_verb version IgnoreOff known = refl
 spelled_verb version Show known = refl
-spelled_verb version Level known = ap level_verb known
+spelled_verb version Level known = rw known refl
+spelled_verb version Start known = rw known refl
+spelled_verb version Join known = rw known refl
+spelled_verb version Signal known = rw known refl
+spelled_verb version Await known = rw known refl
 
 three_words : (ws : List (List ℕ)) (x y z : List ℕ) → AreWhole ws → has_bytes x ≡ true → has_bytes y ≡ true → has_bytes z ≡ true
     → word_at 0 ws ≡ x → word_at 1 ws ≡ y → word_at 2 ws ≡ z → has_bytes (word_at 3 ws) ≡ false → ws ≡ x ∷ y ∷ z ∷ []
@@ -114,18 +137,20 @@ not_true : (b : Bool) → not b ≡ true → b ≡ false
 not_true true e = absurd (cc)
 not_true false e = refl
 
-numbered : (w : List ℕ) (v : Version) (one two : Bool) → bytes_eq w (codes "1") ≡ one → bytes_eq w (codes "2") ≡ two
-    → cond one (Some One) (cond two (Some Two) None) ≡ Some v → w ≡ version_word v
-numbered w v true two is also e = let same : One ≡ v = cc in equal w (codes "1") is ∙ ap version_word same
-numbered w v false true is also e = let same : Two ≡ v = cc in equal w (codes "2") also ∙ ap version_word same
-numbered w v false false is also e = absurd (cc)
+numbered : (w : List ℕ) (v : Version) (one two three : Bool) → bytes_eq w (codes "1") ≡ one → bytes_eq w (codes "2") ≡ two → bytes_eq w (codes "3") ≡ three
+    → cond one (Some One) (cond two (Some Two) (cond three (Some Three) None)) ≡ Some v → w ≡ version_word v
+numbered w v true two three is also last e = let same : One ≡ v = cc in equal w (codes "1") is ∙ ap version_word same
+numbered w v false true three is also last e = let same : Two ≡ v = cc in equal w (codes "2") also ∙ ap version_word same
+numbered w v false false true is also last e = let same : Three ≡ v = cc in equal w (codes "3") last ∙ ap version_word same
+numbered w v false false false is also last e = absurd (cc)
 
 pub version_spelled : (w : List ℕ) (v : Version) → header_version w ≡ Some v → w ≡ version_word v
-version_spelled w v e = numbered w v (bytes_eq w (codes "1")) (bytes_eq w (codes "2")) refl refl e
+version_spelled w v e = numbered w v (bytes_eq w (codes "1")) (bytes_eq w (codes "2")) (bytes_eq w (codes "3")) refl refl refl e
 
 whole_version : (v : Version) → has_bytes (version_word v) ≡ true
 whole_version One = refl
 whole_version Two = refl
+whole_version Three = refl
 
 headed : (ws : List (List ℕ)) (v : Version) (b : Bool) → AreWhole ws
     → (bytes_eq (word_at 0 ws) (codes "eraser") && bytes_eq (word_at 1 ws) (codes "trace") && not (has_bytes (word_at 3 ws))) ≡ b
@@ -149,3 +174,4 @@ header_is ws v whole e = headed ws v (bytes_eq (word_at 0 ws) (codes "eraser") &
 pub header_again : (v : Version) → version_in (header_words v) ≡ Some v
 header_again One = refl
 header_again Two = refl
+header_again Three = refl

@@ -1,10 +1,14 @@
 -- What a line in its usual form adds: of an operation, of a line, and of a line behind the header.
-use Rattle.std.proofs.Common.{◌≡◌, ℕ, ◌+◌, Bool, true, false, List, Option, Some, Result, Ok, Err, sym, ap, ◌∙◌}
+use Rattle.std.proofs.Common.{◌≡◌, ℕ, ◌+◌, Bool, true, false, List, Some, Result, Ok, Err, sym, ap, ◌∙◌}
 use Rattle.er_trace.specs.Trace.{Recording}
 use Rattle.er_text.specs.declared.verbs.Version.{Version}
-use Rattle.er_text.specs.Events.{Operation}
-use Rattle.er_text.specs.Inner.Traces.{at_line}
-use Rattle.er_text.specs.Inner.FastPath.{IsLeadingName, IsFastOperation, IsFastLine, AddsOperation, AddsLine, ReadsUsual}
+use Rattle.er_text.specs.declared.stages.Stage.{Stage}
+use Rattle.er_text.specs.declared.stages.Stage.TheVariants.{Events}
+use Rattle.er_trace.specs.Names.{number_of}
+use Rattle.er_text.specs.Events.{Operation, EventLine, with_line}
+use Rattle.er_text.specs.Inner.Idle.{last_actor, without_idle}
+use Rattle.er_text.specs.Inner.Traces.{at_line, plain_at}
+use Rattle.er_text.specs.Inner.FastPath.{IsLeadingName, IsFastOperation, IsFastLine, AddsOperation, AddsLine}
 use Rattle.er_text.proofs.FastPathLaws.{line_says, usual_reads}
 
 pub adds_as : {E : Type 0} (Is Other : Operation → Type 0) (line : ℕ) (thread : List ℕ) (old new : Recording) (result : Result Bool E)
@@ -19,9 +23,12 @@ adds_line line bytes name rest old new (Ok true) front adds = (record { thread =
 adds_line line bytes name rest old new (Ok false) front adds = adds
 adds_line line bytes name rest old new (Err e) front adds = tt
 
-pub usual_line_read : {E : Type 0} (line : ℕ) (version : Option Version) (v : Version) (bytes : List ℕ) (old new : Recording) (result : Result Bool E) → version ≡ Some v
-    → AddsLine (IsFastLine bytes) line old new result → ReadsUsual line version bytes old new result
-usual_line_read line version v bytes old new (Ok true) is adds =
-    usual_reads (at_line line version old) line bytes adds.0 v is adds.1 ∙ ap (λ (r : Recording). Ok (at_line (line + 1) version r)) (sym adds.2)
-usual_line_read line version v bytes old new (Ok false) is adds = adds
-usual_line_read line version v bytes old new (Err e) is adds = tt
+-- a line in its usual form, after which the thread of the last step acts
+pub usual_line_read : (line : ℕ) (stage : Stage) (v : Version) (bytes : List ℕ) (idle after : List Bool) (old new : Recording) → stage ≡ Events v
+    → ((s : EventLine) × IsFastLine bytes s × (new ≡ with_line line s old)) → ((thread : ℕ) → last_actor new.steps ≡ Some thread → after ≡ without_idle idle thread)
+    → plain_at (at_line line stage idle old) line bytes ≡ Ok (at_line (line + 1) stage after new)
+usual_line_read line stage v bytes idle after old new is adds acts =
+    let last = ap (λ (r : Recording). last_actor r.steps) adds.2 ∙ adds.1.one line old in
+    usual_reads (at_line line stage idle old) line bytes adds.0 v is adds.1
+    ∙ ap (λ (r : Recording). Ok (at_line (line + 1) stage (without_idle idle (number_of old.names.threads adds.0.thread)) r)) (sym adds.2)
+    ∙ ap (λ (x : List Bool). Ok (at_line (line + 1) stage x new)) (sym (acts (number_of old.names.threads adds.0.thread) last))

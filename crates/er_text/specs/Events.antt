@@ -7,8 +7,10 @@ use Rattle.er_event.specs.declared.addresses.PageRange.{PageRange}
 use Rattle.er_event.specs.declared.steps.Event.TheVariants as event
 use Rattle.er_event.specs.declared.steps.Kind.{Kind}
 use Rattle.er_event.specs.declared.steps.Mode.{Mode}
+use Rattle.er_event.specs.declared.steps.Sync.TheVariants as order
 
--- what a thread does: the lock and its mode, the word and its site if there is one, the words put to a new use, the level
+-- what a thread does: the lock and its mode, the word and its site if there is one, the words put to a new use, the level, the
+-- other thread, the object
 pub data Operation : Type 0 where
   Acquires : List ℕ → Mode → Operation
   Releases : List ℕ → Mode → Operation
@@ -18,6 +20,10 @@ pub data Operation : Type 0 where
   IgnoresOff : Operation
   Shows : ℕ → Operation
   Levels : ℕ → Operation
+  Starts : List ℕ → Operation
+  Joins : List ℕ → Operation
+  Signals : List ℕ → Operation
+  Awaits : List ℕ → Operation
 
 -- which thread does what
 pub record EventLine : Type 0 where
@@ -57,6 +63,10 @@ with_operation line thread IgnoresOn r = with_step r (record { thread = thread; 
 with_operation line thread IgnoresOff r = with_step r (record { thread = thread; event = event.IgnoreOff }) line
 with_operation line thread (Shows w) r = with_step r (record { thread = thread; event = event.Show w }) line
 with_operation line thread (Levels n) r = with_step r (record { thread = thread; event = event.Level n }) line
+with_operation line thread (Starts other) r = with_step (with_thread_name r other) (record { thread = thread; event = event.Sync (order.Start (number_of r.names.threads other)) }) line
+with_operation line thread (Joins other) r = with_step (with_thread_name r other) (record { thread = thread; event = event.Sync (order.Join (number_of r.names.threads other)) }) line
+with_operation line thread (Signals object) r = with_step (with_lock_name r object) (record { thread = thread; event = event.Sync (order.Signal (number_of r.names.locks object)) }) line
+with_operation line thread (Awaits object) r = with_step (with_lock_name r object) (record { thread = thread; event = event.Sync (order.Await (number_of r.names.locks object)) }) line
 
 -- the recording after one more event line; its thread is numbered first
 abbrev pub with_line : ℕ → EventLine → Recording → Recording

@@ -1,7 +1,7 @@
 -- The faults of texts in words.
 use Rattle.std.specs.Prelude.{ℕ, List, codes}
 use Rattle.er_text.specs.declared.faults.TextKind.{TextKind}
-use Rattle.er_text.specs.declared.faults.TextKind.TheVariants.{LineTooLong, TextTooLong, NotAscii, NoHeader, BadName, MissingOperand, BadVerb, ExtraOperand, BadNumber, SizeTooLarge, AddressOutOfRange, LevelTooHigh}
+use Rattle.er_text.specs.declared.faults.TextKind.TheVariants.{LineTooLong, TextTooLong, NotAscii, NoHeader, BadName, MissingOperand, BadVerb, ExtraOperand, BadNumber, SizeTooLarge, AddressOutOfRange, LevelTooHigh, OwnThread, AlreadyRunning, AfterEnd}
 
 -- a fault in words, as it is printed
 abbrev pub text_of : TextKind → List ℕ
@@ -17,3 +17,6 @@ text_of BadNumber = codes "bad number"
 text_of SizeTooLarge = codes "size too large"
 text_of AddressOutOfRange = codes "address out of range"
 text_of LevelTooHigh = codes "level too high"
+text_of OwnThread = codes "own thread"
+text_of AlreadyRunning = codes "already running"
+text_of AfterEnd = codes "after end"

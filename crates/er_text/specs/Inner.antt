@@ -1,5 +1,6 @@
 -- What the code's parts keep true of one another. Of public clauses those of a reader of batches alone cite it.
 pub mod Parsing
+pub mod Idle
 pub mod Reading
 pub mod Lending
 pub mod Traces

@@ -7,9 +7,10 @@ use Rattle.er_event.specs.declared.addresses.PageRange.{PageRange}
 use Rattle.er_event.specs.declared.steps.Event.{Event}
 use Rattle.er_event.specs.declared.steps.Event.TheVariants as event
 use Rattle.er_event.specs.declared.steps.Step.{Step}
+use Rattle.er_event.specs.declared.steps.Sync.TheVariants as order
 use Rattle.er_text.specs.declared.verbs.Version.{Version}
 use Rattle.er_text.specs.Lines.{Placed, words}
-use Rattle.er_text.specs.Events.{EventLine, Operation, Acquires, Releases, Accesses, Reuses, IgnoresOn, IgnoresOff, Shows, Levels, run_parts}
+use Rattle.er_text.specs.Events.{EventLine, Operation, Acquires, Releases, Accesses, Reuses, IgnoresOn, IgnoresOff, Shows, Levels, Starts, Joins, Signals, Awaits, run_parts}
 use Rattle.er_text.specs.Trace.{Says}
 
 -- sites are numbered from 1, and the missing site is 0
@@ -27,6 +28,10 @@ Does names IgnoresOn e = e ≡ event.IgnoreOn
 Does names IgnoresOff e = e ≡ event.IgnoreOff
 Does names (Shows w) e = e ≡ event.Show w
 Does names (Levels n) e = e ≡ event.Level n
+Does names (Starts other) e = (n : ℕ) × (e ≡ event.Sync (order.Start n)) × (slice_get names.threads n ≡ Some other)
+Does names (Joins other) e = (n : ℕ) × (e ≡ event.Sync (order.Join n)) × (slice_get names.threads n ≡ Some other)
+Does names (Signals object) e = (n : ℕ) × (e ≡ event.Sync (order.Signal n)) × (slice_get names.locks n ≡ Some object)
+Does names (Awaits object) e = (n : ℕ) × (e ≡ event.Sync (order.Await n)) × (slice_get names.locks n ≡ Some object)
 
 -- the step is one of what the line says
 pub record IsToldBy (v : Version) (names : NameTable) (step : Step) (p : Placed) : Type 0 where

@@ -1,6 +1,6 @@
 -- How far a reader has come in a text.
-use Rattle.std.specs.Prelude.{ℕ, List, Option}
-use Rattle.er_text.specs.declared.verbs.Version.{Version}
+use Rattle.std.specs.Prelude.{ℕ, Bool, List}
+use Rattle.er_text.specs.declared.stages.Stage.{Stage}
 
 -- a place in a text: the most bytes of the text, the number of the next line, the bytes before that line, and those that were read ahead
 pub record Place : Type 0 where
@@ -9,7 +9,8 @@ pub record Place : Type 0 where
   pub start : ℕ
   pub ahead : List ℕ
 
--- the place, and the version that a header has given
+-- the place, how far the text has come, and which threads, by number, are named in lines before and don't act there
 pub record Reached : Type 0 where
   pub place : Place
-  pub version : Option Version
+  pub stage : Stage
+  pub idle : List Bool

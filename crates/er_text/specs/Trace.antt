@@ -1,6 +1,6 @@
 -- The grammar of traces, and the fault of a text that is none. It speaks of whole lines, and knows no reading.
-use Rattle.std.specs.Prelude.{◌≡◌, ℕ, ◌+◌, ◌/◌, ◌^◌, ◌<◌, ◌≤◌, ◌||◌, ◌&&◌, ◌⊎◌, Bool, true, false, not, List, [], ◌∷◌, Option, Some, None, Result, Ok, Err, length, drop, filter, nat_lt, nat_le, codes, unwrap_or, if◌then◌else◌}
-use Rattle.std.specs.List.{AllByRecursion}
+use Rattle.std.specs.Prelude.{◌≡◌, ℕ, ◌+◌, ◌/◌, ◌^◌, ◌<◌, ◌≤◌, ◌||◌, ◌&&◌, ◌⊎◌, Bool, true, false, not, List, [], ◌∷◌, ◌++◌, Option, Some, None, Result, Ok, Err, length, drop, filter, nat_lt, nat_le, codes, unwrap_or, if◌then◌else◌}
+use Rattle.std.specs.List.{AllByRecursion, list_any}
 use Rattle.std.specs.Option.{is_some}
 use Rattle.std.specs.Str.{bytes_eq}
 use Rattle.er_trace.specs.Trace.{Recording, no_steps}
@@ -10,20 +10,21 @@ use Rattle.er_event.specs.declared.steps.Kind.TheVariants as kind
 use Rattle.er_event.specs.declared.steps.Mode.{Mode}
 use Rattle.er_event.specs.declared.steps.Mode.TheVariants as mode
 use Rattle.er_text.specs.declared.faults.TextKind.{TextKind}
-use Rattle.er_text.specs.declared.faults.TextKind.TheVariants.{NoHeader, BadName, MissingOperand, BadVerb, ExtraOperand, BadNumber, SizeTooLarge, AddressOutOfRange, LevelTooHigh}
+use Rattle.er_text.specs.declared.faults.TextKind.TheVariants.{NoHeader, BadName, MissingOperand, BadVerb, ExtraOperand, BadNumber, SizeTooLarge, AddressOutOfRange, LevelTooHigh, OwnThread, AlreadyRunning, AfterEnd}
 use Rattle.er_text.specs.declared.faults.ReadFault.{ReadFault}
 use Rattle.er_text.specs.declared.faults.ReadFault.TheVariants as fault
 use Rattle.er_text.specs.declared.faults.TextFault.{TextFault}
 use Rattle.er_text.specs.declared.verbs.Verb.{Verb}
 use Rattle.er_text.specs.declared.verbs.Verb.TheVariants as verb
 use Rattle.er_text.specs.declared.verbs.Version.{Version}
-use Rattle.er_text.specs.declared.verbs.Version.TheVariants as version
+use Rattle.er_text.specs.declared.stages.Stage.{Stage}
+use Rattle.er_text.specs.declared.stages.Stage.TheVariants.{Front, Events, Ended}
 use Rattle.er_text.specs.Lines.{Placed, placed, has_content, has_bytes, words, word_at}
 use Rattle.er_text.specs.FirstFault.{IsPlain, known_after, HasNone, IsFirstFaulty}
 use Rattle.er_text.specs.Number.{number_of}
 use Rattle.er_text.specs.Naming.{is_name, is_lock_name}
-use Rattle.er_text.specs.Verbs.{version_word, verb_of, version_of, least_of, most_of}
-use Rattle.er_text.specs.Events.{EventLine, Operation, Acquires, Releases, Accesses, Reuses, IgnoresOn, IgnoresOff, Shows, Levels, run_of, with_line}
+use Rattle.er_text.specs.Verbs.{version_word, has_levels, is_third, verb_of, version_of, least_of, most_of}
+use Rattle.er_text.specs.Events.{EventLine, Operation, Acquires, Releases, Accesses, Reuses, IgnoresOn, IgnoresOff, Shows, Levels, Starts, Joins, Signals, Awaits, run_of, with_line}
 
 abbrev pub acquire_word : Mode → List ℕ
 acquire_word mode.Write = codes "lock"
@@ -58,7 +59,11 @@ IsOperation v words thread IgnoresOff = words ≡ thread ∷ codes "ignore-off" 
 IsOperation v words thread (Shows w) =
     (address : List ℕ) × (n : ℕ) × (words ≡ thread ∷ codes "show" ∷ address ∷ []) × (number_of address ≡ Some n) × (n < 2 ^ 48) × (w ≡ n / 4)
 IsOperation v words thread (Levels n) =
-    (level : List ℕ) × (words ≡ thread ∷ codes "level" ∷ level ∷ []) × (number_of level ≡ Some n) × (n ≤ 31) × (v ≡ version.Two)
+    (level : List ℕ) × (words ≡ thread ∷ codes "level" ∷ level ∷ []) × (number_of level ≡ Some n) × (n ≤ 31) × (has_levels v ≡ true)
+IsOperation v words thread (Starts other) = (words ≡ thread ∷ codes "start" ∷ other ∷ []) × (is_name other ≡ true) × (is_third v ≡ true)
+IsOperation v words thread (Joins other) = (words ≡ thread ∷ codes "join" ∷ other ∷ []) × (is_name other ≡ true) × (is_third v ≡ true)
+IsOperation v words thread (Signals object) = (words ≡ thread ∷ codes "signal" ∷ object ∷ []) × (is_lock_name object ≡ true) × (is_third v ≡ true)
+IsOperation v words thread (Awaits object) = (words ≡ thread ∷ codes "await" ∷ object ∷ []) × (is_lock_name object ≡ true) × (is_third v ≡ true)
 
 -- what an event line says
 abbrev pub Says : Version → List (List ℕ) → EventLine → Type 0
@@ -70,6 +75,27 @@ AllSay v [] [] = Unit {0}
 AllSay v (p ∷ ps) (s ∷ ss) = Says v (words p.line.bytes) s × AllSay v ps ss
 AllSay v [] (s ∷ ss) = ⊥
 AllSay v (p ∷ ps) [] = ⊥
+
+-- the thread acts in a line before, if these act there
+abbrev pub has_acted : List (List ℕ) → List ℕ → Bool
+has_acted actors thread = list_any (bytes_eq thread) actors
+
+-- behind lines in which these act, a thread may do this: it neither starts nor joins itself, and a thread that it starts has not acted
+abbrev pub MayDo : List (List ℕ) → List ℕ → Operation → Type 0
+MayDo actors thread (Starts other) = (bytes_eq other thread ≡ false) × (has_acted actors other ≡ false)
+MayDo actors thread (Joins other) = bytes_eq other thread ≡ false
+MayDo actors thread _ = Unit {0}
+
+-- each event line may come behind those before it, and behind lines in which these act
+abbrev pub AreInOrder : List (List ℕ) → List EventLine → Type 0
+AreInOrder actors [] = Unit {0}
+AreInOrder actors (s ∷ ss) = MayDo actors s.thread s.operation × AreInOrder (s.thread ∷ actors) ss
+
+-- what may come behind the event lines: nothing, and in a text 3 the line `end`
+abbrev pub IsClosing : Version → List Placed → Type 0
+IsClosing v [] = Unit {0}
+IsClosing v (p ∷ []) = (is_third v ≡ true) × (words p.line.bytes ≡ codes "end" ∷ [])
+IsClosing v (p ∷ q ∷ ps) = ⊥
 
 -- the steps of event lines in order, with names numbered by first appearance
 abbrev pub with_lines : List Placed → List EventLine → Recording → Recording
@@ -108,6 +134,9 @@ show_kinds operands = (not (is_number_at 0 operands), BadNumber) ∷ (nat_le (2 
 abbrev pub level_kinds : List (List ℕ) → List (Bool × TextKind)
 level_kinds operands = (not (is_number_at 0 operands), BadNumber) ∷ (nat_lt 31 (number_at 0 operands), LevelTooHigh) ∷ []
 
+abbrev pub thread_kinds : List (List ℕ) → List (Bool × TextKind)
+thread_kinds operands = (not (is_name (word_at 0 operands)), BadName) ∷ []
+
 abbrev pub operand_kinds : Verb → List (List ℕ) → List (Bool × TextKind)
 operand_kinds verb.Lock operands = lock_kinds operands
 operand_kinds verb.Unlock operands = lock_kinds operands
@@ -120,6 +149,10 @@ operand_kinds verb.IgnoreOn operands = []
 operand_kinds verb.IgnoreOff operands = []
 operand_kinds verb.Show operands = show_kinds operands
 operand_kinds verb.Level operands = level_kinds operands
+operand_kinds verb.Start operands = thread_kinds operands
+operand_kinds verb.Join operands = thread_kinds operands
+operand_kinds verb.Signal operands = lock_kinds operands
+operand_kinds verb.Await operands = lock_kinds operands
 
 abbrev pub verb_kinds : Option Verb → List (List ℕ) → List (Bool × TextKind)
 verb_kinds None operands = (true, BadVerb) ∷ []
@@ -136,40 +169,76 @@ event_kinds v words =
 abbrev pub version_in : List (List ℕ) → Option Version
 version_in words = version_of (word_at 0 words) (word_at 1 words) (word_at 2 words) (word_at 3 words)
 
--- the faults of the words of a line, before the header or behind one of this version
-abbrev pub word_kinds : Option Version → List (List ℕ) → List (Bool × TextKind)
-word_kinds None words = (not (is_some (version_in words)), NoHeader) ∷ []
-word_kinds (Some v) words = event_kinds v words
+-- the faults that a start or a join has besides those of its words
+abbrev pub order_kinds : List (List ℕ) → List (List ℕ) → List (Bool × TextKind)
+order_kinds actors words =
+    if bytes_eq (word_at 1 words) (codes "start")
+    then (bytes_eq (word_at 2 words) (word_at 0 words), OwnThread) ∷ (has_acted actors (word_at 2 words), AlreadyRunning) ∷ []
+    else if bytes_eq (word_at 1 words) (codes "join") then (bytes_eq (word_at 2 words) (word_at 0 words), OwnThread) ∷ []
+    else []
+
+-- these are the words of the line `end`
+abbrev pub is_end : Version → List (List ℕ) → Bool
+is_end v words = is_third v && bytes_eq (word_at 0 words) (codes "end") && not (has_bytes (word_at 1 words))
+
+-- what lines make known to those behind them: how far the text has come, and which threads act in event lines, the latest first
+pub record Known : Type 0 where
+  pub stage : Stage
+  pub actors : List (List ℕ)
+
+abbrev pub nothing_known : Known
+nothing_known = record { stage = Front; actors = [] }
+
+-- the faults of the words of a line: before the header, behind one of this version, behind the line `end`
+abbrev pub word_kinds : Stage → List (List ℕ) → List (List ℕ) → List (Bool × TextKind)
+word_kinds Front actors words = (not (is_some (version_in words)), NoHeader) ∷ []
+word_kinds (Events v) actors words = if is_end v words then [] else event_kinds v words ++ order_kinds actors words
+word_kinds Ended actors words = (true, AfterEnd) ∷ []
 
 -- the faults of what a line says, in their order
-abbrev pub content_kinds : Option Version → Placed → List (Bool × TextKind)
-content_kinds opened p = if has_content p then word_kinds opened (words p.line.bytes) else []
+abbrev pub content_kinds : Known → Placed → List (Bool × TextKind)
+content_kinds known p = if has_content p then word_kinds known.stage known.actors (words p.line.bytes) else []
 
--- the version that a header has told once this line is past
-abbrev pub opened_by : Option Version → Placed → Option Version
-opened_by (Some v) p = Some v
-opened_by None p = if has_content p then version_in (words p.line.bytes) else None
+abbrev pub opened_by : Option Version → Stage
+opened_by None = Front
+opened_by (Some v) = Events v
+
+-- what is known once these words are past
+abbrev pub known_by : Stage → List (List ℕ) → List (List ℕ) → Known
+known_by Front actors words = record { stage = opened_by (version_in words); actors = actors }
+known_by (Events v) actors words =
+    if is_end v words then record { stage = Ended; actors = actors } else record { stage = Events v; actors = word_at 0 words ∷ actors }
+known_by Ended actors words = record { stage = Ended; actors = actors }
+
+-- what is known once this line is past
+abbrev pub known_past : Known → Placed → Known
+known_past known p = if has_content p then known_by known.stage known.actors (words p.line.bytes) else known
 
 -- no line has a fault, and none is a header
 abbrev pub IsEmpty : ℕ → List Placed → TextFault → Type 0
 IsEmpty limit lines f =
-    HasNone limit content_kinds opened_by None lines × (known_after opened_by None lines ≡ None) × (f ≡ record { line = 1 + length lines; kind = NoHeader })
+    HasNone limit content_kinds known_past nothing_known lines × ((known_after known_past nothing_known lines).stage ≡ Front)
+    × (f ≡ record { line = 1 + length lines; kind = NoHeader })
 
 -- the fault of a text
 abbrev pub IsFault : List ℕ → ℕ → TextFault → Type 0
-IsFault text limit f = IsFirstFaulty limit content_kinds opened_by None (placed text) f ⊎ IsEmpty limit (placed text) f
+IsFault text limit f = IsFirstFaulty limit content_kinds known_past nothing_known (placed text) f ⊎ IsEmpty limit (placed text) f
 
--- a text is a trace: in its limits, and of its lines with content the first is a header and the others say the trace's steps
+-- a text is a trace: in its limits, and of its lines with content the first is a header, and the others say the trace's steps in
+-- order, but for the line `end`
 pub record IsTrace (text : List ℕ) (limit : ℕ) (t : Recording) : Type 0 where
   pub short : length text ≤ limit
   pub plain : AllByRecursion IsPlain (placed text)
   pub header : Placed
   pub events : List Placed
-  pub content : filter has_content (placed text) ≡ header ∷ events
+  pub closing : List Placed
+  pub content : filter has_content (placed text) ≡ header ∷ events ++ closing
   pub version : Version
   pub opens : words header.line.bytes ≡ header_words version
+  pub closes : IsClosing version closing
   pub event_lines : List EventLine
   pub says : AllSay version events event_lines
+  pub in_order : AreInOrder [] event_lines
   pub told : t ≡ with_lines events event_lines no_steps
 
 -- what is told of a text: its trace, or its fault, unless memory or the reader failed

@@ -1,19 +1,21 @@
 -- The words that headers and events are spelled with.
-use Rattle.std.specs.Prelude.{ℕ, ◌&&◌, not, List, Option, Some, None, codes, if◌then◌else◌}
+use Rattle.std.specs.Prelude.{ℕ, ◌&&◌, not, Bool, true, false, List, Option, Some, None, codes, if◌then◌else◌}
 use Rattle.std.specs.Str.{bytes_eq}
 use Rattle.er_text.specs.Lines.{has_bytes}
 use Rattle.er_text.specs.declared.verbs.Verb.{Verb}
-use Rattle.er_text.specs.declared.verbs.Verb.TheVariants.{Lock, Unlock, ReadLock, ReadUnlock, Read, Write, Reuse, IgnoreOn, IgnoreOff, Show, Level}
+use Rattle.er_text.specs.declared.verbs.Verb.TheVariants.{Lock, Unlock, ReadLock, ReadUnlock, Read, Write, Reuse, IgnoreOn, IgnoreOff, Show, Level, Start, Join, Signal, Await}
 use Rattle.er_text.specs.declared.verbs.Version.{Version}
-use Rattle.er_text.specs.declared.verbs.Version.TheVariants.{One, Two}
+use Rattle.er_text.specs.declared.verbs.Version.TheVariants.{One, Two, Three}
 
 -- how a version is spelled
 abbrev pub version_word : Version → List ℕ
 version_word One = codes "1"
 version_word Two = codes "2"
+version_word Three = codes "3"
 
 abbrev pub header_version : List ℕ → Option Version
-header_version word = if bytes_eq word (codes "1") then Some One else if bytes_eq word (codes "2") then Some Two else None
+header_version word =
+    if bytes_eq word (codes "1") then Some One else if bytes_eq word (codes "2") then Some Two else if bytes_eq word (codes "3") then Some Three else None
 
 -- the version that the first four words of a line tell, of which those that are missing are empty
 abbrev pub version_of : List ℕ → List ℕ → List ℕ → List ℕ → Option Version
@@ -21,9 +23,25 @@ version_of first second third fourth =
     if bytes_eq first (codes "eraser") && bytes_eq second (codes "trace") && not (has_bytes fourth) then header_version third else None
 
 -- `level` came with the second version
-abbrev pub level_verb : Version → Option Verb
-level_verb One = None
-level_verb Two = Some Level
+abbrev pub has_levels : Version → Bool
+has_levels One = false
+has_levels Two = true
+has_levels Three = true
+
+-- `start`, `join`, `signal`, `await` and `end` came with the third
+abbrev pub is_third : Version → Bool
+is_third One = false
+is_third Two = false
+is_third Three = true
+
+abbrev pub order_verb_of : Version → List ℕ → Option Verb
+order_verb_of version word =
+    if not (is_third version) then None
+    else if bytes_eq word (codes "start") then Some Start
+    else if bytes_eq word (codes "join") then Some Join
+    else if bytes_eq word (codes "signal") then Some Signal
+    else if bytes_eq word (codes "await") then Some Await
+    else None
 
 abbrev pub rarer_verb_of : Version → List ℕ → Option Verb
 rarer_verb_of version word =
@@ -31,8 +49,8 @@ rarer_verb_of version word =
     else if bytes_eq word (codes "ignore-on") then Some IgnoreOn
     else if bytes_eq word (codes "ignore-off") then Some IgnoreOff
     else if bytes_eq word (codes "show") then Some Show
-    else if bytes_eq word (codes "level") then level_verb version
-    else None
+    else if bytes_eq word (codes "level") then (if has_levels version then Some Level else None)
+    else order_verb_of version word
 
 -- the verb that a word is
 abbrev pub verb_of : Version → List ℕ → Option Verb
@@ -58,6 +76,10 @@ least_of IgnoreOn = 0
 least_of IgnoreOff = 0
 least_of Show = 1
 least_of Level = 1
+least_of Start = 1
+least_of Join = 1
+least_of Signal = 1
+least_of Await = 1
 
 -- how many operands a verb allows
 abbrev pub most_of : Verb → ℕ
@@ -72,3 +94,7 @@ most_of IgnoreOn = 0
 most_of IgnoreOff = 0
 most_of Show = 1
 most_of Level = 1
+most_of Start = 1
+most_of Join = 1
+most_of Signal = 1
+most_of Await = 1

@@ -1,10 +1,11 @@
 //! The steps that a line adds to a trace.
 ghost use Rattle.std.specs.Prelude.{◌≡◌, ◌<◌, ℕ, length, Some, None, IfOk, OnOk};
+ghost use Rattle.er_trace.specs.Names.{number_of};
 ghost use Rattle.er_text.specs.Inner.Parsing.{event_line, seen_name};
 ghost use Rattle.er_text.specs.Events.{Acquires, Releases, Accesses, with_line, site_number, with_site_of, with_reuses, run_parts};
 
 use crate::parsing::{Action, ParsedLine};
-use er_event::{Event, Kind, Mode, Site, Step, ThreadId, Word, WordRange};
+use er_event::{Event, Kind, Mode, Site, Step, Sync, ThreadId, Word, WordRange};
 use er_trace::Trace;
 use std::alloc::AllocError;
 
@@ -106,25 +107,34 @@ fn add_reuse(
     Ok(())
 }
 
-/// Adds the steps of a line to a trace. The thread is numbered first.
+/// Adds the steps of a line to a trace, and returns the thread. It is numbered first.
 #[inline(always)]
 pub(crate) fn add_steps(
     trace: &mut Trace,
     line: u64,
     parsed: &ParsedLine<'_>,
-) -> Result<(), AllocError>
-    ensures { OnOk result (trace.new ≡ with_line line (event_line parsed.now) trace.old) }
+) -> Result<ThreadId, AllocError>
+    ensures thread { IfOk result (λ thread. thread ≡ number_of trace.old.names.threads parsed.now.thread.now) }
+    ensures trace { OnOk result (trace.new ≡ with_line line (event_line parsed.now) trace.old) }
 {
     let thread = trace.thread(parsed.thread)?;
     let event = match parsed.action {
         Action::Acquire(lock, mode) => Event::Acquire(trace.lock(lock)?, mode),
         Action::Release(lock, mode) => Event::Release(trace.lock(lock)?, mode),
         Action::Access(kind, word, site) => Event::Access(kind, word, site_number(trace, site)?),
-        Action::Reuse(range) => return add_reuse(trace, line, thread, range),
+        Action::Reuse(range) => {
+            add_reuse(trace, line, thread, range)?;
+            return Ok(thread);
+        }
         Action::IgnoreOn => Event::IgnoreOn,
         Action::IgnoreOff => Event::IgnoreOff,
         Action::Show(word) => Event::Show(word),
         Action::Level(level) => Event::Level(level),
+        Action::Start(other) => Event::Sync(Sync::Start(trace.thread(other)?)),
+        Action::Join(other) => Event::Sync(Sync::Join(trace.thread(other)?)),
+        Action::Signal(object) => Event::Sync(Sync::Signal(trace.lock(object)?)),
+        Action::Await(object) => Event::Sync(Sync::Await(trace.lock(object)?)),
     };
-    trace.push(Step { thread, event }, line)
+    trace.push(Step { thread, event }, line)?;
+    Ok(thread)
 }

@@ -33,6 +33,12 @@ pub enum TextKind {
     AddressOutOfRange,
     /// An interrupt level is above 31.
     LevelTooHigh,
+    /// A thread starts or joins itself.
+    OwnThread,
+    /// A thread is started that acts in a line before.
+    AlreadyRunning,
+    /// A line says something behind the line `end`.
+    AfterEnd,
 }
 
 impl TextKind {
@@ -53,6 +59,9 @@ impl TextKind {
             TextKind::SizeTooLarge => "size too large",
             TextKind::AddressOutOfRange => "address out of range",
             TextKind::LevelTooHigh => "level too high",
+            TextKind::OwnThread => "own thread",
+            TextKind::AlreadyRunning => "already running",
+            TextKind::AfterEnd => "after end",
         }
     }
 }

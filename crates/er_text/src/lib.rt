@@ -39,6 +39,7 @@ mod numbers;
 mod parsing;
 mod reading;
 mod rules;
+mod stages;
 mod suppressions;
 mod verbs;
 mod windows;

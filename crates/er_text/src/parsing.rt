@@ -1,8 +1,10 @@
 //! What the words of a line say.
-ghost use Rattle.std.specs.Prelude.{◌≡◌};
+ghost use Rattle.std.specs.Prelude.{◌≡◌, ℕ, List};
 ghost use Rattle.er_text.specs.Lines.{words};
 ghost use Rattle.er_text.specs.Verbs.{verb_of, version_of};
-ghost use Rattle.er_text.specs.Inner.Parsing.{AreWords, GivesName, GivesSite, GivesOperation, GivesEventLine, count_of, number_in, lock_in, site_in, word_in, level_in, run_in, access_in, reuse_in, operands_in, operation_in, parsed_by};
+ghost use Rattle.er_text.specs.Trace.{is_end};
+ghost use Rattle.er_text.specs.Inner.Idle.{other_thread};
+ghost use Rattle.er_text.specs.Inner.Parsing.{AreWords, GivesName, GivesSite, GivesOperation, GivesEventLine, event_line, seen_name, count_of, number_in, name_in, lock_in, site_in, word_in, level_in, run_in, access_in, reuse_in, operands_in, operation_in, parsed_by};
 
 use crate::bytes::next_word;
 use crate::faults::TextKind;
@@ -22,6 +24,10 @@ pub(crate) enum Action<'a> {
     IgnoreOff,
     Show(Word),
     Level(Level),
+    Start(&'a str),
+    Join(&'a str),
+    Signal(&'a str),
+    Await(&'a str),
 }
 
 /// What a line says.
@@ -29,6 +35,18 @@ pub(crate) enum Action<'a> {
 pub(crate) struct ParsedLine<'a> {
     pub(crate) thread: &'a str,
     pub(crate) action: Action<'a>,
+}
+
+impl<'a> ParsedLine<'a> {
+    /// The thread that a start or a join names.
+    pub(crate) fn other_thread(&self) -> Option<&'a str>
+        ensures { seen_name result ≡ other_thread (event_line self.now).operation }
+    {
+        match self.action {
+            Action::Start(other) | Action::Join(other) => Some(other),
+            _ => None,
+        }
+    }
 }
 
 /// The first words of a line. One that is missing is empty.
@@ -71,6 +89,13 @@ impl<'a> Words<'a> {
         } else {
             None
         }
+    }
+
+    /// Whether these are the words of the line `end`.
+    pub(crate) fn is_end(&self, version: Version) -> bool
+        ensures { (ws : List (List ℕ)) → AreWords ws self.now → result ≡ is_end version ws }
+    {
+        version.is_third() && self.first == b"end".as_slice() && self.second.is_empty()
     }
 
     /// How many operands there are, up to 3.
@@ -136,6 +161,10 @@ fn operands<'a>(verb: Verb, first: &'a [u8], second: &'a [u8]) -> Result<Action<
         Verb::IgnoreOff => Ok(Action::IgnoreOff),
         Verb::Show => Ok(Action::Show(word_at(number(first)?)?)),
         Verb::Level => Ok(Action::Level(level_of(number(first)?)?)),
+        Verb::Start => Ok(Action::Start(thread(first)?)),
+        Verb::Join => Ok(Action::Join(thread(first)?)),
+        Verb::Signal => Ok(Action::Signal(lock(first)?)),
+        Verb::Await => Ok(Action::Await(lock(first)?)),
     }
 }
 
@@ -159,6 +188,12 @@ pub(crate) fn number(word: &[u8]) -> Result<u64, TextKind>
     ensures { result ≡ number_in word.now }
 {
     number_of(word).ok_or(TextKind::BadNumber)
+}
+
+fn thread(word: &[u8]) -> Result<&str, TextKind>
+    ensures { GivesName result (name_in word.now) }
+{
+    name_of(word).ok_or(TextKind::BadName)
 }
 
 fn lock(word: &[u8]) -> Result<&str, TextKind>

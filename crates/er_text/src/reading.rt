@@ -1,76 +1,118 @@
 //! Traces, line by line, and batch by batch.
-ghost use Rattle.std.specs.Prelude.{◌≡◌, ◌+◌, ◌<◌, ◌≤◌, ◌^◌, length, OnOk, IfOk, IfSome, IfErr, IsErrOf, IsSome, true, false, Option, ℕ, List, [], Some};
+ghost use Rattle.std.specs.Prelude.{◌≡◌, ◌+◌, ◌<◌, ◌≤◌, ◌^◌, length, OnOk, IfOk, IfSome, IfErr, IsErrOf, Ok, true, false, Option, ℕ, List, [], Some};
 ghost use Rattle.er_device.specs.Device.{inner_of, has_failed, taken_of};
 ghost use Rattle.er_text.specs.Lines.{bytes_past_limit};
 ghost use Rattle.er_text.specs.Trace.{Tells, HasFailedBy};
-ghost use Rattle.er_trace.specs.Trace.{no_steps};
+ghost use Rattle.er_trace.specs.Trace.{Recording, no_steps};
 ghost use Rattle.er_event.specs.declared.steps.Step.{Step};
 ghost use Rattle.er_text.specs.Named.{Grows};
 ghost use Rattle.er_text.specs.Batches.{HasRead, GivesBatch};
 ghost use Rattle.er_text.specs.Inner.Lending.{taken_by, lines_left};
 ghost use Rattle.er_text.specs.Inner.Reading.{Reads, Turns};
 ghost use Rattle.er_text.specs.Inner.FastPath.{ReadsUsual};
-ghost use Rattle.er_text.specs.Inner.Traces.{progress, at_line, read_at, plain_at, read_content, read_text, IsOutcome, Batches};
+ghost use Rattle.er_text.specs.Verbs.{version_of};
+ghost use Rattle.er_text.specs.Inner.Parsing.{event_line};
+ghost use Rattle.er_text.specs.Inner.Traces.{progress, at_line, open_with, add_parsed, read_at, plain_at, read_content, read_text, IsOutcome, Batches};
 
 use crate::adding::add_steps;
 use crate::bytes::{is_ascii, says_something};
 use crate::fast_path::add_usual;
 use crate::faults::{ReadFault, TextKind, fault_at};
 use crate::lines::LineReader;
-use crate::parsing::split_words;
-use crate::verbs::Version;
+use crate::parsing::{ParsedLine, Words, split_words};
+use crate::stages::{IdleThreads, Stage, is_known_thread};
 use er_device::Device;
 use er_trace::Trace;
 use std::alloc::{AllocError, Global};
 use std::io::Read;
 use std::marker::Model;
 
-/// What the header says: the version of the text, once a header was read.
+/// What the lines so far make known: the stage of the text, and the threads that are named but don't act yet.
 #[derive(Drop)]
 struct Header {
-    version: Option<Version>,
+    stage: Stage,
+    idle: IdleThreads,
 }
 
 impl Header {
+    /// Reads the words of the first line with content.
+    fn open(&mut self, line: u64, words: &Words<'_>) -> Result<(), ReadFault>
+        ensures read { (told : Recording) → Reads line (at_line (line + 1) self.new.stage self.new.idle told) result
+            (open_with (at_line line self.old.stage self.old.idle told) (version_of words.now.first.now words.now.second.now words.now.third.now words.now.fourth.now)) }
+        ensures failed { IsErrOf result ReadFault.Read → ⊥ }
+    {
+        let Some(version) = words.version() else {
+            return Err(fault_at(line, TextKind::NoHeader));
+        };
+        self.stage = Stage::Events(version);
+        Ok(())
+    }
+
+    /// Adds the steps of an event line, unless it can't come behind the lines before it.
+    fn add(
+        &mut self,
+        trace: &mut Trace,
+        line: u64,
+        parsed: &ParsedLine<'_>,
+    ) -> Result<(), ReadFault>
+        ensures read { Reads line (at_line (line + 1) self.new.stage self.new.idle trace.new) result (add_parsed line (at_line line self.old.stage self.old.idle trace.old) (Ok (event_line parsed.now))) }
+        ensures failed { IsErrOf result ReadFault.Read → ⊥ }
+    {
+        if let Some(kind) = self.idle.fault(trace.names(), parsed) {
+            return Err(fault_at(line, kind));
+        }
+        let other = parsed.other_thread();
+        let is_known = is_known_thread(trace.names(), other);
+        let thread = add_steps(trace, line, parsed)?;
+        self.idle.remove(thread);
+        self.idle.add_new(trace.names(), other, is_known)?;
+        Ok(())
+    }
+
     /// Reads a line of ASCII.
     fn read(&mut self, trace: &mut Trace, line: u64, bytes: &[u8]) -> Result<(), ReadFault>
-        ensures read { Reads line (at_line (line + 1) self.new.version trace.new) result (read_at (at_line line self.old.version trace.old) line bytes.now) }
+        ensures read { Reads line (at_line (line + 1) self.new.stage self.new.idle trace.new) result (read_at (at_line line self.old.stage self.old.idle trace.old) line bytes.now) }
         ensures failed { IsErrOf result ReadFault.Read → ⊥ }
     {
         let words = split_words(bytes);
         if !says_something(words.first, bytes) {
             return Ok(());
         }
-        let Some(version) = self.version else {
-            self.version = words.version();
-            return match self.version {
-                Some(_) => Ok(()),
-                None => Err(fault_at(line, TextKind::NoHeader)),
-            };
-        };
-        match words.parse(version) {
-            Err(kind) => Err(fault_at(line, kind)),
-            Ok(parsed) => {
-                add_steps(trace, line, &parsed)?;
-                Ok(())
+        match self.stage {
+            Stage::Front => self.open(line, &words),
+            Stage::Events(version) => {
+                if words.is_end(version) {
+                    self.stage = Stage::Ended;
+                    return Ok(());
+                }
+                match words.parse(version) {
+                    Err(kind) => Err(fault_at(line, kind)),
+                    Ok(parsed) => self.add(trace, line, &parsed),
+                }
             }
+            Stage::Ended => Err(fault_at(line, TextKind::AfterEnd)),
         }
     }
 
     /// Reads a line in its usual form, behind the header, and says whether it did.
     #[inline(always)]
-    fn read_usual(&self, trace: &mut Trace, line: u64, bytes: &[u8]) -> Result<bool, AllocError>
-        ensures { ReadsUsual line self.now.version bytes.now trace.old trace.new result }
+    fn read_usual(&mut self, trace: &mut Trace, line: u64, bytes: &[u8]) -> Result<bool, AllocError>
+        ensures stage { self.new.stage ≡ self.old.stage }
+        ensures read { ReadsUsual line self.old.stage bytes.now self.old.idle self.new.idle trace.old trace.new result }
     {
-        match self.version {
-            Some(_) => add_usual(trace, line, bytes),
-            None => Ok(false),
+        let Stage::Events(_) = self.stage else {
+            return Ok(false);
+        };
+        if !add_usual(trace, line, bytes)? {
+            return Ok(false);
         }
+        self.idle.remove_last(trace.steps());
+        Ok(true)
     }
 
     /// Reads a line in the limits, in whatever form.
     fn read_any(&mut self, trace: &mut Trace, line: u64, bytes: &[u8]) -> Result<(), ReadFault>
-        ensures read { Reads line (at_line (line + 1) self.new.version trace.new) result (plain_at (at_line line self.old.version trace.old) line bytes.now) }
+        ensures read { Reads line (at_line (line + 1) self.new.stage self.new.idle trace.new) result (plain_at (at_line line self.old.stage self.old.idle trace.old) line bytes.now) }
         ensures failed { IsErrOf result ReadFault.Read → ⊥ }
     {
         if !is_ascii(bytes) {
@@ -82,7 +124,7 @@ impl Header {
     /// Reads a line in the limits. A line in its usual form is ASCII, and so the test is for the others alone.
     #[inline(always)]
     fn read_plain(&mut self, trace: &mut Trace, line: u64, bytes: &[u8]) -> Result<(), ReadFault>
-        ensures read { Reads line (at_line (line + 1) self.new.version trace.new) result (plain_at (at_line line self.old.version trace.old) line bytes.now) }
+        ensures read { Reads line (at_line (line + 1) self.new.stage self.new.idle trace.new) result (plain_at (at_line line self.old.stage self.old.idle trace.old) line bytes.now) }
         ensures failed { IsErrOf result ReadFault.Read → ⊥ }
     {
         if self.read_usual(trace, line, bytes)? {
@@ -116,7 +158,7 @@ impl Model for TraceReader {
 
     ghost Value = { Reached };
 
-    ghost view = { λ r. record { place = r.lines; version = r.header.version } };
+    ghost view = { λ r. record { place = r.lines; stage = r.header.stage; idle = r.header.idle } };
 }
 
 impl TraceReader {
@@ -127,13 +169,16 @@ impl TraceReader {
         ensures number { IfOk result (λ r. r.place.number ≡ 1) }
         ensures start { IfOk result (λ r. r.place.start ≡ 0) }
         ensures ahead { IfOk result (λ r. length r.place.ahead ≡ 0) }
-        ensures version { IfOk result (λ r. r.version ≡ None) }
+        ensures stage { IfOk result (λ r. r.stage ≡ Stage.Front) }
         ensures starts { IfOk result (λ r. (text : List ℕ) → HasRead text [] [] r (Some text) no_steps) }
     {
         let lines = LineReader::new(alloc, limit)?;
         Ok(TraceReader {
             lines,
-            header: Header { version: None },
+            header: Header {
+                stage: Stage::Front,
+                idle: IdleThreads::new(alloc),
+            },
         })
     }
 
@@ -166,12 +211,12 @@ impl TraceReader {
 
     /// What was read, at the end of the text: a trace, if there was a header.
     fn finish(&self) -> Result<(), ReadFault>
-        ensures ok { OnOk result (IsSome self.now.version) }
-        ensures fault { IfErr result (λ e. (self.now.version ≡ None) × (e ≡ ReadFault.Text (record { line = self.now.place.number; kind = TextKind.NoHeader }))) }
+        ensures ok { OnOk result (self.now.stage ≡ Stage.Front → ⊥) }
+        ensures fault { IfErr result (λ e. (self.now.stage ≡ Stage.Front) × (e ≡ ReadFault.Text (record { line = self.now.place.number; kind = TextKind.NoHeader }))) }
     {
-        match self.header.version {
-            Some(_) => Ok(()),
-            None => Err(self.lines.fault(TextKind::NoHeader)),
+        match self.header.stage {
+            Stage::Events(_) | Stage::Ended => Ok(()),
+            Stage::Front => Err(self.lines.fault(TextKind::NoHeader)),
         }
     }
 

@@ -1,6 +1,6 @@
 //! The words that headers and events are spelled with.
 ghost use Rattle.std.specs.Prelude.{◌≡◌};
-ghost use Rattle.er_text.specs.Verbs.{header_version, verb_of, rarer_verb_of, least_of, most_of};
+ghost use Rattle.er_text.specs.Verbs.{has_levels, is_third, header_version, verb_of, rarer_verb_of, order_verb_of, least_of, most_of};
 
 /// The version of a text, which its header tells.
 #[derive(Clone, Copy, Debug, PartialEq, Eq)]
@@ -8,6 +8,8 @@ pub(crate) enum Version {
     One,
     /// It has interrupt levels.
     Two,
+    /// It has starts and joins of threads, signals and awaits, and the line `end`.
+    Three,
 }
 
 /// What an event line asks for.
@@ -24,6 +26,32 @@ pub(crate) enum Verb {
     IgnoreOff,
     Show,
     Level,
+    Start,
+    Join,
+    Signal,
+    Await,
+}
+
+impl Version {
+    /// Whether it has interrupt levels.
+    pub(crate) fn has_levels(self) -> bool
+        ensures { result ≡ has_levels self }
+    {
+        match self {
+            Version::One => false,
+            Version::Two | Version::Three => true,
+        }
+    }
+
+    /// Whether it is the third.
+    pub(crate) fn is_third(self) -> bool
+        ensures { result ≡ is_third self }
+    {
+        match self {
+            Version::Three => true,
+            Version::One | Version::Two => false,
+        }
+    }
 }
 
 /// The version that the third word of a header is.
@@ -34,6 +62,8 @@ pub(crate) fn header_version(word: &[u8]) -> Option<Version>
         Some(Version::One)
     } else if word == b"2".as_slice() {
         Some(Version::Two)
+    } else if word == b"3".as_slice() {
+        Some(Version::Three)
     } else {
         None
     }
@@ -72,10 +102,26 @@ fn rarer_verb_of(version: Version, word: &[u8]) -> Option<Verb>
     } else if word == b"show".as_slice() {
         Some(Verb::Show)
     } else if word == b"level".as_slice() {
-        match version {
-            Version::One => None,
-            Version::Two => Some(Verb::Level),
-        }
+        version.has_levels().then_some(Verb::Level)
+    } else {
+        order_verb_of(version, word)
+    }
+}
+
+/// The verb of text 3 that a word is.
+fn order_verb_of(version: Version, word: &[u8]) -> Option<Verb>
+    ensures { result ≡ order_verb_of version word.now }
+{
+    if !version.is_third() {
+        None
+    } else if word == b"start".as_slice() {
+        Some(Verb::Start)
+    } else if word == b"join".as_slice() {
+        Some(Verb::Join)
+    } else if word == b"signal".as_slice() {
+        Some(Verb::Signal)
+    } else if word == b"await".as_slice() {
+        Some(Verb::Await)
     } else {
         None
     }

@@ -1,5 +1,5 @@
 //! Numbers for the names of threads, locks and sites.
-ghost use Rattle.std.specs.Prelude.{◌≡◌, ◌+◌, ◌-◌, ◌<◌, ◌≤◌, ℕ, List, [], length, Some, slice_get, IsTrue, IsOk, IsErr, IfOk, OnOk, OnErr, false};
+ghost use Rattle.std.specs.Prelude.{◌≡◌, ◌+◌, ◌-◌, ◌<◌, ◌≤◌, ℕ, List, [], length, Some, slice_get, IsTrue, IsOk, IsErr, IfOk, IfSome, IfNone, OnOk, OnErr, true, false};
 ghost use Rattle.er_trace.specs.Inner.Recent.{bytes_of, Knows};
 ghost use Rattle.er_trace.specs.Names.{is_known, number_of, with_name, no_names, most_names};
 
@@ -75,6 +75,18 @@ impl NameList {
         ensures { slice_get self.now number ≡ Some result.now }
     {
         self.names[number].as_str()
+    }
+
+    /// The place of a name that has appeared.
+    fn find(&self, name: &str) -> Option<usize>
+        ensures some { IfSome result (λ n. (n ≡ number_of self.now name.now) × (is_known self.now name.now ≡ true)) }
+        ensures none { IfNone result (is_known self.now name.now ≡ false) }
+        ensures within { IfSome result (λ n. n < most_names) }
+    {
+        match self.names.get_index_of(name) {
+            Some(number) => Some(number),
+            None => None,
+        }
     }
 }
 
@@ -238,6 +250,17 @@ impl Names {
     {
         let number = self.sites.number(name)?;
         Ok(Site::new(number as u32 + 1))
+    }
+
+    /// The thread of this name, if the name has appeared.
+    pub fn known_thread(&self, name: &str) -> Option<ThreadId>
+        ensures some { IfSome result (λ thread. (thread ≡ number_of self.now.threads name.now) × (is_known self.now.threads name.now ≡ true)) }
+        ensures none { IfNone result (is_known self.now.threads name.now ≡ false) }
+    {
+        match self.threads.list.find(name) {
+            Some(number) => Some(ThreadId::new(number as u32)),
+            None => None,
+        }
     }
 
     /// The name of a thread that was numbered here.

@@ -113,7 +113,7 @@ const TEXT: &[u8] =
 
 // Texts with a fault: of the header, of a line, of the first line, of the last one, and at the end of a text without a header.
 const FAULTY: [&[u8]; 5] = [
-    b"# none\n\neraser trace 3\nt1 lock m\n",
+    b"# none\n\neraser trace 9\nt1 lock m\n",
     b"eraser trace 1\nt1 lock m\nt1 level 3\nt1 unlock m\n",
     b"t1 lock m\n",
     b"eraser trace 1\nt1 lock m\nt1 unlock none",

@@ -145,7 +145,7 @@ fn reads_that_fail(rt: HostRuntime) {
         assert_eq!(rt; fails, (true, true), "after {good}");
     }
     for good in 0..20 {
-        let fails = fails_after(rt.alloc(), b"eraser trace 3\nt1", good);
+        let fails = fails_after(rt.alloc(), b"eraser trace 9\nt1", good);
         assert_eq!(rt; fails, (good < 15, good < 15), "after {good}");
     }
 }

@@ -1,17 +1,20 @@
 -- What is known of an event line in its usual form. No public clause cites this module.
-use Rattle.std.specs.Prelude.{◌≡◌, ℕ, ◌+◌, ◌*◌, ◌/◌, ◌^◌, ◌<◌, ◌≤◌, Bool, true, false, List, ◌∷◌, ◌++◌, Option, Some, Result, Ok, Err, length, take, drop, codes}
+use Rattle.std.specs.Prelude.{◌≡◌, ℕ, ◌+◌, ◌*◌, ◌/◌, ◌^◌, ◌<◌, ◌≤◌, Bool, true, false, List, ◌∷◌, ◌++◌, Option, Some, None, Result, Ok, Err, length, take, drop, codes}
 use Rattle.std.specs.List.{list_all}
 use Rattle.std.specs.Char.{is_digit}
 use Rattle.std.specs.Str.Parse.{digits_value}
 use Rattle.er_event.specs.declared.steps.Kind.{Kind}
 use Rattle.er_event.specs.declared.steps.Mode.TheVariants as mode
 use Rattle.er_text.specs.declared.verbs.Version.{Version}
+use Rattle.er_text.specs.declared.stages.Stage.{Stage}
 use Rattle.er_text.specs.Lines.{words, word_at, has_bytes, is_ascii, is_comment}
 use Rattle.er_text.specs.Number.{number_of}
 use Rattle.er_text.specs.Naming.{is_name, is_lock_name}
 use Rattle.er_trace.specs.Trace.{Recording}
-use Rattle.er_text.specs.Events.{Operation, Acquires, Releases, Accesses, EventLine, with_line}
+use Rattle.er_trace.specs.Names.{number_of as place_of}
+use Rattle.er_text.specs.Events.{Operation, Acquires, Releases, Accesses, EventLine, with_operation, with_line}
 use Rattle.er_text.specs.Trace.{IsSite, IsOperation, Says}
+use Rattle.er_text.specs.Inner.Idle.{other_thread, last_actor}
 use Rattle.er_text.specs.Inner.Traces.{at_line, plain_at}
 
 -- a name, one space, and the rest
@@ -68,6 +71,8 @@ IsFastRelease bytes operation = (is_lock_name bytes ≡ true) × (operation ≡ 
 pub record IsFastOperation (bytes : List ℕ) (operation : Operation) : Type 0 where
   pub ascii : list_all is_ascii bytes ≡ true
   pub says : (v : Version) (thread : List ℕ) → IsOperation v (thread ∷ words bytes) thread operation
+  pub alone : other_thread operation ≡ None
+  pub one : (line thread : ℕ) (r : Recording) → last_actor (with_operation line thread operation r).steps ≡ Some thread
 
 -- a whole line
 pub record IsFastLine (line : List ℕ) (s : EventLine) : Type 0 where
@@ -75,6 +80,8 @@ pub record IsFastLine (line : List ℕ) (s : EventLine) : Type 0 where
   pub some : has_bytes (word_at 0 (words line)) ≡ true
   pub no_comment : is_comment line ≡ false
   pub says : (v : Version) → Says v (words line) s
+  pub alone : other_thread s.operation ≡ None
+  pub one : (number : ℕ) (r : Recording) → last_actor (with_line number s r).steps ≡ Some (place_of r.names.threads s.thread)
 
 -- an operation of this kind was added to a thread's, or nothing was, or memory ran out
 abbrev pub AddsOperation : {E : Type 0} → (Operation → Type 0) → ℕ → List ℕ → Recording → Recording → Result Bool E → Type 0
@@ -88,8 +95,8 @@ AddsLine Is line old new (Ok true) = (s : EventLine) × Is s × (new ≡ with_li
 AddsLine Is line old new (Ok false) = new ≡ old
 AddsLine Is line old new (Err e) = Unit {0}
 
--- a line behind the header was read, or nothing was, or memory ran out
-abbrev pub ReadsUsual : {E : Type 0} → ℕ → Option Version → List ℕ → Recording → Recording → Result Bool E → Type 0
-ReadsUsual line version bytes old new (Ok true) = plain_at (at_line line version old) line bytes ≡ Ok (at_line (line + 1) version new)
-ReadsUsual line version bytes old new (Ok false) = new ≡ old
-ReadsUsual line version bytes old new (Err e) = Unit {0}
+-- a line behind the header was read, or nothing was, or memory ran out; the threads are idle that the lists say, before and behind it
+abbrev pub ReadsUsual : {E : Type 0} → ℕ → Stage → List ℕ → List Bool → List Bool → Recording → Recording → Result Bool E → Type 0
+ReadsUsual line stage bytes idle after old new (Ok true) = plain_at (at_line line stage idle old) line bytes ≡ Ok (at_line (line + 1) stage after new)
+ReadsUsual line stage bytes idle after old new (Ok false) = (after ≡ idle) × (new ≡ old)
+ReadsUsual line stage bytes idle after old new (Err e) = Unit {0}

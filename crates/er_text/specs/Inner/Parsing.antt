@@ -19,7 +19,7 @@ use Rattle.er_text.specs.Lines.{has_bytes, word_at}
 use Rattle.er_text.specs.Number.{number_of}
 use Rattle.er_text.specs.Naming.{name_of, lock_name_of}
 use Rattle.er_text.specs.Verbs.{verb_of, least_of, most_of}
-use Rattle.er_text.specs.Events.{Operation, Acquires, Releases, Accesses, Reuses, IgnoresOn, IgnoresOff, Shows, Levels, EventLine, run_of}
+use Rattle.er_text.specs.Events.{Operation, Acquires, Releases, Accesses, Reuses, IgnoresOn, IgnoresOff, Shows, Levels, Starts, Joins, Signals, Awaits, EventLine, run_of}
 
 abbrev pub and_then : {A B : Type 0} → Result A TextKind → (A → Result B TextKind) → Result B TextKind
 and_then (Ok x) f = f x
@@ -77,6 +77,10 @@ operands_in verb.IgnoreOn first second = Ok IgnoresOn
 operands_in verb.IgnoreOff first second = Ok IgnoresOff
 operands_in verb.Show first second = and_then (number_in first) (λ n. map_ok Shows (word_in n))
 operands_in verb.Level first second = and_then (number_in first) (λ n. map_ok Levels (level_in n))
+operands_in verb.Start first second = map_ok Starts (name_in first)
+operands_in verb.Join first second = map_ok Joins (name_in first)
+operands_in verb.Signal first second = map_ok Signals (lock_in first)
+operands_in verb.Await first second = map_ok Awaits (lock_in first)
 
 -- how many of three operands there are, of which those that are missing are empty
 abbrev pub count_of : List ℕ → List ℕ → List ℕ → ℕ
@@ -117,6 +121,10 @@ action_view action.IgnoreOn = IgnoresOn
 action_view action.IgnoreOff = IgnoresOff
 action_view (action.Show w) = Shows w
 action_view (action.Level n) = Levels n
+action_view (action.Start other) = Starts other.now
+action_view (action.Join other) = Joins other.now
+action_view (action.Signal object) = Signals object.now
+action_view (action.Await object) = Awaits object.now
 
 abbrev pub event_line : ParsedLine → EventLine
 event_line parsed_line = record { thread = parsed_line.thread.now; operation = action_view parsed_line.action }

@@ -1,7 +1,7 @@
 -- Each number of the step has a name by then.
 use Rattle.er_text.specs.Inner.Parsing.{seen_name}
-use Rattle.er_text.proofs.AddingLemmas.{thread_named, lock_named, site_named}
-use Rattle.er_text.proofs.adding.add_steps.Goals.{in-Acquire+in_ok-lock-in-Acquire, in-Release+in_ok-lock-in-Release, in-Access+in_ok-site_number-in-Access, in-IgnoreOn, in-IgnoreOff, in-Show, in-Level}
+use Rattle.er_text.proofs.AddingLemmas.{thread_named, lock_named, other_named, site_named}
+use Rattle.er_text.proofs.adding.add_steps.Goals.{in-Acquire+in_ok-lock-in-Acquire, in-Release+in_ok-lock-in-Release, in-Access+in_ok-site_number-in-Access, in-IgnoreOn, in-IgnoreOff, in-Show, in-Level, in-Start+in_ok-thread-in-Start, in-Join+in_ok-thread-in-Join, in-Signal+in_ok-lock-in-Signal, in-Await+in_ok-lock-in-Await}
 use Rattle.er_text.proofs.adding.add_steps.Goals as goal
 
 pub add_reuse-requires : goal.add_reuse-requires
@@ -19,6 +19,18 @@ push-requires c =
           rw (w.trace-is, w.event-is) (record { thread = n.0; event = n.1 })
       | in-Access+in_ok-site_number-in-Access w ↦
           let n = site_named c.thread.new.self w.site_number.new.trace (seen_name w.in-Access.site) w.in_ok-site_number-in-Access.field-0 c.in_ok-thread.thread named w.in_ok-site_number-in-Access.ensures.number w.in_ok-site_number-in-Access.ensures.trace in
+          rw (w.trace-is, w.event-is) (record { thread = n.0; event = n.1 })
+      | in-Start+in_ok-thread-in-Start w ↦
+          let n = other_named c.thread.new.self w.thread-in-Start.new.self w.in-Start.other.now w.in_ok-thread-in-Start.field-0 c.in_ok-thread.thread named w.in_ok-thread-in-Start.ensures.number w.in_ok-thread-in-Start.ensures.ok in
+          rw (w.trace-is, w.event-is) (record { thread = n.0; event = n.1 })
+      | in-Join+in_ok-thread-in-Join w ↦
+          let n = other_named c.thread.new.self w.thread-in-Join.new.self w.in-Join.other.now w.in_ok-thread-in-Join.field-0 c.in_ok-thread.thread named w.in_ok-thread-in-Join.ensures.number w.in_ok-thread-in-Join.ensures.ok in
+          rw (w.trace-is, w.event-is) (record { thread = n.0; event = n.1 })
+      | in-Signal+in_ok-lock-in-Signal w ↦
+          let n = lock_named c.thread.new.self w.lock-in-Signal.new.self w.in-Signal.object.now w.in_ok-lock-in-Signal.field-0 c.in_ok-thread.thread named w.in_ok-lock-in-Signal.ensures.number w.in_ok-lock-in-Signal.ensures.ok in
+          rw (w.trace-is, w.event-is) (record { thread = n.0; event = n.1 })
+      | in-Await+in_ok-lock-in-Await w ↦
+          let n = lock_named c.thread.new.self w.lock-in-Await.new.self w.in-Await.object.now w.in_ok-lock-in-Await.field-0 c.in_ok-thread.thread named w.in_ok-lock-in-Await.ensures.number w.in_ok-lock-in-Await.ensures.ok in
           rw (w.trace-is, w.event-is) (record { thread = n.0; event = n.1 })
       | in-IgnoreOn w ↦ rw (w.trace-is, w.event-is) (record { thread = named; event = tt })
       | in-IgnoreOff w ↦ rw (w.trace-is, w.event-is) (record { thread = named; event = tt })

@@ -1,8 +1,26 @@
 -- Each verb, and what follows it.
-use Rattle.er_text.specs.Inner.FastPath.{IsFastAcquire, IsFastRelease, IsFastOperation}
-use Rattle.er_text.proofs.FastPathLaws.{lock_tells, unlock_tells}
+use Rattle.std.proofs.Common.{ap}
+use Rattle.std.specs.List.{list_all}
+use Rattle.er_event.specs.declared.steps.Kind.TheVariants.{Read, Write}
+use Rattle.er_text.specs.Lines.{is_ascii, words}
+use Rattle.er_text.specs.Inner.FastPath.{IsFastAccess, IsFastAcquire, IsFastRelease, IsFastOperation}
+use Rattle.er_text.proofs.FastPathLaws.{access_tells, lock_tells, unlock_tells}
 use Rattle.er_text.proofs.UsualLemmas.{adds_as}
 use Rattle.er_text.proofs.fast_path.add_usual_operation.Goals as goal
+
+pub returns-in-Some : goal.returns-in-Some
+returns-in-Some c =
+    let rest = c.in-Some.rest.now in
+    let is = c.in-Some.ensures in
+    adds_as (IsFastAccess Read rest) (IsFastOperation c.args.bytes.now) c.args.line c.args.thread.now c.args.trace.now c.add_usual_access.new.trace c.add_usual_access.result
+    (λ operation a. access_tells Read c.args.bytes.now rest operation (ap (list_all is_ascii) is) (ap words is) a) c.add_usual_access.ensures
+
+pub returns-in-Some-after_write : goal.returns-in-Some-after_write
+returns-in-Some-after_write c =
+    let rest = c.in-Some-after_write.rest.now in
+    let is = c.in-Some-after_write.ensures in
+    adds_as (IsFastAccess Write rest) (IsFastOperation c.args.bytes.now) c.args.line c.args.thread.now c.args.trace.now c.add_usual_access-in-Some-after_write.new.trace c.add_usual_access-in-Some-after_write.result
+    (λ operation a. access_tells Write c.args.bytes.now rest operation (ap (list_all is_ascii) is) (ap words is) a) c.add_usual_access-in-Some-after_write.ensures
 
 pub returns-in-Some-after_lock : goal.returns-in-Some-after_lock
 returns-in-Some-after_lock c =
