@@ -1,16 +1,17 @@
 -- One book, or some that lie side by side, change in one block: what that makes of the books of all words.
-use Rattle.std.proofs.Common.{◌≡◌, ◌≢◌, ◌∙◌, ◌==◌, ℕ, zero, suc, ◌+◌, ◌<◌, ◌≤◌, ◌/◌, ◌%◌, ◌&&◌, nat_eq, nat_le, nat_lt, Bool, true, false, cond, List, [], ◌∷◌, length, get_or, position, slice_get, Option, Some, None, refl, sym, ap, arith}
+use Rattle.std.proofs.Common.{◌≡◌, ◌≢◌, ◌∙◌, ◌==◌, ℕ, zero, suc, ◌+◌, ◌<◌, ◌≤◌, ◌/◌, ◌%◌, ◌&&◌, nat_eq, nat_le, nat_lt, Bool, true, false, cond, List, [], ◌∷◌, length, get_or, position, slice_get, slice_index_or, slice_set, Option, Some, None, refl, sym, ap, arith}
 use Rattle.std.specs.Cmp.{nat_eq_equiv}
 use Rattle.std.specs.Map.{lookup, keys_of, values_of}
 use Rattle.std.proofs.lemmas.Bool.Decides.{nat_tests}
 use Rattle.std.proofs.lemmas.List.Quantifiers.{position-Some}
-use Rattle.std.proofs.lemmas.List.{get_or_past}
+use Rattle.std.proofs.lemmas.List.{get_or-set_same, get_or-set_other}
 use Rattle.std.proofs.lemmas.Map.Entries.{lookup_from_place}
 use Rattle.indexmap.specs.IndexMap.{IndexMap, keys, values, IsUnique, with_value_at}
 use Rattle.indexmap.proofs.CallerLemmas.{updates-with_value_at}
 use borrow.Author.Tests.{eqb-true, eqb-false, eq-eqb}
 use Rattle.er_event.specs.declared.addresses.PageRange.{PageRange}
 use Rattle.er_model.specs.Words.{is_within}
+use Rattle.er_explain.specs.Inner.Begun.{counted_books}
 use Rattle.er_explain.specs.WordBooks.{Blocks, book_at_place, book_in_block, book_in, is_place_in}
 use Rattle.er_explain.specs.declared.book.Book.{Book}
 use Rattle.er_explain.specs.declared.book.Book.TheVariants.{Untouched}
@@ -205,36 +206,66 @@ module _ {A : Type 0} where
   unfolding book_in
   no_blocks blocks none w = ap (λ (all : Blocks A). book_in_block (lookup (nat_eq (w / 32)) all) (w % 32)) none
 
-  -- one book more of a range
-  pub one-emptied : (start place i : ℕ) (x : Book A) → start ≤ place
-      → cond (nat_eq place i) Untouched (cond (nat_le start i && nat_lt i place) Untouched x) ≡ cond (nat_le start i && nat_lt i (place + 1)) Untouched x
-  one-emptied start place i x low = by (nat_eq place i) refl
+  -- the book that counts at a place
+  pub counted_at : (marks : List Bool) (books : List (Book A)) (i : ℕ) → book_at_place (counted_books marks books) i ≡ cond (slice_index_or marks i false) (book_at_place books i) Untouched
+  unfolding counted_books
+  counted_at marks [] i = by (slice_index_or marks i false) Untouched
     where
-      first : place ≡ i → (nat_le start i && nat_lt i (place + 1)) ≡ true
-      first at = grind (arith, nat_tests)
+      by : (marked : Bool) (book : Book A) → book ≡ cond marked book book
+      by true book = refl
+      by false book = refl
+  counted_at [] (b ∷ books) i = refl
+  counted_at (m ∷ marks) (b ∷ books) zero = refl
+  counted_at (m ∷ marks) (b ∷ books) (suc i) = counted_at marks books i
 
-      other : place ≢ i → nat_lt i place ≡ nat_lt i (place + 1)
-      other apart = grind (arith, nat_tests)
+  pub no_books : (marks : List Bool) (books : List (Book A)) → books ≡ [] → (i : ℕ) → book_at_place (counted_books marks books) i ≡ Untouched
+  unfolding counted_books
+  no_books marks books none i = ap (λ bs. book_at_place (counted_books marks bs) i) none
 
-      by : (same : Bool) → nat_eq place i ≡ same
-          → cond same Untouched (cond (nat_le start i && nat_lt i place) Untouched x) ≡ cond (nat_le start i && nat_lt i (place + 1)) Untouched x
-      by true e = ap (λ b. cond b Untouched x) (sym (first (eqb-true place i e)))
-      by false e = ap (λ b. cond (nat_le start i && b) Untouched x) (other (eqb-false place i e))
+  -- the book of a marked place, and of another
+  pub begun_at : (marks : List Bool) (was : List (Book A)) (place : ℕ) → slice_index_or marks place false ≡ true → book_at_place (counted_books marks was) place ≡ book_at_place was place
+  begun_at marks was place marked = counted_at marks was place ∙ ap (λ b. cond b (book_at_place was place) Untouched) marked
 
-  -- past the end of a block its books are empty
-  pub short-block : (books : List (Book A)) (low high : Bool) (i n : ℕ) → n ≡ length books
-      → cond (low && (nat_lt i n && high)) Untouched (book_at_place books i) ≡ cond (low && high) Untouched (book_at_place books i)
-  short-block books low high i n long = by (nat_lt i n) refl
+  pub blank_at : (marks : List Bool) (was : List (Book A)) (place : ℕ) → slice_index_or marks place false ≡ false → book_at_place (counted_books marks was) place ≡ Untouched
+  blank_at marks was place unmarked = counted_at marks was place ∙ ap (λ b. cond b (book_at_place was place) Untouched) unmarked
+
+  -- one book goes on, and counts
+  pub goes_on : (marks marked : List Bool) (was books now : List (Book A)) (place : ℕ) (before after : Book A) (f : Book A → Book A)
+      → counted_books marks was ≡ now → place < length books
+      → ((i : ℕ) → slice_index_or marked i false ≡ cond (nat_eq place i) true (slice_index_or marks i false))
+      → ((i : ℕ) → book_at_place books i ≡ book_at_place was i)
+      → book_at_place (counted_books marks was) place ≡ before → after ≡ f before
+      → (i : ℕ) → book_at_place (counted_books marked (slice_set books place after)) i ≡ cond (nat_eq place i) (f (book_at_place now place)) (book_at_place now i)
+  goes_on marks marked was books now place before after f seen within marks_more same is goes i =
+      counted_at marked (slice_set books place after) i
+      ∙ (ap (λ b. cond b (book_at_place (slice_set books place after) i) Untouched) (marks_more i) ∙ by (nat_eq place i) refl)
     where
-      stays : (b c : Bool) (x : Book A) → x ≡ Untouched → cond (b && false) Untouched x ≡ cond (b && c) Untouched x
-      stays true true x empty = empty
-      stays true false x empty = refl
-      stays false c x empty = refl
+      here : place ≡ i → book_at_place (slice_set books place after) i ≡ after
+      here at = (λ k. book_at_place (slice_set books place after) (sym at k)) ∙ get_or-set_same books place after Untouched within
 
-      past : nat_lt i n ≡ false → n ≤ i
-      past e = grind (arith, nat_tests)
+      by : (at : Bool) → nat_eq place i ≡ at
+          → cond (cond at true (slice_index_or marks i false)) (book_at_place (slice_set books place after) i) Untouched ≡ cond at (f (book_at_place now place)) (book_at_place now i)
+      by true e = here (eqb-true place i e) ∙ (goes ∙ ap f (sym is ∙ (λ k. book_at_place (seen k) place)))
+      by false e =
+          ap (λ b. cond (slice_index_or marks i false) b Untouched) (get_or-set_other books place i after Untouched (λ at. eqb-false place i e (sym at)) ∙ same i)
+          ∙ (sym (counted_at marks was i) ∙ (λ k. book_at_place (seen k) i))
 
-      by : (within : Bool) → nat_lt i n ≡ within
-          → cond (low && (within && high)) Untouched (book_at_place books i) ≡ cond (low && high) Untouched (book_at_place books i)
-      by true e = refl
-      by false e = stays low high (book_at_place books i) (get_or_past books i Untouched (let far : n ≤ i = past e in omega arith))
+  -- some books don't count any more
+  pub unmarked_books : (marks left : List Bool) (was now : List (Book A)) (test : ℕ → Bool)
+      → counted_books marks was ≡ now → ((i : ℕ) → slice_index_or left i false ≡ cond (test i) false (slice_index_or marks i false))
+      → (i : ℕ) → book_at_place (counted_books left was) i ≡ cond (test i) Untouched (book_at_place now i)
+  unmarked_books marks left was now test seen fewer i =
+      counted_at left was i ∙ (ap (λ b. cond b (book_at_place was i) Untouched) (fewer i) ∙ (by (test i) ∙ (λ k. cond (test i) Untouched (book_at_place (seen k) i))))
+    where
+      by : (b : Bool) → cond (cond b false (slice_index_or marks i false)) (book_at_place was i) Untouched ≡ cond b Untouched (book_at_place (counted_books marks was) i)
+      by true = refl
+      by false = sym (counted_at marks was i)
+
+-- a place that is marked already
+pub marked_before : (marks : List Bool) (place : ℕ) → slice_index_or marks place false ≡ true
+    → (i : ℕ) → slice_index_or marks i false ≡ cond (nat_eq place i) true (slice_index_or marks i false)
+marked_before marks place is i = by (nat_eq place i) refl
+  where
+    by : (at : Bool) → nat_eq place i ≡ at → slice_index_or marks i false ≡ cond at true (slice_index_or marks i false)
+    by true e = ap (λ k. slice_index_or marks k false) (sym (eqb-true place i e)) ∙ is
+    by false e = refl

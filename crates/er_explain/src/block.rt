@@ -1,7 +1,6 @@
 //! `Block`, the books of words that lie side by side.
-ghost use Rattle.std.specs.Prelude.{◌≡◌, ◌<◌, ◌≤◌, ◌&&◌, ◌+◌, ℕ, nat_eq, nat_le, nat_lt, cond, length, option_copied, OnOk};
+ghost use Rattle.std.specs.Prelude.{◌≡◌, ◌<◌, ◌≤◌, ◌&&◌, ◌+◌, ℕ, nat_eq, nat_le, nat_lt, cond, false, true, length, slice_index_or, option_copied, OnOk};
 ghost use Rattle.er_explain.specs.Books.{book_accessed};
-ghost use Rattle.er_explain.specs.Inner.Begun.{BegunAlone};
 ghost use Rattle.er_explain.specs.WordBooks.{book_at_place, joining_in};
 ghost use Rattle.er_held.specs.ThreadLocks.{held_by};
 ghost use Rattle.er_model.specs.Following.{locks_for};
@@ -16,20 +15,18 @@ use std::marker::Model;
 #[derive(Drop)]
 pub(crate) struct Block<A> {
     books: Vec<Book<A>>,
-    // Which of the books may have something in them: a reuse looks at no other.
+    // Whose books count. A reuse takes the marks of its words away and doesn't look at their books, which later accesses write over.
     begun: [bool; 32],
 }
 
 impl<A> Model for Block<A> {
     ghost use Rattle.std.specs.Prelude.{List};
-    ghost use Rattle.er_explain.specs.Inner.Begun.{BegunAlone};
+    ghost use Rattle.er_explain.specs.Inner.Begun.{counted_books};
     ghost use Rattle.er_explain.specs.declared.book.Book.{Book};
 
     ghost Value = { List (Book A) };
 
-    ghost view = { λ b. b.books.items };
-
-    ghost invariant = { λ b. BegunAlone b.books.items b.begun };
+    ghost view = { λ b. counted_books b.begun b.books.items };
 }
 
 impl<A: Copy> Block<A> {
@@ -56,9 +53,13 @@ impl<A: Copy> Block<A> {
         requires { place < 32 }
         ensures { OnOk result ((i : ℕ) → book_at_place self.new i ≡ cond (nat_eq place i) (book_accessed (book_at_place self.old place) at thread kind (locks_for (held_by locks.now thread) kind)) (book_at_place self.old i)) }
     {
-        self.begun[place] = true;
         reach(&mut self.books, place)?;
-        self.books[place].access(alloc, locks, at, thread, kind)
+        if self.begun[place] {
+            return self.books[place].access(alloc, locks, at, thread, kind);
+        }
+        self.books[place] = Book::Owned(at, thread);
+        mark(&mut self.begun, place);
+        Ok(())
     }
 
     /// Empties the books from `lo` to `hi`, both included.
@@ -66,59 +67,55 @@ impl<A: Copy> Block<A> {
         requires { hi < 32 }
         ensures { (i : ℕ) → book_at_place self.new i ≡ cond (nat_le lo i && nat_le i hi) Book.Untouched (book_at_place self.old i) }
     {
-        let end = end_of(self.books.len(), hi);
-        let start = start_of(lo, end);
-        empty_all(&mut self.books, &mut self.begun, start, end);
+        unmark(&mut self.begun, start_of(lo, hi + 1), hi + 1);
     }
 
     /// The joining of the word at a place, if a second thread has joined.
     pub(crate) fn joining(&self, place: usize) -> Option<&Joint<A>>
         ensures { option_copied result ≡ joining_in (book_at_place self.now place) }
     {
-        match self.books.get(place) {
-            Some(Book::Joined(joint)) => Some(joint),
-            _ => None,
+        if is_marked(&self.begun, place) {
+            joining_at(&self.books, place)
+        } else {
+            None
         }
     }
 }
 
-// Empties a book, if it has begun.
-fn empty_one<A: Copy>(books: &mut Vec<Book<A>>, begun: &mut [bool; 32], place: usize)
-    requires within { place < 32 }
-    requires there { place < length books.old.items }
-    requires alone { BegunAlone books.old.items begun.old }
-    ensures len { length books.new.items ≡ length books.old.items }
-    ensures book { (i : ℕ) → book_at_place books.new.items i ≡ cond (nat_eq place i) Book.Untouched (book_at_place books.old.items i) }
-    ensures alone { BegunAlone books.new.items begun.new }
+// The joining that a book says, whether it counts or not.
+fn joining_at<A>(books: &[Book<A>], place: usize) -> Option<&Joint<A>>
+    ensures { option_copied result ≡ joining_in (book_at_place books.now place) }
 {
-    if begun[place] {
-        books[place] = Book::Untouched;
-        begun[place] = false;
+    match books.get(place) {
+        Some(Book::Joined(joint)) => Some(joint),
+        _ => None,
     }
 }
 
-// Empties the books from `start` to `end`, without the one at `end`, that have begun.
-fn empty_all<A: Copy>(books: &mut Vec<Book<A>>, begun: &mut [bool; 32], start: usize, end: usize)
+// Whether a place is marked. Past the last one none is.
+fn is_marked(begun: &[bool; 32], place: usize) -> bool
+    ensures { result ≡ slice_index_or begun.now place false }
+{
+    matches!(begun.get(place), Some(true))
+}
+
+// Marks a place.
+fn mark(begun: &mut [bool; 32], place: usize)
+    requires { place < 32 }
+    ensures { (i : ℕ) → slice_index_or begun.new i false ≡ cond (nat_eq place i) true (slice_index_or begun.old i false) }
+{
+    begun[place] = true;
+}
+
+// Takes the marks from `start` to `end` away, without the one at `end`.
+fn unmark(begun: &mut [bool; 32], start: usize, end: usize)
     requires ordered { start ≤ end }
     requires within { end ≤ 32 }
-    requires there { end ≤ length books.old.items }
-    requires alone { BegunAlone books.old.items begun.old }
-    ensures book { (i : ℕ) → book_at_place books.new.items i ≡ cond (nat_le start i && nat_lt i end) Book.Untouched (book_at_place books.old.items i) }
-    ensures alone { BegunAlone books.new.items begun.new }
+    ensures { (i : ℕ) → slice_index_or begun.new i false ≡ cond (nat_le start i && nat_lt i end) false (slice_index_or begun.old i false) }
 {
     for place in start..end {
-        empty_one(books, begun, place);
+        begun[place] = false;
     }
-}
-
-// Where a pass over the first `len` places ends that goes to `hi` at most.
-fn end_of(len: usize, hi: usize) -> usize
-    requires { hi < 32 }
-    ensures within { result ≤ len }
-    ensures low { result ≤ hi + 1 }
-    ensures same { (i : ℕ) → nat_lt i result ≡ (nat_lt i len && nat_le i hi) }
-{
-    if len <= hi { len } else { hi + 1 }
 }
 
 // Where a pass begins that goes from `lo` to this end, if it goes anywhere.

@@ -20,13 +20,21 @@ pub struct Pair<A> {
     pub at: Option<A>,
 }
 
-/// A word that a second thread has joined: its first access, the joining, the first write since, and the locks of the joining.
+// What is kept of a word that a second thread has joined.
 #[derive(Drop)]
-pub struct Joint<A> {
+struct Parts<A> {
     first: A,
     join: A,
     write: Option<A>,
     pairs: Vec<Pair<A>>,
+}
+
+/// A word that a second thread has joined: its first access, the joining, the first write since, and the locks of the joining.
+///
+/// It stands apart from its book. So a book of a word that one thread alone has accessed, as most are, is small.
+#[derive(Drop)]
+pub struct Joint<A> {
+    parts: Box<Parts<A>>,
 }
 
 impl<A> Model for Joint<A> {
@@ -34,7 +42,7 @@ impl<A> Model for Joint<A> {
 
     ghost Value = { Joining A };
 
-    ghost view = { λ j. record { first = j.first; join = j.join; write = j.write; pairs = j.pairs.items } };
+    ghost view = { λ j. record { first = j.parts.value.first; join = j.parts.value.join; write = j.parts.value.write; pairs = j.parts.value.pairs.items } };
 }
 
 /// What is kept of a word since it was last reused.
@@ -67,11 +75,14 @@ impl<A: Copy> Joint<A> {
             Kind::Read => None,
             Kind::Write => Some(join),
         };
-        Ok(Joint {
+        let parts = Parts {
             first,
             join,
             write,
             pairs,
+        };
+        Ok(Joint {
+            parts: Box::new(alloc, parts)?,
         })
     }
 
@@ -79,38 +90,38 @@ impl<A: Copy> Joint<A> {
     pub fn first(&self) -> A
         ensures { result ≡ self.now.first }
     {
-        self.first
+        self.parts.first
     }
 
     /// The access by which a second thread joined.
     pub fn join(&self) -> A
         ensures { result ≡ self.now.join }
     {
-        self.join
+        self.parts.join
     }
 
     /// The first write from the joining on, if there is one.
     pub fn write(&self) -> Option<A>
         ensures { result ≡ self.now.write }
     {
-        self.write
+        self.parts.write
     }
 
     /// The locks of the joining, each with the first access since then that it doesn't cover.
     pub fn pairs(&self) -> &[Pair<A>]
         ensures { result.now ≡ self.now.pairs }
     {
-        &self.pairs
+        &self.parts.pairs
     }
 
     // A later access.
     fn go_on(&mut self, locks: &ThreadLocks, at: A, thread: ThreadId, kind: Kind)
         ensures { self.new ≡ gone_on self.old at kind (locks_for (held_by locks.now thread) kind) }
     {
-        if let (None, Kind::Write) = (self.write, kind) {
-            self.write = Some(at);
+        if let (None, Kind::Write) = (self.parts.write, kind) {
+            self.parts.write = Some(at);
         }
-        look_for_uncovered(&mut self.pairs, locks, at, thread, kind);
+        look_for_uncovered(&mut self.parts.pairs, locks, at, thread, kind);
     }
 }
 
@@ -204,11 +215,11 @@ impl Joint<u64> {
     fn explanation(&self, alloc: Global) -> Result<Option<Explanation>, AllocError>
         ensures { IfOk result (λ found. (e : Explained) → (found ≡ Some e) ↔ (self.now ≡ joining_of e)) }
     {
-        let Some(write) = self.write else {
+        let Some(write) = self.write() else {
             return Ok(None);
         };
-        let mut uncovered = Vec::with_capacity(alloc, self.pairs.len())?;
-        for pair in &self.pairs {
+        let mut uncovered = Vec::with_capacity(alloc, self.pairs().len())?;
+        for pair in self.pairs() {
             let Some(at) = pair.at else {
                 return Ok(None);
             };
@@ -218,8 +229,8 @@ impl Joint<u64> {
             })?;
         }
         Ok(Some(Explanation {
-            first: self.first,
-            join: self.join,
+            first: self.first(),
+            join: self.join(),
             write,
             uncovered,
         }))

@@ -1,9 +1,10 @@
--- Which books of a block may have something in them.
-use Rattle.std.specs.Prelude.{◌≡◌, ℕ, Bool, false, List, slice_index_or}
-use Rattle.er_explain.specs.WordBooks.{book_at_place}
+-- Which books of a block count.
+use Rattle.std.specs.Prelude.{Bool, cond, List, [], ◌∷◌}
 use Rattle.er_explain.specs.declared.book.Book.{Book}
 use Rattle.er_explain.specs.declared.book.Book.TheVariants.{Untouched}
 
--- a book that isn't marked is empty
-abbrev pub BegunAlone : {A : Type 0} → List (Book A) → List Bool → Type 0
-BegunAlone books begun = (i : ℕ) → slice_index_or begun i false ≡ false → book_at_place books i ≡ Untouched
+-- the books, of which those that aren't marked are empty
+unfoldable pub counted_books : {A : Type 0} → List Bool → List (Book A) → List (Book A)
+counted_books marks [] = []
+counted_books [] (b ∷ books) = []
+counted_books (m ∷ marks) (b ∷ books) = cond m b Untouched ∷ counted_books marks books
