@@ -9,7 +9,7 @@
 #include <stdatomic.h>
 #include <stdint.h>
 
-#define RING_MAGIC 0x31676e6972617265u /* "eraring1" in memory */
+#define RING_MAGIC 0x32676e6972617265u /* "eraring2" in memory */
 #define RING_BITS 18
 #define RING_SLOTS (1u << RING_BITS)
 #define RING_MASK (RING_SLOTS - 1)
@@ -45,9 +45,21 @@ enum event_kind {
     EVENT_MAPS_BEGIN, /* the text of /proc/self/maps follows */
     EVENT_MAPS_TEXT,  /* size: bytes, first and second: up to 16 bytes of text */
     EVENT_MAPS_END,
+    /* What orders threads, if the ring asks for it. */
+    EVENT_START,      /* first: number of the thread that is started, second: its pthread_t */
+    EVENT_JOIN_WHOM,  /* first: pthread_t of the thread that the next EVENT_JOIN of this thread joins */
+    EVENT_JOIN,
+    EVENT_SIGNAL,     /* first: object, size: enum object_kind */
+    EVENT_AWAIT,      /* the same */
+    EVENT_OBJECT_END, /* first: object whose life ends */
+    EVENT_BARRIER,    /* first: barrier whose life begins, second: how many threads it lets go at a time, 0 if others may come to it */
 };
 
 enum lock_kind { LOCK_MUTEX, LOCK_RWLOCK, LOCK_SPIN, LOCK_USER };
+
+/* What threads signal and await. */
+enum object_kind { OBJECT_ATOMIC, OBJECT_SEMAPHORE, OBJECT_BARRIER, OBJECT_CONDITION, OBJECT_ONCE, OBJECT_USER };
+#define OBJECT_KINDS 6
 
 struct slot {
     _Atomic uint32_t published; /* ring_round() of its ticket once the rest is filled */
@@ -66,6 +78,7 @@ struct ring {
     /* Read by every event, written hardly ever. */
     uint64_t magic;
     uint32_t writer; /* process id */
+    uint32_t orders; /* not 0: what orders threads is recorded as well */
     _Atomic uint32_t stop;       /* the writer takes no more events */
     _Atomic uint32_t owner;      /* process id of the program that is recorded, 0 before there is one */
     _Atomic uint32_t others;     /* programs that found another one recorded already */

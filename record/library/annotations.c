@@ -1,6 +1,5 @@
 /* What a program says of itself: by record/eraser.h, by the annotations that ThreadSanitizer's library takes, and by those of Valgrind's
- * family. Of the latter two only what a lockset detector can use has an effect; ownership that passes from thread to thread in order
- * (happens-before) has none. */
+ * family. What they say of order between threads is recorded only by `record/run --order`. */
 #include "emit.h"
 
 /* ---- record/eraser.h ---- */
@@ -42,6 +41,9 @@ HOOK void __tsan_mutex_pre_divert(void *lock, unsigned how) { (void)lock; (void)
 HOOK void __tsan_mutex_post_divert(void *lock, unsigned how) { (void)lock; (void)how; }
 HOOK void __tsan_ignore_thread_begin(void) { emit(EVENT_IGNORE_ON, 0, 0, 0); }
 HOOK void __tsan_ignore_thread_end(void) { emit(EVENT_IGNORE_OFF, 0, 0, 0); }
+
+HOOK void __tsan_release(void *object) { emit_signal(OBJECT_USER, object); }
+HOOK void __tsan_acquire(void *object) { emit_await(OBJECT_USER, object); }
 
 /* ---- Annotations of Valgrind's family ---- */
 
@@ -85,6 +87,19 @@ HOOK void AnnotateNewMemory(const char *file, int line, const volatile void *add
     (void)line;
     emit_reuse(address, size);
 }
+
+#define ORDER(name, emit_it)                     \
+    HOOK void name(const char *file, int line, const volatile void *object) \
+    {                                            \
+        (void)file;                              \
+        (void)line;                              \
+        emit_it(OBJECT_USER, object);            \
+    }
+
+ORDER(AnnotateHappensBefore, emit_signal)
+ORDER(AnnotateHappensAfter, emit_await)
+ORDER(WTFAnnotateHappensBefore, emit_signal)
+ORDER(WTFAnnotateHappensAfter, emit_await)
 
 #define IGNORE(name, change)                     \
     HOOK void Annotate##name(const char *file, int line) \

@@ -1,33 +1,101 @@
-/* Atomic operations: carried out, always in the strongest order, and not recorded. They order threads and don't race. */
+/* Atomic operations: always carried out in the strongest order. They don't race, and no access is recorded. If what orders threads is
+ * recorded, one that releases by the program's own memory order signals its address, and one that acquires awaits it. */
 #include "emit.h"
 
 #define ORDER __ATOMIC_SEQ_CST
 
+/* The low bits of a memory order. A compiler may set others, as hints for the processor. */
+#define ORDER_BITS 15
+
+static inline bool is_release(int order)
+{
+    order &= ORDER_BITS;
+    return order == __ATOMIC_RELEASE || order == __ATOMIC_ACQ_REL || order == __ATOMIC_SEQ_CST;
+}
+
+static inline bool is_acquire(int order)
+{
+    order &= ORDER_BITS;
+    return order == __ATOMIC_ACQUIRE || order == __ATOMIC_CONSUME || order == __ATOMIC_ACQ_REL || order == __ATOMIC_SEQ_CST;
+}
+
+static __attribute__((noinline)) void signal_address(const volatile void *at)
+{
+    emit_signal(OBJECT_ATOMIC, at);
+}
+
+static __attribute__((noinline)) void await_address(const volatile void *at)
+{
+    emit_await(OBJECT_ATOMIC, at);
+}
+
+/* Before an operation that stores. */
+static inline void before_store(const volatile void *at, int order)
+{
+    if (UNLIKELY(is_ordering()) && is_release(order))
+        signal_address(at);
+}
+
+/* After an operation that loads. */
+static inline void after_load(const volatile void *at, int order)
+{
+    if (UNLIKELY(is_ordering()) && is_acquire(order))
+        await_address(at);
+}
+
+/* An operation that stores only if it succeeds has its place among the events before it is known whether it is a signal. */
+static inline __attribute__((always_inline)) bool draw_signal(struct draft *draft, int order)
+{
+    return UNLIKELY(is_ordering()) && is_release(order) && emit_draw(draft);
+}
+
+static inline __attribute__((always_inline)) void publish_signal(const struct draft *draft, bool is_done, const volatile void *at)
+{
+    emit_publish(draft, is_done ? EVENT_SIGNAL : EVENT_VOID, OBJECT_ATOMIC, (uintptr_t)at, 0);
+}
+
 #define LOAD_AND_STORE(type, bits)                                                                                           \
-    HOOK type __tsan_atomic##bits##_load(const volatile type *at, int order) { (void)order; return __atomic_load_n(at, ORDER); } \
-    HOOK void __tsan_atomic##bits##_store(volatile type *at, type value, int order) { (void)order; __atomic_store_n(at, value, ORDER); }
+    HOOK type __tsan_atomic##bits##_load(const volatile type *at, int order)                                                 \
+    {                                                                                                                        \
+        type value = __atomic_load_n(at, ORDER);                                                                             \
+        after_load(at, order);                                                                                               \
+        return value;                                                                                                        \
+    }                                                                                                                        \
+    HOOK void __tsan_atomic##bits##_store(volatile type *at, type value, int order)                                          \
+    {                                                                                                                        \
+        before_store(at, order);                                                                                             \
+        __atomic_store_n(at, value, ORDER);                                                                                  \
+    }
 
 #define CHANGE(type, bits, name, builtin)                                                                                    \
     HOOK type __tsan_atomic##bits##_##name(volatile type *at, type value, int order)                                         \
     {                                                                                                                        \
-        (void)order;                                                                                                         \
-        return builtin(at, value, ORDER);                                                                                    \
+        before_store(at, order);                                                                                             \
+        type old = builtin(at, value, ORDER);                                                                                \
+        after_load(at, order);                                                                                               \
+        return old;                                                                                                          \
     }
+
+/* `is_done` is what the operation gives: a compare and exchange that fails is a load. */
+#define COMPARE_BY(at, order, failed, is_done, operation)                                                                    \
+    struct draft draft;                                                                                                      \
+    bool is_drawn = draw_signal(&draft, order);                                                                              \
+    operation;                                                                                                               \
+    if (is_drawn)                                                                                                            \
+        publish_signal(&draft, is_done, at);                                                                                 \
+    after_load(at, is_done ? order : failed);
 
 #define COMPARE(type, bits, name)                                                                                            \
     HOOK int __tsan_atomic##bits##_compare_exchange_##name(volatile type *at, type *expected, type value, int order, int failed) \
     {                                                                                                                        \
-        (void)order;                                                                                                         \
-        (void)failed;                                                                                                        \
-        return __atomic_compare_exchange_n(at, expected, value, 0, ORDER, ORDER);                                            \
+        COMPARE_BY(at, order, failed, is_done, int is_done = __atomic_compare_exchange_n(at, expected, value, 0, ORDER, ORDER)) \
+        return is_done;                                                                                                      \
     }
 
 #define COMPARE_VALUE(type, bits)                                                                                            \
     HOOK type __tsan_atomic##bits##_compare_exchange_val(volatile type *at, type expected, type value, int order, int failed) \
     {                                                                                                                        \
-        (void)order;                                                                                                         \
-        (void)failed;                                                                                                        \
-        __atomic_compare_exchange_n(at, &expected, value, 0, ORDER, ORDER);                                                  \
+        COMPARE_BY(at, order, failed, is_done, int is_done = __atomic_compare_exchange_n(at, &expected, value, 0, ORDER, ORDER)) \
         return expected;                                                                                                     \
     }
 
@@ -62,16 +130,18 @@ static wide swap_wide(volatile wide *at, wide expected, wide value)
     HOOK wide __tsan_atomic128_##name(volatile wide *at, wide value, int order)                                              \
     {                                                                                                                        \
         wide old = 0, found;                                                                                                 \
-        (void)order;                                                                                                         \
+        before_store(at, order);                                                                                             \
         while ((found = swap_wide(at, old, result)) != old)                                                                  \
             old = found;                                                                                                     \
+        after_load(at, order);                                                                                               \
         return old;                                                                                                          \
     }
 
 HOOK wide __tsan_atomic128_load(const volatile wide *at, int order)
 {
-    (void)order;
-    return swap_wide((volatile wide *)(uintptr_t)at, 0, 0);
+    wide value = swap_wide((volatile wide *)(uintptr_t)at, 0, 0);
+    after_load(at, order);
+    return value;
 }
 
 CHANGE_WIDE(exchange, value)
@@ -84,31 +154,32 @@ CHANGE_WIDE(fetch_nand, ~(old & value))
 
 HOOK void __tsan_atomic128_store(volatile wide *at, wide value, int order)
 {
-    __tsan_atomic128_exchange(at, value, order);
+    wide old = 0, found;
+    before_store(at, order);
+    while ((found = swap_wide(at, old, value)) != old)
+        old = found;
 }
 
 HOOK wide __tsan_atomic128_compare_exchange_val(volatile wide *at, wide expected, wide value, int order, int failed)
 {
-    (void)order;
-    (void)failed;
-    return swap_wide(at, expected, value);
+    COMPARE_BY(at, order, failed, (found == expected), wide found = swap_wide(at, expected, value))
+    return found;
 }
 
 #define COMPARE_WIDE(name)                                                                                                   \
     HOOK int __tsan_atomic128_compare_exchange_##name(volatile wide *at, wide *expected, wide value, int order, int failed)  \
     {                                                                                                                        \
-        wide found = swap_wide(at, *expected, value);                                                                        \
-        int is_done = found == *expected;                                                                                    \
-        (void)order;                                                                                                         \
-        (void)failed;                                                                                                        \
+        wide wanted = *expected;                                                                                             \
+        COMPARE_BY(at, order, failed, (found == wanted), wide found = swap_wide(at, wanted, value))                          \
         *expected = found;                                                                                                   \
-        return is_done;                                                                                                      \
+        return found == wanted;                                                                                              \
     }
 
 COMPARE_WIDE(strong)
 COMPARE_WIDE(weak)
 #endif
 
+/* A fence is carried out, and recorded as nothing: it orders threads only by the atomic operations around it. */
 HOOK void __tsan_atomic_thread_fence(int order)
 {
     (void)order;

@@ -195,6 +195,7 @@ void attach(void)
         uint32_t nobody = 0;
         if (page && atomic_compare_exchange_strong(&ring->owner, &nobody, (uint32_t)syscall(SYS_getpid))) {
             page->ring = ring;
+            page->orders = ring->orders;
             attached = page;
             emit(EVENT_THREAD, 0, (uint64_t)pthread_self(), 0);
         } else {

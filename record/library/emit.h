@@ -21,6 +21,7 @@
  * forked. */
 struct attachment {
     struct ring *ring;
+    bool orders; /* what orders threads is recorded as well */
 };
 extern struct attachment *attached;
 
@@ -51,6 +52,11 @@ static inline bool is_recording(void)
     return attached->ring != NULL;
 }
 
+static inline bool is_ordering(void)
+{
+    return attached->orders;
+}
+
 /* `pending` is kept as a complement so that a thread's zeroed storage says that nothing is pending. */
 static inline uint64_t pending_of(const struct self *me)
 {
@@ -73,38 +79,62 @@ static inline void expect_to_write(void *line)
 #endif
 }
 
-/* Records one event. A signal handler may come in between anywhere and record events of its own: they take later tickets, and
- * `pending` tells them of the ticket that waits for this thread. */
-static inline __attribute__((always_inline)) void emit(enum event_kind kind, uint32_t size, uint64_t first, uint64_t second)
+/* An event that has its ticket and is not published yet. */
+struct draft {
+    struct ring *ring;
+    struct self *me;
+    uint64_t ticket, outer;
+    void *outer_frame;
+};
+
+/* Draws a ticket for one event. A signal handler may come in between anywhere and record events of its own: they take later tickets, and
+ * `pending` tells them of the ticket that waits for this thread. False if the event can't be recorded. The caller must still run when it
+ * publishes the event, since its frame says that the event was not left. */
+static inline __attribute__((always_inline)) bool emit_draw(struct draft *draft)
 {
     struct ring *ring = attached->ring;
     if (LIKELY(!ring))
-        return;
+        return false;
     struct self *me = &self;
     uint64_t outer = pending_of(me);
     void *outer_frame = me->pending_frame;
     expect_to_write(&ring->tail);
     if (UNLIKELY(me->number == 0 || outer != PENDING_NONE || atomic_load_explicit(&ring->stop, memory_order_relaxed))) {
         if (!emit_prepare(ring, me, outer, __builtin_frame_address(0)))
-            return;
+            return false;
         outer = pending_of(me);
     }
     if (UNLIKELY(atomic_load_explicit(&ring->tail, memory_order_relaxed) - me->head_seen > RING_ROOM) && !emit_wait(ring, me, outer))
-        return;
+        return false;
     me->pending_frame = __builtin_frame_address(0);
     set_pending(me, PENDING_DRAWING);
     uint64_t ticket = atomic_fetch_add_explicit(&ring->tail, 1, memory_order_seq_cst);
     set_pending(me, ticket);
-    struct slot *slot = &ring->slots[ring_place(ticket)];
+    *draft = (struct draft){ring, me, ticket, outer, outer_frame};
+    return true;
+}
+
+static inline __attribute__((always_inline)) void emit_publish(const struct draft *draft, enum event_kind kind, uint32_t size, uint64_t first, uint64_t second)
+{
+    struct self *me = draft->me;
+    struct slot *slot = &draft->ring->slots[ring_place(draft->ticket)];
     slot->thread = me->number;
     slot->kind = (uint32_t)kind;
     slot->size = size;
     slot->first = first;
     slot->second = second;
-    atomic_store_explicit(&slot->published, ring_round(ticket), memory_order_release);
+    atomic_store_explicit(&slot->published, ring_round(draft->ticket), memory_order_release);
     __atomic_signal_fence(__ATOMIC_SEQ_CST);
-    set_pending(me, outer);
-    me->pending_frame = outer_frame;
+    set_pending(me, draft->outer);
+    me->pending_frame = draft->outer_frame;
+}
+
+/* Records one event. */
+static inline __attribute__((always_inline)) void emit(enum event_kind kind, uint32_t size, uint64_t first, uint64_t second)
+{
+    struct draft draft;
+    if (emit_draw(&draft))
+        emit_publish(&draft, kind, size, first, second);
 }
 
 static inline __attribute__((always_inline)) void emit_read(const volatile void *address, uint32_t size, uint64_t site)
@@ -123,6 +153,27 @@ static inline void emit_reuse(const volatile void *address, uint64_t size)
 {
     if (size)
         emit(EVENT_REUSE, 0, (uintptr_t)address, size);
+}
+
+/* A signal is recorded before what it stands for happens, an await after it. So the await of whoever saw what another thread did comes
+ * after that thread's signal. */
+static inline void emit_signal(enum object_kind kind, const volatile void *object)
+{
+    if (UNLIKELY(is_ordering()))
+        emit(EVENT_SIGNAL, kind, (uintptr_t)object, 0);
+}
+
+static inline void emit_await(enum object_kind kind, const volatile void *object)
+{
+    if (UNLIKELY(is_ordering()))
+        emit(EVENT_AWAIT, kind, (uintptr_t)object, 0);
+}
+
+/* What is at this address from now on is another object. */
+static inline void emit_object_end(const volatile void *object)
+{
+    if (UNLIKELY(is_ordering()))
+        emit(EVENT_OBJECT_END, 0, (uintptr_t)object, 0);
 }
 
 /* An access of any number of bytes. */

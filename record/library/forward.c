@@ -14,10 +14,6 @@
 #define FORWARD(type, name, parameters, arguments) \
     HOOK type name parameters { return REAL(name) arguments; }
 
-FORWARD(int, pthread_cond_init, (pthread_cond_t *restrict wakes, const pthread_condattr_t *restrict how), (wakes, how))
-FORWARD(int, pthread_cond_destroy, (pthread_cond_t *wakes), (wakes))
-FORWARD(int, pthread_cond_signal, (pthread_cond_t *wakes), (wakes))
-FORWARD(int, pthread_cond_broadcast, (pthread_cond_t *wakes), (wakes))
 FORWARD(int, pthread_kill, (pthread_t thread, int number), (thread, number))
 FORWARD(char *, realpath, (const char *restrict path, char *restrict found), (path, found))
 FORWARD(FILE *, fmemopen, (void *buffer, size_t size, const char *mode), (buffer, size, mode))

@@ -142,6 +142,8 @@ static void lock_after_cancel(void *lock)
         pthread_cleanup_push(lock_after_cancel, lock);       \
         result = REAL(name) arguments;                       \
         pthread_cleanup_pop(0);                              \
+        if (result == 0)                                     \
+            emit_await(OBJECT_CONDITION, wakes);             \
         emit_lock(LOCK_MUTEX, lock);                         \
         return result;                                       \
     }

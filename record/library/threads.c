@@ -1,12 +1,16 @@
-/* Threads: their names and stacks. */
+/* Threads: their names and stacks, and who starts and joins them. */
 #include "emit.h"
 
 #include <errno.h>
 #include <limits.h>
+#include <linux/futex.h>
 #include <pthread.h>
 #include <stdlib.h>
 #include <string.h>
+#include <sys/syscall.h>
 #include <threads.h>
+#include <time.h>
+#include <unistd.h>
 
 /* The stack of a thread, with its thread-local storage at the upper end. */
 static __thread struct { void *begin; size_t size; int rounds; } stack __attribute__((tls_model("initial-exec")));
@@ -50,23 +54,45 @@ struct start {
     void *(*body)(void *);
     int (*c11_body)(void *);
     void *argument;
+    /* If what orders threads is recorded: the number that the starting thread gives to the new one, which waits until it has it. */
+    _Atomic uint32_t is_named;
+    uint32_t number;
 };
 
 static struct start *make_start(void *(*body)(void *), int (*c11_body)(void *), void *argument)
 {
     struct start *start = malloc(sizeof *start);
-    pthread_once(&made_ends, make_ends);
+    REAL(pthread_once)(&made_ends, make_ends);
     if (start)
-        *start = (struct start){body, c11_body, argument};
+        *start = (struct start){body, c11_body, argument, !is_ordering(), 0};
     return start;
+}
+
+/* The start of a thread is recorded when it is there, and before it does anything. The new thread frees `start`. */
+static void name_thread(struct start *start, uint64_t thread)
+{
+    int error = errno;
+    struct ring *ring = attached->ring;
+    if (ring) {
+        start->number = atomic_fetch_add_explicit(&ring->threads, 1, memory_order_relaxed) + 1;
+        emit(EVENT_START, 0, start->number, thread);
+    }
+    atomic_store(&start->is_named, 1);
+    syscall(SYS_futex, &start->is_named, FUTEX_WAKE_PRIVATE, 1, NULL, NULL, 0);
+    errno = error;
 }
 
 static struct start take_start(void *given)
 {
-    struct start start = *(struct start *)given;
+    struct start *start = given, taken;
+    while (!atomic_load(&start->is_named))
+        syscall(SYS_futex, &start->is_named, FUTEX_WAIT_PRIVATE, 0, NULL, NULL, 0);
+    taken = *start;
+    if (taken.number)
+        self.number = taken.number;
     free(given);
     begin_thread();
-    return start;
+    return taken;
 }
 
 static void *run_thread(void *given)
@@ -88,9 +114,12 @@ HOOK int pthread_create(pthread_t *restrict thread, const pthread_attr_t *restri
     struct start *start = make_start(body, NULL, argument);
     if (!start)
         return EAGAIN;
+    bool names = is_ordering();
     int result = REAL(pthread_create)(thread, how, run_thread, start);
     if (result != 0)
         free(start);
+    else if (names)
+        name_thread(start, (uint64_t)*thread);
     return result;
 }
 
@@ -101,11 +130,34 @@ HOOK int thrd_create(thrd_t *thread, thrd_start_t body, void *argument)
     struct start *start = make_start(NULL, body, argument);
     if (!start)
         return thrd_nomem;
+    bool names = is_ordering();
     int result = REAL(thrd_create)(thread, run_c11_thread, start);
     if (result != thrd_success)
         free(start);
+    else if (names)
+        name_thread(start, (uint64_t)*thread);
     return result;
 }
+
+/* Whom a thread joins is recorded before, since its pthread_t may be another thread's right after. That it joined is recorded after. */
+#define JOIN(name, parameters, arguments)                    \
+    HOOK int name parameters                                 \
+    {                                                        \
+        if (is_ordering())                                   \
+            emit(EVENT_JOIN_WHOM, 0, (uint64_t)thread, 0);   \
+        int result = REAL(name) arguments;                   \
+        if (result == 0 && is_ordering())                    \
+            emit(EVENT_JOIN, 0, 0, 0);                       \
+        return result;                                       \
+    }
+
+typedef const struct timespec *until;
+
+JOIN(pthread_join, (pthread_t thread, void **found), (thread, found))
+JOIN(pthread_tryjoin_np, (pthread_t thread, void **found), (thread, found))
+JOIN(pthread_timedjoin_np, (pthread_t thread, void **found, until when), (thread, found, when))
+JOIN(pthread_clockjoin_np, (pthread_t thread, void **found, clockid_t clock, until when), (thread, found, clock, when))
+JOIN(thrd_join, (thrd_t thread, int *found), (thread, found))
 
 HOOK int pthread_setname_np(pthread_t thread, const char *name)
 {

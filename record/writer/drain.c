@@ -4,7 +4,9 @@
 #include <stdlib.h>
 #include <string.h>
 
+#include "barriers.h"
 #include "locks.h"
+#include "objects.h"
 #include "pages.h"
 #include "sites.h"
 #include "trace.h"
@@ -23,9 +25,11 @@ struct text {
 };
 static struct text *texts;
 
-/* pthread_t of the threads that live, by their number, and whom each thread is about to name. */
+/* pthread_t of the threads that live, by their number, whom each thread is about to name, and the number of the thread that it is about to
+ * join. */
 struct identity {
     uint64_t self, named;
+    uint32_t joined;
 };
 static struct identity *identities;
 static uint32_t identity_room;
@@ -41,9 +45,17 @@ static struct identity *get_identity(uint32_t number)
     return &identities[number];
 }
 
+/* A pthread_t is used again when its thread has ended: the newest thread has it. 0 if no thread has it. */
+static uint32_t number_of(uint64_t whom)
+{
+    for (uint32_t number = identity_room; number-- > 0;)
+        if (identities[number].self == whom)
+            return number;
+    return 0;
+}
+
 /* ---- Names of threads ---- */
 
-/* A pthread_t is used again when its thread has ended: the newest thread has it. */
 static void name_thread(const struct slot *slot)
 {
     char name[17];
@@ -56,11 +68,41 @@ static void name_thread(const struct slot *slot)
         trace_thread_name(trace_thread(slot->thread), name);
         return;
     }
-    for (uint32_t number = identity_room; number-- > 0;)
-        if (identities[number].self == whom) {
-            trace_thread_name(trace_thread(number), name);
-            return;
-        }
+    uint32_t number = number_of(whom);
+    if (number)
+        trace_thread_name(trace_thread(number), name);
+}
+
+/* ---- Starts and joins of threads ---- */
+
+static void start_thread(const struct slot *slot)
+{
+    uint32_t number = (uint32_t)slot->first;
+    get_identity(number)->self = slot->second;
+    trace_other_thread(slot->thread, "start", number);
+}
+
+/* A thread that was not started by code that is recorded has no number. */
+static void join_thread(uint32_t number)
+{
+    uint32_t joined = get_identity(number)->joined;
+    if (!joined)
+        return;
+    get_identity(joined)->self = 0;
+    trace_other_thread(number, "join", joined);
+}
+
+/* ---- Signals and awaits ---- */
+
+static void signal_object(const struct slot *slot, enum object_kind kind)
+{
+    uint64_t address = kind == OBJECT_BARRIER ? barriers_arrive(slot->thread, slot->first) : slot->first;
+    objects_signal(slot->thread, address, kind);
+}
+
+static void await_object(const struct slot *slot, enum object_kind kind)
+{
+    objects_await(slot->thread, kind == OBJECT_BARRIER ? barriers_leave(slot->thread, slot->first) : slot->first);
 }
 
 /* ---- Maps ---- */
@@ -139,6 +181,11 @@ static void take_rare(const struct slot *slot)
     case EVENT_MAPS_BEGIN: begin_text(slot->thread); break;
     case EVENT_MAPS_TEXT: add_text(slot); break;
     case EVENT_MAPS_END: end_text(slot->thread); break;
+    case EVENT_START: start_thread(slot); break;
+    case EVENT_JOIN_WHOM: get_identity(slot->thread)->joined = number_of(slot->first); break;
+    case EVENT_JOIN: join_thread(slot->thread); break;
+    case EVENT_OBJECT_END: objects_end(slot->first); break;
+    case EVENT_BARRIER: barriers_begin(slot->first, slot->second); break;
     default: break;
     }
 }
@@ -156,6 +203,8 @@ static void take(const struct slot *slot)
         locks_acquire(slot->thread, slot->first, (enum lock_kind)(slot->size & 3), slot->kind == EVENT_READ_LOCK);
         break;
     case EVENT_UNLOCK: locks_release(slot->thread, slot->first); break;
+    case EVENT_SIGNAL: signal_object(slot, (enum object_kind)(slot->size % OBJECT_KINDS)); break;
+    case EVENT_AWAIT: await_object(slot, (enum object_kind)(slot->size % OBJECT_KINDS)); break;
     case EVENT_REUSE: pages_reuse(trace_thread(slot->thread), slot->first, slot->second); break;
     default: take_rare(slot); break;
     }

@@ -1,12 +1,10 @@
 #define _GNU_SOURCE
 #include "locks.h"
 
-#include <stdio.h>
 #include <stdlib.h>
-#include <string.h>
 
+#include "names.h"
 #include "pages.h"
-#include "sites.h"
 #include "trace.h"
 
 /* More locks than this no thread of a trace may hold. */
@@ -36,53 +34,6 @@ static struct lock **bucket_of(uint64_t address)
     return &buckets[((address >> 6) * UINT64_C(0x9e3779b97f4a7c15)) >> 48];
 }
 
-/* ---- Names ---- */
-
-/* How often each variable's name was given to a lock. */
-struct use {
-    struct use *next;
-    unsigned count;
-    char name[];
-};
-static struct use *uses[4096];
-
-static unsigned count_use(const char *name)
-{
-    uint32_t hash = 2166136261u;
-    for (const char *c = name; *c; c++)
-        hash = (hash ^ (unsigned char)*c) * 16777619u;
-    struct use **at = &uses[hash % 4096];
-    for (struct use *use = *at; use; use = use->next)
-        if (strcmp(use->name, name) == 0)
-            return ++use->count;
-    struct use *use = get_memory(NULL, sizeof *use + strlen(name) + 1);
-    use->next = *at;
-    use->count = 1;
-    strcpy(use->name, name);
-    *at = use;
-    return 1;
-}
-
-/* A lock is called as its variable, or by its kind and a number. A variable's second lock gets a colon and a number, which no variable's
- * name ends with, and a kind is followed by a hyphen, which no variable's name has. The name `none` is not a lock's. */
-static char *make_name(uint64_t address, enum lock_kind kind)
-{
-    static const char *const kinds[] = {"mutex", "rwlock", "spin", "user"};
-    static unsigned counts[4];
-    char symbol[4096], legal[NAME_BYTES + 1], name[NAME_BYTES + 32];
-    if (symbol_of(address, symbol, sizeof symbol)) {
-        legal_name(legal, symbol);
-        unsigned nth = count_use(legal);
-        if (nth == 1 && strcmp(legal, "none") != 0)
-            return strdup(legal);
-        snprintf(name, sizeof name, "%s:%u", legal, nth);
-        legal_name(legal, name);
-        return strdup(legal);
-    }
-    snprintf(name, sizeof name, "%s-%u", kinds[kind], ++counts[kind]);
-    return strdup(name);
-}
-
 /* ---- Locks and their holders ---- */
 
 static struct lock *find_lock(uint64_t address)
@@ -98,11 +49,11 @@ static struct lock *get_lock(uint64_t address, enum lock_kind kind)
     struct lock *lock = find_lock(address);
     if (lock)
         return lock;
+    static const char *const kinds[] = {"mutex", "rwlock", "spin", "user"};
+    static unsigned counts[4];
     lock = get_memory(NULL, sizeof *lock);
     struct lock **bucket = bucket_of(address);
-    *lock = (struct lock){*bucket, address, make_name(address, kind), NULL, 0, 0};
-    if (!lock->name)
-        get_memory(NULL, SIZE_MAX);
+    *lock = (struct lock){*bucket, address, make_name(address, kinds[kind], &counts[kind]), NULL, 0, 0};
     *bucket = lock;
     pages_mark_lock(address);
     return lock;

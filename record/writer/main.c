@@ -56,6 +56,7 @@ static const char usage[] =
     "      --by-site           report the races by their sites, most words first\n"
     "      --format FORM       write the report as `text` (the default), `json`, `sarif` or `html`\n"
     "      --exit-status WHOSE end with the status of the `program` (the default) or of the `report`\n"
+    "      --order             record what orders threads as well: starts and joins, semaphores, atomic operations ..\n"
     "      --limit BYTES       record at most so much text; 0: no limit. The default is 268435456\n"
     "      --paths             name sites by their whole path\n"
     "  -q, --quiet             say nothing on standard error, unless something went wrong\n"
@@ -105,11 +106,12 @@ static const char *read_format(const char *text)
 
 static void read_options(int count, char **words)
 {
-    enum { REPLAY = 256, REPORT, SUPPRESS, EXPLAIN, BY_SITE, FORMAT, EXIT_STATUS, LIMIT, PATHS };
+    enum { REPLAY = 256, REPORT, SUPPRESS, EXPLAIN, BY_SITE, FORMAT, EXIT_STATUS, ORDER, LIMIT, PATHS };
     static const struct option names[] = {
         {"output", 1, NULL, 'o'},         {"replay", 0, NULL, REPLAY}, {"report", 1, NULL, REPORT}, {"suppress", 1, NULL, SUPPRESS},
         {"exit-status", 1, NULL, EXIT_STATUS}, {"limit", 1, NULL, LIMIT},   {"paths", 0, NULL, PATHS},   {"quiet", 0, NULL, 'q'},
         {"explain", 0, NULL, EXPLAIN},    {"by-site", 0, NULL, BY_SITE}, {"format", 1, NULL, FORMAT}, {"help", 0, NULL, 'h'},
+        {"order", 0, NULL, ORDER},
         {NULL, 0, NULL, 0},
     };
     output.limit = USUAL_LIMIT;
@@ -123,6 +125,7 @@ static void read_options(int count, char **words)
         case BY_SITE: options.by_site = true; break;
         case FORMAT: options.format = read_format(optarg); break;
         case EXIT_STATUS: options.ends_as_report = is_report(optarg); break;
+        case ORDER: trace_orders = true; break;
         case LIMIT: output.limit = read_bytes(optarg); break;
         case PATHS: sites_have_paths = true; break;
         case 'q': options.is_quiet = true; break;
@@ -151,6 +154,7 @@ static void make_ring(void)
     if (ring == MAP_FAILED)
         fail("cannot map the ring", NULL);
     ring->writer = (uint32_t)getpid();
+    ring->orders = trace_orders;
     ring->magic = RING_MAGIC;
 }
 

@@ -6,6 +6,7 @@
 #include <string.h>
 
 #include "locks.h"
+#include "objects.h"
 
 #define PAGE_BITS 12
 #define REGION_BITS 27
@@ -81,6 +82,7 @@ static void reuse_in_page(struct run *run, struct region *region, uint64_t begin
     bool is_whole = end - begin == UINT64_C(1) << PAGE_BITS;
     if (region->locked[at / 64] & bit) {
         locks_forget(begin, end - begin);
+        objects_forget(begin, end - begin);
         if (is_whole)
             region->locked[at / 64] &= ~bit;
     }

@@ -1,4 +1,4 @@
-/* Which pages of the program's memory have words that were accessed, or locks. Memory that is put to a new use matters only there. */
+/* Which pages of the program's memory have words that were accessed, locks or other objects. Memory that is put to a new use matters only there. */
 #ifndef ERASER_PAGES_H
 #define ERASER_PAGES_H
 
@@ -8,9 +8,9 @@
 
 /* Words of these bytes are accessed. */
 void pages_mark(uint64_t address, uint64_t bytes);
-/* A lock is at this address. */
+/* A lock or another object that threads wait for is at this address. */
 void pages_mark_lock(uint64_t address);
-/* These bytes are put to a new use: writes the lines for it, and forgets the locks in them. */
+/* These bytes are put to a new use: writes the lines for it, and forgets the locks and objects in them. */
 void pages_reuse(struct thread *thread, uint64_t address, uint64_t bytes);
 
 #endif

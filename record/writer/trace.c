@@ -19,6 +19,7 @@
 #define ADDRESS_END (UINT64_C(1) << 48)
 
 struct output output = {-1, -1, 0, 0, 0, false};
+bool trace_orders;
 uint64_t trace_events, trace_lost;
 
 static char buffer[BUFFER_BYTES + 64];
@@ -100,8 +101,9 @@ static inline char *put(char *at, const char *text, size_t bytes)
     return at + bytes;
 }
 
-static inline char *put_thread(char *at, const struct thread *thread)
+static inline char *put_thread(char *at, struct thread *thread)
 {
+    thread->lines++;
     memcpy(at, thread->text, sizeof thread->text);
     return at + thread->bytes;
 }
@@ -195,6 +197,7 @@ void trace_reuse(struct thread *thread, uint64_t address, uint64_t bytes)
     }
 }
 
+/* A verb with a name: that of a lock, as a rule. */
 void trace_lock(struct thread *thread, const char *verb, const char *lock)
 {
     char *at = line();
@@ -205,6 +208,17 @@ void trace_lock(struct thread *thread, const char *verb, const char *lock)
     at = put(put_thread(at, thread), verb, strlen(verb));
     *at++ = ' ';
     end_line(put(at, lock, strlen(lock)));
+}
+
+/* A thread starts or joins another one. */
+void trace_other_thread(uint32_t number, const char *verb, uint32_t other)
+{
+    char name[sizeof threads->text];
+    trace_thread(number);
+    const struct thread *named = trace_thread(other);
+    memcpy(name, named->text, named->bytes - 1u);
+    name[named->bytes - 1] = 0;
+    trace_lock(trace_thread(number), verb, name);
 }
 
 void trace_ignore(struct thread *thread, const char *verb)
@@ -242,20 +256,20 @@ void trace_begin(const char *program)
     char *at = line();
     if (!at)
         return;
-    used = (size_t)(put(at, "eraser trace 1\n", 15) - buffer);
+    used = (size_t)(put(at, trace_orders ? "eraser trace 3\n" : "eraser trace 1\n", 15) - buffer);
     legal_name(legal, program);
     snprintf(text, sizeof text, "recorded from %s", legal);
     comment(text);
 }
 
-/* The last line says if anything is missing. It has room even if the limit is reached. */
+/* The last comment says if anything is missing, and `end` that nothing is. They have room even if the limit is reached. */
 void trace_end(uint64_t lost)
 {
     char text[LINE_BYTES];
     if (lost)
         snprintf(text, sizeof text, "# incomplete: %llu events, %llu lost\n", (unsigned long long)trace_events, (unsigned long long)lost);
     else
-        snprintf(text, sizeof text, "# complete: %llu events, none lost\n", (unsigned long long)trace_events);
+        snprintf(text, sizeof text, "# complete: %llu events, none lost\n%s", (unsigned long long)trace_events, trace_orders ? "end\n" : "");
     if (used + LINE_BYTES > BUFFER_BYTES)
         trace_flush();
     used = (size_t)(put(buffer + used, text, strlen(text)) - buffer);

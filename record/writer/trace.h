@@ -24,9 +24,13 @@ struct thread {
     uint8_t bytes;       /* 0 before its first event */
     uint32_t held;       /* locks that the trace says it holds */
     uint32_t ignoring;   /* depth of its ignore brackets */
+    uint64_t lines;      /* how many it has */
+    bool is_odd_round;   /* of the barrier that it waits at */
 };
 
 extern struct output output;
+/* What orders threads is written as well: a trace of the third form. */
+extern bool trace_orders;
 extern uint64_t trace_events; /* lines of events written */
 extern uint64_t trace_lost;   /* events that were taken but could not be written */
 
@@ -40,6 +44,7 @@ struct thread *trace_thread(uint32_t number);
 void trace_access(struct thread *thread, bool is_write, uint64_t address, uint64_t bytes, uint64_t site);
 void trace_reuse(struct thread *thread, uint64_t address, uint64_t bytes);
 void trace_lock(struct thread *thread, const char *verb, const char *lock);
+void trace_other_thread(uint32_t number, const char *verb, uint32_t other);
 void trace_ignore(struct thread *thread, const char *verb);
 void trace_thread_name(struct thread *thread, const char *name);
 

@@ -1,0 +1,155 @@
+/* What orders threads beside locks: semaphores, barriers, condition variables, what is done once. Each is an object that threads signal
+ * and await. Without `record/run --order` these functions only call the real ones. */
+#include "emit.h"
+
+#include <pthread.h>
+#include <semaphore.h>
+#include <threads.h>
+#include <time.h>
+
+typedef const struct timespec *until;
+
+/* Before the real function. */
+#define SIGNAL(kind, type, name)                             \
+    HOOK int name(type *object)                              \
+    {                                                        \
+        emit_signal(kind, object);                           \
+        return REAL(name)(object);                           \
+    }
+
+/* After the real function, if it succeeded. */
+#define AWAIT(kind, name, parameters, arguments)             \
+    HOOK int name parameters                                 \
+    {                                                        \
+        int result = REAL(name) arguments;                   \
+        if (result == 0)                                     \
+            emit_await(kind, object);                        \
+        return result;                                       \
+    }
+
+#define INITIALISE(name, parameters, arguments)              \
+    HOOK int name parameters                                 \
+    {                                                        \
+        int result = REAL(name) arguments;                   \
+        if (result == 0)                                     \
+            emit_object_end(object);                         \
+        return result;                                       \
+    }
+
+/* ---- Semaphores ---- */
+
+INITIALISE(sem_init, (sem_t *object, int is_shared, unsigned value), (object, is_shared, value))
+SIGNAL(OBJECT_SEMAPHORE, sem_t, sem_post)
+AWAIT(OBJECT_SEMAPHORE, sem_wait, (sem_t *object), (object))
+AWAIT(OBJECT_SEMAPHORE, sem_trywait, (sem_t *object), (object))
+AWAIT(OBJECT_SEMAPHORE, sem_timedwait, (sem_t *restrict object, until restrict when), (object, when))
+AWAIT(OBJECT_SEMAPHORE, sem_clockwait, (sem_t *restrict object, clockid_t clock, until restrict when), (object, clock, when))
+
+/* ---- Barriers ---- */
+
+/* At a barrier that processes share, threads arrive of which nothing is recorded. */
+HOOK int pthread_barrier_init(pthread_barrier_t *restrict object, const pthread_barrierattr_t *restrict how, unsigned count)
+{
+    int result = REAL(pthread_barrier_init)(object, how, count), shared = PTHREAD_PROCESS_PRIVATE;
+    if (result == 0 && is_ordering()) {
+        if (how)
+            pthread_barrierattr_getpshared(how, &shared);
+        emit(EVENT_BARRIER, 0, (uintptr_t)object, shared == PTHREAD_PROCESS_PRIVATE ? count : 0);
+    }
+    return result;
+}
+
+HOOK int pthread_barrier_wait(pthread_barrier_t *object)
+{
+    emit_signal(OBJECT_BARRIER, object);
+    int result = REAL(pthread_barrier_wait)(object);
+    if (result == 0 || result == PTHREAD_BARRIER_SERIAL_THREAD)
+        emit_await(OBJECT_BARRIER, object);
+    return result;
+}
+
+/* ---- Condition variables, of which locks.c has the waits ---- */
+
+INITIALISE(pthread_cond_init, (pthread_cond_t *restrict object, const pthread_condattr_t *restrict how), (object, how))
+SIGNAL(OBJECT_CONDITION, pthread_cond_t, pthread_cond_signal)
+SIGNAL(OBJECT_CONDITION, pthread_cond_t, pthread_cond_broadcast)
+INITIALISE(cnd_init, (cnd_t *object), (object))
+SIGNAL(OBJECT_CONDITION, cnd_t, cnd_signal)
+SIGNAL(OBJECT_CONDITION, cnd_t, cnd_broadcast)
+
+/* The C library has two versions of it, as of those in forward.c. */
+HOOK int pthread_cond_destroy(pthread_cond_t *object)
+{
+    return REAL(pthread_cond_destroy)(object);
+}
+
+/* ---- What is done once ---- */
+
+/* What this thread is to do once. The real functions pass nothing on to it. */
+struct once {
+    void (*body)(void);
+    void *object;
+};
+static __thread struct once once __attribute__((tls_model("initial-exec")));
+
+static void signal_once(void *object)
+{
+    emit_signal(OBJECT_ONCE, object);
+}
+
+/* The body may do something else once. It may end by an exception, and then the next thread that comes does it again, and comes after. */
+static void run_once(void)
+{
+    struct once now = once;
+    emit_await(OBJECT_ONCE, now.object);
+    pthread_cleanup_push(signal_once, now.object);
+    now.body();
+    pthread_cleanup_pop(1);
+}
+
+HOOK int pthread_once(pthread_once_t *object, void (*body)(void))
+{
+    if (!is_ordering())
+        return REAL(pthread_once)(object, body);
+    once = (struct once){body, object};
+    int result = REAL(pthread_once)(object, run_once);
+    if (result == 0)
+        emit_await(OBJECT_ONCE, object);
+    return result;
+}
+
+HOOK void call_once(once_flag *object, void (*body)(void))
+{
+    if (!is_ordering()) {
+        REAL(call_once)(object, body);
+        return;
+    }
+    once = (struct once){body, object};
+    REAL(call_once)(object, run_once);
+    emit_await(OBJECT_ONCE, object);
+}
+
+/* Static variables of C++ functions. The compiler's own code looks at the first byte of the guard by an atomic load. */
+int __cxa_guard_acquire(void *object);
+void __cxa_guard_release(void *object);
+void __cxa_guard_abort(void *object);
+
+HOOK int __cxa_guard_acquire(void *object)
+{
+    int is_first = REAL(__cxa_guard_acquire)(object);
+    emit_await(OBJECT_ONCE, object);
+    return is_first;
+}
+
+HOOK void __cxa_guard_release(void *object)
+{
+    emit_signal(OBJECT_ONCE, object);
+    REAL(__cxa_guard_release)(object);
+}
+
+/* An exception: the next thread that comes makes the variable. */
+HOOK void __cxa_guard_abort(void *object)
+{
+    emit_signal(OBJECT_ONCE, object);
+    REAL(__cxa_guard_abort)(object);
+}

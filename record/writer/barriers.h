@@ -1,0 +1,15 @@
+/* Rounds of barriers. A thread that leaves a barrier comes after those that arrived in the same round, and not after one that has arrived
+ * for the next round already. So a barrier is two objects in turn, one for every other round. */
+#ifndef ERASER_BARRIERS_H
+#define ERASER_BARRIERS_H
+
+#include <stdint.h>
+
+/* A barrier lets so many threads go at a time. 0: its rounds can't be counted, and it is one object. */
+void barriers_begin(uint64_t address, uint64_t count);
+/* The address of the object that a thread signals as it arrives. */
+uint64_t barriers_arrive(uint32_t thread, uint64_t address);
+/* The address of the object that it awaits as it leaves. */
+uint64_t barriers_leave(uint32_t thread, uint64_t address);
+
+#endif

@@ -1,0 +1,18 @@
+/* What threads signal and await: their names, and which of their events a trace needs. */
+#ifndef ERASER_OBJECTS_H
+#define ERASER_OBJECTS_H
+
+#include <stdint.h>
+
+#include "../ring.h"
+
+/* A thread signals an object. */
+void objects_signal(uint32_t thread, uint64_t address, enum object_kind kind);
+/* It awaits one. Only an await that may order something is written. */
+void objects_await(uint32_t thread, uint64_t address);
+/* An object's life ends: the next signal at this address is another object's. */
+void objects_end(uint64_t address);
+/* Memory is put to a new use: the objects in it are no more. */
+void objects_forget(uint64_t address, uint64_t bytes);
+
+#endif

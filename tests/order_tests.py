@@ -1,0 +1,155 @@
+#!/usr/bin/env python3
+"""Happens-before as tests/order_reference.py reads it: no test of the program, but of what the program will be compared with.
+
+- the lists of tests/order/worked.txt have the answers beside them
+- the lists of crates/order_tests, which a proved machine answers, have the same answers
+- the texts of tests/order/faults.txt have the fault that stands below them
+- random lists race at the same places by the definition's chains and by sets of steps
+- a random trace has its first fault at the line at which tests/reference.py finds it, or as many event lines
+"""
+
+import pathlib
+import random
+import re
+import sys
+
+sys.path.insert(0, str(pathlib.Path(__file__).parent))
+sys.dont_write_bytecode = True
+import order_reference
+import reference
+from alone import run_alone
+
+TOP = pathlib.Path(__file__).resolve().parent.parent
+CASES = TOP / "tests/order"
+LISTS = TOP / "crates/order_tests/src/lists.rt"
+RANDOM_LISTS = 400
+RANDOM_TRACES = 300
+WORDS = {"x": "0x1000", "y": "0x1004"}
+
+
+def cases_of(path):
+    """The rows of each case of a file, by its name."""
+    found, name = {}, None
+    for line in path.read_text().splitlines():
+        if line.startswith("== "):
+            name = line[3:]
+            found[name] = []
+        elif name:
+            found[name].append(line)
+    return found
+
+
+def answers_to(lines):
+    text = "\n".join(["eraser trace 3", *lines]) + "\n"
+    return order_reference.answers(order_reference.mark(order_reference.read(text.encode())))
+
+
+# ---- Worked lists ----
+
+
+def worked(record):
+    for name, rows in cases_of(CASES / "worked.txt").items():
+        pairs = [row.split(" -> ") for row in rows if row and not row.startswith("#")]
+        lines = [" ".join(WORDS.get(word, word) for word in line.split()) for line, _ in pairs]
+        found, expected = answers_to(lines), [answer for _, answer in pairs]
+        record(f"order: {name}", bool(found) and found == expected, f"{found}")
+
+
+VERBS = {"w": "write", "r": "read", "a": "lock", "g": "unlock", "A": "rlock", "G": "runlock", "u": "reuse", "(": "ignore-on", ")": "ignore-off",
+         "s": "start", "j": "join", "!": "signal", "?": "await"}
+LETTERS = {"d": "done", "q": "quiet", "R": "race", "i": "ignored", "x": "refused"}
+
+
+def line_of(step):
+    """The line of a step of three characters, as crates/order_tests writes it: its thread, a verb, and a lock, a thread or a word."""
+    thread, letter, digit = step
+    verb = VERBS[letter]
+    if verb in ("write", "read"):
+        operand = f" {0x1000 + 4 * int(digit)}"
+    elif verb in ("start", "join"):
+        operand = f" t{digit}"
+    else:
+        operand = {"reuse": " 0x1000 1024", "ignore-on": "", "ignore-off": ""}.get(verb, f" m{digit}")
+    return f"t{thread} {verb}{operand}"
+
+
+def proved_lists(record):
+    found = re.findall(r'^    \(b"(.*)", b"(.*)"\),$', LISTS.read_text(), re.M)
+    record("order: the lists of crates/order_tests are found", len(found) >= 19, f"{len(found)}")
+    for steps, expected in found:
+        answers = answers_to([line_of(step) for step in steps.split()])
+        record(f"order: proved list {steps}", answers == [LETTERS[letter] for letter in expected], f"{answers}")
+
+
+# ---- Faults ----
+
+
+def told(text):
+    try:
+        return f"{len(order_reference.read(text))} steps"
+    except order_reference.Fault as fault:
+        return str(fault)
+
+
+def faults(record):
+    for name, rows in cases_of(CASES / "faults.txt").items():
+        end = max(k for k, row in enumerate(rows) if row.startswith("-> "))
+        found = told("".join(row + "\n" for row in rows[:end]).encode())
+        record(f"order: text {name}", found == rows[end][3:], found)
+
+
+def faults_beside_the_reference(record):
+    for seed in range(RANDOM_TRACES):
+        text = reference.random_trace(seed)
+        try:
+            expected = f"{len(reference.events_of(text))} steps"
+        except reference.Fault as fault:
+            expected = f"line {fault.line}: {fault.kind}"
+        record(f"order: random trace {seed} is read", told(text) == expected, f"{told(text)}, not {expected}")
+
+
+# ---- Random lists ----
+
+
+def random_step(dice, threads):
+    thread, other = dice.sample(threads, 2)
+    verb = dice.choice(["read", "write", "write", "lock", "unlock", "rlock", "runlock", "join", "signal", "await", "reuse", "ignore-on", "ignore-off", "level"])
+    operand = {"read": f" {4 * dice.randrange(3)}", "write": f" {4 * dice.randrange(3)}", "reuse": f" 0 {4 * dice.randrange(4)}", "join": f" {other}",
+               "ignore-on": "", "ignore-off": "", "level": f" {dice.randrange(3)}"}.get(verb, f" m{dice.randrange(2)}")
+    return thread, f"{thread} {verb}{operand}"
+
+
+def random_list(seed):
+    """Some lines, and now and then the start of a thread that has none before it."""
+    dice, lines, acted = random.Random(seed), [], set()
+    threads = [f"t{n}" for n in range(1, 3 + seed % 4)]
+    for _ in range(dice.randrange(2, 45)):
+        thread, line = random_step(dice, threads)
+        fresh = [other for other in threads if other not in acted and other != thread]
+        if fresh and dice.randrange(6) == 0:
+            line = f"{thread} start {fresh[0]}"
+        lines.append(line)
+        acted.add(thread)
+    return "".join(line + "\n" for line in ["eraser trace 3", *lines]).encode()
+
+
+def random_lists(record):
+    racy = 0
+    for seed in range(RANDOM_LISTS):
+        marked = order_reference.mark(order_reference.read(random_list(seed)))
+        by_sets, by_chains = [race.place for race in order_reference.races(marked)], order_reference.races_by_chains(marked)
+        racy += bool(by_chains)
+        record(f"order: random list {seed}", by_sets == by_chains, f"{by_sets}, not {by_chains}")
+    record("order: some random lists race, and some don't", RANDOM_LISTS // 10 < racy < RANDOM_LISTS * 9 // 10, f"{racy}")
+
+
+def tests(record):
+    worked(record)
+    proved_lists(record)
+    faults(record)
+    faults_beside_the_reference(record)
+    random_lists(record)
+
+
+if __name__ == "__main__":
+    run_alone(tests)

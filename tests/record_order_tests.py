@@ -1,0 +1,223 @@
+#!/usr/bin/env python3
+"""Records programs with `record/run --order`, and compares what the traces say of order with what must be true of them.
+
+The programs of tests/record/order show one way to order threads each. A comment `UNORDERED` on a line says that an access there races by
+happens-before, in every schedule. The sites at which tests/order_reference.py finds races are these lines and no others.
+
+`tests/run` calls `tests`. By itself this file runs these tests alone.
+"""
+
+import collections
+import concurrent.futures
+import pathlib
+import re
+import sys
+import tempfile
+
+sys.path.insert(0, str(pathlib.Path(__file__).parent))
+sys.dont_write_bytecode = True
+import order_reference
+import record_tests
+import reference
+from alone import run_alone
+from record_tests import LEVELS, RUN, SOURCES, WORKERS, Findings, build, command, marked
+
+RUNS = max(1, record_tests.RUNS // 4)
+ORDER_VERBS = ("start", "join", "signal", "await")
+# For each program: the objects that are signalled and then awaited, those that are signalled alone, and those that no line names.
+OBJECTS = {
+    "annotated": (["one", "gate"], [], ["neither"]),
+    "barrier": (["rounds", "rounds_1"], [], []),
+    "c11": (["flag"], ["changed"], []),
+    "changes": (["counter", "spin_lock", "taken"], ["weak"], ["failed"]),
+    "condition": (["changed"], [], []),
+    "message": (["flag_8", "flag_16", "flag_32", "flag_64"], ["half_flag"], ["loose_flag", "fenced_flag"]),
+    "once": (["pthread_flag", "call_flag", "thrown_flag", "_ZGVZL8get_madevE4only"], [], []),
+    "semaphore": (["full", "spare"], [], []),
+    "threads": ([], [], []),
+}
+STARTS = {"threads": 24}
+# Programs of tests/record that end otherwise than by themselves, or need something else beside them.
+OTHERS = ("ends", "loads", "plugin", "busy", "jumps")
+
+
+# ---- What must be true of every trace ----
+
+
+class Threads:
+    """Who was started and who was joined in the lines so far."""
+
+    def __init__(self):
+        self.started, self.joined = {"t1"}, set()
+
+    def fault(self, step):
+        if step.thread not in self.started:
+            return "a thread that was not started"
+        if step.thread in self.joined:
+            return "a thread that was joined"
+        if step.verb == "start" and step.name in self.started or step.verb == "join" and step.name in self.joined | {step.thread}:
+            return f"a second {step.verb}"
+        if step.verb in ("start", "join"):
+            (self.started if step.verb == "start" else self.joined).add(step.name)
+        return None
+
+
+def await_fault(step, signallers):
+    """An await is written only if it may order something: another thread has signalled the object."""
+    if step.verb == "signal":
+        signallers[step.name].add(step.thread)
+    elif step.verb == "await" and not signallers[step.name] - {step.thread}:
+        return "an await with no signal"
+    return None
+
+
+def order_fault(text):
+    """What is wrong with a trace that has order, or None."""
+    if not text.startswith("eraser trace 3\n") or not re.search(r"\n# complete: \d+ events, none lost\nend\n\Z", text):
+        return f"begins {text[:20]!r}, ends {text[-60:]!r}"
+    try:
+        steps = order_reference.read(text.encode())
+    except order_reference.Fault as fault:
+        return str(fault)
+    threads, signallers = Threads(), collections.defaultdict(set)
+    for step in steps:
+        fault = threads.fault(step) or await_fault(step, signallers)
+        if fault:
+            return f"line {step.line}: {fault}: {step.thread} {step.verb} {step.name}"
+    refused = [item.step.line for item in order_reference.mark(steps) if item.is_refused]
+    return f"line {refused[0]} is refused" if refused else record_tests.lock_fault(text)
+
+
+# ---- What must be true of a program's ----
+
+
+def objects_fault(name, steps):
+    """The objects that the trace names are those that it should name."""
+    both, signals, none = OBJECTS[name]
+    firsts = {}
+    for step in steps:
+        firsts.setdefault((step.verb, step.name), step.line)
+    for each in both + signals:
+        if ("signal", each) not in firsts:
+            return f"no signal of {each}"
+    for each in both:
+        if firsts.get(("await", each), 0) < firsts["signal", each]:
+            return f"no await of {each} behind its signal"
+    for verb, each in firsts:
+        if verb in ("signal", "await") and each in none or verb == "await" and each in signals and name != "c11":
+            return f"{verb} of {each}"
+    return None
+
+
+def program_fault(source, text):
+    steps = order_reference.read(text.encode())
+    sites = {race.marked.step.site for race in order_reference.races(order_reference.mark(steps))}
+    if sites != marked(source, "UNORDERED"):
+        return f"unordered at {sorted(sites)}, not {sorted(marked(source, 'UNORDERED'))}"
+    starts = sum(step.verb == "start" for step in steps)
+    if starts != STARTS.get(source.stem, starts):
+        return f"{starts} starts"
+    return objects_fault(source.stem, steps)
+
+
+# ---- Runs ----
+
+
+def record_trace(folder, nth, program, *options):
+    trace = folder / f"{program.name}.{nth}.trace"
+    done = command([RUN, "-q", "-o", trace, *options, program])
+    text = trace.read_text()
+    trace.unlink()
+    return done, text
+
+
+def run_often(folder, findings, program, source):
+    for nth in range(RUNS):
+        done, text = record_trace(folder, nth, program, "--order")
+        fault = f"{done}" if done.returncode or done.stderr else order_fault(text) or program_fault(source, text)
+        findings.check(f"{program.name} with --order, run {nth}", fault is None, fault)
+
+
+def build_one(folder, findings, job):
+    program, done = build(folder, *job)
+    findings.check(f"{program.name} is built", done.returncode == 0 and done.stderr == "", done.stderr)
+    return program
+
+
+def order_programs(folder, findings, pool):
+    sources = sorted((SOURCES / "order").glob("*.c*"))
+    findings.check("each program has its objects", [source.stem for source in sources] == sorted(OBJECTS), f"{sources}")
+    jobs = [(source, compiler, level) for source in sources for compiler in ("gcc", "clang") for level in LEVELS]
+    made = list(pool.map(lambda job: build_one(folder, findings, job), jobs))
+    for run in [pool.submit(run_often, folder, findings, program, job[0]) for job, program in zip(jobs, made)]:
+        run.result()
+    return made
+
+
+def run_other(folder, findings, source):
+    """A program that is recorded without order elsewhere: its trace has the same form."""
+    program = build_one(folder, findings, (source, "gcc", "-O0"))
+    done, text = record_trace(folder, 0, program, "--order")
+    fault = f"{done}" if done.returncode != record_tests.STATUS.get(source.stem, 0) else order_fault(text)
+    findings.check(f"{program.name} with --order", fault is None, fault)
+
+
+def other_programs(folder, findings, pool):
+    sources = [source for source in sorted(SOURCES.glob("*.c*")) if source.stem not in OTHERS]
+    for run in [pool.submit(run_other, folder, findings, source) for source in sources]:
+        run.result()
+
+
+# ---- The option ----
+
+
+def without_order(folder, findings, program):
+    """Without the option a trace is one of text 1, and has no line of order."""
+    done, text = record_trace(folder, "plain", program)
+    verbs = {line.split()[1] for line in text.splitlines()[1:] if not line.startswith("#")}
+    is_plain = text.startswith("eraser trace 1\n") and text.endswith("none lost\n") and verbs and not verbs & set(ORDER_VERBS)
+    findings.check("a trace without --order", done.returncode == 0 and is_plain, f"{done} {verbs} {text[-60:]!r}")
+
+
+def with_a_limit(folder, findings):
+    """A trace that has lost something has no `end`."""
+    program = build_one(folder, findings, (SOURCES / "busy.c", "gcc", "-O2"))
+    trace = folder / "limited.trace"
+    done = command([RUN, "-q", "-o", trace, "--order", "--limit", "100000", program, "300000"])
+    text = trace.read_text()
+    is_cut = re.search(r"\n# incomplete: \d+ events, [1-9]\d* lost\n\Z", text) and len(text) <= 100000
+    findings.check("a limit with --order", done.returncode == 0 and is_cut and order_reference.read(text.encode()), f"{done} {text[-100:]}")
+
+
+def few_awaits(folder, findings, program):
+    """A thread that looks at a flag until it is raised has one await of it."""
+    _, text = record_trace(folder, "few", program, "--order")
+    awaits = re.findall(r"^t\d+ await flag_\d+$", text, re.M)
+    findings.check("a thread that looks at a flag again and again", len(awaits) == len(set(awaits)) == 4, f"{awaits}")
+
+
+def replayed(folder, findings, program):
+    """A replay reads text 3, and reports by the lockset rule as it would without what orders threads."""
+    trace = folder / "order.trace"
+    done = command([RUN, "-o", trace, "--order", "--replay", program])
+    wanted = reference.replay(trace.read_bytes())
+    findings.check("the report of a program that is recorded with --order", done.returncode == 0 and wanted[0] in done.stdout, f"{done} {wanted}")
+    found = command([record_tests.TOP / "eraser", "replay", trace])
+    findings.check("the replay of its trace", (found.stdout, found.stderr, found.returncode) == wanted, f"{found} {wanted}")
+
+
+def tests(record):
+    findings = Findings(record)
+    command([record_tests.TOP / "record/build"])
+    with tempfile.TemporaryDirectory() as name, concurrent.futures.ThreadPoolExecutor(WORKERS) as pool:
+        folder = pathlib.Path(name)
+        made = {program.name: program for program in order_programs(folder, findings, pool)}
+        other_programs(folder, findings, pool)
+        without_order(folder, findings, made["message-gcc-O0"])
+        with_a_limit(folder, findings)
+        few_awaits(folder, findings, made["message-gcc-O0"])
+        replayed(folder, findings, made["message-gcc-O0"])
+
+
+if __name__ == "__main__":
+    run_alone(tests)
