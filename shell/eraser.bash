@@ -32,16 +32,18 @@ _eraser() {
         _eraser_words "1 2 4 8 16 32 64"
         return
         ;;
-    replay:--byte-limit | replay:--max-races) return ;;
+    replay:--byte-limit | replay:--max-races | explain:--byte-limit) return ;;
     esac
     case $command:$word in
     :-*) _eraser_words "--help --version -h -V" ;;
-    :*) _eraser_words "replay demo help" ;;
+    :*) _eraser_words "replay explain demo help" ;;
     replay:-?*) _eraser_words "--suppress --write-rules --unused-rules --max-races --explain --by-site --format --source --workers --shards --byte-limit --help -h" ;;
     replay:*) _eraser_files ;;
+    explain:-?*) _eraser_words "--byte-limit --help -h" ;;
+    explain:*) _eraser_files ;;
     demo:-*) _eraser_words "--help -h" ;;
     demo:*) _eraser_words "locked-counter racy-counter init-then-read rw-table reuse-pool ignored-stats" ;;
-    help:*) _eraser_words "replay demo help" ;;
+    help:*) _eraser_words "replay explain demo help" ;;
     esac
 }
 

@@ -147,6 +147,9 @@ def unwritten_rules(record, folder):
     for place in ("/dev/full", "/nonexistent/known.rules", TOP):
         found = run(["replay", "--write-rules", place, "-"], TWO_RACES)
         record(f"rules that can't be written to {pathlib.Path(place).name}", found == (whole[0], b"cannot write rules\n", 4), f"{found}")
+    for words in (["--suppress", path], ["--suppress", "/dev/null", "--suppress", path]):
+        output, errors, status = run(["replay", *words, "--write-rules", path, "-"], TWO_RACES)
+        record(f"rules do not replace a file of {len(words) // 2}", (output, status) == (b"", 2) and errors.startswith(b"error: --write-rules would replace") and path.read_bytes() == kept, f"{errors}")
     output, errors, status = run(["replay", "--write-rules", "/dev/stdout", "-"], cases.text_of("t1 write 0x1000"))
     record("rules of no race", (errors, status) == (b"", 0) and output.endswith(HEAD.encode()), f"{output}")
 

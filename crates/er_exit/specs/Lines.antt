@@ -4,13 +4,14 @@ use Rattle.er_event.specs.Refusal.{text_of as refusal_text}
 use Rattle.er_settle.specs.Texts.{text_of as unsettled_text}
 use Rattle.er_text.specs.Faults.{text_of as kind_text}
 use Rattle.er_exit.specs.declared.faults.Fault.{Fault}
-use Rattle.er_exit.specs.declared.faults.Fault.TheVariants.{Arguments, Text, Suppressions, Memory, TableFull, OpenTrace, OpenSuppressions, Read, ReadSuppressions, Write, WriteRules, Refused, WorkerNotStarted, WorkerLost, Unsettled}
+use Rattle.er_exit.specs.declared.faults.Fault.TheVariants.{Arguments, Text, Suppressions, NoStep, Memory, TableFull, OpenTrace, OpenSuppressions, Read, ReadSuppressions, Write, WriteRules, Refused, WorkerNotStarted, WorkerLost, Unsettled}
 
 -- a fault in words
 abbrev pub text_of : Fault → List ℕ
 text_of Arguments = codes "the arguments are not text"
 text_of (Text fault) = kind_text fault.kind
 text_of (Suppressions file fault) = kind_text fault.kind
+text_of (NoStep line) = codes "no step"
 text_of Memory = codes "out of memory"
 text_of TableFull = codes "table full"
 text_of OpenTrace = codes "cannot open trace"
@@ -24,13 +25,14 @@ text_of WorkerNotStarted = codes "worker not started"
 text_of WorkerLost = codes "worker lost"
 text_of (Unsettled why) = unsettled_text why
 
--- a fault's line: a text's fault has the number of its line, a fault of one of several files of suppressions the number of the file, and a
+-- a fault's line: a text's fault has the number of its line, and so has a line without a step, a fault of one of several files of suppressions the number of the file, and a
 -- demo's refusal or settling fault says what it is
 abbrev pub fault_line : Fault → List ℕ
 fault_line (Text fault) = codes "line " ++ (decimal fault.line ++ (codes ": " ++ (kind_text fault.kind ++ codes "\n")))
 fault_line (Suppressions None fault) = codes "suppressions line " ++ (decimal fault.line ++ (codes ": " ++ (kind_text fault.kind ++ codes "\n")))
 fault_line (Suppressions (Some file) fault) =
     codes "suppressions file " ++ (decimal file ++ (codes " line " ++ (decimal fault.line ++ (codes ": " ++ (kind_text fault.kind ++ codes "\n")))))
+fault_line (NoStep line) = codes "line " ++ (decimal line ++ codes ": no step\n")
 fault_line (OpenSuppressions None) = codes "cannot open suppressions\n"
 fault_line (OpenSuppressions (Some file)) = codes "cannot open suppressions file " ++ (decimal file ++ codes "\n")
 fault_line (ReadSuppressions file) = codes "read fault in suppressions file " ++ (decimal file ++ codes "\n")

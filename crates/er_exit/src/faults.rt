@@ -18,6 +18,8 @@ pub enum Fault {
     Text(TextFault),
     /// The suppressions' text has this fault. If there are several files, this is the one of that number, from 1.
     Suppressions(Option<u64>, TextFault),
+    /// The trace has no step on the line that is to be explained.
+    NoStep(u64),
     /// There was no memory.
     Memory,
     /// Several workers wanted more sets of locks than the table takes.
@@ -50,7 +52,7 @@ impl Fault {
         ensures { result ≡ fault_status self }
     {
         match self {
-            Fault::Arguments | Fault::Text(_) | Fault::Suppressions(..) => 2,
+            Fault::Arguments | Fault::Text(_) | Fault::Suppressions(..) | Fault::NoStep(_) => 2,
             Fault::Memory
             | Fault::TableFull
             | Fault::Refused(_)
@@ -73,6 +75,7 @@ impl Fault {
         match self {
             Fault::Arguments => "the arguments are not text",
             Fault::Text(fault) | Fault::Suppressions(_, fault) => fault.kind.text(),
+            Fault::NoStep(_) => "no step",
             Fault::Memory => "out of memory",
             Fault::TableFull => "table full",
             Fault::OpenTrace => "cannot open trace",

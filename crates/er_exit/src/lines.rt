@@ -23,6 +23,7 @@ fn line_of(alloc: Global, fault: Fault) -> Result<String, AllocError>
         Fault::Suppressions(Some(file), TextFault { line, .. }) => {
             format!(in alloc; "suppressions file {file} line {line}: {text}\n")
         }
+        Fault::NoStep(line) => format!(in alloc; "line {line}: {text}\n"),
         Fault::OpenSuppressions(Some(file)) => format!(in alloc; "{text} file {file}\n"),
         Fault::ReadSuppressions(file) => format!(in alloc; "{text} in suppressions file {file}\n"),
         Fault::Refused(_) => format!(in alloc; "refused: {text}\n"),

@@ -20,7 +20,7 @@
 
 pub use fault::WriteFault;
 pub use lines::{put_rule_counts, put_stop, put_totals};
-pub use naming::order_verb;
+pub use naming::{order_verb, put_event, put_kind, put_lock, put_site, put_state, put_thread};
 pub use numbers::{put_address, put_number};
 pub use report::write_report;
 

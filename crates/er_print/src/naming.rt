@@ -10,11 +10,7 @@ use er_trace::Names;
 use std::alloc::AllocError;
 
 /// Puts the name of a thread.
-pub(crate) fn put_thread(
-    out: &mut Vec<u8>,
-    names: &Names,
-    thread: ThreadId,
-) -> Result<(), AllocError>
+pub fn put_thread(out: &mut Vec<u8>, names: &Names, thread: ThreadId) -> Result<(), AllocError>
     requires { thread < length names.now.threads }
     ensures { OnOk result (out.new.items ≡ out.old.items ++ name_at names.now.threads thread) }
 {
@@ -22,7 +18,7 @@ pub(crate) fn put_thread(
 }
 
 /// Puts the name of a site, or a dash for the missing one.
-pub(crate) fn put_site(out: &mut Vec<u8>, names: &Names, site: Site) -> Result<(), AllocError>
+pub fn put_site(out: &mut Vec<u8>, names: &Names, site: Site) -> Result<(), AllocError>
     requires { site ≤ length names.now.sites }
     ensures { OnOk result (out.new.items ≡ out.old.items ++ site_text names.now site) }
 {
@@ -33,7 +29,7 @@ pub(crate) fn put_site(out: &mut Vec<u8>, names: &Names, site: Site) -> Result<(
 }
 
 /// Puts the name of a lock, or the level of a level's.
-pub(crate) fn put_lock(out: &mut Vec<u8>, names: &Names, lock: LockId) -> Result<(), AllocError>
+pub fn put_lock(out: &mut Vec<u8>, names: &Names, lock: LockId) -> Result<(), AllocError>
     requires { HasLockName names.now lock }
     ensures { OnOk result (out.new.items ≡ out.old.items ++ lock_text names.now lock) }
 {
@@ -94,7 +90,7 @@ fn put_more_locks(out: &mut Vec<u8>, names: &Names, locks: &[LockId]) -> Result<
 }
 
 /// Puts the verb of an access.
-pub(crate) fn put_kind(out: &mut Vec<u8>, kind: Kind) -> Result<(), AllocError>
+pub fn put_kind(out: &mut Vec<u8>, kind: Kind) -> Result<(), AllocError>
     ensures { OnOk result (out.new.items ≡ out.old.items ++ kind_text kind) }
 {
     out.extend_from_slice(match kind {
@@ -104,7 +100,7 @@ pub(crate) fn put_kind(out: &mut Vec<u8>, kind: Kind) -> Result<(), AllocError>
 }
 
 /// Puts the verb of an event, and the lock of a lock event.
-pub(crate) fn put_event(out: &mut Vec<u8>, names: &Names, event: Event) -> Result<(), AllocError>
+pub fn put_event(out: &mut Vec<u8>, names: &Names, event: Event) -> Result<(), AllocError>
     requires { HasEventNames names.now event }
     ensures { OnOk result (out.new.items ≡ out.old.items ++ event_text names.now event) }
 {
@@ -158,11 +154,7 @@ fn release_verb(mode: Mode) -> &'static [u8]
 }
 
 /// Puts the state of a word.
-pub(crate) fn put_state(
-    out: &mut Vec<u8>,
-    names: &Names,
-    state: &WordState,
-) -> Result<(), AllocError>
+pub fn put_state(out: &mut Vec<u8>, names: &Names, state: &WordState) -> Result<(), AllocError>
     requires { HasStateNames names.now state.now }
     ensures { OnOk result (out.new.items ≡ out.old.items ++ state_text names.now state.now) }
 {

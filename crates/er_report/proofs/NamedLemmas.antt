@@ -82,9 +82,9 @@ module _ (names : NameTable) where
       (All-filter (λ l. not (is_level_lock l)) (HasLockName names) locks all) (named_from 4294967265 n (omega arith))
 
   -- what one thread holds
-  record HasHoldings (h : Holdings) : Type 0 where
-    any : HasLockNames names h.held
-    write : HasLockNames names h.write_held
+  pub record HasHoldings (h : Holdings) : Type 0 where
+    pub any : HasLockNames names h.held
+    pub write : HasLockNames names h.write_held
 
   named_changed : (h : Holdings) (e : Event) → HasNumbersNamed names e → HasHoldings h → HasHoldings (changed_by h e)
   named_changed h (Acquire l Read) new old = record { any = named_with l h.held (λ _. new) old.any; write = old.write }
@@ -173,7 +173,7 @@ module _ (names : NameTable) where
   named_reply number locks reasons h states t (Level n) own new all because shown = All-nil (HasViewNames names)
   named_reply number locks reasons h states t (Sync sync) own new all because shown = All-nil (HasViewNames names)
 
-  named_event : (e : Event) → HasNumbersNamed names e → HasEventNames names e
+  pub named_event : (e : Event) → HasNumbersNamed names e → HasEventNames names e
   named_event (Acquire l m) new = λ _. new
   named_event (Release l m) new = λ _. new
   named_event (Access kind w site) new = tt
@@ -194,14 +194,14 @@ module _ (names : NameTable) where
 
   -- at each point of the list
   module _ (steps : List Step) (all : All (IsNamed names) steps) where
-    named_step : (n : ℕ) (step : Step) → slice_get steps n ≡ Some step → IsNamed names step
+    pub named_step : (n : ℕ) (step : Step) → slice_get steps n ≡ Some step → IsNamed names step
     named_step n step is = subst (IsNamed names) (get_or_from_slice_get steps n step step is) (all n step (slice_get_within steps n step is))
 
     named_holdings_by : (n t : ℕ) (o : Option Step) → slice_get steps n ≡ o → HasHoldings (holdings_at steps t n) → HasHoldings (holdings_at steps t (suc n))
     named_holdings_by n t None is old = rw (accepted-past_end steps n is) old
     named_holdings_by n t (Some step) is old = rw (holdings-step steps n step t is) (named_after (holdings_at steps t n) t step (named_step n step is) old)
 
-    named_holdings : (n t : ℕ) → HasHoldings (holdings_at steps t n)
+    pub named_holdings : (n t : ℕ) → HasHoldings (holdings_at steps t n)
     unfolding accepted
     named_holdings zero t = rw (holdings-empty t) (record { any = All-nil (HasLockName names); write = All-nil (HasLockName names) })
     named_holdings (suc n) t = named_holdings_by n t (slice_get steps n) refl (named_holdings n t)
@@ -213,7 +213,7 @@ module _ (names : NameTable) where
         rw (state-step steps n step w is)
         (named_moved (holdings_at steps step.thread n) (state_at steps w n) w step.thread step.event (named_step n step is).thread (named_holdings n step.thread) old)
 
-    named_state : (n w : ℕ) → HasStateNames names (state_at steps w n)
+    pub named_state : (n w : ℕ) → HasStateNames names (state_at steps w n)
     named_state zero w = rw (state-start (reading_of steps) w) tt
     named_state (suc n) w = named_state_by n w (slice_get steps n) refl (named_state n w)
 

@@ -10,6 +10,8 @@ use std::alloc::{AllocError, Global};
 pub enum Request<'a> {
     /// A replay of a trace.
     Replay(Replay<'a>),
+    /// The story of one step of a trace.
+    Explain(Explain<'a>),
     /// A workload on threads of this program.
     Demo(Demo),
 }
@@ -43,6 +45,18 @@ pub struct Replay<'a> {
     pub ghost few_shards: { shards ≤ 64 },
     pub ghost some_workers: { 1 ≤ workers },
     pub ghost few_workers: { workers ≤ 16 },
+    pub ghost few_bytes: { byte_limit ≤ 2 ^ 62 },
+}
+
+/// Which step of which trace to explain.
+#[derive(Drop)]
+pub struct Explain<'a> {
+    /// The line of the trace that the step stands on, from 1.
+    pub line: u64,
+    /// The path of the trace, or `-` for standard input.
+    pub trace: &'a str,
+    /// How many bytes the trace may have, at most 2^62.
+    pub byte_limit: u64,
     pub ghost few_bytes: { byte_limit ≤ 2 ^ 62 },
 }
 
@@ -85,62 +99,88 @@ fn count<'a>(alloc: Global, name: &'a str, most: i64, default: &'a str, help: &'
         .help(help)
 }
 
-// The options that say which races get lines, and what is made of them besides.
-fn with_rules<'a>(alloc: Global, command: Command<'a>) -> Result<Command<'a>, AllocError> {
-    let suppress = Arg::new(alloc, "suppress")
+// Each option is made by a function of its own, so that nothing else is let go of if there is no memory. Split for the prover.
+
+fn suppress_option<'a>(alloc: Global) -> Arg<'a> {
+    Arg::new(alloc, "suppress")
         .long("suppress")
         .value_name("FILE")
         .action(ArgAction::Append)
-        .help("Count the races that this file's rules take, and leave their lines out");
-    let write_rules = Arg::new(alloc, "write-rules")
+        .help("Count the races that this file's rules take, and leave their lines out")
+}
+
+fn write_rules_option<'a>(alloc: Global) -> Arg<'a> {
+    Arg::new(alloc, "write-rules")
         .long("write-rules")
         .value_name("FILE")
-        .help("Write rules to this file that take each race of the report");
-    let unused_rules = Arg::new(alloc, "unused-rules")
+        .help("Write rules to this file that take each race of the report")
+}
+
+fn unused_rules_option<'a>(alloc: Global) -> Arg<'a> {
+    Arg::new(alloc, "unused-rules")
         .long("unused-rules")
         .action(ArgAction::SetTrue)
-        .help("Name each rule that took no race, on standard error");
-    let max_races = Arg::new(alloc, "max-races")
+        .help("Name each rule that took no race, on standard error")
+}
+
+fn max_races_option<'a>(alloc: Global) -> Result<Arg<'a>, AllocError> {
+    let option = Arg::new(alloc, "max-races")
         .long("max-races")
         .value_name("COUNT")
         .value_parser(value_parser!(u64))
-        .conflicts_with("by-site")?
-        .help("Write the lines of the first races alone, and how many were left out");
-    command
-        .arg(suppress)?
-        .arg(write_rules)?
-        .arg(unused_rules)?
-        .arg(max_races)
+        .conflicts_with("by-site")?;
+    Ok(option.help("Write the lines of the first races alone, and how many were left out"))
 }
 
-// The options that say how the races are written.
-fn with_forms<'a>(alloc: Global, command: Command<'a>) -> Result<Command<'a>, AllocError> {
-    let explain = Arg::new(alloc, "explain")
+// The options that say which races get lines, and what is made of them besides.
+fn with_rules<'a>(alloc: Global, command: Command<'a>) -> Result<Command<'a>, AllocError> {
+    let command = command.arg(suppress_option(alloc))?;
+    let command = command.arg(write_rules_option(alloc))?;
+    let command = command.arg(unused_rules_option(alloc))?;
+    command.arg(max_races_option(alloc)?)
+}
+
+fn explain_option<'a>(alloc: Global) -> Arg<'a> {
+    Arg::new(alloc, "explain")
         .long("explain")
         .action(ArgAction::SetTrue)
-        .help("Name the accesses that make each race");
-    let by_site = Arg::new(alloc, "by-site")
+        .help("Name the accesses that make each race")
+}
+
+fn by_site_option<'a>(alloc: Global) -> Arg<'a> {
+    Arg::new(alloc, "by-site")
         .long("by-site")
         .action(ArgAction::SetTrue)
-        .help(
-            "Write a table of the sites with races, most words first, and explain a race of each",
-        );
-    let format = Arg::new(alloc, "format")
+        .help("Write a table of the sites with races, most words first, and explain a race of each")
+}
+
+fn format_option<'a>(alloc: Global) -> Result<Arg<'a>, AllocError> {
+    let option = Arg::new(alloc, "format")
         .long("format")
         .value_name("FORM")
         .value_parser(FORMS.as_slice())
         .default_value("text")
-        .conflicts_with("by-site")?
-        .help(
-            "How the report is written: as text for scripts, as JSON for programs, as SARIF for code hosts, or as one page of HTML for people",
-        );
-    let source = Arg::new(alloc, "source")
+        .conflicts_with("by-site")?;
+    Ok(option.help(
+        "How the report is written: as text for scripts, as JSON for programs, as SARIF for code hosts, or as one page of HTML for people",
+    ))
+}
+
+fn source_option<'a>(alloc: Global) -> Arg<'a> {
+    Arg::new(alloc, "source")
         .long("source")
         .value_name("DIR")
         .help(
             "With --format html, show the lines around each site, from the files below this folder",
-        );
-    command.arg(explain)?.arg(by_site)?.arg(format)?.arg(source)
+        )
+}
+
+// The options that say how the races are written.
+fn with_forms<'a>(alloc: Global, command: Command<'a>) -> Result<Command<'a>, AllocError> {
+    let command = command.arg(explain_option(alloc))?;
+    let command = command.arg(by_site_option(alloc))?;
+    let command = command.arg(format_option(alloc)?)?;
+    command.arg(source_option(alloc))
 }
 
 // The options that say how the trace is replayed.
@@ -159,13 +199,16 @@ fn with_limits<'a>(alloc: Global, command: Command<'a>) -> Result<Command<'a>, A
         "8",
         "Into how many parts several workers cut the words, 1 to 64",
     );
-    let byte_limit = Arg::new(alloc, "byte-limit")
+    command.arg(workers)?.arg(shards)?.arg(byte_limit(alloc))
+}
+
+fn byte_limit<'a>(alloc: Global) -> Arg<'a> {
+    Arg::new(alloc, "byte-limit")
         .long("byte-limit")
         .value_name("BYTES")
         .value_parser(value_parser!(u64).range(1..=MOST_BYTES as i64))
         .default_value("268435456")
-        .help("The most bytes that a text may have, 1 to 4611686018427387904");
-    command.arg(workers)?.arg(shards)?.arg(byte_limit)
+        .help("The most bytes that a text may have, 1 to 4611686018427387904")
 }
 
 fn replay_command<'a>(alloc: Global) -> Result<Command<'a>, AllocError> {
@@ -179,6 +222,35 @@ fn replay_command<'a>(alloc: Global) -> Result<Command<'a>, AllocError> {
         .help("The trace to replay, or - for standard input");
     command.arg(trace)
 }
+
+fn explain_command<'a>(alloc: Global) -> Result<Command<'a>, AllocError> {
+    let command = Command::new(alloc, "explain")
+        .about("Say why one step is a race or not, by the story of its word")
+        .after_help(EXPLAIN_HELP);
+    let line = Arg::new(alloc, "line")
+        .value_name("LINE")
+        .required(true)
+        .value_parser(value_parser!(u64))
+        .help("The line of the trace that the step stands on, from 1");
+    let trace = Arg::new(alloc, "trace")
+        .value_name("TRACE")
+        .required(true)
+        .help("The trace, or - for standard input");
+    command.arg(byte_limit(alloc))?.arg(line)?.arg(trace)
+}
+
+const EXPLAIN_HELP: &str = "\
+Example:
+  printf 'eraser trace 1\\nt1 write 0x1000\\nt2 write 0x1000\\n' | eraser explain 3 -
+prints
+  line 3: t2 write 0x000000001000 at -, holding none
+  answer: race: the word was written, and no lock was held at each access since a second thread came
+  before: exclusive t1
+  after: shared-modified, candidates none: this access left no candidate
+  earlier accesses: 1
+    access 1: line 2, t1 write at -, holding none: exclusive t1
+
+The earlier accesses are those that count since the word's last reuse. Each one that changed the word's state has a line.";
 
 const FORMS: [&str; 4] = ["text", "json", "sarif", "html"];
 
@@ -211,6 +283,7 @@ pub fn eraser_command<'a>(alloc: Global) -> Result<Command<'a>, AllocError> {
         .subcommand_required(true)
         .arg_required_else_help(true)
         .subcommand(replay_command(alloc)?)?
+        .subcommand(explain_command(alloc)?)?
         .subcommand(demo_command(alloc)?)
 }
 
@@ -313,6 +386,7 @@ fn request_of<'a>(
             let suppressions = values_of(alloc, found, "suppress")?;
             replay_request(found, suppressions)
         }
+        Some(("explain", found)) => explain_request(found),
         Some(("demo", found)) => demo_request(found),
         _ => None,
     })
@@ -320,6 +394,19 @@ fn request_of<'a>(
 
 fn replay_request<'a>(found: &ArgMatches<'a>, suppressions: Vec<&'a str>) -> Option<Request<'a>> {
     Some(Request::Replay(replay_of(found, suppressions)?))
+}
+
+fn explain_request<'a>(found: &ArgMatches<'a>) -> Option<Request<'a>> {
+    let line = found.get_one::<u64>("line")?;
+    let byte_limit = found.get_one::<u64>("byte-limit")?;
+    if byte_limit > MOST_BYTES {
+        return None;
+    }
+    Some(Request::Explain(Explain {
+        line,
+        trace: found.get_str("trace")?,
+        byte_limit,
+    }))
 }
 
 fn demo_request<'a>(found: &ArgMatches<'a>) -> Option<Request<'a>> {
@@ -330,7 +417,18 @@ fn demo_request<'a>(found: &ArgMatches<'a>) -> Option<Request<'a>> {
 fn lacks_page(request: &Request<'_>) -> bool {
     match request {
         Request::Replay(replay) => replay.source.is_some() && replay.format != Format::Html,
-        Request::Demo(_) => false,
+        Request::Explain(_) | Request::Demo(_) => false,
+    }
+}
+
+// Whether the file that gets rules is one of those whose rules are asked: they would be lost.
+fn overwrites_rules(request: &Request<'_>) -> bool {
+    match request {
+        Request::Replay(replay) => match replay.write_rules {
+            Some(path) => replay.suppressions.iter().any(|other| *other == path),
+            None => false,
+        },
+        Request::Explain(_) | Request::Demo(_) => false,
     }
 }
 
@@ -342,6 +440,10 @@ pub fn read_request<'a>(alloc: Global, words: &'a [String]) -> Result<Request<'a
         Some(request) if lacks_page(&request) => Err(command.error(
             ErrorKind::ArgumentConflict,
             "--source goes with --format html alone",
+        )?),
+        Some(request) if overwrites_rules(&request) => Err(command.error(
+            ErrorKind::ArgumentConflict,
+            "--write-rules would replace a file of --suppress: give it another path",
         )?),
         Some(request) => Ok(request),
         None => Err(command.error(ErrorKind::InvalidValue, "a value is out of its range")?),

@@ -1,3 +1,4 @@
 pub mod Faults
 pub mod Notes
 pub mod Replays
+pub mod Stories

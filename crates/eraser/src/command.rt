@@ -14,12 +14,13 @@ use crate::advice::report_replay_fault;
 use crate::faults::fault_of;
 use crate::rules::suppressions_of;
 use crate::sorting::{Ended, replay_and_sort, status_of};
+use crate::stories::explain_step;
 use clap::error::ErrorKind;
 use er_device::Device;
 use er_exit::{Fault, put, report_fault, run_demo};
 use er_formats::{Form, replay_as};
 use er_load::Workload;
-use er_request::{Demo, Format, Replay, Request, read_request};
+use er_request::{Demo, Explain, Format, Replay, Request, read_request};
 use er_rules::Suppressions;
 use er_run::{Options, Verdict, replay_text};
 use std::alloc::Global;
@@ -84,6 +85,7 @@ where
 {
     match request {
         Request::Replay(replay) => end_replay(rt, &replay, input, output, errors, for_people),
+        Request::Explain(asked) => end_story(rt, &asked, input, output, errors),
         Request::Demo(demo) => end_demo(rt, demo, output, errors),
     }
 }
@@ -113,6 +115,33 @@ where
     match run_replay(rt, replay, input, output) {
         Ok(ended) => note(ended, errors),
         Err(fault) => report_replay_fault(rt, replay, fault, errors, for_people),
+    }
+}
+
+// Writes the story of a step, or why there is none.
+fn end_story<R, I, O, E>(
+    rt: &R,
+    asked: &Explain<'_>,
+    input: &mut Device<I>,
+    output: &mut Device<O>,
+    errors: &mut Device<E>,
+) -> u8
+where
+    R: Files + AllocGlobal,
+    I: Read,
+    O: Write,
+    E: Write,
+    requires input { has_failed input.old ≡ false }
+    requires output { has_failed output.old ≡ false }
+    requires errors { has_failed errors.old ≡ false }
+    ensures status { result ≤ 4 }
+    ensures quiet { result ≤ 1 → GetsNotes (E.contents (inner_of errors.old)) (E.contents (inner_of errors.new)) (has_failed errors.new) }
+    ensures silent { result ≤ 1 → Keeps (E.contents (inner_of errors.old)) (E.contents (inner_of errors.new)) }
+    ensures refused { result ≡ 2 → Keeps (O.contents (inner_of output.old)) (O.contents (inner_of output.new)) }
+{
+    match explain_step(rt, asked, input, output) {
+        Ok(ended) => note(ended, errors),
+        Err(fault) => report_fault(rt.alloc(), fault, errors),
     }
 }
 

@@ -10,6 +10,7 @@ mod faults;
 mod rules;
 mod sorting;
 mod sources;
+mod stories;
 
 pub use command::command;
 use er_device::Device;

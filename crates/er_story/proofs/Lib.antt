@@ -1,0 +1,3 @@
+pub mod HoldingLemmas
+pub mod PastLemmas
+pub mod StoryLemmas

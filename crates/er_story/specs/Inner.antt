@@ -1,0 +1,2 @@
+-- What a pass keeps of a word inside.
+pub mod Past

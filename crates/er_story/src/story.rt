@@ -1,0 +1,43 @@
+//! What a story says.
+use crate::word_story::WordStory;
+use er_event::{Kind, Lockset, Refusal, Reply, Site, Step, ThreadId, WordState};
+
+/// A counted access that changed what is known of its word.
+#[derive(Drop)]
+pub struct Turn {
+    /// Which of the word's counted accesses since its last reuse it is, from 1.
+    pub number: u64,
+    /// The line of the trace.
+    pub line: u64,
+    /// The thread that made it.
+    pub thread: ThreadId,
+    /// What it did.
+    pub kind: Kind,
+    /// Where in the program it stands.
+    pub site: Site,
+    /// The locks that the thread held, in any mode.
+    pub held: Lockset,
+    /// Those that it held in write mode.
+    pub write_held: Lockset,
+    /// The word's state after it.
+    pub state: WordState,
+    /// Whether it emptied the word's candidate set, or was the first access of a second thread, which held no lock.
+    pub emptied: bool,
+}
+
+/// The story of one step.
+#[derive(Drop)]
+pub struct Story {
+    /// The line of the trace.
+    pub line: u64,
+    /// The step.
+    pub step: Step,
+    /// What it is answered.
+    pub answer: Result<Reply, Refusal>,
+    /// The locks that its thread held before it, in any mode.
+    pub held: Lockset,
+    /// Those that it held in write mode.
+    pub write_held: Lockset,
+    /// What happened to its word, if it accesses or shows one.
+    pub word: Option<WordStory>,
+}

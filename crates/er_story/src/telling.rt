@@ -1,0 +1,299 @@
+//! The story of a step of a trace.
+ghost use Rattle.std.specs.Prelude.{◌≡◌, ◌<◌, ◌==◌, ℕ, nat_lt, cond, length, slice_get, slice_index, IfOk, IfSome, None, Some, Ok, false};
+ghost use Rattle.std.specs.List.{position};
+ghost use Rattle.er_event.specs.declared.steps.Reply.TheVariants.{Done, Ignored, Quiet, Race};
+ghost use Rattle.er_model.specs.Answers.{answer, answer_unless};
+ghost use Rattle.er_model.specs.Following.{locks_for};
+ghost use Rattle.er_model.specs.Holdings.{holdings_at, refused_by};
+ghost use Rattle.er_model.specs.Table.{advanced, reports};
+ghost use Rattle.er_story.specs.Names.{HasStoryNames};
+ghost use Rattle.er_story.specs.Story.{has_word, story_at, story_of, story_on, tale_in, tale_of};
+
+use crate::holding::{held_before, refusal_of};
+use crate::past::{Past, past_of};
+use crate::states::{advance, reports};
+use crate::story::Story;
+use crate::word_story::WordStory;
+use er_event::{Event, Kind, Lockset, Refusal, Reply, Site, Step, ThreadId, Word, WordState};
+use er_held::Held;
+use er_trace::Trace;
+use std::alloc::{AllocError, Global};
+
+/// The story of the first step on a line of the trace, if the line has a step. `AllocError`: memory was refused.
+pub fn tell_line(alloc: Global, trace: &Trace, line: u64) -> Result<Option<Story>, AllocError>
+    ensures story { IfOk result (λ found. found ≡ story_on trace.now line) }
+    ensures named { IfOk result (λ found. IfSome found (HasStoryNames trace.now.names)) }
+{
+    let lines = trace.lines();
+    let Some(place) = place_of(lines, line) else {
+        return Ok(None);
+    };
+    let story = tell(alloc, trace, place)?;
+    Ok(Some(story))
+}
+
+// Where the first step of a line stands, if the line has a step. A line may have several: a reuse of many pages.
+fn place_of(lines: &[u64], line: u64) -> Option<usize>
+    ensures { result ≡ position (λ (l : ℕ). l == line) lines.now }
+{
+    lines.iter().position(|found| *found == line)
+}
+
+/// The story of the step at a place of the trace, from 0. `AllocError`: memory was refused. It goes over the steps up to there.
+pub fn tell(alloc: Global, trace: &Trace, place: usize) -> Result<Story, AllocError>
+    requires { place < length trace.now.steps }
+    ensures story { IfOk result (λ story. story_at trace.now place ≡ Some story) }
+    ensures named { IfOk result (HasStoryNames trace.now.names) }
+{
+    let steps = trace.steps();
+    let lines = trace.lines();
+    let step = &steps[place];
+    let line = lines[place];
+    let story = story_of(alloc, trace, place, step, line)?;
+    Ok(story)
+}
+
+// The story of this step, which stands at a place of the trace, and on this line.
+fn story_of(
+    alloc: Global,
+    trace: &Trace,
+    place: usize,
+    step: &Step,
+    line: u64,
+) -> Result<Story, AllocError>
+    requires step { slice_get trace.now.steps place ≡ Some step.now }
+    requires line { line ≡ slice_index trace.now.lines place }
+    requires within { place < length trace.now.steps }
+    ensures { IfOk result (λ story. story ≡ story_of trace.now place step.now) }
+{
+    let mut holding = held_before(alloc, trace.steps(), step.thread, place)?;
+    let story = story_by(alloc, trace, place, step, line, &mut holding)?;
+    Ok(story)
+}
+
+// The same, if its thread holds this before it.
+fn story_by(
+    alloc: Global,
+    trace: &Trace,
+    place: usize,
+    step: &Step,
+    line: u64,
+    holding: &mut Held,
+) -> Result<Story, AllocError>
+    requires step { slice_get trace.now.steps place ≡ Some step.now }
+    requires line { line ≡ slice_index trace.now.lines place }
+    requires within { place < length trace.now.steps }
+    requires holding { holding.old ≡ holdings_at trace.now.steps step.now.thread place }
+    ensures { IfOk result (λ story. story ≡ story_of trace.now place step.now) }
+{
+    let thread = step.thread;
+    let event = step.event;
+    let held = holding.held().copy()?;
+    let write_held = holding.write_held().copy()?;
+    let told = tell_of(alloc, trace, place, step, holding)?;
+    Ok(with_locks(line, thread, event, told, held, write_held))
+}
+
+// A story by its parts.
+fn with_locks(
+    line: u64,
+    thread: ThreadId,
+    event: Event,
+    told: Told,
+    held: Lockset,
+    write_held: Lockset,
+) -> Story
+    ensures { result ≡ record { line = line; step = record { thread = thread; event = event }; answer = told.answer; held = held; write_held = write_held; word = told.word } }
+{
+    let Told { answer, word } = told;
+    Story {
+        line,
+        step: Step { thread, event },
+        answer,
+        held,
+        write_held,
+        word,
+    }
+}
+
+/// An access.
+#[derive(Clone, Copy)]
+struct Access {
+    thread: ThreadId,
+    kind: Kind,
+    word: Word,
+    site: Site,
+}
+
+/// What a step is answered, and what happened to its word.
+#[derive(Drop)]
+struct Told {
+    answer: Result<Reply, Refusal>,
+    word: Option<WordStory>,
+}
+
+// Of a step whose thread holds this before it.
+fn tell_of(
+    alloc: Global,
+    trace: &Trace,
+    place: usize,
+    step: &Step,
+    holding: &mut Held,
+) -> Result<Told, AllocError>
+    requires step { slice_get trace.now.steps place ≡ Some step.now }
+    requires holding { holding.old ≡ holdings_at trace.now.steps step.now.thread place }
+    requires within { place < length trace.now.steps }
+    ensures answer { IfOk result (λ told. told.answer ≡ answer trace.now.steps place) }
+    ensures word { IfOk result (λ told. told.word ≡ tale_in trace.now place step.now.event) }
+{
+    let thread = step.thread;
+    let event = step.event;
+    match event {
+        Event::Access(kind, word, site) => {
+            let access = Access {
+                thread,
+                kind,
+                word,
+                site,
+            };
+            tell_access_at(alloc, trace, place, holding, access)
+        }
+        Event::Show(word) => tell_show_at(alloc, trace, place, thread, word),
+        Event::Acquire(..)
+        | Event::Release(..)
+        | Event::Reuse(_)
+        | Event::IgnoreOn
+        | Event::IgnoreOff
+        | Event::Level(_)
+        | Event::Sync(_) => {
+            let told = tell_other(holding, event)?;
+            Ok(told)
+        }
+    }
+}
+
+// Of an access.
+fn tell_access_at(
+    alloc: Global,
+    trace: &Trace,
+    place: usize,
+    holding: &Held,
+    access: Access,
+) -> Result<Told, AllocError>
+    requires step { slice_get trace.now.steps place ≡ Some (record { thread = access.thread; event = Event.Access access.kind access.word access.site }) }
+    requires holding { holding.now ≡ holdings_at trace.now.steps access.thread place }
+    requires within { place < length trace.now.steps }
+    ensures answer { IfOk result (λ told. told.answer ≡ answer trace.now.steps place) }
+    ensures word { IfOk result (λ told. told.word ≡ Some (tale_of trace.now place access.word)) }
+{
+    let past = past_of(alloc, trace, access.word, place)?;
+    let told = tell_access(past, holding, access.thread, access.kind, access.word)?;
+    Ok(told)
+}
+
+// Of a show.
+fn tell_show_at(
+    alloc: Global,
+    trace: &Trace,
+    place: usize,
+    thread: ThreadId,
+    word: Word,
+) -> Result<Told, AllocError>
+    requires step { slice_get trace.now.steps place ≡ Some (record { thread = thread; event = Event.Show word }) }
+    requires within { place < length trace.now.steps }
+    ensures answer { IfOk result (λ told. told.answer ≡ answer trace.now.steps place) }
+    ensures word { IfOk result (λ told. told.word ≡ Some (tale_of trace.now place word)) }
+{
+    let past = past_of(alloc, trace, word, place)?;
+    let told = tell_show(past, word)?;
+    Ok(told)
+}
+
+// Of an access of a word with this past.
+fn tell_access(
+    past: Past,
+    holding: &Held,
+    thread: ThreadId,
+    kind: Kind,
+    word: Word,
+) -> Result<Told, AllocError>
+    ensures answer { IfOk result (λ told. told.answer ≡ Ok (cond (nat_lt 0 holding.now.depth) Ignored (cond (reports past.state (advanced past.state thread kind (locks_for holding.now kind))) Race Quiet))) }
+    ensures word { IfOk result (λ told. told.word ≡ Some (record { word = word; before = past.state; after = cond (nat_lt 0 holding.now.depth) past.state (advanced past.state thread kind (locks_for holding.now kind)); accesses = past.accesses; turns = past.turns })) }
+{
+    if holding.ignoring() {
+        let after = past.state.copy()?;
+        return Ok(told_of(Reply::Ignored, past, word, after));
+    }
+    let after = advance(&past.state, thread, kind, cover(holding, kind))?;
+    let reply = reply_between(&past.state, &after);
+    Ok(told_of(reply, past, word, after))
+}
+
+// What an access between these states is answered.
+fn reply_between(before: &WordState, after: &WordState) -> Reply
+    ensures { result ≡ cond (reports before.now after.now) Race Quiet }
+{
+    if reports(before, after) {
+        Reply::Race
+    } else {
+        Reply::Quiet
+    }
+}
+
+// The locks for an access of this kind.
+fn cover(holding: &Held, kind: Kind) -> &Lockset
+    ensures { result.now ≡ locks_for holding.now kind }
+{
+    match kind {
+        Kind::Read => holding.held(),
+        Kind::Write => holding.write_held(),
+    }
+}
+
+// The answer to a step that makes the word's state this one.
+fn told_of(reply: Reply, past: Past, word: Word, after: WordState) -> Told
+    ensures answer { result.answer ≡ Ok reply }
+    ensures word { result.word ≡ Some (record { word = word; before = past.state; after = after; accesses = past.accesses; turns = past.turns }) }
+{
+    let Past {
+        state,
+        accesses,
+        turns,
+    } = past;
+    Told {
+        answer: Ok(reply),
+        word: Some(WordStory {
+            word,
+            before: state,
+            after,
+            accesses,
+            turns,
+        }),
+    }
+}
+
+// Of a show of a word with this past.
+fn tell_show(past: Past, word: Word) -> Result<Told, AllocError>
+    ensures answer { IfOk result (λ told. told.answer ≡ Ok (Reply.State past.state)) }
+    ensures word { IfOk result (λ told. told.word ≡ Some (record { word = word; before = past.state; after = past.state; accesses = past.accesses; turns = past.turns })) }
+{
+    let shown = past.state.copy()?;
+    let after = past.state.copy()?;
+    Ok(told_of(Reply::State(shown), past, word, after))
+}
+
+// Of a step that has no word.
+fn tell_other(holding: &mut Held, event: Event) -> Result<Told, AllocError>
+    requires { has_word event ≡ false }
+    ensures other { has_word event ≡ false }
+    ensures answer { IfOk result (λ told. told.answer ≡ answer_unless (refused_by holding.old event) Done) }
+    ensures word { IfOk result (λ told. told.word ≡ None) }
+{
+    Ok(Told {
+        answer: match refusal_of(holding, event)? {
+            Some(why) => Err(why),
+            None => Ok(Reply::Done),
+        },
+        word: None,
+    })
+}

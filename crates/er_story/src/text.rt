@@ -1,0 +1,246 @@
+//! The text of a story.
+ghost use Rattle.std.specs.Prelude.{◌≡◌, ◌++◌, All, false, flat_map, IfOk, OnOk};
+ghost use Rattle.er_device.specs.Device.{inner_of, has_failed, taken_of};
+ghost use Rattle.er_print.specs.Written.{FailsWriting, WritesReport};
+ghost use Rattle.er_report.specs.Names.{HasEventNames, HasLockName, HasLockNames, HasSiteName};
+ghost use Rattle.er_story.specs.Names.{HasStoryNames, HasTaleNames, HasTurnNames, HasWordNames};
+ghost use Rattle.er_story.specs.Text.{act_text, change_text, count_text, deed_text, held_text, holding_text, outcome_text, past_text, place_of_turn, step_text, story_text, turn_text, word_text};
+
+use crate::sentences::{put_answer, put_emptied};
+use crate::states::empties;
+use crate::story::{Story, Turn};
+use crate::word_story::WordStory;
+use er_device::Device;
+use er_event::{Event, LockId, Lockset};
+use er_print::{
+    WriteFault, put_address, put_event, put_kind, put_lock, put_number, put_site, put_state,
+    put_thread,
+};
+use er_trace::Names;
+use std::alloc::{AllocError, Global};
+use std::io::Write;
+
+/// Writes a story, with these names for its numbers. The text is whole before its first byte is written.
+pub fn write_story<W: Write>(
+    alloc: Global,
+    writer: &mut Device<W>,
+    story: &Story,
+    names: &Names,
+) -> Result<(), WriteFault>
+    requires open { has_failed writer.old ≡ false }
+    requires names { HasStoryNames names.now story.now }
+    ensures bytes { WritesReport (W.contents (inner_of writer.old)) (W.contents (inner_of writer.new)) (story_text names.now story.now) result }
+    ensures failed { FailsWriting (has_failed writer.new) result }
+    ensures taken { taken_of writer.new ≡ taken_of writer.old }
+{
+    let Ok(text) = story_text(alloc, names, story) else {
+        return Err(WriteFault::Memory);
+    };
+    if writer.write_all(&text).is_err() {
+        return Err(WriteFault::Write);
+    }
+    Ok(())
+}
+
+#[tactic(auto, unfolding(crate::specs::Text::story_text))]
+fn story_text(alloc: Global, names: &Names, story: &Story) -> Result<Vec<u8>, AllocError>
+    requires { HasStoryNames names.now story.now }
+    ensures { IfOk result (λ text. text.items ≡ story_text names.now story.now) }
+{
+    let mut text = Vec::new(alloc);
+    put_step(&mut text, names, story)?;
+    text.extend_from_slice(b"answer: ")?;
+    put_answer(&mut text, &story.word, &story.answer)?;
+    text.extend_from_slice(b"\n")?;
+    put_word(&mut text, names, &story.word)?;
+    Ok(text)
+}
+
+// Puts the step, with the locks of its thread.
+fn put_step(out: &mut Vec<u8>, names: &Names, story: &Story) -> Result<(), AllocError>
+    requires { HasStoryNames names.now story.now }
+    ensures { OnOk result (out.new.items ≡ out.old.items ++ step_text names.now story.now) }
+{
+    out.extend_from_slice(b"line ")?;
+    put_number(out, story.line)?;
+    out.extend_from_slice(b": ")?;
+    put_thread(out, names, story.step.thread)?;
+    out.extend_from_slice(b" ")?;
+    put_deed(out, names, story.step.event)?;
+    put_holding(out, names, &story.write_held, &story.held)?;
+    out.extend_from_slice(b"\n")
+}
+
+// Puts what a step did, and to which word.
+fn put_deed(out: &mut Vec<u8>, names: &Names, event: Event) -> Result<(), AllocError>
+    requires event { HasEventNames names.now event }
+    requires site { HasSiteName names.now event }
+    ensures { OnOk result (out.new.items ≡ out.old.items ++ deed_text names.now event) }
+{
+    match event {
+        Event::Access(kind, word, site) => {
+            put_kind(out, kind)?;
+            out.extend_from_slice(b" ")?;
+            put_address(out, word)?;
+            out.extend_from_slice(b" at ")?;
+            put_site(out, names, site)
+        }
+        Event::Show(word) => {
+            out.extend_from_slice(b"show ")?;
+            put_address(out, word)
+        }
+        Event::Acquire(..)
+        | Event::Release(..)
+        | Event::Reuse(_)
+        | Event::IgnoreOn
+        | Event::IgnoreOff
+        | Event::Level(_)
+        | Event::Sync(_) => put_event(out, names, event),
+    }
+}
+
+// Puts the locks that a thread held.
+fn put_holding(
+    out: &mut Vec<u8>,
+    names: &Names,
+    write_held: &Lockset,
+    held: &Lockset,
+) -> Result<(), AllocError>
+    requires { HasLockNames names.now held.now }
+    ensures { OnOk result (out.new.items ≡ out.old.items ++ holding_text names.now write_held.now held.now) }
+{
+    put_held_locks(out, names, write_held, held.as_slice())
+}
+
+fn put_held_locks(
+    out: &mut Vec<u8>,
+    names: &Names,
+    write_held: &Lockset,
+    locks: &[LockId],
+) -> Result<(), AllocError>
+    requires { HasLockNames names.now locks.now }
+    ensures { OnOk result (out.new.items ≡ out.old.items ++ holding_text names.now write_held.now locks.now) }
+{
+    if locks.is_empty() {
+        return out.extend_from_slice(b", holding none");
+    }
+    out.extend_from_slice(b", holding")?;
+    for lock in locks {
+        put_held(out, names, write_held, *lock)?;
+    }
+    Ok(())
+}
+
+// Puts a lock, and that it was held only to read if it was.
+fn put_held(
+    out: &mut Vec<u8>,
+    names: &Names,
+    write_held: &Lockset,
+    lock: LockId,
+) -> Result<(), AllocError>
+    requires { HasLockName names.now lock }
+    ensures { OnOk result (out.new.items ≡ out.old.items ++ held_text names.now write_held.now lock) }
+{
+    out.push(b' ')?;
+    put_lock(out, names, lock)?;
+    if write_held.contains(lock) {
+        return Ok(());
+    }
+    out.extend_from_slice(b" (to read)")
+}
+
+// Puts what happened to the word of a step, if it has one.
+fn put_word(out: &mut Vec<u8>, names: &Names, word: &Option<WordStory>) -> Result<(), AllocError>
+    requires { HasWordNames names.now word.now }
+    ensures { OnOk result (out.new.items ≡ out.old.items ++ word_text names.now word.now) }
+{
+    match word {
+        Some(word) => {
+            put_change(out, names, word)?;
+            put_past(out, names, word)
+        }
+        None => Ok(()),
+    }
+}
+
+fn put_change(out: &mut Vec<u8>, names: &Names, word: &WordStory) -> Result<(), AllocError>
+    requires { HasTaleNames names.now word.now }
+    ensures { OnOk result (out.new.items ≡ out.old.items ++ change_text names.now word.now) }
+{
+    let before = word.before();
+    let after = word.after();
+    out.extend_from_slice(b"before: ")?;
+    put_state(out, names, before)?;
+    out.extend_from_slice(b"\nafter: ")?;
+    put_state(out, names, after)?;
+    put_emptied(out, empties(before, after))?;
+    out.extend_from_slice(b"\n")
+}
+
+fn put_past(out: &mut Vec<u8>, names: &Names, word: &WordStory) -> Result<(), AllocError>
+    requires { HasTaleNames names.now word.now }
+    ensures { OnOk result (out.new.items ≡ out.old.items ++ past_text names.now word.now) }
+{
+    put_count(out, word.accesses())?;
+    put_turns(out, names, word.turns())
+}
+
+fn put_count(out: &mut Vec<u8>, accesses: u64) -> Result<(), AllocError>
+    ensures { OnOk result (out.new.items ≡ out.old.items ++ count_text accesses) }
+{
+    out.extend_from_slice(b"earlier accesses: ")?;
+    put_number(out, accesses)?;
+    out.extend_from_slice(b"\n")
+}
+
+fn put_turns(out: &mut Vec<u8>, names: &Names, turns: &[Turn]) -> Result<(), AllocError>
+    requires { All (HasTurnNames names.now) turns.now }
+    ensures { OnOk result (out.new.items ≡ out.old.items ++ flat_map (turn_text names.now) turns.now) }
+{
+    for turn in turns {
+        put_turn(out, names, turn)?;
+    }
+    Ok(())
+}
+
+// Puts an access that changed the word's state.
+fn put_turn(out: &mut Vec<u8>, names: &Names, turn: &Turn) -> Result<(), AllocError>
+    requires { HasTurnNames names.now turn.now }
+    ensures { OnOk result (out.new.items ≡ out.old.items ++ turn_text names.now turn.now) }
+{
+    put_place(out, turn)?;
+    put_act(out, names, turn)?;
+    put_holding(out, names, &turn.write_held, &turn.held)?;
+    put_outcome(out, names, turn)
+}
+
+fn put_place(out: &mut Vec<u8>, turn: &Turn) -> Result<(), AllocError>
+    ensures { OnOk result (out.new.items ≡ out.old.items ++ place_of_turn turn.now) }
+{
+    out.extend_from_slice(b"  access ")?;
+    put_number(out, turn.number)?;
+    out.extend_from_slice(b": line ")?;
+    put_number(out, turn.line)?;
+    out.extend_from_slice(b", ")
+}
+
+fn put_act(out: &mut Vec<u8>, names: &Names, turn: &Turn) -> Result<(), AllocError>
+    requires { HasTurnNames names.now turn.now }
+    ensures { OnOk result (out.new.items ≡ out.old.items ++ act_text names.now turn.now) }
+{
+    put_thread(out, names, turn.thread)?;
+    out.extend_from_slice(b" ")?;
+    put_kind(out, turn.kind)?;
+    out.extend_from_slice(b" at ")?;
+    put_site(out, names, turn.site)
+}
+
+fn put_outcome(out: &mut Vec<u8>, names: &Names, turn: &Turn) -> Result<(), AllocError>
+    requires { HasTurnNames names.now turn.now }
+    ensures { OnOk result (out.new.items ≡ out.old.items ++ outcome_text names.now turn.now) }
+{
+    out.extend_from_slice(b": ")?;
+    put_state(out, names, &turn.state)?;
+    put_emptied(out, turn.emptied)?;
+    out.extend_from_slice(b"\n")
+}

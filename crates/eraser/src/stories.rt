@@ -1,0 +1,120 @@
+//! The story of one step of a trace.
+ghost use Rattle.std.specs.Prelude.{◌≡◌, ◌≤◌, ◌^◌, [], false, codes, IfErr, IfOk, IfSome, OnOk};
+ghost use Rattle.er_device.specs.Device.{inner_of, has_failed};
+ghost use Rattle.er_exit.specs.Writes.{LeavesOutput};
+ghost use Rattle.er_triage.specs.Notes.{AreNotes};
+ghost use Rattle.eraser.specs.Stories.{ExplainsTo, WritesStory};
+
+use crate::sorting::Ended;
+use er_device::Device;
+use er_exit::Fault;
+use er_print::WriteFault;
+use er_request::Explain;
+use er_story::{tell_line, write_story};
+use er_text::read_trace;
+use er_trace::Trace;
+use std::alloc::Global;
+use std::fs::File;
+use std::io::{Read, Write};
+use std::rt::Files;
+
+/// Writes the story of the step that was asked for.
+pub(crate) fn explain_step<R, I, O>(
+    rt: &R,
+    asked: &Explain<'_>,
+    input: &mut Device<I>,
+    output: &mut Device<O>,
+) -> Result<Ended, Fault>
+where
+    R: Files + AllocGlobal,
+    I: Read,
+    O: Write,
+    requires input { has_failed input.old ≡ false }
+    requires output { has_failed output.old ≡ false }
+    ensures status { IfOk result (λ ended. ended.status ≡ 0) }
+    ensures notes { IfOk result (λ ended. AreNotes ended.notes.items) }
+    ensures silent { IfOk result (λ ended. ended.notes.items ≡ []) }
+    ensures story { asked.now.trace.now ≡ codes "-" → OnOk result (IfSome (I.remaining (inner_of input.old)) (λ text. ExplainsTo text asked.now.byte_limit asked.now.line (O.contents (inner_of output.old)) (O.contents (inner_of output.new)))) }
+    ensures nothing { IfErr result (LeavesOutput (O.contents (inner_of output.old)) (O.contents (inner_of output.new))) }
+{
+    write_asked(rt, asked, input, output)?;
+    Ok(Ended {
+        status: 0,
+        notes: Vec::new(rt.alloc()),
+    })
+}
+
+fn write_asked<R, I, O>(
+    rt: &R,
+    asked: &Explain<'_>,
+    input: &mut Device<I>,
+    output: &mut Device<O>,
+) -> Result<(), Fault>
+where
+    R: Files + AllocGlobal,
+    I: Read,
+    O: Write,
+    requires input { has_failed input.old ≡ false }
+    requires output { has_failed output.old ≡ false }
+    ensures story { asked.now.trace.now ≡ codes "-" → OnOk result (IfSome (I.remaining (inner_of input.old)) (λ text. ExplainsTo text asked.now.byte_limit asked.now.line (O.contents (inner_of output.old)) (O.contents (inner_of output.new)))) }
+    ensures nothing { IfErr result (LeavesOutput (O.contents (inner_of output.old)) (O.contents (inner_of output.new))) }
+{
+    if asked.trace == "-" {
+        return explain_from(rt.alloc(), asked.line, asked.byte_limit, input, output);
+    }
+    let Ok(file) = File::open(rt, asked.trace) else {
+        return Err(Fault::OpenTrace);
+    };
+    let mut source = Device::new(file);
+    explain_from(
+        rt.alloc(),
+        asked.line,
+        asked.byte_limit,
+        &mut source,
+        output,
+    )
+}
+
+// Reads the trace that the reader gives, and writes the story of the step on a line.
+fn explain_from<D: Read, O: Write>(
+    alloc: Global,
+    line: u64,
+    byte_limit: u64,
+    source: &mut Device<D>,
+    output: &mut Device<O>,
+) -> Result<(), Fault>
+    requires source { has_failed source.old ≡ false }
+    requires output { has_failed output.old ≡ false }
+    requires limit { byte_limit ≤ 2 ^ 62 }
+    ensures story { OnOk result (IfSome (D.remaining (inner_of source.old)) (λ text. ExplainsTo text byte_limit line (O.contents (inner_of output.old)) (O.contents (inner_of output.new)))) }
+    ensures nothing { IfErr result (LeavesOutput (O.contents (inner_of output.old)) (O.contents (inner_of output.new))) }
+{
+    match read_trace(alloc, source, byte_limit) {
+        Ok(trace) => explain_in(alloc, &trace, line, output),
+        Err(fault) => Err(Fault::of_trace(fault)),
+    }
+}
+
+// Writes the story of the step on a line of a trace.
+fn explain_in<O: Write>(
+    alloc: Global,
+    trace: &Trace,
+    line: u64,
+    output: &mut Device<O>,
+) -> Result<(), Fault>
+    requires { has_failed output.old ≡ false }
+    ensures story { OnOk result (WritesStory (O.contents (inner_of output.old)) (O.contents (inner_of output.new)) trace.now line) }
+    ensures nothing { IfErr result (LeavesOutput (O.contents (inner_of output.old)) (O.contents (inner_of output.new))) }
+{
+    let Ok(found) = tell_line(alloc, trace, line) else {
+        return Err(Fault::Memory);
+    };
+    let Some(story) = found else {
+        return Err(Fault::NoStep(line));
+    };
+    match write_story(alloc, output, &story, trace.names()) {
+        Ok(()) => Ok(()),
+        Err(WriteFault::Memory) => Err(Fault::Memory),
+        Err(WriteFault::Write) => Err(Fault::Write),
+    }
+}
