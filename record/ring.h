@@ -48,9 +48,10 @@ enum event_kind {
     /* What orders threads, if the ring asks for it. */
     EVENT_START,      /* first: number of the thread that is started, second: its pthread_t */
     EVENT_JOIN_WHOM,  /* first: pthread_t of the thread that the next EVENT_JOIN of this thread joins */
-    EVENT_JOIN,
+    EVENT_JOIN,       /* first: the same pthread_t */
     EVENT_SIGNAL,     /* first: object, size: enum object_kind */
     EVENT_AWAIT,      /* the same */
+    EVENT_OBJECT_BEGIN, /* first: object whose life begins */
     EVENT_OBJECT_END, /* first: object whose life ends */
     EVENT_BARRIER,    /* first: barrier whose life begins, second: how many threads it lets go at a time, 0 if others may come to it */
 };

@@ -170,6 +170,13 @@ static inline void emit_await(enum object_kind kind, const volatile void *object
 }
 
 /* What is at this address from now on is another object. */
+static inline void emit_object_begin(const volatile void *object)
+{
+    if (UNLIKELY(is_ordering()))
+        emit(EVENT_OBJECT_BEGIN, 0, (uintptr_t)object, 0);
+}
+
+/* Nobody signals this object any more. A thread that was let go may still record its await. */
 static inline void emit_object_end(const volatile void *object)
 {
     if (UNLIKELY(is_ordering()))
@@ -187,5 +194,11 @@ void *find_real(void **place, const char *name);
         void *found = __atomic_load_n(&place_of_##function, __ATOMIC_ACQUIRE);                    \
         (__typeof__(&function))(LIKELY(found != NULL) ? found : find_real(&place_of_##function, #function)); \
     }))
+
+/* FIND_EARLY(function) defines find_FUNCTION, for a function that a signal handler may call. Finding it takes a lock of the dynamic
+ * loader, which the interrupted thread may hold, so that is done before there is a handler. */
+#define FIND_EARLY(function)                                                                      \
+    static __typeof__(&function) find_##function(void) { return REAL(function); }                 \
+    static __attribute__((constructor)) void find_early_##function(void) { find_##function(); }
 
 #endif

@@ -14,7 +14,9 @@
 #define FORWARD(type, name, parameters, arguments) \
     HOOK type name parameters { return REAL(name) arguments; }
 
-FORWARD(int, pthread_kill, (pthread_t thread, int number), (thread, number))
+FIND_EARLY(pthread_kill)
+HOOK int pthread_kill(pthread_t thread, int number) { return find_pthread_kill()(thread, number); }
+
 FORWARD(char *, realpath, (const char *restrict path, char *restrict found), (path, found))
 FORWARD(FILE *, fmemopen, (void *buffer, size_t size, const char *mode), (buffer, size, mode))
 FORWARD(int, glob, (const char *restrict pattern, int how, int (*fault)(const char *, int), glob_t *restrict found), (pattern, how, fault, found))

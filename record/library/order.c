@@ -9,7 +9,8 @@
 
 typedef const struct timespec *until;
 
-/* Before the real function. */
+/* Before the real function, since who is woken up may record its await before this thread goes on. The functions of condition variables
+ * don't fail. */
 #define SIGNAL(kind, type, name)                             \
     HOOK int name(type *object)                              \
     {                                                        \
@@ -32,6 +33,16 @@ typedef const struct timespec *until;
     {                                                        \
         int result = REAL(name) arguments;                   \
         if (result == 0)                                     \
+            emit_object_begin(object);                       \
+        return result;                                       \
+    }
+
+/* After the real function: it waits until the threads that were let go have left. */
+#define DESTROY(type, name)                                  \
+    HOOK int name(type *object)                              \
+    {                                                        \
+        int result = REAL(name)(object);                     \
+        if (result == 0)                                     \
             emit_object_end(object);                         \
         return result;                                       \
     }
@@ -39,11 +50,26 @@ typedef const struct timespec *until;
 /* ---- Semaphores ---- */
 
 INITIALISE(sem_init, (sem_t *object, int is_shared, unsigned value), (object, is_shared, value))
-SIGNAL(OBJECT_SEMAPHORE, sem_t, sem_post)
+DESTROY(sem_t, sem_destroy)
 AWAIT(OBJECT_SEMAPHORE, sem_wait, (sem_t *object), (object))
 AWAIT(OBJECT_SEMAPHORE, sem_trywait, (sem_t *object), (object))
 AWAIT(OBJECT_SEMAPHORE, sem_timedwait, (sem_t *restrict object, until restrict when), (object, when))
 AWAIT(OBJECT_SEMAPHORE, sem_clockwait, (sem_t *restrict object, clockid_t clock, until restrict when), (object, clock, when))
+
+FIND_EARLY(sem_post)
+
+/* A post fails if the semaphore's value is at its greatest. So its place among the events is drawn before it, and it is a signal only if
+ * it succeeded. It never waits, so nobody waits long for this event. */
+HOOK int sem_post(sem_t *object)
+{
+    int (*post)(sem_t *) = find_sem_post();
+    struct draft draft;
+    bool is_drawn = is_ordering() && emit_draw(&draft);
+    int result = post(object);
+    if (is_drawn)
+        emit_publish(&draft, result == 0 ? EVENT_SIGNAL : EVENT_VOID, OBJECT_SEMAPHORE, (uintptr_t)object, 0);
+    return result;
+}
 
 /* ---- Barriers ---- */
 
@@ -68,6 +94,8 @@ HOOK int pthread_barrier_wait(pthread_barrier_t *object)
     return result;
 }
 
+DESTROY(pthread_barrier_t, pthread_barrier_destroy)
+
 /* ---- Condition variables, of which locks.c has the waits ---- */
 
 INITIALISE(pthread_cond_init, (pthread_cond_t *restrict object, const pthread_condattr_t *restrict how), (object, how))
@@ -77,15 +105,18 @@ INITIALISE(cnd_init, (cnd_t *object), (object))
 SIGNAL(OBJECT_CONDITION, cnd_t, cnd_signal)
 SIGNAL(OBJECT_CONDITION, cnd_t, cnd_broadcast)
 
-/* The C library has two versions of it, as of those in forward.c. */
-HOOK int pthread_cond_destroy(pthread_cond_t *object)
+DESTROY(pthread_cond_t, pthread_cond_destroy)
+
+HOOK void cnd_destroy(cnd_t *object)
 {
-    return REAL(pthread_cond_destroy)(object);
+    REAL(cnd_destroy)(object);
+    emit_object_end(object);
 }
 
 /* ---- What is done once ---- */
 
-/* What this thread is to do once. The real functions pass nothing on to it. */
+/* What this thread is to do once. The real functions pass nothing on to it. A signal handler may come before it is done, and do something
+ * else once: it puts back what it found. */
 struct once {
     void (*body)(void);
     void *object;
@@ -111,8 +142,10 @@ HOOK int pthread_once(pthread_once_t *object, void (*body)(void))
 {
     if (!is_ordering())
         return REAL(pthread_once)(object, body);
+    struct once outer = once;
     once = (struct once){body, object};
     int result = REAL(pthread_once)(object, run_once);
+    once = outer;
     if (result == 0)
         emit_await(OBJECT_ONCE, object);
     return result;
@@ -124,8 +157,10 @@ HOOK void call_once(once_flag *object, void (*body)(void))
         REAL(call_once)(object, body);
         return;
     }
+    struct once outer = once;
     once = (struct once){body, object};
     REAL(call_once)(object, run_once);
+    once = outer;
     emit_await(OBJECT_ONCE, object);
 }
 

@@ -50,12 +50,15 @@ static void begin_thread(void)
         pthread_setspecific(ends, &stack);
 }
 
+/* What the starting thread gives to the new one. Both use it, and whoever is done with it last frees it. */
 struct start {
     void *(*body)(void *);
     int (*c11_body)(void *);
     void *argument;
-    /* If what orders threads is recorded: the number that the starting thread gives to the new one, which waits until it has it. */
+    /* Whether the start is recorded, decided once: if it is, the new thread waits until it has its number. */
+    bool is_ordered;
     _Atomic uint32_t is_named;
+    _Atomic uint32_t users;
     uint32_t number;
 };
 
@@ -64,11 +67,17 @@ static struct start *make_start(void *(*body)(void *), int (*c11_body)(void *), 
     struct start *start = malloc(sizeof *start);
     REAL(pthread_once)(&made_ends, make_ends);
     if (start)
-        *start = (struct start){body, c11_body, argument, !is_ordering(), 0};
+        *start = (struct start){body, c11_body, argument, is_ordering(), 0, 2, 0};
     return start;
 }
 
-/* The start of a thread is recorded when it is there, and before it does anything. The new thread frees `start`. */
+static void leave_start(struct start *start)
+{
+    if (atomic_fetch_sub(&start->users, 1) == 1)
+        free(start);
+}
+
+/* The start of a thread is recorded when it is there, and before it does anything. */
 static void name_thread(struct start *start, uint64_t thread)
 {
     int error = errno;
@@ -82,15 +91,27 @@ static void name_thread(struct start *start, uint64_t thread)
     errno = error;
 }
 
+/* The starting thread is done with `start`. A new thread that does not wait may have put the memory of `thread` to another use. */
+static void end_start(struct start *start, bool is_started, const pthread_t *thread)
+{
+    if (!is_started) {
+        free(start);
+        return;
+    }
+    if (start->is_ordered)
+        name_thread(start, (uint64_t)*thread);
+    leave_start(start);
+}
+
 static struct start take_start(void *given)
 {
-    struct start *start = given, taken;
-    while (!atomic_load(&start->is_named))
+    struct start *start = given;
+    while (start->is_ordered && !atomic_load(&start->is_named))
         syscall(SYS_futex, &start->is_named, FUTEX_WAIT_PRIVATE, 0, NULL, NULL, 0);
-    taken = *start;
+    struct start taken = *start;
     if (taken.number)
         self.number = taken.number;
-    free(given);
+    leave_start(start);
     begin_thread();
     return taken;
 }
@@ -114,12 +135,8 @@ HOOK int pthread_create(pthread_t *restrict thread, const pthread_attr_t *restri
     struct start *start = make_start(body, NULL, argument);
     if (!start)
         return EAGAIN;
-    bool names = is_ordering();
     int result = REAL(pthread_create)(thread, how, run_thread, start);
-    if (result != 0)
-        free(start);
-    else if (names)
-        name_thread(start, (uint64_t)*thread);
+    end_start(start, result == 0, thread);
     return result;
 }
 
@@ -130,12 +147,8 @@ HOOK int thrd_create(thrd_t *thread, thrd_start_t body, void *argument)
     struct start *start = make_start(NULL, body, argument);
     if (!start)
         return thrd_nomem;
-    bool names = is_ordering();
     int result = REAL(thrd_create)(thread, run_c11_thread, start);
-    if (result != thrd_success)
-        free(start);
-    else if (names)
-        name_thread(start, (uint64_t)*thread);
+    end_start(start, result == thrd_success, thread);
     return result;
 }
 
@@ -147,7 +160,7 @@ HOOK int thrd_create(thrd_t *thread, thrd_start_t body, void *argument)
             emit(EVENT_JOIN_WHOM, 0, (uint64_t)thread, 0);   \
         int result = REAL(name) arguments;                   \
         if (result == 0 && is_ordering())                    \
-            emit(EVENT_JOIN, 0, 0, 0);                       \
+            emit(EVENT_JOIN, 0, (uint64_t)thread, 0);        \
         return result;                                       \
     }
 

@@ -3,6 +3,7 @@
 
 #include <stdbool.h>
 #include <stddef.h>
+#include <stdlib.h>
 
 #include "objects.h"
 #include "trace.h"
@@ -15,33 +16,43 @@ struct barrier {
 };
 static struct barrier *buckets[1024];
 
-static struct barrier *find_barrier(uint64_t address)
+/* Where a barrier of this address stands in the table, or would. */
+static struct barrier **place_of(uint64_t address)
 {
-    struct barrier *barrier = buckets[address / 32 % 1024];
-    while (barrier && barrier->address != address)
-        barrier = barrier->next;
-    return barrier;
+    struct barrier **place = &buckets[address / 32 % 1024];
+    while (*place && (*place)->address != address)
+        place = &(*place)->next;
+    return place;
 }
 
 void barriers_begin(uint64_t address, uint64_t count)
 {
-    struct barrier *barrier = find_barrier(address);
-    if (!barrier) {
-        struct barrier **bucket = &buckets[address / 32 % 1024];
-        barrier = get_memory(NULL, sizeof *barrier);
-        *barrier = (struct barrier){*bucket, address, 0, 0};
-        *bucket = barrier;
+    struct barrier **place = place_of(address);
+    if (!*place) {
+        *place = get_memory(NULL, sizeof **place);
+        (*place)->next = NULL;
+        (*place)->address = address;
     }
-    barrier->count = count;
-    barrier->arrived = 0;
-    objects_end(address);
+    (*place)->count = count;
+    (*place)->arrived = 0;
+    objects_forget(address, 2);
+}
+
+/* Threads that were let go may leave after this. Their objects are still there. */
+void barriers_end(uint64_t address)
+{
+    struct barrier **place = place_of(address), *barrier = *place;
+    if (!barrier)
+        return;
+    *place = barrier->next;
+    free(barrier);
     objects_end(address + 1);
 }
 
 /* Nobody arrives for a round before all have arrived for the one before, so the arrivals come round by round. */
 uint64_t barriers_arrive(uint32_t number, uint64_t address)
 {
-    struct barrier *barrier = find_barrier(address);
+    struct barrier *barrier = *place_of(address);
     bool is_odd = barrier && barrier->count && barrier->arrived++ / barrier->count % 2;
     trace_thread(number)->is_odd_round = is_odd;
     return address + is_odd;

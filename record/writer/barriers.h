@@ -7,6 +7,8 @@
 
 /* A barrier lets so many threads go at a time. 0: its rounds can't be counted, and it is one object. */
 void barriers_begin(uint64_t address, uint64_t count);
+/* A barrier is destroyed. */
+void barriers_end(uint64_t address);
 /* The address of the object that a thread signals as it arrives. */
 uint64_t barriers_arrive(uint32_t thread, uint64_t address);
 /* The address of the object that it awaits as it leaves. */

@@ -25,14 +25,18 @@ struct text {
 };
 static struct text *texts;
 
-/* pthread_t of the threads that live, by their number, whom each thread is about to name, and the number of the thread that it is about to
- * join. */
+/* What is known of a thread beside its lines: its pthread_t (0: none), whom it is about to name, and whom it is about to join. */
 struct identity {
-    uint64_t self, named;
-    uint32_t joined;
+    uint64_t self, named, joining;
+    uint32_t joined; /* the number of `joining`, 0 if it has none */
+    uint32_t next;   /* in its bucket */
 };
 static struct identity *identities;
 static uint32_t identity_room;
+
+/* The numbers of the threads that have a pthread_t, by it. */
+#define IDENTITY_BITS 16
+static uint32_t identity_buckets[1u << IDENTITY_BITS];
 
 static struct identity *get_identity(uint32_t number)
 {
@@ -45,13 +49,45 @@ static struct identity *get_identity(uint32_t number)
     return &identities[number];
 }
 
-/* A pthread_t is used again when its thread has ended: the newest thread has it. 0 if no thread has it. */
-static uint32_t number_of(uint64_t whom)
+static uint32_t *identity_bucket(uint64_t self)
 {
-    for (uint32_t number = identity_room; number-- > 0;)
-        if (identities[number].self == whom)
-            return number;
-    return 0;
+    return &identity_buckets[self * UINT64_C(0x9e3779b97f4a7c15) >> (64 - IDENTITY_BITS)];
+}
+
+/* The number of the thread that has this pthread_t, or 0. */
+static uint32_t number_of(uint64_t self)
+{
+    uint32_t number = self ? *identity_bucket(self) : 0;
+    while (number && identities[number].self != self)
+        number = identities[number].next;
+    return number;
+}
+
+static void drop_self(uint32_t number)
+{
+    struct identity *identity = get_identity(number);
+    if (!identity->self)
+        return;
+    uint32_t *place = identity_bucket(identity->self);
+    while (*place != number)
+        place = &identities[*place].next;
+    *place = identity->next;
+    identity->self = 0;
+}
+
+/* A pthread_t is used again when its thread has ended, so whoever had it before has it no more. */
+static void set_self(uint32_t number, uint64_t self)
+{
+    uint32_t before = number_of(self);
+    if (before)
+        drop_self(before);
+    drop_self(number);
+    if (!self)
+        return;
+    uint32_t *bucket = identity_bucket(self);
+    get_identity(number)->self = self;
+    get_identity(number)->next = *bucket;
+    *bucket = number;
 }
 
 /* ---- Names of threads ---- */
@@ -78,18 +114,31 @@ static void name_thread(const struct slot *slot)
 static void start_thread(const struct slot *slot)
 {
     uint32_t number = (uint32_t)slot->first;
-    get_identity(number)->self = slot->second;
+    set_self(number, slot->second);
     trace_other_thread(slot->thread, "start", number);
 }
 
-/* A thread that was not started by code that is recorded has no number. */
-static void join_thread(uint32_t number)
+/* The number is found before the join, since another thread may have the pthread_t right after. */
+static void begin_join(const struct slot *slot)
 {
-    uint32_t joined = get_identity(number)->joined;
+    uint32_t joined = number_of(slot->first);
+    struct identity *identity = get_identity(slot->thread);
+    identity->joining = slot->first;
+    identity->joined = joined;
+}
+
+/* A thread that was not started by code that is recorded has no number. If the event of whom is lost, what an earlier join left says
+ * nothing of this one. */
+static void end_join(const struct slot *slot)
+{
+    struct identity *identity = get_identity(slot->thread);
+    uint32_t joined = identity->joining == slot->first ? identity->joined : 0;
+    identity->joining = identity->joined = 0;
     if (!joined)
         return;
-    get_identity(joined)->self = 0;
-    trace_other_thread(number, "join", joined);
+    if (number_of(slot->first) == joined)
+        drop_self(joined);
+    trace_other_thread(slot->thread, "join", joined);
 }
 
 /* ---- Signals and awaits ---- */
@@ -103,6 +152,12 @@ static void signal_object(const struct slot *slot, enum object_kind kind)
 static void await_object(const struct slot *slot, enum object_kind kind)
 {
     objects_await(slot->thread, kind == OBJECT_BARRIER ? barriers_leave(slot->thread, slot->first) : slot->first);
+}
+
+static void end_object(uint64_t address)
+{
+    barriers_end(address);
+    objects_end(address);
 }
 
 /* ---- Maps ---- */
@@ -173,7 +228,7 @@ static void take_rare(const struct slot *slot)
     case EVENT_IGNORE_ON: change_ignoring(slot->thread, true); break;
     case EVENT_IGNORE_OFF: change_ignoring(slot->thread, false); break;
     case EVENT_THREAD:
-        get_identity(slot->thread)->self = slot->first;
+        set_self(slot->thread, slot->first);
         trace_thread(slot->thread);
         break;
     case EVENT_NAME_WHOM: get_identity(slot->thread)->named = slot->first; break;
@@ -182,9 +237,10 @@ static void take_rare(const struct slot *slot)
     case EVENT_MAPS_TEXT: add_text(slot); break;
     case EVENT_MAPS_END: end_text(slot->thread); break;
     case EVENT_START: start_thread(slot); break;
-    case EVENT_JOIN_WHOM: get_identity(slot->thread)->joined = number_of(slot->first); break;
-    case EVENT_JOIN: join_thread(slot->thread); break;
-    case EVENT_OBJECT_END: objects_end(slot->first); break;
+    case EVENT_JOIN_WHOM: begin_join(slot); break;
+    case EVENT_JOIN: end_join(slot); break;
+    case EVENT_OBJECT_BEGIN: objects_forget(slot->first, 1); break;
+    case EVENT_OBJECT_END: end_object(slot->first); break;
     case EVENT_BARRIER: barriers_begin(slot->first, slot->second); break;
     default: break;
     }

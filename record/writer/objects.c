@@ -3,6 +3,7 @@
 
 #include <stdbool.h>
 #include <stdlib.h>
+#include <string.h>
 
 #include "names.h"
 #include "pages.h"
@@ -16,9 +17,15 @@ struct object {
     /* The last signal that was written: its thread, and how many lines that thread had then. */
     uint32_t signaller;
     uint64_t lines;
-    /* The threads that all signals so far are ordered before. */
-    uint32_t *aware;
-    uint32_t aware_count, aware_room;
+    bool has_ended;
+    /* The threads that all signals so far are ordered before: a hash table, of which the entries of this round count. So it is emptied
+     * by another number. */
+    struct aware *aware;
+    uint32_t aware_count, aware_room; /* room: 0 or a power of two */
+    uint32_t aware_round;
+};
+struct aware {
+    uint32_t thread, round; /* round 0: never used */
 };
 
 /* By lines of 64 bytes, so that the objects in a range are found without looking at all of them. */
@@ -44,28 +51,68 @@ static struct object *add_object(uint64_t address, enum object_kind kind)
     static unsigned counts[OBJECT_KINDS];
     struct object *object = get_memory(NULL, sizeof *object);
     struct object **bucket = bucket_of(address);
-    *object = (struct object){*bucket, address, make_name(address, kinds[kind], &counts[kind]), 0, 0, NULL, 0, 0};
+    *object = (struct object){*bucket, address, make_name(address, kinds[kind], &counts[kind]), 0, 0, false, NULL, 0, 0, 1};
     *bucket = object;
     pages_mark_lock(address);
     return object;
 }
 
-static bool is_aware(const struct object *object, uint32_t thread)
+static void remove_object(struct object **place)
 {
-    for (uint32_t i = 0; i < object->aware_count; i++)
-        if (object->aware[i] == thread)
-            return true;
-    return false;
+    struct object *object = *place;
+    *place = object->next;
+    free(object->name);
+    free(object->aware);
+    free(object);
 }
 
+/* ---- Who is aware of all signals ---- */
+
+/* The entry of a thread, or the one that is free for it. A quarter of the entries is free at least. */
+static struct aware *find_aware(const struct object *object, uint32_t thread)
+{
+    uint32_t last = object->aware_room - 1, at = thread * 2654435769u & last;
+    while (object->aware[at].round == object->aware_round && object->aware[at].thread != thread)
+        at = (at + 1) & last;
+    return &object->aware[at];
+}
+
+static bool is_aware(const struct object *object, uint32_t thread)
+{
+    return object->aware_room && find_aware(object, thread)->round == object->aware_round;
+}
+
+static void grow_aware(struct object *object)
+{
+    struct object before = *object;
+    object->aware_room = before.aware_room ? 2 * before.aware_room : 4;
+    object->aware = get_memory(NULL, object->aware_room * sizeof *object->aware);
+    memset(object->aware, 0, object->aware_room * sizeof *object->aware);
+    for (uint32_t i = 0; i < before.aware_room; i++)
+        if (before.aware[i].round == object->aware_round)
+            *find_aware(object, before.aware[i].thread) = before.aware[i];
+    free(before.aware);
+}
+
+/* The thread is not aware yet. */
 static void make_aware(struct object *object, uint32_t thread)
 {
-    if (object->aware_count == object->aware_room) {
-        object->aware_room = object->aware_room ? 2 * object->aware_room : 2;
-        object->aware = get_memory(object->aware, object->aware_room * sizeof *object->aware);
-    }
-    object->aware[object->aware_count++] = thread;
+    if (4 * (object->aware_count + 1) > 3 * object->aware_room)
+        grow_aware(object);
+    *find_aware(object, thread) = (struct aware){thread, object->aware_round};
+    object->aware_count++;
 }
+
+static void make_none_aware(struct object *object)
+{
+    object->aware_count = 0;
+    if (++object->aware_round == 0) {
+        memset(object->aware, 0, object->aware_room * sizeof *object->aware);
+        object->aware_round = 1;
+    }
+}
+
+/* ---- Signals and awaits ---- */
 
 /* A second signal of a thread that has written nothing since says nothing new. Whoever knew all signals before knows all but this one,
  * and its own thread knows this one as well. */
@@ -73,6 +120,10 @@ void objects_signal(uint32_t number, uint64_t address, enum object_kind kind)
 {
     struct thread *thread = trace_thread(number);
     struct object *object = find_object(address);
+    if (object && object->has_ended) {
+        objects_forget(address, 1);
+        object = NULL;
+    }
     bool knows_all = !object || is_aware(object, number);
     if (!object)
         object = add_object(address, kind);
@@ -81,7 +132,7 @@ void objects_signal(uint32_t number, uint64_t address, enum object_kind kind)
     trace_lock(thread, "signal", object->name);
     object->signaller = number;
     object->lines = thread->lines;
-    object->aware_count = 0;
+    make_none_aware(object);
     if (knows_all)
         make_aware(object, number);
 }
@@ -98,15 +149,6 @@ void objects_await(uint32_t number, uint64_t address)
 
 /* ---- The end of an object ---- */
 
-static void remove_object(struct object **place)
-{
-    struct object *object = *place;
-    *place = object->next;
-    free(object->name);
-    free(object->aware);
-    free(object);
-}
-
 void objects_forget(uint64_t address, uint64_t bytes)
 {
     for (uint64_t line = address & ~UINT64_C(63); line < address + bytes; line += 64)
@@ -119,5 +161,7 @@ void objects_forget(uint64_t address, uint64_t bytes)
 
 void objects_end(uint64_t address)
 {
-    objects_forget(address, 1);
+    struct object *object = find_object(address);
+    if (object)
+        object->has_ended = true;
 }
