@@ -1,5 +1,7 @@
-"""Runs the tests of one file by themselves, as `tests/run` runs those of all."""
+"""What the files of tests share: they run by themselves, as `tests/run` runs those of all, and refuse a program's calls one by one."""
 
+import os
+import pathlib
 import sys
 
 
@@ -15,3 +17,36 @@ def run_alone(tests, *more):
     tests(record, *more)
     print(f"{totals[0]} passed, {totals[1]} failed")
     sys.exit(1 if totals[1] or not totals[0] else 0)
+
+
+def each_failed(library, folder, setting, found_setting, run):
+    """Yields what `run` gives with the program's first call of a sort failed, with its second, and so on, up to the run that has none left to fail.
+
+    `run` takes the environment that makes the library fail a call. It comes with the number of the call, and whether there was one.
+    """
+    noted = pathlib.Path(folder) / "noted"
+    for nth in range(1, 100000):
+        found = run({**os.environ, "LD_PRELOAD": str(library), setting: str(nth), found_setting: str(noted)})
+        has_failed = noted.exists()
+        noted.unlink(missing_ok=True)
+        yield nth, found, has_failed
+        if not has_failed:
+            return
+
+
+def each_refused(library, folder, run):
+    """`each_failed` for allocations, by tests/refuse.c."""
+    return each_failed(library, folder, "REFUSE", "REFUSE_FOUND", run)
+
+
+# What a run may give if an allocation was refused: all that it gives otherwise, a report that stopped, or the line of a want of memory.
+OUTCOMES = {"whole", "stopped", "out of memory"}
+
+
+def outcome_of(found, whole, is_stopped):
+    """The outcome of a run, or None if it is none of them. `is_stopped` says whether a text is that of a report that stopped."""
+    if found == whole:
+        return "whole"
+    if found == (b"", b"out of memory\n", 3):
+        return "out of memory"
+    return "stopped" if found[1:] == (b"", 3) and is_stopped(found[0]) else None

@@ -12,7 +12,6 @@
 import base64
 import hashlib
 import json
-import os
 import pathlib
 import re
 import subprocess
@@ -24,7 +23,7 @@ sys.dont_write_bytecode = True
 import browser
 import reference
 import site_tests
-from alone import run_alone
+from alone import OUTCOMES, each_refused, outcome_of, run_alone
 from json_tests import document_of
 from site_tests import TOP, preloaded, run, run_with
 
@@ -205,18 +204,18 @@ def source_tests(record):
 def refusal_tests(record, preloaded):
     """Each allocation refused in turn, each write failed."""
     with tempfile.TemporaryDirectory() as folder:
-        library, count = preloaded(folder, "refuse"), pathlib.Path(folder) / "count"
+        library, met = preloaded(folder, "refuse"), set()
         (pathlib.Path(folder) / "work.c").write_bytes(b"line\n" * 30)
         words = ["replay", "--format", "html", "--source", folder, str(TOP / "examples/explained.trace")]
         whole = run(words)
-        for nth in range(1, 100000):
-            found = run(words, env={**os.environ, "LD_PRELOAD": str(library), "REFUSE": str(nth), "REFUSE_FOUND": str(count)})
-            if not count.exists():
-                record("a page with all allocations", found == whole and nth > 20 and b'"line":15,"text"' in whole[0], f"{nth}")
-                break
-            count.unlink()
-            is_stopped = found[1:] == (b"", 3) and json.loads(blocks_of(found[0])[1])["stop"]["why"] == "out of memory"
-            record(f"a page without allocation {nth}", found in (whole, (b"", b"out of memory\n", 3)) or is_stopped, f"{found}"[-300:])
+        for nth, found, was_refused in each_refused(library, folder, lambda env: run(words, env=env)):
+            outcome = outcome_of(found, whole, lambda page: json.loads(blocks_of(page)[1])["stop"]["why"] == "out of memory")
+            met.add(outcome)
+            if was_refused:
+                record(f"a page without allocation {nth}", outcome, f"{found}"[-300:])
+            else:
+                record("a page with all allocations", outcome == "whole" and nth > 20 and b'"line":15,"text"' in whole[0], f"{nth}")
+        record("a page without an allocation: each outcome", met >= OUTCOMES, f"{met}")
     with open("/dev/full", "wb") as full:
         done = subprocess.run([str(site_tests.PROGRAM), *words[:3], words[-1]], stdout=full, stderr=subprocess.PIPE, timeout=120)
         record("a page on a full device", (done.stderr, done.returncode) == (b"write fault\n", 4), f"{done}")

@@ -6,7 +6,6 @@
 
 import copy
 import json
-import os
 import pathlib
 import re
 import subprocess
@@ -17,7 +16,7 @@ sys.path.insert(0, str(pathlib.Path(__file__).parent))
 sys.dont_write_bytecode = True
 import reference
 import site_tests
-from alone import run_alone
+from alone import OUTCOMES, each_refused, outcome_of, run_alone
 from site_tests import RACE, REASON, TOP, preloaded, run, run_with
 
 SCHEMA = TOP / "docs/report.schema.json"
@@ -187,20 +186,25 @@ def document_tests(record, schema):
         record(f"{words} are wrong arguments", (output, status) == (b"", 2) and errors.startswith(b"error: "), f"{output}, {errors}, {status}")
 
 
+def is_stopped(text, schema):
+    document = json.loads(text)
+    return document["stop"]["why"] == "out of memory" and not list(faults(document, schema, schema))
+
+
 def refusal_tests(record, schema, preloaded):
     """Each allocation refused in turn, each write failed in turn."""
     with tempfile.TemporaryDirectory() as folder:
-        library, count = preloaded(folder, "refuse"), pathlib.Path(folder) / "count"
+        library, met = preloaded(folder, "refuse"), set()
         words = ["replay", "--explain", "--format", "json", str(TOP / "examples/explained.trace")]
         whole = run(words)
-        for nth in range(1, 100000):
-            found = run(words, env={**os.environ, "LD_PRELOAD": str(library), "REFUSE": str(nth), "REFUSE_FOUND": str(count)})
-            if not count.exists():
-                record("JSON with all allocations", found == whole and nth > 20, f"{nth}")
-                break
-            count.unlink()
-            is_stopped = found[1:] == (b"", 3) and json.loads(found[0])["stop"]["why"] == "out of memory" and not list(faults(json.loads(found[0]), schema, schema))
-            record(f"JSON without allocation {nth}", found in (whole, (b"", b"out of memory\n", 3)) or is_stopped, f"{found}")
+        for nth, found, was_refused in each_refused(library, folder, lambda env: run(words, env=env)):
+            outcome = outcome_of(found, whole, lambda text: is_stopped(text, schema))
+            met.add(outcome)
+            if was_refused:
+                record(f"JSON without allocation {nth}", outcome, f"{found}")
+            else:
+                record("JSON with all allocations", outcome == "whole" and nth > 20, f"{nth}")
+        record("JSON without an allocation: each outcome", met >= OUTCOMES, f"{met}")
     with open("/dev/full", "wb") as full:
         done = subprocess.run([str(site_tests.PROGRAM), *words], stdout=full, stderr=subprocess.PIPE, timeout=120)
         record("JSON on a full device", (done.stderr, done.returncode) == (b"write fault\n", 4), f"{done}")

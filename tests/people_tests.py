@@ -7,7 +7,7 @@
 - files that can't be opened or read: the system's reason
 - the standard input and a FIFO aren't read again
 - a byte that a terminal could take for a command is escaped, and no line is over 120 columns
-- each allocation refused in turn: the fault's line, with or without what follows, or the line of a want of memory
+- each allocation refused in turn: the exact text that comes for want of memory for the replay, for the line, for what follows it
 """
 
 import os
@@ -20,7 +20,7 @@ import threading
 import tty
 
 sys.dont_write_bytecode = True
-from alone import run_alone
+from alone import each_refused, run_alone
 from site_tests import preloaded
 
 TOP = pathlib.Path(__file__).resolve().parent.parent
@@ -167,20 +167,25 @@ def files(record, folder):
 
 def refused(record, folder, build):
     (folder / "t.trace").write_bytes(HEADER + b"t1 hop\n")
-    fault, memory = b"line 2: bad verb\n", b"out of memory\n"
-    more = advice("t.trace", ("t1 hop", 3), VERBS).encode()
-    library, count, seen = build(folder, "refuse"), folder / "count", set()
-    for nth in range(1, 100000):
-        env = {**os.environ, "LD_PRELOAD": str(library), "REFUSE": str(nth), "REFUSE_FOUND": str(count)}
-        found = shown(["replay", "t.trace"], folder, env=env)
-        if not count.exists():
-            record("for people: with all allocations", found == (fault + more, b"", 2), f"{found}")
+    more = advice("t.trace", ("t1 hop", 3), VERBS)
+    whole = f"line 2: bad verb\n{more}".encode()
+    # What is lacking, the exact text that comes then, and the status.
+    outcomes = {
+        "nothing": (whole, b"", 2),
+        "memory for the replay": (b"out of memory\n", b"", 3),
+        "memory for the fault's line": (f"out of memory\n{more}".encode(), b"", 2),
+        "memory for what follows it": (b"line 2: bad verb\n", b"", 2),
+    }
+    library, met = build(folder, "refuse"), set()
+    for nth, found, was_refused in each_refused(library, folder, lambda env: shown(["replay", "t.trace"], folder, env=env)):
+        if not was_refused:
+            record("for people: with all allocations", found == outcomes["nothing"], f"{found}")
             break
-        count.unlink()
-        seen.add(found[0])
-        is_right = found in ((memory, b"", 3), (memory + more, b"", 2), (fault, b"", 2), (fault + more, b"", 2))
-        record(f"for people: without allocation {nth}", is_right, f"{found}")
-    record("for people: some allocation left the rest out", fault in seen and memory + more in seen, f"{seen}")
+        lacking = [name for name, outcome in outcomes.items() if found == outcome]
+        record(f"for people: without allocation {nth}", lacking, f"{found}")
+        met.update(lacking)
+    for name in list(outcomes)[1:]:
+        record(f"for people: some allocation was {name}", name in met, f"{met}")
 
 
 def tests(record, build):

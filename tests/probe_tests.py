@@ -6,13 +6,13 @@ more. Which rows may find none, and that each of them does, stands in the case. 
 3, behind a beginning of what it prints.
 """
 
-import os
 import pathlib
 import re
 import subprocess
 import tempfile
 
 import probe_cases
+from alone import each_refused
 
 TOP = pathlib.Path(__file__).resolve().parent.parent
 PROBE = TOP / "crates/probe/out/probe"
@@ -103,15 +103,13 @@ def is_lacking(verb, usual, answer):
 
 def refusals(record, preloaded):
     with tempfile.TemporaryDirectory() as folder:
-        library, noted = preloaded(folder, "refuse"), pathlib.Path(folder) / "noted"
+        library = preloaded(folder, "refuse")
         for case in (case for case in probe_cases.CASES if case.lacking):
             met = set()
-            for nth in range(1, 100000):
-                found = run(case.text, env={**os.environ, "LD_PRELOAD": str(library), "REFUSE": str(nth), "REFUSE_FOUND": str(noted)})
-                if not noted.exists():
+            for nth, found, was_refused in each_refused(library, folder, lambda env: run(case.text, env=env)):
+                if not was_refused:
                     record(f"probe {case.name} with all {nth - 1} allocations", found == (case.output, "", 0), f"{found}")
                     break
-                noted.unlink()
                 # A list that can't grow in place moves, and some memory the C library can do without.
                 line = lacking(case, found)
                 is_usual = found == (case.output, "", 0)

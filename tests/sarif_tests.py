@@ -5,7 +5,6 @@
 """
 
 import json
-import os
 import pathlib
 import re
 import subprocess
@@ -16,7 +15,7 @@ sys.path.insert(0, str(pathlib.Path(__file__).parent))
 sys.dont_write_bytecode = True
 import reference
 import site_tests
-from alone import run_alone
+from alone import each_refused, run_alone
 from json_tests import document_of, plain
 from site_tests import DID, TOP, preloaded, run, run_with
 
@@ -182,15 +181,13 @@ def log_tests(record):
 def refusal_tests(record, preloaded):
     """Each allocation refused in turn, and a failed write."""
     with tempfile.TemporaryDirectory() as folder:
-        library, count = preloaded(folder, "refuse"), pathlib.Path(folder) / "count"
+        library = preloaded(folder, "refuse")
         words = ["replay", "--format", "sarif", str(TOP / "examples/explained.trace")]
         whole = run(words)
-        for nth in range(1, 100000):
-            found = run(words, env={**os.environ, "LD_PRELOAD": str(library), "REFUSE": str(nth), "REFUSE_FOUND": str(count)})
-            if not count.exists():
+        for nth, found, was_refused in each_refused(library, folder, lambda env: run(words, env=env)):
+            if not was_refused:
                 record("SARIF with all allocations", found == whole and nth > 20, f"{nth}")
                 break
-            count.unlink()
             is_stopped = found[1:] == (b"", 3) and not list(faults(json.loads(found[0])))
             record(f"SARIF without allocation {nth}", found in (whole, (b"", b"out of memory\n", 3)) or is_stopped, f"{found}")
     with open("/dev/full", "wb") as full:

@@ -4,7 +4,6 @@
 `tests/run` calls `tests`. By itself this file runs these tests alone.
 """
 
-import os
 import pathlib
 import re
 import subprocess
@@ -15,7 +14,7 @@ sys.path.insert(0, str(pathlib.Path(__file__).parent))
 sys.dont_write_bytecode = True
 import cases
 import reference
-from alone import run_alone
+from alone import each_refused, run_alone
 
 TOP = pathlib.Path(__file__).resolve().parent.parent
 PROGRAM = TOP / "crates/eraser/out/eraser"
@@ -166,15 +165,13 @@ def tests(record, preloaded):
     shown = run(["replay", "--by-site", str(TOP / "examples/explained.trace")])[0].decode()
     record("the report by site of the formats", shown in formats, shown)
     with tempfile.TemporaryDirectory() as folder:
-        library, count = preloaded(folder, "refuse"), pathlib.Path(folder) / "count"
+        library = preloaded(folder, "refuse")
         words = ["replay", "--by-site", str(TOP / "examples/explained.trace")]
         whole = run(words)
-        for nth in range(1, 100000):
-            found = run(words, env={**os.environ, "LD_PRELOAD": str(library), "REFUSE": str(nth), "REFUSE_FOUND": str(count)})
-            if not count.exists():
+        for nth, found, was_refused in each_refused(library, folder, lambda env: run(words, env=env)):
+            if not was_refused:
                 record("by site with all allocations", found == whole and nth > 20, f"{nth}")
                 break
-            count.unlink()
             is_stopped = found[1:] == (b"", 3) and b": stopped: out of memory\n" in found[0]
             record(f"by site without allocation {nth}", found in (whole, (b"", b"out of memory\n", 3)) or is_stopped, f"{found}")
 

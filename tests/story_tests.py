@@ -8,7 +8,6 @@
 - files that can't be opened, lines without a step, refused allocations and failed writes
 """
 
-import os
 import pathlib
 import random
 import subprocess
@@ -17,7 +16,7 @@ import tempfile
 
 sys.dont_write_bytecode = True
 import reference
-from alone import run_alone
+from alone import each_refused, run_alone
 from site_tests import preloaded
 
 TOP = pathlib.Path(__file__).resolve().parent.parent
@@ -225,13 +224,11 @@ def faults(record, preloaded):
         record("a failed write", (done.stderr, done.returncode) == (b"write fault\n", 4), f"{done}")
     whole = run(["explain", "10", "-"], text)
     with tempfile.TemporaryDirectory() as folder:
-        library, count = preloaded(folder, "refuse"), pathlib.Path(folder) / "count"
-        for nth in range(1, 100_000):
-            found = run(["explain", "10", "-"], text, env={**os.environ, "LD_PRELOAD": str(library), "REFUSE": str(nth), "REFUSE_FOUND": str(count)})
-            if not count.exists():
+        library = preloaded(folder, "refuse")
+        for nth, found, was_refused in each_refused(library, folder, lambda env: run(["explain", "10", "-"], text, env=env)):
+            if not was_refused:
                 record("a story with all allocations", found == whole and nth > 20, f"{nth}")
                 break
-            count.unlink()
             record(f"a story without allocation {nth}", found in (whole, (b"", b"out of memory\n", 3)), f"{found}")
 
 

@@ -13,7 +13,6 @@ the other tests compare with tests/reference.py.
 """
 
 import json
-import os
 import pathlib
 import re
 import subprocess
@@ -23,7 +22,7 @@ import tempfile
 sys.dont_write_bytecode = True
 import cases
 import reference
-from alone import run_alone
+from alone import each_refused, run_alone
 from site_tests import preloaded
 
 TOP = pathlib.Path(__file__).resolve().parent.parent
@@ -221,19 +220,20 @@ def together(record, folder):
 
 def refusals(record, folder, preloaded):
     """Each allocation refused in turn: `out of memory` with nothing written, or a stop, or the whole answer."""
-    library, count, rules, path = preloaded(folder, "refuse"), folder / "count", folder / "refused.rules", folder / "written.rules"
+    library, rules, path = preloaded(folder, "refuse"), folder / "refused.rules", folder / "written.rules"
     rules.write_bytes(b"site b.c:1\nwords 0x9000 8\n")
     words = ["replay", "--suppress", rules, "--suppress", rules, "--unused-rules", "--max-races", "1", "--write-rules", path, "-"]
     whole, told = run(words, TWO_RACES), 0
     written = path.read_bytes()
-    for nth in range(1, 100000):
+
+    def run_again(env):
         path.write_bytes(b"")
-        env = {**os.environ, "LD_PRELOAD": str(library), "REFUSE": str(nth), "REFUSE_FOUND": str(count)}
-        found = run(words, TWO_RACES, env=env)
-        if not count.exists():
+        return run(words, TWO_RACES, env=env)
+
+    for nth, found, was_refused in each_refused(library, folder, run_again):
+        if not was_refused:
             record("triage with all allocations", found == whole and path.read_bytes() == written and 2 * told > nth, f"{found}, {told} of {nth}")
             break
-        count.unlink()
         is_stopped = found[2] == 3 and b": stopped: out of memory\n" in found[0]
         is_told = is_stopped or found == (b"", b"out of memory\n", 3)
         told += is_told
