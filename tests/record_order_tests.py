@@ -31,7 +31,7 @@ OBJECTS = {
     "c11": (["flag"], ["changed"], []),
     "changes": (["counter", "spin_lock", "taken"], ["weak"], ["failed"]),
     "condition": (["changed"], [], []),
-    "ended": (["woken", "round_trip"], ["changed", "changed:2", "reused"], ["full"]),
+    "ended": (["woken", "round_trip"], ["changed", "changed:2", "fresh", "fresh:2", "reused"], ["full"]),
     "message": (["flag_8", "flag_16", "flag_32", "flag_64"], ["half_flag"], ["loose_flag", "fenced_flag"]),
     "once": (["pthread_flag", "call_flag", "thrown_flag", "_ZGVZL8get_madevE4only"], [], []),
     "semaphore": (["full", "spare"], [], []),

@@ -11,6 +11,7 @@
 
 static sem_t reused, full, woken;
 static cnd_t changed;
+static pthread_cond_t fresh = PTHREAD_COND_INITIALIZER;
 static pthread_barrier_t round_trip;
 static int handed, old_word, full_word, posted;
 
@@ -80,6 +81,21 @@ static void use_barrier(int number)
         handed++;
 }
 
+/* Of the second `fresh` nobody says that it begins, only that the first one ends. */
+static void use_conditions(void)
+{
+    cnd_init(&changed);
+    cnd_signal(&changed);
+    cnd_destroy(&changed);
+    cnd_init(&changed);
+    cnd_broadcast(&changed);
+    cnd_destroy(&changed);
+    pthread_cond_signal(&fresh);
+    check(pthread_cond_destroy(&fresh) == 0);
+    fresh = (pthread_cond_t)PTHREAD_COND_INITIALIZER;
+    pthread_cond_broadcast(&fresh);
+}
+
 static void run(int number)
 {
     use_semaphore(number);
@@ -94,12 +110,7 @@ int main(void)
     sem_init(&reused, 0, 0);
     sem_init(&full, 0, SEM_VALUE_MAX);
     sem_init(&woken, 0, 0);
-    cnd_init(&changed);
-    cnd_signal(&changed);
-    cnd_destroy(&changed);
-    cnd_init(&changed);
-    cnd_broadcast(&changed);
-    cnd_destroy(&changed);
+    use_conditions();
     pthread_barrier_init(&round_trip, NULL, 2);
     run_threads(2, run);
     sem_destroy(&full);
