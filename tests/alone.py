@@ -20,9 +20,10 @@ def run_alone(tests, *more):
 
 
 def each_failed(library, folder, setting, found_setting, run):
-    """Yields what `run` gives with the program's first call of a sort failed, with its second, and so on, up to the run that has none left to fail.
+    """Yields what `run` gives with the program's first call of a sort failed, with its second, and so on.
 
-    `run` takes the environment that makes the library fail a call. It comes with the number of the call, and whether there was one.
+    `run` takes the environment that makes the library fail a call. What it gives comes with the number of the call, and whether there was
+    such a call. The last run has none left to fail.
     """
     noted = pathlib.Path(folder) / "noted"
     for nth in range(1, 100000):

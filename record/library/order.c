@@ -105,6 +105,7 @@ INITIALISE(cnd_init, (cnd_t *object), (object))
 SIGNAL(OBJECT_CONDITION, cnd_t, cnd_signal)
 SIGNAL(OBJECT_CONDITION, cnd_t, cnd_broadcast)
 
+/* The C library has two versions of it, as of those in forward.c. */
 DESTROY(pthread_cond_t, pthread_cond_destroy)
 
 HOOK void cnd_destroy(cnd_t *object)
