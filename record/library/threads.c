@@ -50,11 +50,16 @@ static void begin_thread(void)
         pthread_setspecific(ends, &stack);
 }
 
-/* What the starting thread gives to the new one. Both use it, and whoever is done with it last frees it. */
-struct start {
+/* What the new thread does. */
+struct task {
     void *(*body)(void *);
     int (*c11_body)(void *);
     void *argument;
+};
+
+/* What the starting thread gives to the new one. Both use it, and whoever is done with it last frees it. */
+struct start {
+    struct task task;
     /* Whether the start is recorded, decided once: if it is, the new thread waits until it has its number. */
     bool is_ordered;
     _Atomic uint32_t is_named;
@@ -62,12 +67,12 @@ struct start {
     uint32_t number;
 };
 
-static struct start *make_start(void *(*body)(void *), int (*c11_body)(void *), void *argument)
+static struct start *make_start(struct task task)
 {
     struct start *start = malloc(sizeof *start);
     REAL(pthread_once)(&made_ends, make_ends);
     if (start)
-        *start = (struct start){body, c11_body, argument, is_ordering(), 0, 2, 0};
+        *start = (struct start){task, is_ordering(), 0, 2, 0};
     return start;
 }
 
@@ -103,36 +108,36 @@ static void end_start(struct start *start, bool is_started, const pthread_t *thr
     leave_start(start);
 }
 
-static struct start take_start(void *given)
+static struct task take_start(void *given)
 {
     struct start *start = given;
     while (start->is_ordered && !atomic_load(&start->is_named))
         syscall(SYS_futex, &start->is_named, FUTEX_WAIT_PRIVATE, 0, NULL, NULL, 0);
-    struct start taken = *start;
-    if (taken.number)
-        self.number = taken.number;
+    struct task task = start->task;
+    if (start->number)
+        self.number = start->number;
     leave_start(start);
     begin_thread();
-    return taken;
+    return task;
 }
 
 static void *run_thread(void *given)
 {
-    struct start start = take_start(given);
-    return start.body(start.argument);
+    struct task task = take_start(given);
+    return task.body(task.argument);
 }
 
 static int run_c11_thread(void *given)
 {
-    struct start start = take_start(given);
-    return start.c11_body(start.argument);
+    struct task task = take_start(given);
+    return task.c11_body(task.argument);
 }
 
 HOOK int pthread_create(pthread_t *restrict thread, const pthread_attr_t *restrict how, void *(*body)(void *), void *restrict argument)
 {
     if (!is_recording())
         return REAL(pthread_create)(thread, how, body, argument);
-    struct start *start = make_start(body, NULL, argument);
+    struct start *start = make_start((struct task){body, NULL, argument});
     if (!start)
         return EAGAIN;
     int result = REAL(pthread_create)(thread, how, run_thread, start);
@@ -144,7 +149,7 @@ HOOK int thrd_create(thrd_t *thread, thrd_start_t body, void *argument)
 {
     if (!is_recording())
         return REAL(thrd_create)(thread, body, argument);
-    struct start *start = make_start(NULL, body, argument);
+    struct start *start = make_start((struct task){NULL, body, argument});
     if (!start)
         return thrd_nomem;
     int result = REAL(thrd_create)(thread, run_c11_thread, start);
