@@ -1,2 +1,2 @@
 -- What keeps the books in order inside.
-pub mod Begun
+pub mod Slots

@@ -16,12 +16,12 @@ use std::alloc::{AllocError, Global};
 use std::marker::Model;
 
 /// How many words a block has.
-const WORDS: u64 = 32;
+const WORDS: u64 = 128;
 
 /// A book for each word, as steps go by. An access is named as the caller likes: by its place in a list, or by what is to be said of
 /// it. Contracts see the books by `book_in`.
 ///
-/// The books of 32 words that lie side by side are kept together, and made at the first access of one of them. A step takes one look
+/// The books of 128 words that lie side by side are kept together, and made at the first access of one of them. A step takes one look
 /// at them, and a reuse one look for each block of its range.
 #[derive(Drop)]
 pub struct WordBooks<A> {
@@ -110,7 +110,7 @@ impl<A: Copy> WordBooks<A> {
 
     // Empties books of a block, both ends included.
     fn empty(&mut self, number: u64, from: usize, to: usize)
-        requires { to < 32 }
+        requires { to < 128 }
         ensures { (w : ℕ) → book_in self.new w ≡ cond (is_place_in number from to w) Book.Untouched (book_in self.old w) }
     {
         if let Some(index) = index_of_block(&self.blocks, self.last, number) {
@@ -146,15 +146,15 @@ fn index_of_block<A>(blocks: &IndexMap<u64, Block<A>>, last: usize, number: u64)
 // The number of a word's block.
 #[inline]
 fn block_of(word: Word) -> u64
-    ensures { result ≡ word / 32 }
+    ensures { result ≡ word / 128 }
 {
     word.number() / WORDS
 }
 
 // Where the words from `lo` on begin in the block of this number.
 fn from_in(number: u64, lo: Word) -> usize
-    requires { lo / 32 ≤ number }
-    ensures { (w : ℕ) → number ≡ w / 32 → nat_le result (w % 32) ≡ nat_le lo w }
+    requires { lo / 128 ≤ number }
+    ensures { (w : ℕ) → number ≡ w / 128 → nat_le result (w % 128) ≡ nat_le lo w }
 {
     if number == block_of(lo) {
         place_of(lo)
@@ -165,22 +165,22 @@ fn from_in(number: u64, lo: Word) -> usize
 
 // Where the words up to `hi` end in the block of this number.
 fn to_in(number: u64, hi: Word) -> usize
-    requires { number ≤ hi / 32 }
-    ensures place { (w : ℕ) → number ≡ w / 32 → nat_le (w % 32) result ≡ nat_le w hi }
-    ensures within { result < 32 }
+    requires { number ≤ hi / 128 }
+    ensures place { (w : ℕ) → number ≡ w / 128 → nat_le (w % 128) result ≡ nat_le w hi }
+    ensures within { result < 128 }
 {
     if number == block_of(hi) {
         place_of(hi)
     } else {
-        31
+        127
     }
 }
 
 // Where a word stands in its block.
 #[inline]
 fn place_of(word: Word) -> usize
-    ensures value { result ≡ word % 32 }
-    ensures within { result < 32 }
+    ensures value { result ≡ word % 128 }
+    ensures within { result < 128 }
 {
     (word.number() % WORDS) as usize
 }

@@ -3,7 +3,7 @@ ghost use Rattle.std.specs.Prelude.{◌≡◌, ◌+◌, ◌<◌, ◌≤◌, ◌^
 ghost use Rattle.er_device.specs.Device.{inner_of, has_failed, taken_of};
 ghost use Rattle.er_event.specs.declared.steps.Step.{Step as Steps};
 ghost use Rattle.er_replay.specs.Wants.{is_access};
-ghost use Rattle.er_report.specs.Builder.{IsReported, IsStepAt, is_plain};
+ghost use Rattle.er_report.specs.Builder.{IsBuilt, IsReported, IsStepAt, is_plain};
 ghost use Rattle.er_report.specs.Names.{HasNames, HasSiteName};
 ghost use Rattle.er_rules.specs.Rules.{targets_of};
 ghost use Rattle.er_run.specs.Inner.Passes.{HasAnswered, Answers, HasRun, HasCome, HasEnded, Lags, recorded};
@@ -263,7 +263,7 @@ fn says_nothing(
     ensures plain { IsTrue result → is_plain answer.now ≡ true }
     ensures keeps { IsTrue result → explains ≡ true → (is_access event ≡ true) × (changed ≡ false) }
 {
-    let plain = matches!(answer, Ok(Reply::Quiet | Reply::Done | Reply::Ignored));
+    let plain = is_plain(answer);
     if explains {
         plain && !changed && matches!(event, Event::Access(..))
     } else {
@@ -289,7 +289,38 @@ fn add_behind(
     ensures reported { (r : Recording) (n : ℕ) → Lags builder.old r n plain → IsStepAt r n names.now line step.now answer.now held.now → OnOk result (IsReported builder.new r (n + 1)) }
 {
     builder.add_plain(plain);
-    builder.add(names, line, step, answer, held)?;
+    add_answer(builder, names, line, step, answer, held)?;
     builder.explain(line, step)?;
     Ok(())
+}
+
+// Adds the next step to the report. If it has nothing to say, it is counted and makes no line.
+fn add_answer(
+    builder: &mut ReportBuilder<'_>,
+    names: &Names,
+    line: u64,
+    step: &Step,
+    answer: &Result<Reply, Refusal>,
+    held: &Lockset,
+) -> Result<(), AllocError>
+    requires room { builder.old.report.steps + 1 < 2 ^ 64 }
+    requires site { HasSiteName names.now step.now.event }
+    ensures rules { OnOk result (builder.new.rules ≡ builder.old.rules) }
+    ensures steps { OnOk result (builder.new.report.steps ≡ builder.old.report.steps + 1) }
+    ensures built { (r : Recording) (k : ℕ) → IsBuilt builder.old r k → IsStepAt r k names.now line step.now answer.now held.now → OnOk result (IsBuilt builder.new r (k + 1)) }
+    ensures kept { OnOk result (builder.new.kept ≡ builder.old.kept) }
+{
+    if is_plain(answer) {
+        builder.add_plain(1);
+        return Ok(());
+    }
+    builder.add(names, line, step, answer, held)
+}
+
+// Whether the report says nothing of an answer.
+#[inline(always)]
+fn is_plain(answer: &Result<Reply, Refusal>) -> bool
+    ensures { result ≡ is_plain answer.now }
+{
+    matches!(answer, Ok(Reply::Quiet | Reply::Done | Reply::Ignored))
 }

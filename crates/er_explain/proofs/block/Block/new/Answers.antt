@@ -1,5 +1,5 @@
-use Rattle.er_explain.proofs.BlockLemmas.{no_books}
+use Rattle.er_explain.proofs.BlockLemmas.{nothing_kept}
 use Rattle.er_explain.proofs.block.Block.new.Goals as goal
 
 pub returns : goal.returns
-returns g c = no_books _ c.new.result.items c.new.ensures.items
+returns g c = nothing_kept _ _ _ c.new.result.items c.new.ensures.items

@@ -11,5 +11,5 @@ returns-in-Some g c =
 
 pub returns-in-None : goal.returns-in-None
 returns-in-None g c =
-    ap joining_in (found_book c.self.inside.blocks.entries c.args.word c.block_of.result (c.args.word % 32) None c.block_of.ensures refl c.in-None.ensures.value)
+    ap joining_in (found_book c.self.inside.blocks.entries c.args.word c.block_of.result (c.args.word % 128) None c.block_of.ensures refl c.in-None.ensures.value)
     ∙ ap (λ (v : Blocks g.row.A.Denot). joining_in (book_in v c.args.word)) c.self.view_is
