@@ -37,7 +37,7 @@ use std::thread;
 use std::thread::Threads;
 
 /// How many lines a batch has.
-const BATCH_LINES: u32 = 32_768;
+const BATCH_LINES: u32 = 131_072;
 
 /// A replay by several workers: what reads the lines, the workers, the report so far, and the steps that were read and aren't
 /// answered, with their lines. Between two batches the trace has names alone.

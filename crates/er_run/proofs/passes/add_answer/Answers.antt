@@ -15,5 +15,5 @@ one_plain steps k a is plain i from below =
     ap (λ n. is_plain (answer steps n)) here ∙ (ap is_plain (sym is) ∙ plain)
 
 pub returns-then-is_plain-clause-built : goal.returns-then-is_plain-clause-built
-returns-then-is_plain-clause-built g c r k built at =
+returns-then-is_plain-clause-built c r k built at =
     c.add_plain.ensures.built r k built (one_plain r.steps k c.args.answer.now at.answered (sym c.is_plain.ensures ∙ c.if-is_plain.true))
