@@ -3,7 +3,7 @@ ghost use Rattle.std.specs.Prelude.{◌≡◌, ◌≤◌, ◌^◌, [], false, co
 ghost use Rattle.er_device.specs.Device.{inner_of, has_failed};
 ghost use Rattle.er_exit.specs.Writes.{LeavesOutput};
 ghost use Rattle.er_triage.specs.Notes.{AreNotes};
-ghost use Rattle.eraser.specs.Stories.{ExplainsTo, WritesStory};
+ghost use Rattle.eraser.specs.Stories.{ExplainsTo, FailsOutput, IsExplainFault, IsStoryFault, WritesStory};
 
 use crate::sorting::Ended;
 use er_device::Device;
@@ -36,6 +36,8 @@ where
     ensures silent { IfOk result (λ ended. ended.notes.items ≡ []) }
     ensures story { asked.now.trace.now ≡ codes "-" → OnOk result (IfSome (I.remaining (inner_of input.old)) (λ text. ExplainsTo text asked.now.byte_limit asked.now.line (O.contents (inner_of output.old)) (O.contents (inner_of output.new)))) }
     ensures nothing { IfErr result (LeavesOutput (O.contents (inner_of output.old)) (O.contents (inner_of output.new))) }
+    ensures fault { asked.now.trace.now ≡ codes "-" → IfErr result (λ why. IfSome (I.remaining (inner_of input.old)) (λ text. IsExplainFault text asked.now.byte_limit asked.now.line why)) }
+    ensures failed { FailsOutput (has_failed output.new) result }
 {
     write_asked(rt, asked, input, output)?;
     Ok(Ended {
@@ -58,6 +60,8 @@ where
     requires output { has_failed output.old ≡ false }
     ensures story { asked.now.trace.now ≡ codes "-" → OnOk result (IfSome (I.remaining (inner_of input.old)) (λ text. ExplainsTo text asked.now.byte_limit asked.now.line (O.contents (inner_of output.old)) (O.contents (inner_of output.new)))) }
     ensures nothing { IfErr result (LeavesOutput (O.contents (inner_of output.old)) (O.contents (inner_of output.new))) }
+    ensures fault { asked.now.trace.now ≡ codes "-" → IfErr result (λ why. IfSome (I.remaining (inner_of input.old)) (λ text. IsExplainFault text asked.now.byte_limit asked.now.line why)) }
+    ensures failed { FailsOutput (has_failed output.new) result }
 {
     if asked.trace == "-" {
         return explain_from(rt.alloc(), asked.line, asked.byte_limit, input, output);
@@ -88,6 +92,8 @@ fn explain_from<D: Read, O: Write>(
     requires limit { byte_limit ≤ 2 ^ 62 }
     ensures story { OnOk result (IfSome (D.remaining (inner_of source.old)) (λ text. ExplainsTo text byte_limit line (O.contents (inner_of output.old)) (O.contents (inner_of output.new)))) }
     ensures nothing { IfErr result (LeavesOutput (O.contents (inner_of output.old)) (O.contents (inner_of output.new))) }
+    ensures fault { IfErr result (λ why. IfSome (D.remaining (inner_of source.old)) (λ text. IsExplainFault text byte_limit line why)) }
+    ensures failed { FailsOutput (has_failed output.new) result }
 {
     match read_trace(alloc, source, byte_limit) {
         Ok(trace) => explain_in(alloc, &trace, line, output),
@@ -105,6 +111,8 @@ fn explain_in<O: Write>(
     requires { has_failed output.old ≡ false }
     ensures story { OnOk result (WritesStory (O.contents (inner_of output.old)) (O.contents (inner_of output.new)) trace.now line) }
     ensures nothing { IfErr result (LeavesOutput (O.contents (inner_of output.old)) (O.contents (inner_of output.new))) }
+    ensures fault { IfErr result (IsStoryFault trace.now line) }
+    ensures failed { FailsOutput (has_failed output.new) result }
 {
     let Ok(found) = tell_line(alloc, trace, line) else {
         return Err(Fault::Memory);
