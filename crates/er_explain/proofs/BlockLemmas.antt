@@ -201,14 +201,6 @@ module _ {A : Type 0} where
       all : (is_within w range && nat_lt (w / 128) number) ≡ is_within w range
       all = grind (arith, nat_tests)
 
-  -- an access, by what it makes of its word's book
-  pub accessed-word : (old : Blocks A) (word w : ℕ) (f : Book A → Book A) → cond (word == w) (f (book_in old word)) (book_in old w) ≡ cond (word == w) (f (book_in old w)) (book_in old w)
-  accessed-word old word w f = by (word == w) refl
-    where
-      by : (same : Bool) → (word == w) ≡ same → cond same (f (book_in old word)) (book_in old w) ≡ cond same (f (book_in old w)) (book_in old w)
-      by true e = ap (λ v. f (book_in old v)) (eqb-true word w e)
-      by false e = refl
-
   -- books before any step
   pub no_blocks : (blocks : Blocks A) → blocks ≡ [] → (w : ℕ) → book_in blocks w ≡ Untouched
   unfolding book_in

@@ -73,7 +73,7 @@ impl<A: Copy> Block<A> {
             }
             None => {
                 let slot = self.books.len();
-                // Each slot has an owner of its own. So there is room for this place.
+                // Each slot has an owner of its own, so there is room for this place, and this refusal never comes. That isn't proved.
                 if slot >= 128 {
                     return Err(AllocError);
                 }

@@ -21,7 +21,7 @@ const WORDS: u64 = 128;
 /// A book for each word, as steps go by. An access is named as the caller likes: by its place in a list, or by what is to be said of
 /// it. Contracts see the books by `book_in`.
 ///
-/// The books of 128 words that lie side by side are kept together, and made at the first access of one of them. A step takes one look
+/// The books of 128 words that lie side by side are kept in one block, which is made at the first access of one of them. A step takes one look
 /// at them, and a reuse one look for each block of its range.
 #[derive(Drop)]
 pub struct WordBooks<A> {
