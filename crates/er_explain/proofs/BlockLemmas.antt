@@ -441,6 +441,22 @@ module _ {A : Type 0} where
       (kept_book (λ k. slice_index_or left k false) (λ k. slice_index_or slots k 0) (λ k. slice_index_or owners k 128) (λ k. slice_index_or books k Untouched)) now test seen
       (λ i. unmarked_book (test i) (slice_index_or begun i false) (slice_index_or left i false) (slot_book (λ k. slice_index_or owners k 128) (λ k. slice_index_or books k Untouched) (slice_index_or slots i 0) i) (fewer i))
 
+  -- a whole block is emptied
+  pub all_emptied : (begun : List Bool) (slots owners : List ℕ) (books none now : List (Book A)) (lo hi : ℕ) → kept_books begun slots owners books ≡ now → none ≡ [] → lo ≡ 0 → hi ≡ 127
+      → (i : ℕ) → book_at_place (kept_books begun slots owners none) i ≡ cond (nat_le lo i && nat_le i hi) Untouched (book_at_place now i)
+  all_emptied begun slots owners books none now lo hi seen gone low high i = nothing_kept begun slots owners none gone i ∙ by (nat_lt i 128) refl
+    where
+      within : nat_lt i 128 ≡ true → (nat_le lo i && nat_le i hi) ≡ true
+      within e = grind (arith, nat_tests)
+
+      still : (b : Bool) (book : Book A) → book ≡ Untouched → Untouched ≡ cond b Untouched book
+      still true book empty = refl
+      still false book empty = sym empty
+
+      by : (b : Bool) → nat_lt i 128 ≡ b → Untouched ≡ cond (nat_le lo i && nat_le i hi) Untouched (book_at_place now i)
+      by true e = ap (λ b. cond b Untouched (book_at_place now i)) (sym (within e))
+      by false e = still (nat_le lo i && nat_le i hi) (book_at_place now i) (past_block begun slots owners books now i seen e)
+
   -- one book of a block goes on in a slot
   pub goes_on : (begun1 begun2 : List Bool) (slots1 slots2 owners1 owners2 : List ℕ) (books1 books2 now : List (Book A)) (place slot : ℕ) (after : Book A) (f : Book A → Book A)
       → kept_books begun1 slots1 owners1 books1 ≡ now → place < 128

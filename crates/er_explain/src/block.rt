@@ -91,6 +91,11 @@ impl<A: Copy> Block<A> {
         requires { hi < 128 }
         ensures { (i : ℕ) → book_at_place self.new i ≡ cond (nat_le lo i && nat_le i hi) Book.Untouched (book_at_place self.old i) }
     {
+        if lo == 0 && hi == 127 {
+            // A slot without a book is nobody's, whatever the marks and owners say.
+            self.books.clear();
+            return;
+        }
         unmark(&mut self.begun, start_of(lo, hi + 1), hi + 1);
     }
 

@@ -1,11 +1,16 @@
 use Rattle.std.proofs.Common.{◌∙◌, ◌≡◌, ℕ, ◌+◌, ◌&&◌, Bool, false, cond, nat_le, nat_lt, slice_index_or, ap, arith}
 use Rattle.std.proofs.lemmas.Bool.Decides.{nat_tests}
-use Rattle.er_explain.proofs.BlockLemmas.{emptied_books}
+use Rattle.er_explain.proofs.BlockLemmas.{emptied_books, all_emptied}
 use Rattle.er_explain.proofs.block.Block.empty.Goals as goal
 
 -- up to the last place is before the one behind it
 up_to : (i hi : ℕ) → nat_lt i (hi + 1) ≡ nat_le i hi
 up_to i hi = grind (arith, nat_tests)
+
+pub returns-then-hi-eq127 : goal.returns-then-hi-eq127
+returns-then-hi-eq127 g c =
+    all_emptied c.self.inside.begun c.self.inside.slots c.self.inside.owners c.self.inside.books.items c.clear.new.self.items c.args.self.now c.args.lo c.args.hi c.self.view_is c.clear.ensures.items
+    c.if-lo-eq0.true c.if-hi-eq127.true
 
 pub returns : goal.returns
 returns g c =
