@@ -11,7 +11,7 @@ use Rattle.er_event.specs.declared.steps.WordState.{WordState}
 use Rattle.er_model.specs.Words.{Nothing}
 use Rattle.er_model.specs.Following.{marked, replied}
 use Rattle.er_model.specs.Holdings.{Holdings, refused_by, changed_by, changed_unless, after_step, holdings_at, holdings_end}
-use Rattle.er_model.specs.Answers.{answer, answer_unless, state_end, reading_of}
+use Rattle.er_model.specs.Answers.{answer_unless, state_end, reading_of}
 use Rattle.er_model.proofs.Prefixes.{holdings-grow, holdings-empty}
 use Rattle.er_model.proofs.Prefixes as grown
 use Rattle.er_event.specs.declared.steps.Step.{Step}

@@ -1,6 +1,6 @@
 //! The machine: every thread's holdings, the clocks, and what is kept of every word.
 ghost use Rattle.std.specs.Prelude.{◌≡◌, ℕ, List, ◌++◌, ◌∷◌, [], IsFalse, IfOk, OnOk, OnErr, None, is_ok, length, true};
-ghost use Rattle.er_model.specs.Holdings.{refused_by};
+ghost use Rattle.er_model.specs.Holdings.{refused_by, holdings_end};
 ghost use Rattle.er_event.specs.declared.steps.Step.{Step as Steps};
 ghost use Rattle.er_order.specs.Races.{order_answer};
 
@@ -9,6 +9,7 @@ use er_clock::NoTick;
 use er_clocks::Clocks;
 use er_epochs::OrderWords;
 use er_event::{Event, Kind, LockId, Mode, PageRange, Refusal, Reply, Step, Sync, ThreadId, Word};
+use er_held::Held;
 use std::alloc::Global;
 use std::marker::Model;
 
@@ -59,6 +60,13 @@ impl OrderMachine {
         ensures same { OnErr result (IsSame self.old self.new) }
     {
         self.take(step.thread, step.event)
+    }
+
+    /// What a thread holds after the steps so far.
+    pub fn held(&self, thread: ThreadId) -> &Held
+        ensures { (past : List Steps) → Stands self.now past → result.now ≡ holdings_end past thread }
+    {
+        self.holders.get(thread)
     }
 
     // An event of this thread.

@@ -13,7 +13,7 @@ use er_trace::Names;
 use std::alloc::AllocError;
 
 /// Puts one line. A race has a further line for each of its reasons.
-pub(crate) fn put_line(out: &mut Vec<u8>, names: &Names, line: &Line) -> Result<(), AllocError>
+pub fn put_line(out: &mut Vec<u8>, names: &Names, line: &Line) -> Result<(), AllocError>
     requires { HasNames names.now line.now }
     ensures { OnOk result (out.new.items ≡ out.old.items ++ line_text names.now (line_view line.now)) }
 {

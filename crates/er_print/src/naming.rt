@@ -57,7 +57,7 @@ pub(crate) fn put_label(out: &mut Vec<u8>, names: &Names, label: Label) -> Resul
 }
 
 /// Puts the locks of a set, parted by spaces, or says that there are none.
-pub(crate) fn put_locks(out: &mut Vec<u8>, names: &Names, locks: &Lockset) -> Result<(), AllocError>
+pub fn put_locks(out: &mut Vec<u8>, names: &Names, locks: &Lockset) -> Result<(), AllocError>
     requires { HasLockNames names.now locks.now }
     ensures { OnOk result (out.new.items ≡ out.old.items ++ locks_text names.now locks.now) }
 {

@@ -13,30 +13,28 @@ use Rattle.std.specs.List.{All}
 use Rattle.std.proofs.lemmas.List.Elements.{All-same, All-nil, All-cons, All-head, All-tail}
 use Rattle.er_trace.specs.Trace.{Recording, IsNamed}
 use Rattle.er_event.specs.declared.refusals.NoRoom.{NoRoom}
-use Rattle.er_report.specs.Lines.{LineView, line_view, RaceView}
+use Rattle.er_report.specs.Lines.{LineView, line_view}
 use Rattle.er_journal.specs.declared.answers.Stopped.{Stopped}
 use Rattle.er_model.specs.Answers.{answer, answers, answers_below}
-use Rattle.er_model.specs.Holdings.{Holdings, after_step, holdings, holdings_at}
+use Rattle.er_model.specs.Holdings.{Holdings, holdings, holdings_at}
 use Rattle.er_model.specs.Threads.{accepted, held}
-use Rattle.er_model.proofs.Prefixes.{answers-front, holdings-empty}
-use Rattle.er_model.proofs.Threads.{holdings-step}
+use Rattle.er_model.proofs.Prefixes.{answers-front}
 use Rattle.er_explain.specs.Racing.{is_race, places_below}
-use Rattle.er_held.specs.Held.{nothing_held}
-use Rattle.er_held.specs.ThreadLocks.{held_by}
-use Rattle.er_report.specs.Names.{HasNames, HasViewNames}
+use Rattle.er_report.specs.Names.{HasNames, HasReasonNames, HasViewNames, HaveStateNames}
+use Rattle.er_report.specs.declared.report.Because.{Because}
 use Rattle.er_report.specs.declared.report.Line.{Line}
-use Rattle.er_report.proofs.NamedLemmas.{named_lines}
-use Rattle.er_report.specs.Builder.{Built, report_below, IsBuilt, IsExplained, IsReported, IsStepAt}
+use Rattle.er_report.proofs.NamedLemmas.{named_lines, named_reasons, named_states}
+use Rattle.er_report.specs.Builder.{Built, report_below, report_below_by, IsBuilt, IsBuiltBy, IsExplained, IsReported, IsStepAt, IsStepBy}
 use Rattle.er_report.proofs.KeptLemmas.{told-by}
 use Rattle.er_report.specs.Inner.Explained.{lines_kept}
-use Rattle.er_report.specs.Inner.Adding.{empty_report, with_answer, one_more, IsCounted, HasRoom}
+use Rattle.er_report.specs.Inner.Adding.{empty_report, with_answer, IsCounted, HasRoom}
 use Rattle.er_report.specs.Kept.{Kept, Follows}
-use Rattle.er_report.specs.Report.{Summary, answer_line, reply_line, line_of, line_at, lines_below, is_refused, is_printed, is_rule, rule_count, count_below, answer_matching_rule, matching_rule_at, answered_steps, stop_line, report_of}
+use Rattle.er_report.specs.Report.{Answering, Summary, answer_line, reply_line, line_of, line_at, lines_below, lines_by, no_reasons, reasons_if, is_refused, is_printed_by, rule_count, count_below, answer_matching_rule, matching_rule_by, answered_steps, stop_line, report_of, report_by}
 use Rattle.er_report.proofs.CountLemmas.{no_counts, same_counts, counts_more, one_more-most, length-one_more}
 use Rattle.er_rules.specs.Rules.{Target}
 use Rattle.er_trace.specs.Names.{NameTable}
 use Rattle.er_event.specs.declared.steps.Event.{Event}
-use Rattle.er_event.specs.declared.steps.Event.TheVariants.{Access, Show}
+use Rattle.er_event.specs.declared.steps.Event.TheVariants.{Access}
 use Rattle.er_event.specs.declared.steps.Reply.TheVariants.{Race, Done, Quiet, Ignored, State}
 use Rattle.std.specs.List.{range_with_len}
 
@@ -83,10 +81,10 @@ pub same_summary : (k l : List LineView) (o p : Option (ℕ × NoRoom)) (a b : L
     one ≡ two)
 same_summary k l o p a b m n q r s t u v ek eo ea em eq es eu = cc
 
-report-start : (r : Recording) (rules : List Target) → report_below r rules 0 ≡ empty_report (length rules)
-unfolding report_below lines_below count_below
-report-start r rules =
-    same_summary _ _ _ _ _ _ _ _ _ _ _ _ _ _ refl refl (no_counts (rule_count r rules 0) (λ i. refl) 0 (length rules)) refl refl refl refl
+report-start : (a : Answering) (r : Recording) (rules : List Target) → report_below_by a r rules 0 ≡ empty_report (length rules)
+unfolding report_below_by lines_by count_below
+report-start a r rules =
+    same_summary _ _ _ _ _ _ _ _ _ _ _ _ _ _ refl refl (no_counts (rule_count a r rules 0) (λ i. refl) 0 (length rules)) refl refl refl refl
 
 -- locks matter to a race alone
 same_reply : (number : ℕ) (a b : List ℕ) (t : ℕ) (event : Event) (reply : Reply) → is_race (Ok reply) ≡ false
@@ -114,88 +112,88 @@ taken_race rules names event (Ok (State state)) i taken = absurd (cc)
 taken_race rules names event (Err refusal) i taken = absurd (cc)
 
 -- one step of a recording
-module _ (r : Recording) (rules : List Target) (k : ℕ) (names : NameTable) (number : ℕ) (step : Step) (given : Result Reply Refusal) (locks : List ℕ)
-    (at : IsStepAt r k names number step given locks) where
-  line-here : answer_line number locks [] step given ≡ line_at r false k
+module _ (a : Answering) (r : Recording) (rules : List Target) (k : ℕ) (names : NameTable) (number : ℕ) (step : Step) (given : Result Reply Refusal) (locks : List ℕ)
+    (at : IsStepBy a r k names number step given locks) where
+  line-here : answer_line number locks [] step given ≡ line_at a no_reasons r k
   unfolding line_at
   line-here =
       same_line number locks (held (accepted r.steps k) step.thread) step given at.locked
       ∙ ap (λ (n : ℕ). answer_line n (held (accepted r.steps k) step.thread) [] step given) at.line
       ∙ ap (answer_line (slice_index r.lines k) (held (accepted r.steps k) step.thread) [] step) at.answered
-      ∙ ap (line_of r false k) (sym at.here)
+      ∙ ap (line_of a no_reasons r k) (sym at.here)
 
-  rule-here : answer_matching_rule rules names step.event given ≡ matching_rule_at r rules k
-  unfolding matching_rule_at
+  rule-here : answer_matching_rule rules names step.event given ≡ matching_rule_by a r rules k
+  unfolding matching_rule_by
   rule-here = rw (at.here, at.named, at.answered) refl
 
   -- one step more, by what becomes of its race
-  more-by : (o : Option ℕ) → matching_rule_at r rules k ≡ o → with_answer (report_below r rules k) number locks step given o ≡ report_below r rules (suc k)
-  unfolding report_below lines_below count_below
+  more-by : (o : Option ℕ) → matching_rule_by a r rules k ≡ o → with_answer (report_below_by a r rules k) number locks step given o ≡ report_below_by a r rules (suc k)
+  unfolding report_below_by lines_by count_below
   more-by None taken =
       same_summary _ _ _ _ _ _ _ _ _ _ _ _ _ _
-      (rw taken (ap (λ (more : List LineView). lines_below r rules false k ++ more) line-here))
+      (rw taken (ap (λ (more : List LineView). lines_by a no_reasons r rules k ++ more) line-here))
       refl
-      (same_counts (rule_count r rules k) (rule_count r rules (suc k)) (λ i. rw taken (omega arith)) (range_with_len 0 (length rules)))
+      (same_counts (rule_count a r rules k) (rule_count a r rules (suc k)) (λ i. rw taken (omega arith)) (range_with_len 0 (length rules)))
       (add-one k)
-      (rw (taken, and-true (is_race (answer r.steps k)), at.answered) refl)
+      (rw (taken, and-true (is_race (a k)), at.answered) refl)
       (rw taken (omega arith))
       (rw at.answered refl)
   more-by (Some i) taken =
       let race : (is_race given ≡ true) × (is_refused given ≡ false) = taken_race rules names step.event given i (rule-here ∙ taken) in
-      let known : (is_race (answer r.steps k) ≡ true) × (is_refused (answer r.steps k) ≡ false) = rw at.answered at race in
+      let known : (is_race (a k) ≡ true) × (is_refused (a k) ≡ false) = rw at.answered at race in
       same_summary _ _ _ _ _ _ _ _ _ _ _ _ _ _
-      (rw taken (sym (append-nil (lines_below r rules false k))))
+      (rw taken (sym (append-nil (lines_by a no_reasons r rules k))))
       refl
-      (counts_more (rule_count r rules k) (length rules) (rule_count r rules (suc k)) i (λ j. rw taken refl))
+      (counts_more (rule_count a r rules k) (length rules) (rule_count a r rules (suc k)) i (λ j. rw taken refl))
       (add-one k)
       (rw (taken, known.0) (omega arith))
       (rw taken refl)
       (rw known.1 (omega arith))
 
-  more : with_answer (report_below r rules k) number locks step given (answer_matching_rule rules names step.event given) ≡ report_below r rules (k + 1)
-  more = ap (with_answer (report_below r rules k) number locks step given) rule-here ∙ more-by (matching_rule_at r rules k) refl ∙ ap (report_below r rules) (sym (add-one k))
+  more : with_answer (report_below_by a r rules k) number locks step given (answer_matching_rule rules names step.event given) ≡ report_below_by a r rules (k + 1)
+  more = ap (with_answer (report_below_by a r rules k) number locks step given) rule-here ∙ more-by (matching_rule_by a r rules k) refl ∙ ap (report_below_by a r rules) (sym (add-one k))
 
   -- and the position of its race
-  race-here : places_below (is_printed r rules) k ++ cond (is_race given && is_none (answer_matching_rule rules names step.event given)) (k ∷ []) []
-      ≡ places_below (is_printed r rules) (k + 1)
+  race-here : places_below (is_printed_by a r rules) k ++ cond (is_race given && is_none (answer_matching_rule rules names step.event given)) (k ∷ []) []
+      ≡ places_below (is_printed_by a r rules) (k + 1)
   unfolding places_below
   race-here = rw (add-one k, rule-here, at.answered) refl
 
 -- how many steps a report is of
-pub report-steps : (r : Recording) (rules : List Target) (k : ℕ) → (report_below r rules k).steps ≡ k
-unfolding report_below
-report-steps r rules k = refl
+pub report-steps : (a : Answering) (r : Recording) (rules : List Target) (k : ℕ) → (report_below_by a r rules k).steps ≡ k
+unfolding report_below_by
+report-steps a r rules k = refl
 
 -- a builder before any step, and after one more
-pub built-start : (builder : Built) (n : ℕ) → builder.report ≡ empty_report n → n ≡ length builder.rules → builder.races ≡ [] → (r : Recording) → IsBuilt builder r 0
+pub built-start : (builder : Built) (n : ℕ) → builder.report ≡ empty_report n → n ≡ length builder.rules → builder.races ≡ [] → (a : Answering) (r : Recording) → IsBuiltBy a builder r 0
 unfolding places_below
-built-start builder n empty known none r =
+built-start builder n empty known none a r =
     record {
-      report = empty ∙ ap empty_report known ∙ sym (report-start r builder.rules);
+      report = empty ∙ ap empty_report known ∙ sym (report-start a r builder.rules);
       races = none;
     }
 
-pub built-next : (before after : Built) (r : Recording) (k : ℕ) (names : NameTable) (number : ℕ) (step : Step) (given : Result Reply Refusal) (locks : List ℕ)
-    → IsBuilt before r k → IsStepAt r k names number step given locks → after.rules ≡ before.rules
+pub built-next : (a : Answering) (before after : Built) (r : Recording) (k : ℕ) (names : NameTable) (number : ℕ) (step : Step) (given : Result Reply Refusal) (locks : List ℕ)
+    → IsBuiltBy a before r k → IsStepBy a r k names number step given locks → after.rules ≡ before.rules
     → after.report ≡ with_answer before.report number locks step given (answer_matching_rule before.rules names step.event given)
     → after.races ≡ before.races ++ cond (is_race given && is_none (answer_matching_rule before.rules names step.event given)) (before.report.steps ∷ []) []
-    → IsBuilt after r (k + 1)
-built-next before after r k names number step given locks built at kept added placed =
-    let count : before.report.steps ≡ k = ap (λ (s : Summary). s.steps) built.report ∙ report-steps r before.rules k in
+    → IsBuiltBy a after r (k + 1)
+built-next a before after r k names number step given locks built at kept added placed =
+    let count : before.report.steps ≡ k = ap (λ (s : Summary). s.steps) built.report ∙ report-steps a r before.rules k in
     let rule : Option ℕ = answer_matching_rule before.rules names step.event given in
     let printed : Bool = is_race given && is_none rule in
     record {
       report =
           added
           ∙ ap (λ (s : Summary). with_answer s number locks step given rule) built.report
-          ∙ more r before.rules k names number step given locks at
-          ∙ ap (λ (rules : List Target). report_below r rules (k + 1)) (sym kept);
+          ∙ more a r before.rules k names number step given locks at
+          ∙ ap (λ (rules : List Target). report_below_by a r rules (k + 1)) (sym kept);
       races =
           placed
           ∙ ap (λ (n : ℕ). before.races ++ cond printed (n ∷ []) []) count
           ∙ ap (λ (places : List ℕ). places ++ cond printed (k ∷ []) []) built.races
-          ∙ race-here r before.rules k names number step given locks at
-          ∙ ap (λ (rules : List Target). places_below (is_printed r rules) (k + 1)) (sym kept);
+          ∙ race-here a r before.rules k names number step given locks at
+          ∙ ap (λ (rules : List Target). places_below (is_printed_by a r rules) (k + 1)) (sym kept);
     }
 
 -- counts stay within those of the steps
@@ -241,27 +239,28 @@ counted-room s rules counted small =
     record { steps = small; races = counted.races; suppressed = counted.suppressed; refused = counted.refused; rule_counts = counted.rule_counts }
 
 -- at the end of the answered steps
-pub built-end : (builder : Built) (r : Recording) (stop : Option Stopped) (o : Option (ℕ × NoRoom)) → IsBuilt builder r (length (answered_steps r.steps stop)) → o ≡ stop_line r stop
-    → record builder.report { stop = o } ≡ report_of r builder.rules false stop
-unfolding report_below
-built-end builder r stop o built stopped =
+pub built-end : (a : Answering) (builder : Built) (r : Recording) (stop : Option Stopped) (o : Option (ℕ × NoRoom)) → IsBuiltBy a builder r (length (answered_steps r.steps stop))
+    → o ≡ stop_line r stop → record builder.report { stop = o } ≡ report_by a no_reasons r builder.rules stop
+unfolding report_below_by
+built-end a builder r stop o built stopped =
     ap (λ (t : Summary). record t { stop = o }) built.report
-    ∙ ap (λ (p : Option (ℕ × NoRoom)). record (report_below r builder.rules (length (answered_steps r.steps stop))) { stop = p }) stopped
+    ∙ ap (λ (p : Option (ℕ × NoRoom)). record (report_below_by a r builder.rules (length (answered_steps r.steps stop))) { stop = p }) stopped
 
-pub built-lines : (builder : Built) (r : Recording) (n : ℕ) → IsBuilt builder r n → builder.report.lines ≡ lines_below r builder.rules false n
-unfolding report_below
-built-lines builder r n built = ap (λ (s : Summary). s.lines) built.report
+pub built-lines : (a : Answering) (builder : Built) (r : Recording) (n : ℕ) → IsBuiltBy a builder r n → builder.report.lines ≡ lines_by a no_reasons r builder.rules n
+unfolding report_below_by
+built-lines a builder r n built = ap (λ (s : Summary). s.lines) built.report
 
 -- the lines with reasons, if they are asked for
 pub explained-lines : (builder : Built) (r : Recording) (n : ℕ) (lines : List LineView) → IsReported builder r n
     → lines ≡ lines_kept builder.kept builder.report.lines → lines ≡ lines_below r builder.rules (is_some builder.kept) n
-explained-lines builder r n lines reported are = told-by r builder.rules n builder.kept lines builder.report.lines (built-lines builder r n reported.built) reported.explained are
+unfolding IsBuilt
+explained-lines builder r n lines reported are = told-by r builder.rules n builder.kept lines builder.report.lines (built-lines (answer r.steps) builder r n reported.built) reported.explained are
 
 pub explained-end : (builder : Built) (r : Recording) (stop : Option Stopped) (lines : List LineView) (o : Option (ℕ × NoRoom))
     → IsReported builder r (length (answered_steps r.steps stop)) → o ≡ stop_line r stop
     → lines ≡ lines_kept builder.kept builder.report.lines
     → record builder.report { lines = lines; stop = o } ≡ report_of r builder.rules (is_some builder.kept) stop
-unfolding report_below
+unfolding report_below_by IsBuilt
 explained-end builder r stop lines o reported stopped are =
     let n : ℕ = length (answered_steps r.steps stop) in
     ap (λ (t : Summary). record t { lines = lines; stop = o }) reported.built.report
@@ -275,13 +274,19 @@ lines_named names (line ∷ lines) all =
     All-cons (HasNames names) line lines (All-head (HasViewNames names) (line_view line) (map line_view lines) all)
     (lines_named names lines (All-tail (HasViewNames names) (line_view line) (map line_view lines) all))
 
-pub report-named : (r : Recording) (rules : List Target) (explain : Bool) (n : ℕ) (lines : List Line) → map line_view lines ≡ lines_below r rules explain n
-    → All (IsNamed r.names) r.steps → All (HasNames r.names) lines
-report-named r rules explain n lines are all =
-    lines_named r.names lines (All-same (HasViewNames r.names) (map line_view lines) (lines_below r rules explain n) are (named_lines r all rules explain n))
+pub report-named : (a : Answering) (reasons : ℕ → List Because) (r : Recording) (rules : List Target) (n : ℕ) (lines : List Line) → map line_view lines ≡ lines_by a reasons r rules n
+    → All (IsNamed r.names) r.steps → HaveStateNames r.names a → ((k : ℕ) → All (HasReasonNames r.names) (reasons k)) → All (HasNames r.names) lines
+report-named a reasons r rules n lines are all states because =
+    lines_named r.names lines (All-same (HasViewNames r.names) (map line_view lines) (lines_by a reasons r rules n) are (named_lines r all a reasons states because rules n))
 
-pub built-steps : (builder : Built) (r : Recording) (n : ℕ) → IsBuilt builder r n → builder.report.steps ≡ n
-built-steps builder r n built = ap (λ (s : Summary). s.steps) built.report ∙ report-steps r builder.rules n
+-- by the lockset rule, whose states and reasons have their names
+pub report-named-at : (r : Recording) (rules : List Target) (explain : Bool) (n : ℕ) (lines : List Line) → map line_view lines ≡ lines_below r rules explain n
+    → All (IsNamed r.names) r.steps → All (HasNames r.names) lines
+report-named-at r rules explain n lines are all =
+    report-named (answer r.steps) (reasons_if explain r) r rules n lines are all (named_states r all) (named_reasons r all explain)
+
+pub built-steps : (a : Answering) (builder : Built) (r : Recording) (n : ℕ) → IsBuiltBy a builder r n → builder.report.steps ≡ n
+built-steps a builder r n built = ap (λ (s : Summary). s.steps) built.report ∙ report-steps a r builder.rules n
 
 -- a step that was answered
 pub step-answered : (r : Recording) (stop : Option Stopped) (k : ℕ) (names : NameTable) (number : ℕ) (step : Step) (given : Result Reply Refusal) (locks : List ℕ) (h : Holdings)

@@ -1,11 +1,10 @@
 -- Counts over the positions of a list, and the counts of all rules, as one position more is counted.
-use Rattle.std.proofs.Common.{◌≡◌, ◌<◌, ◌≤◌, ◌+◌, ◌==◌, inl, inr, ℕ, zero, suc, Bool, true, false, cond, List, [], ◌∷◌, length, map, replicate, get_or, slice_index, refl, sym, ap, ◌∙◌, arith}
+use Rattle.std.proofs.Common.{◌≡◌, ◌<◌, ◌≤◌, ◌+◌, ◌==◌, inl, inr, ℕ, zero, suc, cond, List, [], ◌∷◌, length, map, replicate, get_or, slice_index, refl, sym, ap, ◌∙◌, arith}
 use Rattle.std.specs.List.{range_with_len}
 use Rattle.std.proofs.lemmas.Bool.{cases_eq, cases_lt, eq-eqb, ne_eqb}
 use Rattle.std.proofs.lemmas.List.{same_lists, length-set, get_or-set_same, get_or-set_other, get_or_past}
 use Rattle.std.proofs.lemmas.List.FromFn.{length-map-range_with_len, get_or-map-range_with_len}
 use Rattle.er_report.specs.Inner.Adding.{one_more}
-use Rattle.er_report.specs.Report.{count_below}
 
 pub length-one_more : (counts : List ℕ) (j : ℕ) → length (one_more counts j) ≡ length counts
 length-one_more counts j = length-set counts j (slice_index counts j + 1)

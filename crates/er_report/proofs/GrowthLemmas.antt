@@ -1,13 +1,11 @@
 -- The report of the first steps doesn't change if more steps and names come behind them.
-use Rattle.std.proofs.Common.{◌≡◌, ◌<◌, ◌≤◌, ◌+◌, ℕ, zero, suc, Bool, true, false, cond, List, [], ◌∷◌, ◌++◌, ◌&&◌, IfSome, length, slice_get, slice_index, Option, Some, None, is_some, is_none, Result, refl, sym, ap, subst, ◌∙◌, arith}
-use Rattle.std.specs.List.{All, range_with_len}
+use Rattle.std.proofs.Common.{◌≡◌, ◌<◌, ◌≤◌, ℕ, zero, suc, Bool, cond, List, [], ◌∷◌, ◌++◌, IfSome, length, slice_get, slice_index, Option, Some, None, is_some, refl, sym, ap, ◌∙◌, arith}
+use Rattle.std.specs.List.{range_with_len}
 use Rattle.std.proofs.lemmas.List.{get_or_append_left}
 use Rattle.std.proofs.lemmas.Option.{slice_get-get_or}
 use Rattle.er_event.proofs.Lists.{get_front}
-use Rattle.er_event.specs.declared.refusals.Refusal.{Refusal}
 use Rattle.er_event.specs.declared.steps.Event.{Event}
 use Rattle.er_event.specs.declared.steps.Event.TheVariants.{Acquire, Release, Access, Reuse, IgnoreOn, IgnoreOff, Show, Level, Sync}
-use Rattle.er_event.specs.declared.steps.Reply.{Reply}
 use Rattle.er_event.specs.declared.steps.Step.{Step}
 use Rattle.er_explain.specs.Racing.{is_race, places_below}
 use Rattle.er_model.specs.Answers.{answer}
@@ -17,16 +15,14 @@ use Rattle.er_explain.proofs.NamingLemmas.{named-agree}
 use Rattle.er_model.specs.Answers.{mark_of, reading_of}
 use Rattle.er_model.specs.Explanations.{word_of}
 use Rattle.er_model.specs.Holdings.{holdings}
-use Rattle.er_report.specs.Builder.{Built, IsBuilt, IsExplained, IsReported, GoesOn, report_below}
+use Rattle.er_report.specs.Builder.{Built, IsBuilt, IsBuiltBy, IsReported, GoesOn, report_below_by}
 use Rattle.er_report.specs.Kept.{Kept, Follows, access_at, line_access, line_book, told_below, word_reasons}
-use Rattle.er_report.specs.Lines.{LineView}
-use Rattle.er_report.specs.Report.{Summary, answer_matching_rule, answer_line, event_matching_rule, site_name, matching_rule_of, matching_rule_at, line_of, line_at, lines_below, count_below, rule_count, rule_counts, is_printed, is_refused, is_rule}
+use Rattle.er_report.specs.Report.{Answering, answer_matching_rule, answer_line, event_matching_rule, site_name, matching_rule_of, matching_rule_by, line_of, line_at, lines_by, no_reasons, count_below, rule_count, is_printed_by, is_refused, is_rule}
 use Rattle.er_report.proofs.BuilderLemmas.{same_summary}
 use Rattle.er_report.proofs.CountLemmas.{same_counts}
 use Rattle.er_report.proofs.NamedLemmas.{site_named}
 use Rattle.er_report.specs.Names.{HasSiteName}
 use Rattle.er_rules.specs.Rules.{Target, matching_rule}
-use Rattle.er_trace.specs.Names.{NameTable}
 use Rattle.er_trace.specs.Trace.{Recording}
 
 -- counts and places below n, by tests that agree there
@@ -64,64 +60,74 @@ module _ (before after : Recording) (rules : List Target) (on : GoesOn before af
   step-there : (k : ℕ) → k < length before.steps → slice_get after.steps k ≡ slice_get before.steps k
   step-there k below = ap (λ (steps : List Step). slice_get steps k) on.steps ∙ get_front before.steps on.more k below
 
-  answer-there : (k : ℕ) → k < length before.steps → answer after.steps k ≡ answer before.steps k
-  answer-there k below = ap (λ (steps : List Step). answer steps k) on.steps ∙ answer-front before.steps on.more k below
-
   accepted-there : (k : ℕ) → k ≤ length before.steps → accepted after.steps k ≡ accepted before.steps k
   accepted-there k below = ap (λ (steps : List Step). accepted steps k) on.steps ∙ accepted-front before.steps on.more k below
 
   number-there : (k : ℕ) → k < length before.steps → slice_index after.lines k ≡ slice_index before.lines k
   number-there k below = ap (λ (lines : List ℕ). slice_index lines k) on.lines ∙ get_or_append_left before.lines on.others 0 k (let long : length before.lines ≡ length before.steps = on.long in omega arith)
 
-  matching_rule-by : (k : ℕ) (o : Option Step) → slice_get before.steps k ≡ o → k < length before.steps → matching_rule_of before rules k o ≡ matching_rule_of after rules k o
+-- answers that agree below n give the same report
+module _ (before after : Recording) (rules : List Target) (on : GoesOn before after) (a b : Answering) (n : ℕ) (within : n ≤ length before.steps)
+    (same : (k : ℕ) → k < n → a k ≡ b k) where
+  matching_rule-by : (k : ℕ) (o : Option Step) → slice_get before.steps k ≡ o → k < n → matching_rule_of a before rules k o ≡ matching_rule_of b after rules k o
   matching_rule-by k None is below = refl
   matching_rule-by k (Some step) is below =
-      ap (λ (o : Option ℕ). cond (is_race (answer before.steps k)) o None) (event-same step.event (site_named before.names before.steps on.named k step is))
-      ∙ ap (answer_matching_rule rules after.names step.event) (sym (answer-there k below))
+      ap (λ (o : Option ℕ). cond (is_race (a k)) o None) (event-same before after rules on step.event (site_named before.names before.steps on.named k step is))
+      ∙ ap (answer_matching_rule rules after.names step.event) (same k below)
 
-  matching_rule-same : (k : ℕ) → k < length before.steps → matching_rule_at before rules k ≡ matching_rule_at after rules k
-  unfolding matching_rule_at
+  matching_rule-same : (k : ℕ) → k < n → matching_rule_by a before rules k ≡ matching_rule_by b after rules k
+  unfolding matching_rule_by
   matching_rule-same k below =
-      matching_rule-by k (slice_get before.steps k) refl below ∙ ap (matching_rule_of after rules k) (sym (step-there k below))
+      matching_rule-by k (slice_get before.steps k) refl below ∙ ap (matching_rule_of b after rules k) (sym (step-there before after rules on k (omega arith)))
 
-  line-by : (k : ℕ) (o : Option Step) → k < length before.steps → line_of before false k o ≡ line_of after false k o
+  line-by : (k : ℕ) (o : Option Step) → k < n → line_of a no_reasons before k o ≡ line_of b no_reasons after k o
   line-by k None below = refl
   line-by k (Some step) below =
-      ap (λ (n : ℕ). answer_line n (held (accepted before.steps k) step.thread) [] step (answer before.steps k)) (sym (number-there k below))
-      ∙ ap (λ (past : List Step). answer_line (slice_index after.lines k) (held past step.thread) [] step (answer before.steps k)) (sym (accepted-there k (omega arith)))
-      ∙ ap (answer_line (slice_index after.lines k) (held (accepted after.steps k) step.thread) [] step) (sym (answer-there k below))
+      ap (λ (n : ℕ). answer_line n (held (accepted before.steps k) step.thread) [] step (a k)) (sym (number-there before after rules on k (omega arith)))
+      ∙ ap (λ (past : List Step). answer_line (slice_index after.lines k) (held past step.thread) [] step (a k)) (sym (accepted-there before after rules on k (omega arith)))
+      ∙ ap (answer_line (slice_index after.lines k) (held (accepted after.steps k) step.thread) [] step) (same k below)
 
-  line-same : (k : ℕ) → k < length before.steps → line_at before false k ≡ line_at after false k
+  line-same : (k : ℕ) → k < n → line_at a no_reasons before k ≡ line_at b no_reasons after k
   unfolding line_at
-  line-same k below = line-by k (slice_get before.steps k) below ∙ ap (line_of after false k) (sym (step-there k below))
+  line-same k below = line-by k (slice_get before.steps k) below ∙ ap (line_of b no_reasons after k) (sym (step-there before after rules on k (omega arith)))
 
-  lines-same : (n : ℕ) → n ≤ length before.steps → lines_below before rules false n ≡ lines_below after rules false n
-  unfolding lines_below
-  lines-same zero within = refl
-  lines-same (suc n) within = rw (lines-same n (omega arith), matching_rule-same n (omega arith), line-same n (omega arith)) refl
+  lines-same : (m : ℕ) → m ≤ n → lines_by a no_reasons before rules m ≡ lines_by b no_reasons after rules m
+  unfolding lines_by
+  lines-same zero low = refl
+  lines-same (suc m) low = rw (lines-same m (omega arith), matching_rule-same m (omega arith), line-same m (omega arith)) refl
 
-  printed-same : (k : ℕ) → k < length before.steps → is_printed before rules k ≡ is_printed after rules k
-  printed-same k below = rw (matching_rule-same k below, answer-there k below) refl
+  printed-same : (k : ℕ) → k < n → is_printed_by a before rules k ≡ is_printed_by b after rules k
+  printed-same k below = rw (matching_rule-same k below, same k below) refl
 
-  report-same : (n : ℕ) → n ≤ length before.steps → report_below before rules n ≡ report_below after rules n
-  unfolding report_below
-  report-same n within =
+  report-same : report_below_by a before rules n ≡ report_below_by b after rules n
+  unfolding report_below_by
+  report-same =
       same_summary _ _ _ _ _ _ _ _ _ _ _ _ _ _
-      (lines-same n within)
+      (lines-same n (omega arith))
       refl
-      (same_counts (rule_count before rules n) (rule_count after rules n)
-      (λ i. count-agree _ _ n (λ k below. ap (is_rule i) (matching_rule-same k (omega arith)))) (range_with_len 0 (length rules)))
+      (same_counts (rule_count a before rules n) (rule_count b after rules n)
+      (λ i. count-agree _ _ n (λ k below. ap (is_rule i) (matching_rule-same k below))) (range_with_len 0 (length rules)))
       refl
-      (count-agree _ _ n (λ k below. printed-same k (omega arith)))
-      (count-agree _ _ n (λ k below. ap (λ (o : Option ℕ). is_some o) (matching_rule-same k (omega arith))))
-      (count-agree _ _ n (λ k below. ap is_refused (sym (answer-there k (omega arith)))))
+      (count-agree _ _ n (λ k below. printed-same k below))
+      (count-agree _ _ n (λ k below. ap (λ (o : Option ℕ). is_some o) (matching_rule-same k below)))
+      (count-agree _ _ n (λ k below. ap is_refused (same k below)))
+
+pub goes-on-by : (a b : Answering) (builder : Built) (before after : Recording) (n : ℕ) → GoesOn before after → n ≤ length before.steps → ((k : ℕ) → k < n → a k ≡ b k)
+    → IsBuiltBy a builder before n → IsBuiltBy b builder after n
+goes-on-by a b builder before after n on within same built =
+    record {
+      report = built.report ∙ report-same before after builder.rules on a b n within same;
+      races = built.races ∙ places-agree _ _ n (λ k below. printed-same before after builder.rules on a b n within same k below);
+    }
+
+-- and those of the lockset rule do
+answer-there : (before after : Recording) → GoesOn before after → (k : ℕ) → k < length before.steps → answer before.steps k ≡ answer after.steps k
+answer-there before after on k below = sym (ap (λ (steps : List Step). answer steps k) on.steps ∙ answer-front before.steps on.more k below)
 
 pub goes-on : (builder : Built) (before after : Recording) (n : ℕ) → GoesOn before after → n ≤ length before.steps → IsBuilt builder before n → IsBuilt builder after n
+unfolding IsBuilt
 goes-on builder before after n on within built =
-    record {
-      report = built.report ∙ report-same before after builder.rules on n within;
-      races = built.races ∙ places-agree _ _ n (λ k below. printed-same before after builder.rules on k (omega arith));
-    }
+    goes-on-by (answer before.steps) (answer after.steps) builder before after n on within (λ k below. answer-there before after on k (omega arith)) built
 
 -- what is kept for reasons
 module _ (before after : Recording) (rules : List Target) (on : GoesOn before after) where
@@ -143,7 +149,7 @@ module _ (before after : Recording) (rules : List Target) (on : GoesOn before af
   told-same zero within = refl
   told-same (suc n) within =
       let so_far = told-same n (omega arith) in
-      let printed = printed-same before after rules on n (omega arith) in
+      let printed = printed-same before after rules on (answer before.steps) (answer after.steps) (suc n) within (λ k below. answer-there before after on k (omega arith)) n (omega arith) in
       let step = step-there before after rules on n (omega arith) in
       λ i. so_far i ++ cond (printed i) (word_reasons (λ w. book-same (suc n) w within i) (word_of (sym step i)) ∷ []) []
 

@@ -1,5 +1,5 @@
 -- What is kept of the steps tells the reasons that the definitions give.
-use Rattle.std.proofs.Common.{◌≡◌, ◌<◌, ◌≤◌, ◌+◌, ℕ, zero, suc, nat_lt, Bool, true, false, cond, List, [], ◌∷◌, ◌++◌, ◌&&◌, All, length, map, flat_map, drop, slice_get, slice_index, Option, Some, None, is_some, is_none, IfSome, refl, sym, ap, subst, ◌∙◌, arith, add-one, length-append}
+use Rattle.std.proofs.Common.{◌≡◌, ◌+◌, ℕ, zero, suc, nat_lt, Bool, true, false, cond, List, [], ◌∷◌, ◌++◌, ◌&&◌, All, length, map, flat_map, drop, slice_get, slice_index, Option, Some, None, is_some, is_none, IfSome, refl, sym, ap, subst, ◌∙◌, arith, add-one, length-append}
 use Rattle.std.specs.Option.{option_to_list}
 use Rattle.std.proofs.lemmas.Bool.{and_parts}
 use Rattle.std.proofs.lemmas.Bool.Decides.{nat_tests}
@@ -11,25 +11,24 @@ use Rattle.er_event.specs.declared.steps.Step.{Step}
 use Rattle.std.specs.Prelude.{Ok}
 use Rattle.er_explain.proofs.Explained.{explained-at}
 use Rattle.er_explain.proofs.FoundLemmas.{race-told}
-use Rattle.er_explain.proofs.NamingLemmas.{named-agree, named-follows, named-start}
+use Rattle.er_explain.proofs.NamingLemmas.{named-follows, named-start}
 use Rattle.er_explain.proofs.Passes.{held-start, held-next}
 use Rattle.er_explain.proofs.RaceLemmas.{explanations_at, race-is}
-use Rattle.er_explain.specs.Books.{book_after, book_at, joining_of}
+use Rattle.er_explain.specs.Books.{book_after, joining_of}
 use Rattle.er_explain.specs.Explaining.{explanation_at}
-use Rattle.er_explain.specs.Following.{AreHeldAt}
 use Rattle.er_explain.specs.Joined.{Joining}
 use Rattle.er_explain.specs.Naming.{named_pair, named_joining, named_book}
 use Rattle.er_explain.specs.Racing.{is_race, places_below}
 use Rattle.er_explain.specs.WordBooks.{Blocks, book_in, joining_in}
 use Rattle.er_explain.specs.declared.book.Pair.{Pair}
 use Rattle.er_explain.specs.declared.book.Book.{Book}
-use Rattle.er_explain.specs.declared.book.Book.TheVariants.{Untouched, Joined}
+use Rattle.er_explain.specs.declared.book.Book.TheVariants.{Untouched}
 use Rattle.er_held.specs.ThreadLocks.{held_by}
 use Rattle.er_model.proofs.Explanations.{race-rising}
 use Rattle.er_model.proofs.Meaning.{join-counted}
 use Rattle.er_model.proofs.Search.{least_below-Some}
 use Rattle.er_model.specs.Answers.{answer, reading_of}
-use Rattle.er_model.specs.Explanations.{Explanation, ExplainsAccess, first_write, first_uncovered, word_in, word_of}
+use Rattle.er_model.specs.Explanations.{Explanation, ExplainsAccess, first_write, word_in, word_of}
 use Rattle.er_model.specs.Following.{marked}
 use Rattle.er_model.specs.Holdings.{Holdings, after_step}
 use Rattle.er_model.specs.Words.{Reading, counts, writes, era, first, counted_from}

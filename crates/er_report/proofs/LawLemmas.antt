@@ -19,7 +19,7 @@ use Rattle.er_event.specs.declared.steps.Kind.{Kind}
 use Rattle.er_event.specs.Lockset.{has}
 use Rattle.er_explain.specs.Explaining.{explanation_at}
 use Rattle.er_explain.proofs.Explained.{explained-at}
-use Rattle.er_model.specs.Answers.{answer, covering, mark, mark_of, reading_of}
+use Rattle.er_model.specs.Answers.{covering, mark, mark_of, reading_of}
 use Rattle.er_model.specs.Explanations.{Explanation, ExplainsAccess, first_write, first_uncovered}
 use Rattle.er_model.specs.Search.{least_below}
 use Rattle.er_model.specs.Threads.{accepted, is_ignoring}
@@ -31,7 +31,7 @@ use Rattle.er_report.specs.declared.report.Because.{Because}
 use Rattle.er_report.specs.declared.report.Label.{Label}
 use Rattle.er_report.specs.declared.report.Label.TheVariants as label
 use Rattle.er_explain.specs.Racing.{is_race}
-use Rattle.er_report.specs.Report.{event_matching_rule, answer_matching_rule, matching_rule_of, matching_rule_at, is_printed, is_rule, rule_count, rule_counts, count_below}
+use Rattle.er_report.specs.Report.{Answering, event_matching_rule, answer_matching_rule, matching_rule_of, matching_rule_by, is_printed_by, is_rule, rule_count, rule_counts, count_below}
 use Rattle.er_rules.specs.Rules.{Target, AtWords}
 use Rattle.std.proofs.Common.{inl, inr}
 
@@ -84,31 +84,31 @@ answer_within rules names event (Ok Ignored) j taken = absurd (cc)
 answer_within rules names event (Ok (State state)) j taken = absurd (cc)
 answer_within rules names event (Err why) j taken = absurd (cc)
 
-matching_rule_within_by : (r : Recording) (rules : List Target) (k : ℕ) (o : Option Step) (j : ℕ) → matching_rule_of r rules k o ≡ Some j → j < length rules
-matching_rule_within_by r rules k None j taken = absurd (cc)
-matching_rule_within_by r rules k (Some step) j taken = answer_within rules r.names step.event (answer r.steps k) j taken
+matching_rule_within_by : (a : Answering) (r : Recording) (rules : List Target) (k : ℕ) (o : Option Step) (j : ℕ) → matching_rule_of a r rules k o ≡ Some j → j < length rules
+matching_rule_within_by a r rules k None j taken = absurd (cc)
+matching_rule_within_by a r rules k (Some step) j taken = answer_within rules r.names step.event (a k) j taken
 
-matching_rule_within : (r : Recording) (rules : List Target) (k j : ℕ) → matching_rule_at r rules k ≡ Some j → j < length rules
-unfolding matching_rule_at
-matching_rule_within r rules k j taken = matching_rule_within_by r rules k (slice_get r.steps k) j taken
+matching_rule_within : (a : Answering) (r : Recording) (rules : List Target) (k j : ℕ) → matching_rule_by a r rules k ≡ Some j → j < length rules
+unfolding matching_rule_by
+matching_rule_within a r rules k j taken = matching_rule_within_by a r rules k (slice_get r.steps k) j taken
 
 rule_once : (o : Option ℕ) (n : ℕ) → ((j : ℕ) → o ≡ Some j → j < n) → sum_by (λ i. cond (is_rule i o) 1 0) (range_with_len 0 n) ≡ cond (is_some o) 1 0
 rule_once None n within = sum_none (λ i. 0) (λ i. refl) (range_with_len 0 n)
 rule_once (Some j) n within = sum_one j 0 n (omega arith) (let below : j < n = within j refl in omega arith)
 
-rules-sum : (r : Recording) (rules : List Target) (n : ℕ) → sum_by (rule_count r rules n) (range_with_len 0 (length rules)) ≡ count_below (λ k. is_some (matching_rule_at r rules k)) n
+rules-sum : (a : Answering) (r : Recording) (rules : List Target) (n : ℕ) → sum_by (rule_count a r rules n) (range_with_len 0 (length rules)) ≡ count_below (λ k. is_some (matching_rule_by a r rules k)) n
 unfolding count_below
-rules-sum r rules zero = sum_none (rule_count r rules 0) (λ i. refl) (range_with_len 0 (length rules))
-rules-sum r rules (suc n) =
+rules-sum a r rules zero = sum_none (rule_count a r rules 0) (λ i. refl) (range_with_len 0 (length rules))
+rules-sum a r rules (suc n) =
     let all : List ℕ = range_with_len 0 (length rules) in
-    let before : sum_by (rule_count r rules n) all ≡ count_below (λ k. is_some (matching_rule_at r rules k)) n = rules-sum r rules n in
-    let once : sum_by (λ i. cond (is_rule i (matching_rule_at r rules n)) 1 0) all ≡ cond (is_some (matching_rule_at r rules n)) 1 0 =
-    rule_once (matching_rule_at r rules n) (length rules) (λ j taken. matching_rule_within r rules n j taken) in
-    sum_both (rule_count r rules (suc n)) (rule_count r rules n) (λ i. cond (is_rule i (matching_rule_at r rules n)) 1 0) (λ i. refl) all
+    let before : sum_by (rule_count a r rules n) all ≡ count_below (λ k. is_some (matching_rule_by a r rules k)) n = rules-sum a r rules n in
+    let once : sum_by (λ i. cond (is_rule i (matching_rule_by a r rules n)) 1 0) all ≡ cond (is_some (matching_rule_by a r rules n)) 1 0 =
+    rule_once (matching_rule_by a r rules n) (length rules) (λ j taken. matching_rule_within a r rules n j taken) in
+    sum_both (rule_count a r rules (suc n)) (rule_count a r rules n) (λ i. cond (is_rule i (matching_rule_by a r rules n)) 1 0) (λ i. refl) all
     ∙ rw (before, once) refl
 
-pub counts-sum : (r : Recording) (rules : List Target) (n : ℕ) → sum (rule_counts r rules n) ≡ count_below (λ k. is_some (matching_rule_at r rules k)) n
-counts-sum r rules n = sum-map (rule_count r rules n) (range_with_len 0 (length rules)) ∙ rules-sum r rules n
+pub counts-sum : (a : Answering) (r : Recording) (rules : List Target) (n : ℕ) → sum (rule_counts a r rules n) ≡ count_below (λ k. is_some (matching_rule_by a r rules k)) n
+counts-sum a r rules n = sum-map (rule_count a r rules n) (range_with_len 0 (length rules)) ∙ rules-sum a r rules n
 
 -- a race is printed or taken, and nothing else is
 taken_race : (rules : List Target) (names : NameTable) (event : Event) (a : Result Reply Refusal) → is_race a ≡ false → answer_matching_rule rules names event a ≡ None
@@ -120,22 +120,22 @@ race_once true (Some j) none = refl
 race_once false None none = refl
 race_once false (Some j) none = (let never : Some j ≡ None = none refl in cc)
 
-not_taken_by : (r : Recording) (rules : List Target) (k : ℕ) (o : Option Step) → is_race (answer r.steps k) ≡ false → matching_rule_of r rules k o ≡ None
-not_taken_by r rules k None none = refl
-not_taken_by r rules k (Some step) none = taken_race rules r.names step.event (answer r.steps k) none
+not_taken_by : (a : Answering) (r : Recording) (rules : List Target) (k : ℕ) (o : Option Step) → is_race (a k) ≡ false → matching_rule_of a r rules k o ≡ None
+not_taken_by a r rules k None none = refl
+not_taken_by a r rules k (Some step) none = taken_race rules r.names step.event (a k) none
 
-not_taken : (r : Recording) (rules : List Target) (k : ℕ) → is_race (answer r.steps k) ≡ false → matching_rule_at r rules k ≡ None
-unfolding matching_rule_at
-not_taken r rules k none = not_taken_by r rules k (slice_get r.steps k) none
+not_taken : (a : Answering) (r : Recording) (rules : List Target) (k : ℕ) → is_race (a k) ≡ false → matching_rule_by a r rules k ≡ None
+unfolding matching_rule_by
+not_taken a r rules k none = not_taken_by a r rules k (slice_get r.steps k) none
 
-pub races-sum : (r : Recording) (rules : List Target) (n : ℕ)
-    → count_below (is_printed r rules) n + count_below (λ k. is_some (matching_rule_at r rules k)) n ≡ count_below (λ k. is_race (answer r.steps k)) n
+pub races-sum : (a : Answering) (r : Recording) (rules : List Target) (n : ℕ)
+    → count_below (is_printed_by a r rules) n + count_below (λ k. is_some (matching_rule_by a r rules k)) n ≡ count_below (λ k. is_race (a k)) n
 unfolding count_below
-races-sum r rules zero = refl
-races-sum r rules (suc n) =
-    let before : count_below (is_printed r rules) n + count_below (λ k. is_some (matching_rule_at r rules k)) n ≡ count_below (λ k. is_race (answer r.steps k)) n = races-sum r rules n in
-    let here : cond (is_race (answer r.steps n) && is_none (matching_rule_at r rules n)) 1 0 + cond (is_some (matching_rule_at r rules n)) 1 0 ≡ cond {A = ℕ} (is_race (answer r.steps n)) 1 0 =
-    race_once (is_race (answer r.steps n)) (matching_rule_at r rules n) (not_taken r rules n) in
+races-sum a r rules zero = refl
+races-sum a r rules (suc n) =
+    let before : count_below (is_printed_by a r rules) n + count_below (λ k. is_some (matching_rule_by a r rules k)) n ≡ count_below (λ k. is_race (a k)) n = races-sum a r rules n in
+    let here : cond (is_race (a n) && is_none (matching_rule_by a r rules n)) 1 0 + cond (is_some (matching_rule_by a r rules n)) 1 0 ≡ cond {A = ℕ} (is_race (a n)) 1 0 =
+    race_once (is_race (a n)) (matching_rule_by a r rules n) (not_taken a r rules n) in
     omega arith
 
 -- a counted access is an access, which has a reason

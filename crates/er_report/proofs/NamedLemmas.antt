@@ -1,6 +1,6 @@
 -- Each number in a report has a name where the recording's steps have names. By the laws that a thread follows its holdings and a
 -- word its state: step by step, every lock that a thread holds or that a word's state tells of was taken by a step, or is a level's.
-use Rattle.std.proofs.Common.{◌≡◌, ◌<◌, ◌==◌, ℕ, zero, suc, Bool, true, false, cond, not, nat_lt, List, [], ◌∷◌, length, map, flat_map, slice_get, slice_index, Option, Some, None, is_some, Result, Ok, refl, subst, arith}
+use Rattle.std.proofs.Common.{◌≡◌, ◌<◌, ◌==◌, ℕ, zero, suc, Bool, true, false, cond, not, nat_lt, List, [], ◌∷◌, length, map, flat_map, slice_get, slice_index, Option, Some, None, is_some, Result, Ok, Err, refl, sym, subst, ◌∙◌, arith}
 use Rattle.std.specs.List.{All}
 use Rattle.std.proofs.lemmas.Bool.Decides.{nat_tests}
 use Rattle.std.proofs.lemmas.Option.{slice_get_within, get_or_from_slice_get}
@@ -21,7 +21,7 @@ use Rattle.er_model.specs.Holdings.{Holdings, acquired_among, at_level, refused_
 use Rattle.er_model.specs.Table.{advanced, moved, shared_by, reports}
 use Rattle.er_trace.specs.Trace.{Recording}
 use Rattle.er_event.specs.declared.steps.Reply.{Reply}
-use Rattle.er_event.specs.declared.steps.Reply.TheVariants.{Race, Quiet, Ignored}
+use Rattle.er_event.specs.declared.steps.Reply.TheVariants.{Done, Race, Quiet, Ignored, State}
 use Rattle.er_model.specs.Answers.{answer, answer_unless, mark, mark_of, state_at, reading_of}
 use Rattle.er_model.specs.Explanations.{first_write, first_uncovered, word_of}
 use Rattle.er_model.specs.Following.{marked, locks_for, replied}
@@ -31,11 +31,11 @@ use Rattle.er_model.specs.Words.{Reading, Counted, Nothing, is_within, cover_of,
 use Rattle.er_model.proofs.Threads.{holdings-step, accepted-past_end}
 use Rattle.er_model.proofs.AnswersLemmas.{state-step, state-moved, answer-step}
 use Rattle.er_model.proofs.Prefixes.{holdings-empty, state-start}
-use Rattle.er_report.specs.Names.{HasLockName, HasLockNames, HasStateNames, HasEventNames, HasSiteName, HasLabelName, HasReasonNames, HasViewNames}
-use Rattle.er_report.specs.Report.{reply_line, answer_line, line_of, line_at, lines_below, matching_rule_at}
+use Rattle.er_report.specs.Names.{HasLockName, HasLockNames, HasStateNames, HasEventNames, HasSiteName, HasLabelName, HasReasonNames, HasViewNames, HaveStateNames}
+use Rattle.er_report.specs.Report.{Answering, reply_line, answer_line, line_of, line_at, lines_by, matching_rule_by, reasons_if}
 use Rattle.er_rules.specs.Rules.{Target}
 use Rattle.er_report.specs.Lines.{RaceView, RefusedView, ShownView}
-use Rattle.er_report.specs.Reasons.{access_reason, step_reason, reason_at, reasons_of, reasons_by, reasons_at}
+use Rattle.er_report.specs.Reasons.{access_reason, step_reason, reason_at, reasons_of, reasons_by}
 use Rattle.er_report.specs.declared.report.Because.{Because}
 use Rattle.er_report.specs.declared.report.Label.{Label}
 use Rattle.er_report.specs.declared.report.Label.TheVariants as label
@@ -150,28 +150,14 @@ module _ (names : NameTable) where
   named_moved h before w t (Sync sync) own all old = old
 
   -- a line
-  named_reply : (number : ℕ) (locks : List ℕ) (reasons : List Because) (h : Holdings) (states : ℕ → WordState) (t : ℕ) (e : Event) → t < length names.threads
-      → HasNumbersNamed names e → HasLockNames names locks → All (HasReasonNames names) reasons → ((w : ℕ) → HasStateNames names (states w))
-      → All (HasViewNames names) (reply_line number locks reasons t e (replied h states t e))
-  named_reply number locks reasons h states t (Access kind w site) own new all because shown =
-      elim (nat_lt 0 h.depth) as (λ b. All (HasViewNames names) (reply_line number locks reasons t (Access kind w site)
-      (cond b Ignored (cond (reports (states w) (advanced (states w) t kind (locks_for h kind))) Race Quiet)))) [
-        | true ↦ All-nil (HasViewNames names)
-        | false ↦ elim (reports (states w) (advanced (states w) t kind (locks_for h kind))) as (λ b.
-            All (HasViewNames names) (reply_line number locks reasons t (Access kind w site) (cond b Race Quiet))) [
-              | true ↦ All-cons (HasViewNames names) (RaceView number t kind w site locks reasons) [] (own, new, all, because) (All-nil (HasViewNames names))
-              | false ↦ All-nil (HasViewNames names)
-            ]
-      ]
-  named_reply number locks reasons h states t (Show w) own new all because shown =
-      All-cons (HasViewNames names) (ShownView number w (states w)) [] (shown w) (All-nil (HasViewNames names))
-  named_reply number locks reasons h states t (Acquire l m) own new all because shown = All-nil (HasViewNames names)
-  named_reply number locks reasons h states t (Release l m) own new all because shown = All-nil (HasViewNames names)
-  named_reply number locks reasons h states t (Reuse range) own new all because shown = All-nil (HasViewNames names)
-  named_reply number locks reasons h states t IgnoreOn own new all because shown = All-nil (HasViewNames names)
-  named_reply number locks reasons h states t IgnoreOff own new all because shown = All-nil (HasViewNames names)
-  named_reply number locks reasons h states t (Level n) own new all because shown = All-nil (HasViewNames names)
-  named_reply number locks reasons h states t (Sync sync) own new all because shown = All-nil (HasViewNames names)
+  named_reply : (number : ℕ) (locks : List ℕ) (reasons : List Because) (t : ℕ) (e : Event) (reply : Reply) → t < length names.threads → HasNumbersNamed names e
+      → HasLockNames names locks → All (HasReasonNames names) reasons → ((state : WordState) → reply ≡ State state → HasStateNames names state)
+      → All (HasViewNames names) (reply_line number locks reasons t e reply)
+  named_reply number locks reasons t (Access kind w site) Race own new all because shown =
+      All-cons (HasViewNames names) (RaceView number t kind w site locks reasons) [] (own, new, all, because) (All-nil (HasViewNames names))
+  named_reply number locks reasons t (Show w) (State state) own new all because shown =
+      All-cons (HasViewNames names) (ShownView number w state) [] (shown state refl) (All-nil (HasViewNames names))
+  named_reply number locks reasons t e reply own new all because shown = All-nil (HasViewNames names)
 
   pub named_event : (e : Event) → HasNumbersNamed names e → HasEventNames names e
   named_event (Acquire l m) new = λ _. new
@@ -184,13 +170,31 @@ module _ (names : NameTable) where
   named_event (Level n) new = tt
   named_event (Sync sync) new = tt
 
-  named_answer : (number : ℕ) (locks : List ℕ) (reasons : List Because) (h : Holdings) (states : ℕ → WordState) (step : Step) (o : Option Refusal) → IsNamed names step
-      → HasLockNames names locks → All (HasReasonNames names) reasons → ((w : ℕ) → HasStateNames names (states w))
-      → All (HasViewNames names) (answer_line number locks reasons step (answer_unless o (replied h states step.thread step.event)))
-  named_answer number locks reasons h states step None new all because shown =
-      named_reply number locks reasons h states step.thread step.event new.thread new.event all because shown
-  named_answer number locks reasons h states step (Some why) new all because shown =
+  named_answer : (number : ℕ) (locks : List ℕ) (reasons : List Because) (step : Step) (given : Result Reply Refusal) → IsNamed names step
+      → HasLockNames names locks → All (HasReasonNames names) reasons → ((state : WordState) → given ≡ Ok (State state) → HasStateNames names state)
+      → All (HasViewNames names) (answer_line number locks reasons step given)
+  named_answer number locks reasons step (Ok reply) new all because shown =
+      named_reply number locks reasons step.thread step.event reply new.thread new.event all because (λ state is. shown state (cc))
+  named_answer number locks reasons step (Err why) new all because shown =
       All-cons (HasViewNames names) (RefusedView number step why) [] (new.thread, named_event step.event new.event) (All-nil (HasViewNames names))
+
+  -- the state that a show is answered with by the lockset rule
+  no_state : (b c : Bool) (state : WordState) → cond b Ignored (cond c Race Quiet) ≡ State state → ⊥
+  no_state true c state is = cc
+  no_state false true state is = cc
+  no_state false false state is = cc
+
+  named_replied : (h : Holdings) (states : ℕ → WordState) (t : ℕ) (e : Event) → ((w : ℕ) → HasStateNames names (states w)) → (state : WordState) → replied h states t e ≡ State state
+      → HasStateNames names state
+  named_replied h states t (Show w) shown state is = (let same : states w ≡ state = cc in subst (HasStateNames names) same (shown w))
+  named_replied h states t (Access kind w site) shown state is =
+      absurd (no_state (nat_lt 0 h.depth) (reports (states w) (advanced (states w) t kind (locks_for h kind))) state is)
+  named_replied h states t e shown state is = absurd (cc)
+
+  named_shown : (h : Holdings) (states : ℕ → WordState) (t : ℕ) (e : Event) (o : Option Refusal) → ((w : ℕ) → HasStateNames names (states w)) → (state : WordState)
+      → answer_unless o (replied h states t e) ≡ Ok (State state) → HasStateNames names state
+  named_shown h states t e None shown state is = named_replied h states t e shown state (cc)
+  named_shown h states t e (Some why) shown state is = absurd (cc)
 
   -- at each point of the list
   module _ (steps : List Step) (all : All (IsNamed names) steps) where
@@ -298,29 +302,38 @@ module _ (r : Recording) (all : All (IsNamed r.names) r.steps) where
       named_explained w (suc k) (found (join (reading_of r.steps) w (suc k)))
   named_where k a = All-nil (HasReasonNames r.names)
 
-  named_reasons : (explain : Bool) (k : ℕ) → All (HasReasonNames r.names) (cond explain (reasons_at r k) [])
+  pub named_reasons : (explain : Bool) (k : ℕ) → All (HasReasonNames r.names) (reasons_if explain r k)
   unfolding explanation_at
   named_reasons true k = named_where k (answer r.steps k)
   named_reasons false k = All-nil (HasReasonNames r.names)
 
-  named_line_by : (explain : Bool) (k : ℕ) (o : Option Step) → slice_get r.steps k ≡ o → All (HasViewNames r.names) (line_of r explain k o)
-  unfolding holdings
-  named_line_by explain k None is = All-nil (HasViewNames r.names)
-  named_line_by explain k (Some step) is =
+  -- the state of an answer
+  named_states_by : (k : ℕ) (o : Option Step) → slice_get r.steps k ≡ o → (state : WordState) → answer r.steps k ≡ Ok (State state) → HasStateNames r.names state
+  unfolding answer
+  named_states_by k None none state given = (let done : Ok Done ≡ Ok (State state) = rw none at given in absurd (cc))
+  named_states_by k (Some step) here state given =
       let h : Holdings = holdings_at r.steps step.thread k in
-      rw (answer-step r.steps k step is)
-      (named_answer r.names (slice_index r.lines k) (held (accepted r.steps k) step.thread) (cond explain (reasons_at r k) []) h (λ w. state_at r.steps w k) step
-      (refused_by h step.event) (named_step r.names r.steps all k step is) (named_holdings r.names r.steps all k step.thread).any
-      (named_reasons explain k)
-      (named_state r.names r.steps all k))
+      named_shown r.names h (λ w. state_at r.steps w k) step.thread step.event (refused_by h step.event) (named_state r.names r.steps all k) state
+      (sym (answer-step r.steps k step here) ∙ given)
 
-  -- each line that the definitions give has its names
-  pub named_lines : (rules : List Target) (explain : Bool) (n : ℕ) → All (HasViewNames r.names) (lines_below r rules explain n)
-  unfolding lines_below line_at
-  named_lines rules explain zero = All-nil (HasViewNames r.names)
-  named_lines rules explain (suc n) =
-      All-append (HasViewNames r.names) (lines_below r rules explain n) (cond (is_some (matching_rule_at r rules n)) [] (line_at r explain n)) (named_lines rules explain n)
-      (elim (is_some (matching_rule_at r rules n)) as (λ b. All (HasViewNames r.names) (cond b [] (line_at r explain n))) [
-        | true ↦ All-nil (HasViewNames r.names)
-        | false ↦ named_line_by explain n (slice_get r.steps n) refl
-      ])
+  pub named_states : HaveStateNames r.names (answer r.steps)
+  named_states k state given = named_states_by k (slice_get r.steps k) refl state given
+
+  -- each line that the definitions give has its names, if states and reasons have
+  module _ (a : Answering) (reasons : ℕ → List Because) (states : HaveStateNames r.names a) (because : (k : ℕ) → All (HasReasonNames r.names) (reasons k)) where
+    named_line_by : (k : ℕ) (o : Option Step) → slice_get r.steps k ≡ o → All (HasViewNames r.names) (line_of a reasons r k o)
+    unfolding holdings
+    named_line_by k None is = All-nil (HasViewNames r.names)
+    named_line_by k (Some step) is =
+        named_answer r.names (slice_index r.lines k) (held (accepted r.steps k) step.thread) (reasons k) step (a k)
+        (named_step r.names r.steps all k step is) (named_holdings r.names r.steps all k step.thread).any (because k) (states k)
+
+    pub named_lines : (rules : List Target) (n : ℕ) → All (HasViewNames r.names) (lines_by a reasons r rules n)
+    unfolding lines_by line_at
+    named_lines rules zero = All-nil (HasViewNames r.names)
+    named_lines rules (suc n) =
+        All-append (HasViewNames r.names) (lines_by a reasons r rules n) (cond (is_some (matching_rule_by a r rules n)) [] (line_at a reasons r n)) (named_lines rules n)
+        (elim (is_some (matching_rule_by a r rules n)) as (λ b. All (HasViewNames r.names) (cond b [] (line_at a reasons r n))) [
+          | true ↦ All-nil (HasViewNames r.names)
+          | false ↦ named_line_by n (slice_get r.steps n) refl
+        ])

@@ -23,9 +23,9 @@ use Rattle.er_model.specs.Table.{advanced, is_racy, moved, reports}
 use Rattle.er_model.specs.Words.{Nothing, Counted}
 use Rattle.er_report.proofs.BuilderLemmas.{same_summary}
 use Rattle.er_report.proofs.CountLemmas.{same_counts}
-use Rattle.er_report.specs.Builder.{Built, ArePlain, IsBuilt, IsReported, KeepsState, KeepStates, is_plain, report_below}
+use Rattle.er_report.specs.Builder.{Built, ArePlain, ArePlainBy, IsBuilt, IsBuiltBy, IsReported, KeepsState, KeepStates, is_plain, report_below_by}
 use Rattle.er_report.specs.Kept.{Kept, Follows, access_at, told_below}
-use Rattle.er_report.specs.Report.{Summary, answer_line, count_below, is_printed, is_refused, line_of, line_at, lines_below, matching_rule_of, matching_rule_at, reply_line, rule_count}
+use Rattle.er_report.specs.Report.{Answering, Summary, answer_line, count_below, is_printed_by, is_refused, line_of, line_at, lines_by, matching_rule_of, matching_rule_by, no_reasons, reply_line, rule_count}
 use Rattle.er_rules.specs.Rules.{Target}
 use Rattle.er_trace.specs.Trace.{Recording}
 
@@ -52,74 +52,74 @@ plain-answer number locks step (Ok reply) plain = plain-reply number locks step.
 plain-answer number locks step (Err why) plain = cc
 
 -- one step that is answered so
-module _ (r : Recording) (rules : List Target) (k : ℕ) (plain : is_plain (answer r.steps k) ≡ true) where
-  no-race : is_race (answer r.steps k) ≡ false
-  no-race = plain-race (answer r.steps k) plain
+module _ (a : Answering) (r : Recording) (rules : List Target) (k : ℕ) (plain : is_plain (a k) ≡ true) where
+  no-race : is_race (a k) ≡ false
+  no-race = plain-race (a k) plain
 
-  no-rule_of : (o : Option Step) → matching_rule_of r rules k o ≡ None
+  no-rule_of : (o : Option Step) → matching_rule_of a r rules k o ≡ None
   no-rule_of None = refl
   no-rule_of (Some step) = rw no-race refl
 
-  no-rule : matching_rule_at r rules k ≡ None
-  unfolding matching_rule_at
+  no-rule : matching_rule_by a r rules k ≡ None
+  unfolding matching_rule_by
   no-rule = no-rule_of (slice_get r.steps k)
 
-  no-line_of : (o : Option Step) → line_of r false k o ≡ []
+  no-line_of : (o : Option Step) → line_of a no_reasons r k o ≡ []
   no-line_of None = refl
-  no-line_of (Some step) = plain-answer _ _ step (answer r.steps k) plain
+  no-line_of (Some step) = plain-answer _ _ step (a k) plain
 
-  no-line : line_at r false k ≡ []
+  no-line : line_at a no_reasons r k ≡ []
   unfolding line_at
   no-line = no-line_of (slice_get r.steps k)
 
-  plain-report : report_below r rules (suc k) ≡ record (report_below r rules k) { steps = suc k }
-  unfolding report_below lines_below count_below
+  plain-report : report_below_by a r rules (suc k) ≡ record (report_below_by a r rules k) { steps = suc k }
+  unfolding report_below_by lines_by count_below
   plain-report =
       same_summary _ _ _ _ _ _ _ _ _ _ _ _ _ _
-      (rw (no-rule, no-line) (append-nil (lines_below r rules false k)))
+      (rw (no-rule, no-line) (append-nil (lines_by a no_reasons r rules k)))
       refl
-      (sym (same_counts (rule_count r rules k) (rule_count r rules (suc k)) (λ i. rw no-rule (omega arith)) (range_with_len 0 (length rules))))
+      (sym (same_counts (rule_count a r rules k) (rule_count a r rules (suc k)) (λ i. rw no-rule (omega arith)) (range_with_len 0 (length rules))))
       refl
       (rw no-race (omega arith))
       (rw no-rule (omega arith))
-      (rw (plain-refused (answer r.steps k) plain) (omega arith))
+      (rw (plain-refused (a k) plain) (omega arith))
 
-  plain-places : places_below (is_printed r rules) (suc k) ≡ places_below (is_printed r rules) k
+  plain-places : places_below (is_printed_by a r rules) (suc k) ≡ places_below (is_printed_by a r rules) k
   unfolding places_below
-  plain-places = rw no-race (append-nil (places_below (is_printed r rules) k))
+  plain-places = rw no-race (append-nil (places_below (is_printed_by a r rules) k))
 
 -- and so many
-plain-reports : (r : Recording) (rules : List Target) (k n : ℕ) → ArePlain r.steps k n → report_below r rules (k + n) ≡ record (report_below r rules k) { steps = k + n }
-unfolding report_below
-plain-reports r rules k zero plain = let same : k ≡ k + zero = omega arith in rw (← same) refl
-plain-reports r rules k (suc n) plain =
+plain-reports : (a : Answering) (r : Recording) (rules : List Target) (k n : ℕ) → ArePlainBy a k n → report_below_by a r rules (k + n) ≡ record (report_below_by a r rules k) { steps = k + n }
+unfolding report_below_by
+plain-reports a r rules k zero plain = let same : k ≡ k + zero = omega arith in rw (← same) refl
+plain-reports a r rules k (suc n) plain =
     let next : suc (k + n) ≡ k + suc n = omega arith in
-    let so_far : report_below r rules (k + n) ≡ record (report_below r rules k) { steps = k + n } = plain-reports r rules k n (λ i from to. plain i from (omega arith)) in
-    subst (λ (m : ℕ). report_below r rules m ≡ record (report_below r rules k) { steps = m }) next
-    (plain-report r rules (k + n) (plain (k + n) (omega arith) (omega arith)) ∙ ap (λ (s : Summary). record s { steps = suc (k + n) }) so_far)
+    let so_far : report_below_by a r rules (k + n) ≡ record (report_below_by a r rules k) { steps = k + n } = plain-reports a r rules k n (λ i from to. plain i from (omega arith)) in
+    subst (λ (m : ℕ). report_below_by a r rules m ≡ record (report_below_by a r rules k) { steps = m }) next
+    (plain-report a r rules (k + n) (plain (k + n) (omega arith) (omega arith)) ∙ ap (λ (s : Summary). record s { steps = suc (k + n) }) so_far)
 
-plain-positions : (r : Recording) (rules : List Target) (k n : ℕ) → ArePlain r.steps k n → places_below (is_printed r rules) (k + n) ≡ places_below (is_printed r rules) k
-plain-positions r rules k zero plain = let same : k ≡ k + zero = omega arith in rw (← same) refl
-plain-positions r rules k (suc n) plain =
+plain-positions : (a : Answering) (r : Recording) (rules : List Target) (k n : ℕ) → ArePlainBy a k n → places_below (is_printed_by a r rules) (k + n) ≡ places_below (is_printed_by a r rules) k
+plain-positions a r rules k zero plain = let same : k ≡ k + zero = omega arith in rw (← same) refl
+plain-positions a r rules k (suc n) plain =
     let next : suc (k + n) ≡ k + suc n = omega arith in
-    subst (λ (m : ℕ). places_below (is_printed r rules) m ≡ places_below (is_printed r rules) k) next
-    (plain-places r rules (k + n) (plain (k + n) (omega arith) (omega arith)) ∙ plain-positions r rules k n (λ i from to. plain i from (omega arith)))
+    subst (λ (m : ℕ). places_below (is_printed_by a r rules) m ≡ places_below (is_printed_by a r rules) k) next
+    (plain-places a r rules (k + n) (plain (k + n) (omega arith) (omega arith)) ∙ plain-positions a r rules k n (λ i from to. plain i from (omega arith)))
 
-pub built-plain : (before after : Built) (r : Recording) (k n : ℕ) → IsBuilt before r k → ArePlain r.steps k n → after.rules ≡ before.rules
-    → after.report ≡ record before.report { steps = before.report.steps + n } → after.races ≡ before.races → IsBuilt after r (k + n)
-unfolding report_below
-built-plain before after r k n built plain kept counted same =
+pub built-plain : (a : Answering) (before after : Built) (r : Recording) (k n : ℕ) → IsBuiltBy a before r k → ArePlainBy a k n → after.rules ≡ before.rules
+    → after.report ≡ record before.report { steps = before.report.steps + n } → after.races ≡ before.races → IsBuiltBy a after r (k + n)
+unfolding report_below_by
+built-plain a before after r k n built plain kept counted same =
     record {
       report =
           counted
           ∙ ap (λ (s : Summary). record s { steps = s.steps + n }) built.report
-          ∙ sym (plain-reports r before.rules k n plain)
-          ∙ ap (λ (rules : List Target). report_below r rules (k + n)) (sym kept);
+          ∙ sym (plain-reports a r before.rules k n plain)
+          ∙ ap (λ (rules : List Target). report_below_by a r rules (k + n)) (sym kept);
       races =
           same
           ∙ built.races
-          ∙ sym (plain-positions r before.rules k n plain)
-          ∙ ap (λ (rules : List Target). places_below (is_printed r rules) (k + n)) (sym kept);
+          ∙ sym (plain-positions a r before.rules k n plain)
+          ∙ ap (λ (rules : List Target). places_below (is_printed_by a r rules) (k + n)) (sym kept);
     }
 
 -- an access changes no thread's holdings, and no other word

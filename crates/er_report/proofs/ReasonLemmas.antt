@@ -1,34 +1,29 @@
 -- The lines of races get the reasons of their explanations one after another, since each such race has one explanation.
-use Rattle.std.proofs.Common.{◌≡◌, ℕ, zero, suc, ◌≤◌, Bool, true, false, cond, List, [], ◌∷◌, ◌++◌, ◌&&◌, length, map, take, drop, flat_map, set, slice_get, slice_index, get_or, Option, Some, None, is_some, is_none, Result, Ok, Err, IsFalse, ◌+◌, ◌<◌, refl, sym, ap, ◌∙◌, arith, append_assoc, add-one}
+use Rattle.std.proofs.Common.{◌≡◌, ℕ, zero, suc, ◌≤◌, Bool, true, false, cond, List, [], ◌∷◌, ◌++◌, length, take, drop, set, slice_get, slice_index, get_or, Option, Some, None, is_some, Result, Ok, Err, IsFalse, ◌+◌, ◌<◌, refl, sym, ap, ◌∙◌, arith, append_assoc, add-one}
 use Rattle.std.specs.Option.{option_to_list}
 use Rattle.std.proofs.Math.Bool.{and-true, and-false}
 use Rattle.std.proofs.Math.Seq.{drop-cons}
 use Rattle.std.proofs.lemmas.Grind.{flat_map-append}
 use Rattle.std.proofs.lemmas.List.{append-nil, take_all, take_more_set, drop_all, drop-set-lt}
-use Rattle.std.proofs.lemmas.Option.{slice_get_past}
 use Rattle.er_event.specs.declared.refusals.Refusal.{Refusal}
 use Rattle.er_event.specs.declared.steps.Event.{Event}
 use Rattle.er_event.specs.declared.steps.Event.TheVariants.{Acquire, Release, Access, Reuse, IgnoreOn, IgnoreOff, Show, Level, Sync}
-use Rattle.er_event.specs.declared.steps.Kind.{Kind}
 use Rattle.er_event.specs.declared.steps.Reply.{Reply}
 use Rattle.er_event.specs.declared.steps.Reply.TheVariants.{Race, Done, Quiet, Ignored, State}
 use Rattle.er_event.specs.declared.steps.Step.{Step}
 use Rattle.er_trace.specs.Trace.{Recording}
 use Rattle.er_explain.proofs.RaceLemmas.{explained-here, explanations_at}
 use Rattle.er_explain.proofs.FoundLemmas.{no-word, unraced-at}
-use Rattle.er_explain.specs.Explaining.{explanation_of, explanation_where, explanation_at}
+use Rattle.er_explain.specs.Explaining.{explanation_where, explanation_at}
 use Rattle.er_explain.specs.Racing.{is_race, places_below}
-use Rattle.er_journal.specs.declared.explanations.Uncovered.{Uncovered}
 use Rattle.er_model.specs.Answers.{answer}
 use Rattle.er_model.specs.Explanations.{Explanation, word_in, word_of}
 use Rattle.er_model.specs.Threads.{accepted, held}
 use Rattle.er_report.specs.Inner.Explained.{line_with, left_after, with_reasons, left_by, line_told, told_left, with_told}
 use Rattle.er_report.specs.Lines.{LineView}
-use Rattle.er_report.specs.Reasons.{access_reason, step_reason, reason_at, reasons_of, reasons_by, reasons_at}
-use Rattle.er_report.specs.Report.{answer_line, reply_line, line_at, lines_below, is_printed, matching_rule_at}
+use Rattle.er_report.specs.Reasons.{reasons_of, reasons_by}
+use Rattle.er_report.specs.Report.{answer_line, reply_line, line_at, lines_below, lines_by, is_printed, matching_rule_at, reasons_if}
 use Rattle.er_report.specs.declared.report.Because.{Because}
-use Rattle.er_report.specs.declared.report.Label.{Label}
-use Rattle.er_report.specs.declared.report.Label.TheVariants as label
 use Rattle.er_rules.specs.Rules.{Target}
 
 -- lines one after another
@@ -98,8 +93,11 @@ answer-gains r number locks step k (Ok Ignored) accesses = quiet-gains r number 
 answer-gains r number locks step k (Ok (State state)) accesses = quiet-gains r number locks step.thread step.event (State state) refl
 answer-gains r number locks step k (Err why) accesses = record { lines = λ more. refl; left = λ more. refl }
 
--- the line of a step
-line-gains-by : (r : Recording) (k : ℕ) (o : Option Step) → slice_get r.steps k ≡ o → Gains r (option_to_list (explanation_at r.steps k)) (line_at r false k) (line_at r true k)
+-- the line of a step, with reasons or without
+abbrev lockset_line : Recording → Bool → ℕ → List LineView
+lockset_line r explain k = line_at (answer r.steps) (reasons_if explain r) r k
+
+line-gains-by : (r : Recording) (k : ℕ) (o : Option Step) → slice_get r.steps k ≡ o → Gains r (option_to_list (explanation_at r.steps k)) (lockset_line r false k) (lockset_line r true k)
 unfolding line_at explanation_at
 line-gains-by r k None none =
     let unexplained : explanation_at r.steps k ≡ None = unraced-at r.steps k (no-word r.steps k (ap word_of none)) in
@@ -109,7 +107,7 @@ line-gains-by r k (Some step) here =
     (answer-gains r (slice_index r.lines k) (held (accepted r.steps k) step.thread) step k (answer r.steps k)
     (λ race other. no-word r.steps k (ap word_of here ∙ other) race))
 
-line-gains : (r : Recording) (k : ℕ) → Gains r (option_to_list (explanation_at r.steps k)) (line_at r false k) (line_at r true k)
+line-gains : (r : Recording) (k : ℕ) → Gains r (option_to_list (explanation_at r.steps k)) (lockset_line r false k) (lockset_line r true k)
 line-gains r k = line-gains-by r k (slice_get r.steps k) refl
 
 -- the lines of the first n steps
@@ -117,12 +115,12 @@ abbrev pub found_below : Recording → List Target → ℕ → List Explanation
 found_below r rules n = explanations_at r.steps (places_below (is_printed r rules) n)
 
 last-gains : (r : Recording) (rules : List Target) (n : ℕ) (o : Option ℕ) → matching_rule_at r rules n ≡ o
-    → Gains r (explanations_at r.steps (cond (is_printed r rules n) (n ∷ []) [])) (cond (is_some (matching_rule_at r rules n)) [] (line_at r false n)) (cond (is_some (matching_rule_at r rules n)) [] (line_at r true n))
+    → Gains r (explanations_at r.steps (cond (is_printed r rules n) (n ∷ []) [])) (cond (is_some (matching_rule_at r rules n)) [] (lockset_line r false n)) (cond (is_some (matching_rule_at r rules n)) [] (lockset_line r true n))
 last-gains r rules n None taken = rw (taken, and-true (is_race (answer r.steps n)), explained-here r.steps n) (line-gains r n)
 last-gains r rules n (Some i) taken = rw (taken, and-false (is_race (answer r.steps n))) (gains-nil r)
 
 lines-gain : (r : Recording) (rules : List Target) (n : ℕ) → Gains r (found_below r rules n) (lines_below r rules false n) (lines_below r rules true n)
-unfolding lines_below places_below
+unfolding lines_by places_below
 lines-gain r rules zero = gains-nil r
 lines-gain r rules (suc n) =
     let split : found_below r rules (suc n) ≡ found_below r rules n ++ explanations_at r.steps (cond (is_printed r rules n) (n ∷ []) []) =

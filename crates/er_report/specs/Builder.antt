@@ -11,7 +11,7 @@ use Rattle.er_model.specs.Answers.{answer, state_at}
 use Rattle.er_model.specs.Explanations.{word_of}
 use Rattle.er_model.specs.Threads.{accepted, held}
 use Rattle.er_report.specs.Kept.{Kept, Follows}
-use Rattle.er_report.specs.Report.{Summary, matching_rule_at, lines_below, count_below, rule_counts, is_printed, is_refused}
+use Rattle.er_report.specs.Report.{Answering, Summary, matching_rule_by, lines_by, no_reasons, count_below, rule_counts, is_printed_by, is_refused}
 use Rattle.er_rules.specs.Rules.{Target}
 
 -- what a builder holds: a report without reasons, the positions of the races that have lines, the rules, and what is kept for reasons, if
@@ -22,23 +22,31 @@ pub record Built : Type 0 where
   pub rules : List Target
   pub kept : Option Kept
 
--- the report of a recording's first n steps, without reasons
-unfoldable pub report_below : Recording → List Target → ℕ → Summary
-report_below r rules n =
+-- the report of a recording's first n steps with these answers, without reasons
+unfoldable pub report_below_by : Answering → Recording → List Target → ℕ → Summary
+report_below_by answers r rules n =
     record {
-      lines = lines_below r rules false n;
+      lines = lines_by answers no_reasons r rules n;
       stop = None;
-      rule_counts = rule_counts r rules n;
+      rule_counts = rule_counts answers r rules n;
       steps = n;
-      races = count_below (is_printed r rules) n;
-      suppressed = count_below (λ k. is_some (matching_rule_at r rules k)) n;
-      refused = count_below (λ k. is_refused (answer r.steps k)) n;
+      races = count_below (is_printed_by answers r rules) n;
+      suppressed = count_below (λ k. is_some (matching_rule_by answers r rules k)) n;
+      refused = count_below (λ k. is_refused (answers k)) n;
     }
 
--- the report that it holds is that of the recording's first n steps
-pub record IsBuilt (builder : Built) (r : Recording) (n : ℕ) : Type 0 where
-  pub report : builder.report ≡ report_below r builder.rules n
-  pub races : builder.races ≡ places_below (is_printed r builder.rules) n
+-- and with those of the lockset rule
+abbrev pub report_below : Recording → List Target → ℕ → Summary
+report_below r rules n = report_below_by (answer r.steps) r rules n
+
+-- the report that it holds is that of the recording's first n steps with these answers
+pub record IsBuiltBy (answers : Answering) (builder : Built) (r : Recording) (n : ℕ) : Type 0 where
+  pub report : builder.report ≡ report_below_by answers r builder.rules n
+  pub races : builder.races ≡ places_below (is_printed_by answers r builder.rules) n
+
+-- and with those of the lockset rule
+unfoldable pub IsBuilt : Built → Recording → ℕ → Type 0
+IsBuilt builder r n = IsBuiltBy (answer r.steps) builder r n
 
 -- what is kept for reasons is that of the recording's first n steps
 abbrev pub IsExplained : Built → Recording → ℕ → Type 0
@@ -51,12 +59,16 @@ pub record IsReported (builder : Built) (r : Recording) (n : ℕ) : Type 0 where
 
 -- this is the recording's step at position k, with its line, its names and its answer, and with the locks that its thread holds, if it
 -- is a race
-pub record IsStepAt (r : Recording) (k : ℕ) (names : NameTable) (number : ℕ) (step : Step) (given : Result Reply Refusal) (locks : List ℕ) : Type 0 where
+pub record IsStepBy (answers : Answering) (r : Recording) (k : ℕ) (names : NameTable) (number : ℕ) (step : Step) (given : Result Reply Refusal) (locks : List ℕ) : Type 0 where
   pub here : slice_get r.steps k ≡ Some step
   pub line : number ≡ slice_index r.lines k
   pub named : names ≡ r.names
-  pub answered : given ≡ answer r.steps k
+  pub answered : given ≡ answers k
   pub locked : IsTrue (is_race given) → locks ≡ held (accepted r.steps k) step.thread
+
+-- and its answer is the lockset rule's
+abbrev pub IsStepAt : Recording → ℕ → NameTable → ℕ → Step → Result Reply Refusal → List ℕ → Type 0
+IsStepAt r k names number step given locks = IsStepBy (answer r.steps) r k names number step given locks
 
 -- the answer is no race, no refusal and no shown state: a report counts its step and says nothing else of it
 abbrev pub is_plain : Result Reply Refusal → Bool
@@ -67,9 +79,13 @@ is_plain (Ok Race) = false
 is_plain (Ok (State state)) = false
 is_plain (Err refusal) = false
 
--- the n steps from position k on are answered so
+-- the n answers from position k on are plain
+abbrev pub ArePlainBy : Answering → ℕ → ℕ → Type 0
+ArePlainBy answers k n = (i : ℕ) → k ≤ i → i < k + n → is_plain (answers i) ≡ true
+
+-- and those of the lockset rule are
 abbrev pub ArePlain : List Step → ℕ → ℕ → Type 0
-ArePlain steps k n = (i : ℕ) → k ≤ i → i < k + n → is_plain (answer steps i) ≡ true
+ArePlain steps k n = ArePlainBy (answer steps) k n
 
 -- the step at position k is an access that leaves the state of its word as it was
 abbrev pub KeepsState : List Step → ℕ → Type 0

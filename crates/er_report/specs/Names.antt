@@ -1,12 +1,14 @@
 -- The numbers in a report that need a name to be printed.
-use Rattle.std.specs.Prelude.{◌≡◌, ◌<◌, ◌≤◌, ℕ, false, List, length, All}
+use Rattle.std.specs.Prelude.{◌≡◌, ◌<◌, ◌≤◌, ℕ, false, List, length, All, Ok}
 use Rattle.er_event.specs.Lockset.{is_level_lock}
 use Rattle.er_trace.specs.Names.{NameTable}
 use Rattle.er_event.specs.declared.steps.Event.{Event}
 use Rattle.er_event.specs.declared.steps.Event.TheVariants.{Acquire, Release, Access, Reuse, IgnoreOn, IgnoreOff, Show, Level, Sync}
+use Rattle.er_event.specs.declared.steps.Reply.TheVariants.{State}
 use Rattle.er_event.specs.declared.steps.WordState.{WordState}
 use Rattle.er_event.specs.declared.steps.WordState.TheVariants.{Virgin, Exclusive, Shared, SharedModified}
 use Rattle.er_report.specs.Lines.{LineView, RaceView, RefusedView, ShownView, line_view}
+use Rattle.er_report.specs.Report.{Answering}
 use Rattle.er_report.specs.declared.report.Because.{Because}
 use Rattle.er_report.specs.declared.report.Label.{Label}
 use Rattle.er_report.specs.declared.report.Label.TheVariants as label
@@ -50,6 +52,10 @@ HasStateNames names Virgin = Unit {0}
 HasStateNames names (Exclusive thread) = thread < length names.threads
 HasStateNames names (Shared locks) = HasLockNames names locks
 HasStateNames names (SharedModified locks) = HasLockNames names locks
+
+-- each state that is answered has
+abbrev pub HaveStateNames : NameTable → Answering → Type 0
+HaveStateNames names answers = (k : ℕ) (state : WordState) → answers k ≡ Ok (State state) → HasStateNames names state
 
 -- the lock of a label has
 abbrev pub HasLabelName : NameTable → Label → Type 0

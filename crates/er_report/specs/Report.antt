@@ -1,5 +1,6 @@
--- What a report says of a recording, by the definitions of the whole list of its steps.
-use Rattle.std.specs.Prelude.{ℕ, zero, suc, ◌+◌, ◌==◌, Bool, true, false, cond, ◌&&◌, is_some, is_none, List, [], ◌∷◌, ◌++◌, map, length, take, slice_get, slice_index, Option, Some, None, Result, Ok, Err}
+-- What a report says of a recording, by the definitions of the whole list of its steps. An analysis is known by its answers alone. Behind
+-- the report of any analysis comes that of the lockset rule.
+use Rattle.std.specs.Prelude.{ℕ, zero, suc, ◌+◌, ◌==◌, Bool, true, false, cond, ◌&&◌, is_some, is_none, List, [], ◌∷◌, ◌++◌, map, length, slice_get, slice_index, Option, Some, None, Result, Ok, Err}
 use Rattle.std.specs.List.{range_with_len}
 use Rattle.er_trace.specs.Names.{NameTable}
 use Rattle.er_event.specs.declared.refusals.NoRoom.{NoRoom}
@@ -55,15 +56,18 @@ abbrev pub answer_line : ℕ → List ℕ → List Because → Step → Result R
 answer_line number locks reasons step (Ok reply) = reply_line number locks reasons step.thread step.event reply
 answer_line number locks reasons step (Err refusal) = RefusedView number step refusal ∷ []
 
--- past the list's end there is nothing; reasons are given where they are asked for
-abbrev pub line_of : Recording → Bool → ℕ → Option Step → List LineView
-line_of r explain k None = []
-line_of r explain k (Some step) =
-    answer_line (slice_index r.lines k) (held (accepted r.steps k) step.thread) (cond explain (reasons_at r k) []) step (answer r.steps k)
+-- what an analysis answers at each position
+abbrev pub Answering : Type 0
+Answering = ℕ → Result Reply Refusal
+
+-- past the list's end there is nothing; the reasons are those of the race at each position
+abbrev pub line_of : Answering → (ℕ → List Because) → Recording → ℕ → Option Step → List LineView
+line_of answers reasons r k None = []
+line_of answers reasons r k (Some step) = answer_line (slice_index r.lines k) (held (accepted r.steps k) step.thread) (reasons k) step (answers k)
 
 -- the line of the step at position k, if it has one
-unfoldable pub line_at : Recording → Bool → ℕ → List LineView
-line_at r explain k = line_of r explain k (slice_get r.steps k)
+unfoldable pub line_at : Answering → (ℕ → List Because) → Recording → ℕ → List LineView
+line_at answers reasons r k = line_of answers reasons r k (slice_get r.steps k)
 
 -- the answer is a refusal
 abbrev pub is_refused : Result Reply Refusal → Bool
@@ -85,18 +89,18 @@ abbrev pub answer_matching_rule : List Target → NameTable → Event → Result
 answer_matching_rule rules names event answer = cond (is_race answer) (event_matching_rule rules names event) None
 
 -- past the list's end there is none
-abbrev pub matching_rule_of : Recording → List Target → ℕ → Option Step → Option ℕ
-matching_rule_of r rules k None = None
-matching_rule_of r rules k (Some step) = answer_matching_rule rules r.names step.event (answer r.steps k)
+abbrev pub matching_rule_of : Answering → Recording → List Target → ℕ → Option Step → Option ℕ
+matching_rule_of answers r rules k None = None
+matching_rule_of answers r rules k (Some step) = answer_matching_rule rules r.names step.event (answers k)
 
 -- the rule that takes the race at position k, if there is a race and such a rule
-unfoldable pub matching_rule_at : Recording → List Target → ℕ → Option ℕ
-matching_rule_at r rules k = matching_rule_of r rules k (slice_get r.steps k)
+unfoldable pub matching_rule_by : Answering → Recording → List Target → ℕ → Option ℕ
+matching_rule_by answers r rules k = matching_rule_of answers r rules k (slice_get r.steps k)
 
 -- the lines of the first n steps, but for the races that a rule takes
-unfoldable pub lines_below : Recording → List Target → Bool → ℕ → List LineView
-lines_below r rules explain zero = []
-lines_below r rules explain (suc n) = lines_below r rules explain n ++ cond (is_some (matching_rule_at r rules n)) [] (line_at r explain n)
+unfoldable pub lines_by : Answering → (ℕ → List Because) → Recording → List Target → ℕ → List LineView
+lines_by answers reasons r rules zero = []
+lines_by answers reasons r rules (suc n) = lines_by answers reasons r rules n ++ cond (is_some (matching_rule_by answers r rules n)) [] (line_at answers reasons r n)
 
 -- how many positions below n pass the test
 unfoldable pub count_below : (ℕ → Bool) → ℕ → ℕ
@@ -104,8 +108,8 @@ count_below test zero = 0
 count_below test (suc n) = count_below test n + cond (test n) 1 0
 
 -- the race at position k is printed
-abbrev pub is_printed : Recording → List Target → ℕ → Bool
-is_printed r rules k = is_race (answer r.steps k) && is_none (matching_rule_at r rules k)
+abbrev pub is_printed_by : Answering → Recording → List Target → ℕ → Bool
+is_printed_by answers r rules k = is_race (answers k) && is_none (matching_rule_by answers r rules k)
 
 -- the rule that is told is the one in place i
 abbrev pub is_rule : ℕ → Option ℕ → Bool
@@ -113,28 +117,54 @@ is_rule i None = false
 is_rule i (Some j) = i == j
 
 -- how many races of the first n steps the rule in place i takes
-abbrev pub rule_count : Recording → List Target → ℕ → ℕ → ℕ
-rule_count r rules n i = count_below (λ k. is_rule i (matching_rule_at r rules k)) n
+abbrev pub rule_count : Answering → Recording → List Target → ℕ → ℕ → ℕ
+rule_count answers r rules n i = count_below (λ k. is_rule i (matching_rule_by answers r rules k)) n
 
 -- and each rule, in order
-abbrev pub rule_counts : Recording → List Target → ℕ → List ℕ
-rule_counts r rules n = map (rule_count r rules n) (range_with_len 0 (length rules))
+abbrev pub rule_counts : Answering → Recording → List Target → ℕ → List ℕ
+rule_counts answers r rules n = map (rule_count answers r rules n) (range_with_len 0 (length rules))
 
 -- the line of the step at which the run stopped, and why
 abbrev pub stop_line : Recording → Option Stopped → Option (ℕ × NoRoom)
 stop_line r None = None
 stop_line r (Some stop) = Some (slice_index r.lines stop.at, stop.cause)
 
--- the report of a run of the recording's steps under these rules, with reasons or without, which stopped so or not at all
-abbrev pub report_of : Recording → List Target → Bool → Option Stopped → Summary
-report_of r rules explain stop =
+-- the report of a run with these answers and reasons under these rules, which stopped so or not at all
+abbrev pub report_by : Answering → (ℕ → List Because) → Recording → List Target → Option Stopped → Summary
+report_by answers reasons r rules stop =
     let n = length (answered_steps r.steps stop) in
     record {
-      lines = lines_below r rules explain n;
+      lines = lines_by answers reasons r rules n;
       stop = stop_line r stop;
-      rule_counts = rule_counts r rules n;
+      rule_counts = rule_counts answers r rules n;
       steps = n;
-      races = count_below (is_printed r rules) n;
-      suppressed = count_below (λ k. is_some (matching_rule_at r rules k)) n;
-      refused = count_below (λ k. is_refused (answer r.steps k)) n;
+      races = count_below (is_printed_by answers r rules) n;
+      suppressed = count_below (λ k. is_some (matching_rule_by answers r rules k)) n;
+      refused = count_below (λ k. is_refused (answers k)) n;
     }
+
+-- none for any race
+abbrev pub no_reasons : ℕ → List Because
+no_reasons k = []
+
+-- The lockset rule
+
+-- why the step at position k is a race, if reasons are asked for
+abbrev pub reasons_if : Bool → Recording → ℕ → List Because
+reasons_if explain r k = cond explain (reasons_at r k) []
+
+-- the rule that takes the race at position k, if there is a race and such a rule
+abbrev pub matching_rule_at : Recording → List Target → ℕ → Option ℕ
+matching_rule_at r rules k = matching_rule_by (answer r.steps) r rules k
+
+-- the lines of the first n steps, but for the races that a rule takes
+abbrev pub lines_below : Recording → List Target → Bool → ℕ → List LineView
+lines_below r rules explain n = lines_by (answer r.steps) (reasons_if explain r) r rules n
+
+-- the race at position k is printed
+abbrev pub is_printed : Recording → List Target → ℕ → Bool
+is_printed r rules k = is_printed_by (answer r.steps) r rules k
+
+-- the report of a run of the recording's steps under these rules, with reasons or without, which stopped so or not at all
+abbrev pub report_of : Recording → List Target → Bool → Option Stopped → Summary
+report_of r rules explain stop = report_by (answer r.steps) (reasons_if explain r) r rules stop

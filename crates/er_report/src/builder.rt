@@ -5,12 +5,12 @@ ghost use Rattle.er_trace.specs.Trace.{Recording, IsNamed};
 ghost use Rattle.er_explain.specs.Racing.{is_race};
 ghost use Rattle.er_journal.specs.AnswerList.{shown};
 ghost use Rattle.er_journal.specs.declared.answers.Stopped.{Stopped as Stop};
-ghost use Rattle.er_report.specs.Builder.{ArePlain, IsBuilt, IsExplained, IsReported, IsStepAt, KeepStates};
+ghost use Rattle.er_report.specs.Builder.{ArePlain, ArePlainBy, IsBuilt, IsBuiltBy, IsExplained, IsReported, IsStepAt, IsStepBy, KeepStates};
 ghost use Rattle.er_report.specs.Inner.Adding.{empty_report, with_answer, HasRoom};
 ghost use Rattle.er_report.specs.Kept.{Follows};
 ghost use Rattle.er_report.specs.Lines.{line_view};
-ghost use Rattle.er_report.specs.Names.{HasNames, HasSiteName};
-ghost use Rattle.er_report.specs.Report.{told, answer_line, answered_steps, report_of, stop_line};
+ghost use Rattle.er_report.specs.Names.{HasNames, HasSiteName, HaveStateNames};
+ghost use Rattle.er_report.specs.Report.{Answering, told, answer_line, answered_steps, no_reasons, report_by, report_of, stop_line};
 ghost use Rattle.er_rules.specs.Rules.{Target, targets_of};
 
 use crate::explainer::Explainer;
@@ -28,8 +28,9 @@ use std::marker::Model;
 ///
 /// If reasons are wanted, each step that was added by itself is to be explained right after it, and the builder keeps the books of all
 /// words.
-/// Contracts see the report without reasons, the positions of the races that have lines, the rules, and what is kept for reasons. A
-/// call of `add` that finds no memory leaves the builder as it was.
+/// Contracts see the report without reasons, the positions of the races that have lines, the rules, and what is kept for reasons. Clauses
+/// that end in `_by` hold for the answers of any analysis, and the others for those of the lockset rule. A call of `add` that finds no
+/// memory leaves the builder as it was.
 #[derive(Drop)]
 pub struct ReportBuilder<'r> {
     rules: &'r Suppressions,
@@ -57,6 +58,7 @@ impl<'r> ReportBuilder<'r> {
     /// The report before any step.
     pub fn new(alloc: Global, rules: &'r Suppressions) -> Result<ReportBuilder<'r>, AllocError>
         ensures rules { IfOk result (λ builder. builder.rules ≡ targets_of rules.now) }
+        ensures built_by { IfOk result (λ builder. (a : Answering) (r : Recording) → IsBuiltBy a builder r 0) }
         ensures built { IfOk result (λ builder. (r : Recording) → IsBuilt builder r 0) }
         ensures kept { IfOk result (λ builder. builder.kept ≡ None) }
     {
@@ -125,6 +127,7 @@ impl<'r> ReportBuilder<'r> {
         requires site { HasSiteName names.now step.now.event }
         ensures rules { OnOk result (self.new.rules ≡ self.old.rules) }
         ensures steps { OnOk result (self.new.report.steps ≡ self.old.report.steps + 1) }
+        ensures built_by { (a : Answering) (r : Recording) (k : ℕ) → IsBuiltBy a self.old r k → IsStepBy a r k names.now line step.now answer.now held.now → OnOk result (IsBuiltBy a self.new r (k + 1)) }
         ensures built { (r : Recording) (k : ℕ) → IsBuilt self.old r k → IsStepAt r k names.now line step.now answer.now held.now → OnOk result (IsBuilt self.new r (k + 1)) }
         ensures kept { OnOk result (self.new.kept ≡ self.old.kept) }
         ensures err { OnErr result (self.new ≡ self.old) }
@@ -146,6 +149,7 @@ impl<'r> ReportBuilder<'r> {
         requires site { HasSiteName names.now step.now.event }
         ensures rules { OnOk result (self.new.rules ≡ self.old.rules) }
         ensures steps { OnOk result (self.new.report.steps ≡ self.old.report.steps + 1) }
+        ensures built_by { (a : Answering) (r : Recording) (k : ℕ) → IsBuiltBy a self.old r k → IsStepBy a r k names.now line step.now (shown answer.entry) held.now → OnOk result (IsBuiltBy a self.new r (k + 1)) }
         ensures built { (r : Recording) (k : ℕ) → IsBuilt self.old r k → IsStepAt r k names.now line step.now (shown answer.entry) held.now → OnOk result (IsBuilt self.new r (k + 1)) }
         ensures kept { OnOk result (self.new.kept ≡ self.old.kept) }
         ensures err { OnErr result (self.new ≡ self.old) }
@@ -168,6 +172,7 @@ impl<'r> ReportBuilder<'r> {
         requires room { self.old.report.steps + count < 2 ^ 64 }
         ensures rules { self.new.rules ≡ self.old.rules }
         ensures steps { self.new.report.steps ≡ self.old.report.steps + count }
+        ensures built_by { (a : Answering) (r : Recording) (k : ℕ) → IsBuiltBy a self.old r k → ArePlainBy a k count → IsBuiltBy a self.new r (k + count) }
         ensures built { (r : Recording) (k : ℕ) → IsBuilt self.old r k → ArePlain r.steps k count → IsBuilt self.new r (k + count) }
         ensures reported { (r : Recording) (k : ℕ) → IsReported self.old r k → ArePlain r.steps k count → (IsTrue (is_some self.old.kept) → KeepStates r.steps k count) → IsReported self.new r (k + count) }
         ensures kept { self.new.kept ≡ self.old.kept }
@@ -193,6 +198,8 @@ impl<'r> ReportBuilder<'r> {
 
     /// The report, without reasons, of a run that stopped so or not at all.
     pub fn finish(self, stop: Option<(u64, NoRoom)>) -> Report
+        ensures report_by { (a : Answering) (r : Recording) (stopped : Option Stop) → IsBuiltBy a self.entry r (length (answered_steps r.steps stopped)) → stop ≡ stop_line r stopped → told result ≡ report_by a no_reasons r self.entry.rules stopped }
+        ensures named_by { (a : Answering) (r : Recording) (n : ℕ) → IsBuiltBy a self.entry r n → All (IsNamed r.names) r.steps → HaveStateNames r.names a → All (HasNames r.names) result.lines.items }
         ensures report { (r : Recording) (stopped : Option Stop) → IsBuilt self.entry r (length (answered_steps r.steps stopped)) → stop ≡ stop_line r stopped → told result ≡ report_of r self.entry.rules false stopped }
         ensures named { (r : Recording) (n : ℕ) → IsBuilt self.entry r n → All (IsNamed r.names) r.steps → All (HasNames r.names) result.lines.items }
     {

@@ -11,6 +11,9 @@
 //! takes counted for the first such rule alone. Each number in it that needs a name to be printed has one (`named`). The laws
 //! [`the_counts_add_up`] and [`each_reason_is_told`] say more of such a report.
 //!
+//! These clauses speak of the lockset rule. The clauses `built_by`, `report_by` and `named_by` say the same of any other analysis whose
+//! answers are added, for a report without reasons.
+//!
 //! The builder keeps no step and no answer. A set of locks is copied for a line alone, so memory goes by the number of lines and rules,
 //! and not of steps. Rules are looked at for a race alone. If reasons are asked for, each step is also explained once it was added:
 //! the builder then keeps a book of each word that is accessed, and memory also goes by their number.

@@ -1,10 +1,9 @@
 -- The three first, and behind them those of all locks.
-use Rattle.std.proofs.Common.{◌≡◌, ◌++◌, List, take, flat_map, ◌∙◌, ap, refl}
+use Rattle.std.proofs.Common.{◌++◌, List, flat_map, ◌∙◌, ap}
 use Rattle.std.proofs.lemmas.List.{take_all}
 use Rattle.er_explain.specs.declared.book.Pair.{Pair}
 use Rattle.er_report.specs.Kept.{told_found}
 use Rattle.er_report.specs.declared.explainer.LineAccess.{LineAccess}
-use Rattle.er_report.specs.declared.report.Because.{Because}
 use Rattle.er_report.specs.declared.report.Label.TheVariants as label
 use Rattle.er_report.proofs.KeptLemmas.{all-told}
 use Rattle.er_report.proofs.explainer.reasons_of.Goals as goal

@@ -1,7 +1,7 @@
 use Rattle.std.proofs.Common.{◌≡◌, ◌∙◌, ◌+◌, ◌++◌, ℕ, List, length, map, take, drop, set, get_or, sym, ap, arith}
 use Rattle.std.proofs.lemmas.List.{get_or-map, map-set, length-map}
 use Rattle.std.specs.Vec.Iter.{into_iter_items}
-use Rattle.er_report.specs.Inner.Explained.{line_told, told_left, with_told}
+use Rattle.er_report.specs.Inner.Explained.{line_told, with_told}
 use Rattle.er_report.specs.Lines.{LineView, line_view}
 use Rattle.er_report.specs.declared.report.Because.{Because}
 use Rattle.er_report.specs.declared.report.Line.{Line}

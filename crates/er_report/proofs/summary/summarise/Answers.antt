@@ -1,12 +1,12 @@
 -- The report on its way is that of the steps that were added, and at the end of all that were answered.
-use Rattle.std.proofs.Common.{◌≡◌, ◌≤◌, ◌<◌, ◌∙◌, ℕ, List, Option, Result, length, slice_get, slice_index, is_some, Some, refl, ap, subst, sym, arith}
+use Rattle.std.proofs.Common.{◌≡◌, ◌≤◌, ◌<◌, ◌∙◌, ℕ, List, Option, length, slice_get, slice_index, is_some, Some, refl, ap, subst, arith}
 use Rattle.std.proofs.lemmas.Option.{slice_get_read, slice_get_within}
 use Rattle.er_trace.specs.Trace.{Recording}
 use Rattle.er_event.specs.declared.steps.Step.{Step}
 use Rattle.er_explain.proofs.Passes.{held-start, held-next}
 use Rattle.er_journal.specs.AnswerList.{shown}
 use Rattle.er_journal.specs.declared.answers.Stopped.{Stopped}
-use Rattle.er_report.specs.Builder.{IsExplained, IsReported, IsStepAt}
+use Rattle.er_report.specs.Builder.{IsBuilt, IsReported}
 use Rattle.er_report.specs.Kept.{Kept}
 use Rattle.er_report.specs.Report.{answered_steps}
 use Rattle.er_report.proofs.BuilderLemmas.{answers_are, answered_within, built-steps, step-answered, still-explained}
@@ -24,10 +24,11 @@ loop-k-init c = record {
 }
 
 pub add_answer-requires : goal.add_answer-requires
+unfolding IsBuilt
 add_answer-requires c =
     let steps : List Step = c.steps-step-items.result.now in
     let here : slice_get steps c.loop-k.k ≡ Some c.step-item.result = slice_get_read steps _ c.loop-k.k c.step-item.result refl (omega arith) c.step-item.is in
-    let count : c.loop-k.builder.report.steps ≡ c.loop-k.k = built-steps c.loop-k.builder c.args.trace.now c.loop-k.k c.loop-k.invariant.built.built in
+    let count : c.loop-k.builder.report.steps ≡ c.loop-k.k = built-steps _ c.loop-k.builder c.args.trace.now c.loop-k.k c.loop-k.invariant.built.built in
     record {
       room = omega arith;
       site = rw c.names.ensures (site_named c.args.trace.now.names c.args.trace.now.steps c.steps-step-items.ensures.named c.loop-k.k c.step-item.result

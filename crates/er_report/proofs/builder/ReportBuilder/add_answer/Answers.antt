@@ -4,38 +4,48 @@ use Rattle.er_event.specs.declared.refusals.Refusal.{Refusal}
 use Rattle.er_event.specs.declared.steps.Reply.{Reply}
 use Rattle.er_explain.specs.Racing.{is_race}
 use Rattle.er_journal.specs.AnswerList.{shown}
-use Rattle.er_report.specs.Builder.{Built, IsBuilt}
+use Rattle.er_model.specs.Answers.{answer}
+use Rattle.er_report.specs.Builder.{Built, IsBuilt, IsBuiltBy}
 use Rattle.er_report.specs.Inner.Adding.{with_answer}
 use Rattle.er_report.specs.Report.{told}
 use Rattle.er_rules.specs.Rules.{targets_of}
 use Rattle.er_report.proofs.BuilderLemmas.{built-next}
 use Rattle.er_report.proofs.builder.ReportBuilder.add_answer.Goals as goal
 
-pub returns-then-is_printed-clause-built : goal.returns-then-is_printed-clause-built
-returns-then-is_printed-clause-built c = λ r k built at.
+pub returns-then-is_printed-clause-built_by : goal.returns-then-is_printed-clause-built_by
+returns-then-is_printed-clause-built_by c = λ a r k built at.
     let given : Result Reply Refusal = shown c.args.answer in
     let races : List ℕ = c.self.inside.races.items in
     let place : ℕ = c.self.inside.report.steps in
     let before : Built = record { report = told c.self.inside.report; races = races; rules = targets_of c.self.inside.rules.now; kept = c.self.inside.explainer } in
     let printed : (is_race given && is_none c.first_rule-rule.result) ≡ true = sym c.is_printed.ensures ∙ c.if-is_printed.true in
-    built-next before _ r k c.args.names.now c.args.line c.args.step.now given c.args.held.now
-    (subst (λ (builder : Built). IsBuilt builder r k) (sym c.self.view_is) built) at refl
+    built-next a before _ r k c.args.names.now c.args.line c.args.step.now given c.args.held.now
+    (subst (λ (builder : Built). IsBuiltBy a builder r k) (sym c.self.view_is) built) at refl
     (c.in_ok-add_step.ensures.ok ∙ ap (with_answer before.report c.args.line c.args.held.now c.args.step.now given) c.first_rule-rule.ensures.value)
     (c.push_reserved.ensures.items
     ∙ ap (λ (before : List ℕ). before ++ place ∷ []) c.in_ok-reserve.ensures.items
     ∙ ap (λ (b : Bool). races ++ cond b (place ∷ []) []) (sym printed)
     ∙ ap (λ (rule : Option ℕ). races ++ cond (is_race given && is_none rule) (place ∷ []) []) c.first_rule-rule.ensures.value)
 
-pub returns-clause-built : goal.returns-clause-built
-returns-clause-built c = λ r k built at.
+pub returns-clause-built_by : goal.returns-clause-built_by
+returns-clause-built_by c = λ a r k built at.
     let given : Result Reply Refusal = shown c.args.answer in
     let races : List ℕ = c.self.inside.races.items in
     let place : ℕ = c.self.inside.report.steps in
     let before : Built = record { report = told c.self.inside.report; races = races; rules = targets_of c.self.inside.rules.now; kept = c.self.inside.explainer } in
     let printed : (is_race given && is_none c.first_rule-rule.result) ≡ false = sym c.is_printed.ensures ∙ c.if-is_printed.false in
-    built-next before _ r k c.args.names.now c.args.line c.args.step.now given c.args.held.now
-    (subst (λ (builder : Built). IsBuilt builder r k) (sym c.self.view_is) built) at refl
+    built-next a before _ r k c.args.names.now c.args.line c.args.step.now given c.args.held.now
+    (subst (λ (builder : Built). IsBuiltBy a builder r k) (sym c.self.view_is) built) at refl
     (c.in_ok-add_step-2.ensures.ok ∙ ap (with_answer before.report c.args.line c.args.held.now c.args.step.now given) c.first_rule-rule.ensures.value)
     (sym (append-nil races)
     ∙ ap (λ (b : Bool). races ++ cond b (place ∷ []) []) (sym printed)
     ∙ ap (λ (rule : Option ℕ). races ++ cond (is_race given && is_none rule) (place ∷ []) []) c.first_rule-rule.ensures.value)
+
+-- by the lockset rule
+pub returns-then-is_printed-clause-built : goal.returns-then-is_printed-clause-built
+unfolding IsBuilt
+returns-then-is_printed-clause-built c = λ r. returns-then-is_printed-clause-built_by c (answer r.steps) r
+
+pub returns-clause-built : goal.returns-clause-built
+unfolding IsBuilt
+returns-clause-built c = λ r. returns-clause-built_by c (answer r.steps) r

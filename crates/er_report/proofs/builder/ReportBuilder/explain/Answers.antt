@@ -1,5 +1,5 @@
 -- The race that was added last gets its reasons, if it has a line and reasons are wanted.
-use Rattle.std.proofs.Common.{◌≡◌, ◌∙◌, ◌+◌, ◌<◌, ℕ, suc, List, Option, Some, None, length, IfSome, refl, sym, ap, subst, arith}
+use Rattle.std.proofs.Common.{◌∙◌, ◌+◌, ℕ, List, Option, length, IfSome, sym, ap, subst}
 use Rattle.er_report.specs.Builder.{Built, IsBuilt, IsExplained, IsReported}
 use Rattle.er_report.specs.Kept.{Kept, Follows}
 use Rattle.er_report.specs.Report.{told}
@@ -15,6 +15,7 @@ abbrev seen : Inside → Built
 seen inside = record { report = told inside.report; races = inside.races.items; rules = targets_of inside.rules.now; kept = inside.explainer }
 
 pub returns-clause-explained : goal.returns-clause-explained
+unfolding IsBuilt
 returns-clause-explained c = λ r k built explained here number.
     let before : Built = seen c.self.inside in
     let was_built : IsBuilt before r (k + 1) = subst (λ (builder : Built). IsBuilt builder r (k + 1)) (sym c.self.view_is) built in

@@ -1,8 +1,10 @@
+use Rattle.er_report.specs.Builder.{IsBuilt}
 use Rattle.er_report.proofs.BuilderLemmas.{built-start}
 use Rattle.er_report.proofs.builder.ReportBuilder.explaining.Goals as goal
 
 pub returns-clause-built : goal.returns-clause-built
+unfolding IsBuilt
 returns-clause-built c = λ r. record {
-  built = built-start _ c.len.result c.in_ok-report.ensures c.len.ensures c.new.ensures.items r;
+  built = built-start _ c.len.result c.in_ok-report.ensures c.len.ensures c.new.ensures.items _ r;
   explained = c.explainer_if.ensures.start r _;
 }

@@ -7,7 +7,7 @@ use Rattle.er_report.specs.Inner.Explained.{lines_kept}
 use Rattle.er_report.specs.Lines.{line_view}
 use Rattle.er_report.specs.Report.{told, report_of, answered_steps}
 use Rattle.er_rules.specs.Rules.{targets_of}
-use Rattle.er_report.proofs.BuilderLemmas.{explained-end, explained-lines, report-named}
+use Rattle.er_report.proofs.BuilderLemmas.{explained-end, explained-lines, report-named-at}
 use Rattle.er_report.proofs.builder.ReportBuilder.finish_explained.Goals as goal
 
 pub returns-clause-report : goal.returns-clause-report
@@ -25,5 +25,5 @@ returns-clause-named c = λ r n reported all.
     let long : length c.explain_lines.new.lines ≡ c.self.inside.report.lines.len = omega (arith, c.explain_lines.auto.lines, c.deref_mut.ensures.len) in
     let lines : map line_view (with_items c.self.inside.report.lines c.explain_lines.new.lines).items ≡ lines_kept before.kept before.report.lines =
     ap (map line_view) (with_items_is c.self.inside.report.lines c.explain_lines.new.lines long) ∙ (rw c.deref_mut.ensures.value at c.explain_lines.ensures) in
-    report-named r before.rules (is_some before.kept) n (with_items c.self.inside.report.lines c.explain_lines.new.lines).items
+    report-named-at r before.rules (is_some before.kept) n (with_items c.self.inside.report.lines c.explain_lines.new.lines).items
     (explained-lines before r n _ (subst (λ (builder : Built). IsReported builder r n) (sym c.self.view_is) reported) lines) all

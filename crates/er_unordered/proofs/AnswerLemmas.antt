@@ -1,0 +1,187 @@
+-- Later steps change no answer, and what a machine says of a step behind the first k is what the definitions say of the step at position k.
+use Rattle.std.proofs.Common.{◌≡◌, ◌<◌, ◌+◌, ◌==◌, ℕ, Bool, true, false, cond, List, [], ◌∷◌, ◌++◌, length, take, drop, slice_get, Option, Some, None, Result, Ok, refl, sym, ap, ◌∙◌, arith}
+use Rattle.std.proofs.lemmas.List.{take-append-drop, length-take-le}
+use Rattle.std.proofs.lemmas.Option.{slice_get_within}
+use Rattle.er_event.proofs.Lists.{get_front}
+use Rattle.er_event.specs.declared.refusals.Refusal.{Refusal}
+use Rattle.er_event.specs.declared.steps.Event.{Event}
+use Rattle.er_event.specs.declared.steps.Event.TheVariants.{Acquire, Release, Access, Reuse, IgnoreOn, IgnoreOff, Show, Level, Sync}
+use Rattle.er_event.specs.declared.steps.Kind.{Kind}
+use Rattle.er_event.specs.declared.steps.Reply.{Reply}
+use Rattle.er_event.specs.declared.steps.Reply.TheVariants.{Done, Quiet, Race, Ignored, State}
+use Rattle.er_event.specs.declared.steps.WordState.{WordState}
+use Rattle.er_event.specs.declared.steps.Step.{Step}
+use Rattle.er_before.specs.Standing.{Ordered, holding, answered_by, is_show}
+use Rattle.er_model.proofs.Prefixes.{answer-front, holdings-front, holdings-grow}
+use Rattle.er_model.specs.Answers.{answer_unless, reply}
+use Rattle.er_model.specs.Explanations.{word_in}
+use Rattle.er_model.specs.Holdings.{Holdings, changed_unless, refused_by, holdings, holdings_at, holdings_end}
+use Rattle.er_model.specs.Threads.{accepted, held, refusal}
+use Rattle.er_order.proofs.Following.{answer-access, answer-other}
+use Rattle.er_order.proofs.Growing.{kept-front}
+use Rattle.er_order.proofs.StepLemmas.{clocks-front, held-front, some-at}
+use Rattle.er_order.specs.Races.{order_answer, order_answer_to, order_reply}
+use Rattle.er_report.specs.Names.{HaveStateNames}
+use Rattle.er_run.proofs.StepLemmas.{past-next}
+use Rattle.er_trace.specs.Names.{NameTable}
+use Rattle.er_unordered.specs.Answers.{done_if_show, unordered_answer}
+
+-- steps that come later
+module _ (steps more : List Step) where
+  other-front : (k : ℕ) (s : Step) → slice_get steps k ≡ Some s → k < length steps → ((w site : ℕ) (kind : Kind) → s.event ≡ Access kind w site → ⊥)
+      → order_answer (steps ++ more) k ≡ order_answer steps k
+  other-front k s is below never =
+      answer-other (steps ++ more) k s (get_front steps more k below ∙ is) never ∙ (answer-front steps more k below ∙ sym (answer-other steps k s is never))
+
+  order-front-by : (k : ℕ) (s : Step) → slice_get steps k ≡ Some s → k < length steps → (e : Event) → s.event ≡ e → order_answer (steps ++ more) k ≡ order_answer steps k
+  order-front-by k s is below (Access kind w site) event =
+      answer-access (steps ++ more) k s (get_front steps more k below ∙ is) w site kind event
+      ∙ rw (clocks-front steps more k (omega arith), held-front steps more s.thread k (omega arith), kept-front steps more w k (omega arith)) (sym (answer-access steps k s is w site kind event))
+  order-front-by k s is below (Acquire l m) event = other-front k s is below (λ w site kind same. let clash = sym event ∙ same in cc)
+  order-front-by k s is below (Release l m) event = other-front k s is below (λ w site kind same. let clash = sym event ∙ same in cc)
+  order-front-by k s is below (Reuse range) event = other-front k s is below (λ w site kind same. let clash = sym event ∙ same in cc)
+  order-front-by k s is below IgnoreOn event = other-front k s is below (λ w site kind same. let clash = sym event ∙ same in cc)
+  order-front-by k s is below IgnoreOff event = other-front k s is below (λ w site kind same. let clash = sym event ∙ same in cc)
+  order-front-by k s is below (Show w) event = other-front k s is below (λ v site kind same. let clash = sym event ∙ same in cc)
+  order-front-by k s is below (Level n) event = other-front k s is below (λ w site kind same. let clash = sym event ∙ same in cc)
+  order-front-by k s is below (Sync sync) event = other-front k s is below (λ w site kind same. let clash = sym event ∙ same in cc)
+
+  order-front : (k : ℕ) → k < length steps → order_answer (steps ++ more) k ≡ order_answer steps k
+  order-front k below =
+      let at = some-at steps k below in
+      order-front-by k at.0 at.1 below at.0.event refl
+
+  pub unordered-front : (k : ℕ) → k < length steps → unordered_answer (steps ++ more) k ≡ unordered_answer steps k
+  unfolding unordered_answer
+  unordered-front k below =
+      ap (λ (o : Option Step). done_if_show o (order_answer (steps ++ more) k)) (get_front steps more k below)
+      ∙ ap (done_if_show (slice_get steps k)) (order-front k below)
+
+-- only an access is a race
+not-race : (o : Option Refusal) → answer_unless o Done ≡ Ok Race → ⊥
+not-race None same = cc
+not-race (Some why) same = cc
+
+pub race-accesses : (machine : Ordered) (t : ℕ) (e : Event) → answered_by machine (record { thread = t; event = e }) ≡ Ok Race → word_in e ≡ None → ⊥
+race-accesses machine t (Access kind w site) race none = cc
+race-accesses machine t (Acquire l m) race none = not-race (refused_by (holding machine t) (Acquire l m)) race
+race-accesses machine t (Release l m) race none = not-race (refused_by (holding machine t) (Release l m)) race
+race-accesses machine t (Reuse range) race none = not-race (refused_by (holding machine t) (Reuse range)) race
+race-accesses machine t IgnoreOn race none = not-race (refused_by (holding machine t) IgnoreOn) race
+race-accesses machine t IgnoreOff race none = not-race (refused_by (holding machine t) IgnoreOff) race
+race-accesses machine t (Show w) race none = not-race (refused_by (holding machine t) (Show w)) race
+race-accesses machine t (Level n) race none = not-race (refused_by (holding machine t) (Level n)) race
+race-accesses machine t (Sync sync) race none = not-race (refused_by (holding machine t) (Sync sync)) race
+
+-- a show is done
+pub show-done : (machine : Ordered) (t : ℕ) (e : Event) → is_show e ≡ true → answered_by machine (record { thread = t; event = e }) ≡ Ok Done
+show-done machine t (Show w) shows = refl
+show-done machine t (Access kind w site) shows = cc
+show-done machine t (Acquire l m) shows = cc
+show-done machine t (Release l m) shows = cc
+show-done machine t (Reuse range) shows = cc
+show-done machine t IgnoreOn shows = cc
+show-done machine t IgnoreOff shows = cc
+show-done machine t (Level n) shows = cc
+show-done machine t (Sync sync) shows = cc
+
+-- an access leaves what its thread holds
+after-access : (h : Holdings) (event : Event) → (word_in event ≡ None → ⊥) → changed_unless (refused_by h event) h event ≡ h
+after-access h (Access kind w site) accesses = refl
+after-access h (Acquire l m) accesses = absurd (accesses refl)
+after-access h (Release l m) accesses = absurd (accesses refl)
+after-access h (Reuse range) accesses = absurd (accesses refl)
+after-access h IgnoreOn accesses = absurd (accesses refl)
+after-access h IgnoreOff accesses = absurd (accesses refl)
+after-access h (Show w) accesses = absurd (accesses refl)
+after-access h (Level n) accesses = absurd (accesses refl)
+after-access h (Sync sync) accesses = absurd (accesses refl)
+
+same-either : (b : Bool) (h other : Holdings) → other ≡ h → cond b other h ≡ h
+same-either true h other same = same
+same-either false h other same = refl
+
+-- the step at position k
+module _ (steps : List Step) (k : ℕ) (step : Step) (here : slice_get steps k ≡ Some step) where
+  abbrev past : List Step
+  past = take k steps
+
+  within : k < length steps
+  within = slice_get_within steps k step here
+
+  long : length past ≡ k
+  long = length-take-le k steps (omega (arith, within))
+
+  next-long : length (take (k + 1) steps) ≡ k + 1
+  next-long = length-take-le (k + 1) steps (omega (arith, within))
+
+  order-here : order_answer (past ++ step ∷ []) (length past) ≡ order_answer steps k
+  order-here =
+      ap (order_answer (past ++ step ∷ [])) long
+      ∙ ap (λ (front : List Step). order_answer front k) (past-next steps k step here)
+      ∙ sym (order-front (take (k + 1) steps) (drop (k + 1) steps) k (omega (arith, next-long)))
+      ∙ ap (λ (all : List Step). order_answer all k) (take-append-drop (k + 1) steps)
+
+  said-by : (given : Result Reply Refusal) (b : Bool) → is_show step.event ≡ b → (b ≡ true → given ≡ Ok Done) → (b ≡ false → given ≡ order_answer (past ++ step ∷ []) (length past))
+      → given ≡ cond b (Ok Done) (order_answer steps k)
+  said-by given true shows done other = done refl
+  said-by given false shows done other = other refl ∙ order-here
+
+  pub answer-here : (given : Result Reply Refusal) → (is_show step.event ≡ true → given ≡ Ok Done) → (is_show step.event ≡ false → given ≡ order_answer (past ++ step ∷ []) (length past))
+      → given ≡ unordered_answer steps k
+  unfolding unordered_answer
+  answer-here given done other =
+      said-by given (is_show step.event) refl done other ∙ ap (λ (o : Option Step). done_if_show o (order_answer steps k)) (sym here)
+
+  holdings-here : (t : ℕ) → holdings_end past t ≡ holdings_at steps t k
+  holdings-here t =
+      ap (holdings_at past t) long
+      ∙ sym (holdings-front past (drop k steps) t k (omega (arith, long)))
+      ∙ ap (λ (all : List Step). holdings_at all t k) (take-append-drop k steps)
+
+  pub locks-here : (word_in step.event ≡ None → ⊥) → (t : ℕ) → (holdings_end (past ++ step ∷ []) t).held ≡ held (accepted steps k) t
+  unfolding holdings
+  locks-here accesses t =
+      let same : holdings_end (past ++ step ∷ []) t ≡ holdings_at steps t k =
+      holdings-grow past step t
+      ∙ same-either (step.thread == t) (holdings_end past t) (changed_unless (refused_by (holdings_end past t) step.event) (holdings_end past t) step.event)
+      (after-access (holdings_end past t) step.event accesses)
+      ∙ holdings-here t in
+      ap (λ (h : Holdings). h.held) same
+
+-- no answer is a word's state
+no-state-access : (a b : Bool) (s : WordState) → cond a Ignored (cond b Race Quiet) ≡ State s → ⊥
+no-state-access true b s is = cc
+no-state-access false true s is = cc
+no-state-access false false s is = cc
+
+no-state-unless : (o : Option Refusal) (r : Reply) (s : WordState) → (r ≡ State s → ⊥) → answer_unless o r ≡ Ok (State s) → ⊥
+no-state-unless None r s never is = never (cc)
+no-state-unless (Some why) r s never is = cc
+
+no-state-reply : (steps : List Step) (k t : ℕ) (e : Event) (s : WordState) → is_show e ≡ false → order_reply steps k t e ≡ State s → ⊥
+unfolding order_reply reply
+no-state-reply steps k t (Access kind w site) s other is = no-state-access _ _ s is
+no-state-reply steps k t (Acquire l m) s other is = cc
+no-state-reply steps k t (Release l m) s other is = cc
+no-state-reply steps k t (Reuse range) s other is = cc
+no-state-reply steps k t IgnoreOn s other is = cc
+no-state-reply steps k t IgnoreOff s other is = cc
+no-state-reply steps k t (Show w) s other is = cc
+no-state-reply steps k t (Level n) s other is = cc
+no-state-reply steps k t (Sync sync) s other is = cc
+
+no-state-by : (steps : List Step) (k : ℕ) (o : Option Step) (s : WordState) → done_if_show o (order_answer_to steps k o) ≡ Ok (State s) → ⊥
+no-state-by steps k None s is = cc
+no-state-by steps k (Some step) s is = shown-by (is_show step.event) refl is
+  where
+    shown-by : (b : Bool) → is_show step.event ≡ b
+        → cond b (Ok Done) (answer_unless (refusal (accepted steps k) step.thread step.event) (order_reply steps k step.thread step.event)) ≡ Ok (State s) → ⊥
+    shown-by true shows done = cc
+    shown-by false shows said =
+        no-state-unless (refusal (accepted steps k) step.thread step.event) (order_reply steps k step.thread step.event) s
+        (no-state-reply steps k step.thread step.event s shows) said
+
+pub no-state : (names : NameTable) (steps : List Step) → HaveStateNames names (unordered_answer steps)
+unfolding unordered_answer order_answer
+no-state names steps k s is = absurd (no-state-by steps k (slice_get steps k) s is)

@@ -1,0 +1,25 @@
+-- The report of the batches is that of the text.
+use Rattle.std.proofs.Common.{◌∙◌, ℕ, List, IfSome, Option, subst}
+use Rattle.er_device.specs.Device.{inner_of}
+use Rattle.er_rules.specs.Rules.{Target, targets_of}
+use Rattle.er_unordered.specs.Faults.{IsFaultOfText}
+use Rattle.er_unordered.specs.Reports.{IsReportOfText}
+use Rattle.er_unordered.proofs.passes.report_unordered.Goals as goal
+
+pub returns-in-Ok-clause-report : goal.returns-in-Ok-clause-report
+returns-in-Ok-clause-report g c =
+    let told : Option (List ℕ) = g.D.Read.remaining (inner_of c.args.reader.now) in
+    let ended = c.in-Ok.ensures.ended told (c.in_ok-pass.ensures.come told) in
+    subst (λ (n : ℕ). IfSome told (λ text. IsReportOfText text n (targets_of c.args.suppressions.now) c.finish.result.trace.names c.finish.result.report)) c.in_ok-pass.ensures.limit
+    (subst (λ (rules : List Target). IfSome told (λ text. IsReportOfText text c.in_ok-pass.pass.lines.place.limit rules c.finish.result.trace.names c.finish.result.report))
+    (c.in-Ok.ensures.rules ∙ c.in_ok-pass.ensures.rules) (c.finish.ensures.report told c.in_ok-pass.pass.lines.place.limit ended))
+
+pub returns-in-Ok-clause-named : goal.returns-in-Ok-clause-named
+returns-in-Ok-clause-named g c =
+    let told : Option (List ℕ) = g.D.Read.remaining (inner_of c.args.reader.now) in
+    c.finish.ensures.named told c.in_ok-pass.pass.lines.place.limit (c.in-Ok.ensures.ended told (c.in_ok-pass.ensures.come told))
+
+pub returns-in-Err-clause-fault : goal.returns-in-Err-clause-fault
+returns-in-Err-clause-fault g c =
+    let told : Option (List ℕ) = g.D.Read.remaining (inner_of c.args.reader.now) in
+    subst (λ (n : ℕ). IsFaultOfText told n c.in-Err.why) c.in_ok-pass.ensures.limit (c.in-Err.ensures.fault told (c.in_ok-pass.ensures.come told))

@@ -1,0 +1,2 @@
+-- How far a replay has come.
+pub mod Passes

@@ -1,0 +1,52 @@
+-- How far a replay by happens-before has come that forgets its steps batch by batch.
+use Rattle.std.specs.Prelude.{◌≡◌, ℕ, All, List, [], length, take, Option, IfSome}
+use Rattle.er_before.specs.Standing.{Ordered, Stands}
+use Rattle.er_event.specs.declared.steps.Step.{Step}
+use Rattle.er_report.specs.Builder.{Built, IsBuiltBy}
+use Rattle.er_text.specs.Batches.{HasRead}
+use Rattle.er_text.specs.Places.{Reached}
+use Rattle.er_text.specs.Trace.{IsTrace}
+use Rattle.er_trace.specs.Names.{NameTable}
+use Rattle.er_trace.specs.Trace.{Recording, IsNamed}
+use Rattle.er_unordered.specs.Answers.{unordered_answer}
+use Rattle.er_unordered.specs.declared.fault.OrderFault.{OrderFault}
+use Rattle.er_unordered.specs.declared.fault.OrderFault.TheVariants.{Read, CountFull, Memory}
+
+-- these steps and their lines, under these names
+abbrev pub recorded : List Step → List ℕ → NameTable → Recording
+recorded steps lines names = record { steps = steps; lines = lines; names = names }
+
+-- the machine stands for the recording's first n steps, and the report is theirs
+pub record HasComeTo (machine : Ordered) (builder : Built) (r : Recording) (n : ℕ) : Type 0 where
+  pub stands : Stands machine (take n r.steps)
+  pub built : IsBuiltBy (unordered_answer r.steps) builder r n
+
+-- all of the recording's steps were answered
+pub record HasAnswered (machine : Ordered) (builder : Built) (r : Recording) : Type 0 where
+  pub stands : Stands machine r.steps
+  pub built : IsBuiltBy (unordered_answer r.steps) builder r (length r.steps)
+  pub named : All (IsNamed r.names) r.steps
+  pub long : length r.lines ≡ length r.steps
+
+-- between two batches: some steps were read and answered, and nobody keeps them
+pub record HasCome (told known : Option (List ℕ)) (reader : Reached) (trace : Recording) (machine : Ordered) (builder : Built) : Type 0 where
+  pub past : List Step
+  pub lines : List ℕ
+  pub read : IfSome told (λ text. HasRead text past lines reader known trace)
+  pub no_steps : trace.steps ≡ []
+  pub no_lines : trace.lines ≡ []
+  pub run : HasAnswered machine builder (recorded past lines trace.names)
+
+-- behind the last batch: the steps that were read are those of the text
+pub record HasEnded (told : Option (List ℕ)) (limit : ℕ) (trace : Recording) (builder : Built) : Type 0 where
+  pub recording : Recording
+  pub read : IfSome told (λ text. IsTrace text limit recording)
+  pub names : trace.names ≡ recording.names
+  pub built : IsBuiltBy (unordered_answer recording.steps) builder recording (length recording.steps)
+  pub named : All (IsNamed recording.names) recording.steps
+
+-- the steps weren't answered: not a fault of the text
+abbrev pub IsOrderFault : OrderFault → Type 0
+IsOrderFault (Read fault) = ⊥
+IsOrderFault CountFull = Unit {0}
+IsOrderFault Memory = Unit {0}
