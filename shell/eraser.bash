@@ -20,6 +20,10 @@ _eraser() {
         _eraser_folders
         return
         ;;
+    replay:--analysis)
+        _eraser_words "lockset happens-before both"
+        return
+        ;;
     replay:--format)
         _eraser_words "text json sarif html"
         return
@@ -37,7 +41,7 @@ _eraser() {
     case $command:$word in
     :-*) _eraser_words "--help --version -h -V" ;;
     :*) _eraser_words "replay explain demo help" ;;
-    replay:-?*) _eraser_words "--suppress --write-rules --unused-rules --max-races --explain --by-site --format --source --workers --shards --byte-limit --help -h" ;;
+    replay:-?*) _eraser_words "--analysis --suppress --write-rules --unused-rules --max-races --explain --by-site --format --source --workers --shards --byte-limit --help -h" ;;
     replay:*) _eraser_files ;;
     explain:-?*) _eraser_words "--byte-limit --help -h" ;;
     explain:*) _eraser_files ;;

@@ -1,5 +1,5 @@
 #!/usr/bin/env python3
-"""Happens-before as tests/order_reference.py reads it: no test of the program, but of what the program will be compared with.
+"""Happens-before as tests/order_reference.py reads it: no test of the program, but of what the program is compared with.
 
 - the lists of tests/order/worked.txt have the answers beside them
 - the lists of crates/order_tests, which a proved machine answers, have the same answers

@@ -2,7 +2,8 @@
 """Records programs with `record/run --order`, and compares what the traces say of order with what must be true of them.
 
 The programs of tests/record/order show one way to order threads each. A comment `UNORDERED` on a line says that an access there races by
-happens-before, in every schedule. The sites at which tests/order_reference.py finds races are these lines and no others.
+happens-before, in every schedule. The sites at which tests/order_reference.py finds races are these lines and no others, and so are those that
+`eraser replay --analysis happens-before` reports.
 
 `tests/run` calls `tests`. By itself this file runs these tests alone.
 """
@@ -16,6 +17,7 @@ import tempfile
 
 sys.path.insert(0, str(pathlib.Path(__file__).parent))
 sys.dont_write_bytecode = True
+import analysis_tests
 import order_reference
 import record_tests
 import reference
@@ -38,6 +40,8 @@ OBJECTS = {
     "threads": ([], [], []),
 }
 STARTS = {"threads": 24}
+# A trace of fewer bytes is read a second time whole, which is slow.
+SHORT = 60_000
 # Programs of tests/record that end otherwise than by themselves, or need something else beside them.
 OTHERS = ("ends", "loads", "plugin", "busy", "jumps")
 
@@ -132,10 +136,21 @@ def record_trace(folder, nth, program, *options):
     return done, text
 
 
+def analysis_fault(source, text):
+    """The program reports the lines that are marked, and of a short trace each byte is as it should be."""
+    found = analysis_tests.run(["--analysis", "happens-before", "-"], text.encode())
+    sites = set(re.findall(r": unordered: .* at (\S+), holds", found[0].decode()))
+    if found[1] or sites != marked(source, "UNORDERED"):
+        return f"reported at {sorted(sites)}, {found[1]}"
+    if len(text) < SHORT and found != analysis_tests.expected(text.encode(), None, "happens-before"):
+        return f"reported {found}"
+    return None
+
+
 def run_often(folder, findings, program, source):
     for nth in range(RUNS):
         done, text = record_trace(folder, nth, program, "--order")
-        fault = f"{done}" if done.returncode or done.stderr else order_fault(text) or program_fault(source, text)
+        fault = f"{done}" if done.returncode or done.stderr else order_fault(text) or program_fault(source, text) or analysis_fault(source, text)
         findings.check(f"{program.name} with --order, run {nth}", fault is None, fault)
 
 
@@ -207,6 +222,26 @@ def replayed(folder, findings, program):
     findings.check("the replay of its trace", (found.stdout, found.stderr, found.returncode) == wanted, f"{found} {wanted}")
 
 
+def analysed(folder, findings, program):
+    """`--analysis` records what orders threads, and reports by it."""
+    wanted = marked(SOURCES / "order/message.c", "UNORDERED")
+    done = command([RUN, "-q", "--analysis", "happens-before", program])
+    sites = set(re.findall(r": unordered: .* at (\S+), holds", done.stdout))
+    findings.check("record/run --analysis happens-before", (done.returncode, done.stderr, sites) == (0, "", wanted) and ": race: " not in done.stdout, f"{done}")
+    done = command([RUN, "-q", "--analysis", "both", "--exit-status", "report", program])
+    sites = set(re.findall(r": unordered: .* at (\S+), holds", done.stdout))
+    totals = re.findall(r"^steps \d+, (races|unordered) \d+, suppressed 0, refused 0$", done.stdout, re.M)
+    findings.check("record/run --analysis both", (done.returncode, sites, totals) == (1, wanted, ["races", "unordered"]) and ": race: " in done.stdout, f"{done}")
+    trace = folder / "analysed.trace"
+    done = command([RUN, "-q", "-o", trace, "--analysis", "lockset", program])
+    findings.check("record/run --analysis lockset", done.returncode == 0 and trace.read_text().startswith("eraser trace 1\n") and "races" in done.stdout, f"{done}")
+    for more in (["--explain"], ["--by-site"], ["--format", "json"]):
+        done = command([RUN, "--analysis", "both", *more, program])
+        findings.check(f"record/run --analysis both {more}", (done.returncode, done.stdout) == (125, "") and "--analysis" in done.stderr, f"{done}")
+    done = command([RUN, "--analysis", "neither", program])
+    findings.check("record/run with another analysis", (done.returncode, done.stdout) == (125, "") and "'neither'" in done.stderr, f"{done}")
+
+
 def tests(record):
     findings = Findings(record)
     command([record_tests.TOP / "record/build"])
@@ -218,6 +253,7 @@ def tests(record):
         with_a_limit(folder, findings)
         few_awaits(folder, findings, made["message-gcc-O0"])
         replayed(folder, findings, made["message-gcc-O0"])
+        analysed(folder, findings, made["message-gcc-O0"])
 
 
 if __name__ == "__main__":

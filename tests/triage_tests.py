@@ -62,7 +62,9 @@ def texts():
     """Names, traces and rules, of which none has a fault, with options."""
     for trace in sorted((TOP / "examples").glob("*.trace")):
         rules, options = trace.with_suffix(".rules"), trace.with_suffix(".options")
-        yield trace.stem, trace.read_bytes(), rules.read_bytes() if rules.exists() else b"", options.read_text().split() if options.exists() else []
+        given = options.read_text().split() if options.exists() else []
+        # Both analyses at once have neither rules nor sites.
+        yield trace.stem, trace.read_bytes(), rules.read_bytes() if rules.exists() else b"", [] if "--analysis" in given else given
     for seed in range(RANDOM_TRACES):
         text, rules = reference.random_trace(seed), reference.random_rules(seed)
         if reference.replay(text, rules)[2] < 2:

@@ -31,6 +31,7 @@ struct options {
     bool explains;
     bool by_site;
     const char *format;
+    const char *analysis;
     bool ends_as_report;
     bool is_quiet;
 };
@@ -52,6 +53,7 @@ static const char usage[] =
     "      --replay            with -o: replay as well\n"
     "      --report FILE       write the report to FILE instead of standard output\n"
     "      --suppress RULES    leave out the races that these rules take (docs/FORMATS.md)\n"
+    "      --analysis RULE     `lockset` (the default), `happens-before` or `both`; the last two record with --order\n"
     "      --explain           name the accesses that make each race\n"
     "      --by-site           report the races by their sites, most words first\n"
     "      --format FORM       write the report as `text` (the default), `json`, `sarif` or `html`\n"
@@ -104,14 +106,29 @@ static const char *read_format(const char *text)
     exit(STATUS_FAILED);
 }
 
+static const char *read_analysis(const char *text)
+{
+    static const char *const analyses[] = {"lockset", "happens-before", "both"};
+    for (size_t place = 0; place < sizeof analyses / sizeof *analyses; place++)
+        if (strcmp(text, analyses[place]) == 0) return text;
+    fprintf(stderr, "record: --analysis is 'lockset', 'happens-before' or 'both', not '%s'\n", text);
+    exit(STATUS_FAILED);
+}
+
+/* Whether accesses are looked for that were not ordered. */
+static bool needs_order(void)
+{
+    return options.analysis && strcmp(options.analysis, "lockset") != 0;
+}
+
 static void read_options(int count, char **words)
 {
-    enum { REPLAY = 256, REPORT, SUPPRESS, EXPLAIN, BY_SITE, FORMAT, EXIT_STATUS, ORDER, LIMIT, PATHS };
+    enum { REPLAY = 256, REPORT, SUPPRESS, EXPLAIN, BY_SITE, FORMAT, ANALYSIS, EXIT_STATUS, ORDER, LIMIT, PATHS };
     static const struct option names[] = {
         {"output", 1, NULL, 'o'},         {"replay", 0, NULL, REPLAY}, {"report", 1, NULL, REPORT}, {"suppress", 1, NULL, SUPPRESS},
         {"exit-status", 1, NULL, EXIT_STATUS}, {"limit", 1, NULL, LIMIT},   {"paths", 0, NULL, PATHS},   {"quiet", 0, NULL, 'q'},
         {"explain", 0, NULL, EXPLAIN},    {"by-site", 0, NULL, BY_SITE}, {"format", 1, NULL, FORMAT}, {"help", 0, NULL, 'h'},
-        {"order", 0, NULL, ORDER},
+        {"order", 0, NULL, ORDER},        {"analysis", 1, NULL, ANALYSIS},
         {NULL, 0, NULL, 0},
     };
     output.limit = USUAL_LIMIT;
@@ -123,6 +140,7 @@ static void read_options(int count, char **words)
         case SUPPRESS: options.rules = optarg; break;
         case EXPLAIN: options.explains = true; break;
         case BY_SITE: options.by_site = true; break;
+        case ANALYSIS: options.analysis = read_analysis(optarg); break;
         case FORMAT: options.format = read_format(optarg); break;
         case EXIT_STATUS: options.ends_as_report = is_report(optarg); break;
         case ORDER: trace_orders = true; break;
@@ -136,11 +154,16 @@ static void read_options(int count, char **words)
         fputs("record: --by-site and --format are not given together\n", stderr);
         exit(STATUS_FAILED);
     }
+    if (needs_order() && (options.explains || options.by_site || options.format)) {
+        fputs("record: --explain, --by-site and --format go with --analysis lockset alone\n", stderr);
+        exit(STATUS_FAILED);
+    }
+    trace_orders |= needs_order();
     if (optind == count) {
         fputs(usage, stderr);
         exit(STATUS_FAILED);
     }
-    options.replays |= !options.trace || options.report || options.rules || options.explains || options.by_site || options.format || options.ends_as_report;
+    options.replays |= !options.trace || options.report || options.rules || options.explains || options.by_site || options.format || options.analysis || options.ends_as_report;
 }
 
 /* ---- Processes ---- */
@@ -212,11 +235,15 @@ static void start_replay(void)
     int ends[2];
     const char *command = getenv("ERASER");
     /* The writer ends the trace at its limit, so the replay needs none. This is the greatest that it knows. */
-    char *words[12] = {(char *)(command ? command : "eraser"), "replay", "--byte-limit", "4611686018427387904", NULL};
+    char *words[14] = {(char *)(command ? command : "eraser"), "replay", "--byte-limit", "4611686018427387904", NULL};
     int count = 4;
     if (options.rules) {
         words[count++] = "--suppress";
         words[count++] = (char *)options.rules;
+    }
+    if (options.analysis) {
+        words[count++] = "--analysis";
+        words[count++] = (char *)options.analysis;
     }
     if (options.explains)
         words[count++] = "--explain";

@@ -1,6 +1,6 @@
 //! Answers a list of steps by happens-before, by one machine.
 //!
-//! Nothing in the program uses it yet. Begin with [`OrderMachine`]: it has each thread's holdings, the clocks, and what is kept of
+//! Begin with [`OrderMachine`]: it has each thread's holdings, the clocks, and what is kept of
 //! each word, and `step` answers one more step.
 //!
 //! What it promises, by the names of clauses: a machine that stands for a list of steps answers the next step as the definitions

@@ -1,6 +1,6 @@
 //! Vector clocks: what each thread, lock and object knows of the threads' steps.
 //!
-//! Nothing in the program uses it yet. Begin with [`Clock`]. [`ClockTable`] keeps the clocks of what is in use, by number.
+//! Begin with [`Clock`]. [`ClockTable`] keeps the clocks of what is in use, by number.
 //!
 //! What it promises: a join has of each thread the greater count, a tick adds one to one thread's count, and a clock covers an epoch
 //! exactly if it has the count of the epoch's thread, or a greater one. A call on one clock of a table leaves the others, and a call

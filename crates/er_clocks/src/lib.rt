@@ -1,6 +1,6 @@
 //! The clocks of a list of steps: what each thread, lock and object knows of the threads' steps.
 //!
-//! Nothing in the program uses it yet. Begin with [`Clocks`]. It goes on by one step at a time, and a thread's [`ThreadClock`] says
+//! Begin with [`Clocks`]. It goes on by one step at a time, and a thread's [`ThreadClock`] says
 //! which epochs happen before what the thread does now.
 //!
 //! What it promises, by the names of clauses: clocks that stand for a list of steps stand for the longer list after one more step

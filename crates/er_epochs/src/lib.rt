@@ -1,6 +1,6 @@
 //! What happens-before keeps of each word: the epoch of the last write, and those of the latest reads since.
 //!
-//! Nothing in the program uses it yet. Begin with [`OrderWord`]. [`OrderWords`] has those of all words.
+//! Begin with [`OrderWord`]. [`OrderWords`] has those of all words.
 //!
 //! What it promises, by the names of clauses: an access is reported exactly if the definitions report it by what is kept and by its
 //! thread's clock (`reported`), what is then kept is what they keep (`ok`), and an error changes nothing (`err`). A call on one word

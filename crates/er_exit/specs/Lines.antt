@@ -4,7 +4,7 @@ use Rattle.er_event.specs.Refusal.{text_of as refusal_text}
 use Rattle.er_settle.specs.Texts.{text_of as unsettled_text}
 use Rattle.er_text.specs.Faults.{text_of as kind_text}
 use Rattle.er_exit.specs.declared.faults.Fault.{Fault}
-use Rattle.er_exit.specs.declared.faults.Fault.TheVariants.{Arguments, Text, Suppressions, NoStep, Memory, TableFull, OpenTrace, OpenSuppressions, Read, ReadSuppressions, Write, WriteRules, Refused, WorkerNotStarted, WorkerLost, Unsettled}
+use Rattle.er_exit.specs.declared.faults.Fault.TheVariants.{Arguments, Text, Suppressions, NoStep, Memory, TableFull, CountFull, OpenTrace, OpenSuppressions, Read, ReadSuppressions, Write, WriteRules, Refused, WorkerNotStarted, WorkerLost, Unsettled}
 
 -- a fault in words
 abbrev pub text_of : Fault → List ℕ
@@ -14,6 +14,7 @@ text_of (Suppressions file fault) = kind_text fault.kind
 text_of (NoStep line) = codes "no step"
 text_of Memory = codes "out of memory"
 text_of TableFull = codes "table full"
+text_of CountFull = codes "count full"
 text_of OpenTrace = codes "cannot open trace"
 text_of (OpenSuppressions file) = codes "cannot open suppressions"
 text_of Read = codes "read fault"

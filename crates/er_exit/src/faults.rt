@@ -22,8 +22,10 @@ pub enum Fault {
     NoStep(u64),
     /// There was no memory.
     Memory,
-    /// Several workers wanted more sets of locks than the table takes.
+    /// Several workers, or both analyses, wanted more sets of locks than the table takes.
     TableFull,
+    /// A thread has come to 2^32 - 1 releases, starts and signals, and would come to one more.
+    CountFull,
     /// The trace can't be opened.
     OpenTrace,
     /// The suppressions can't be opened, of several files the one of that number.
@@ -55,6 +57,7 @@ impl Fault {
             Fault::Arguments | Fault::Text(_) | Fault::Suppressions(..) | Fault::NoStep(_) => 2,
             Fault::Memory
             | Fault::TableFull
+            | Fault::CountFull
             | Fault::Refused(_)
             | Fault::WorkerNotStarted
             | Fault::WorkerLost
@@ -78,6 +81,7 @@ impl Fault {
             Fault::NoStep(_) => "no step",
             Fault::Memory => "out of memory",
             Fault::TableFull => "table full",
+            Fault::CountFull => "count full",
             Fault::OpenTrace => "cannot open trace",
             Fault::OpenSuppressions(_) => "cannot open suppressions",
             Fault::Read | Fault::ReadSuppressions(_) => "read fault",

@@ -1,6 +1,6 @@
 //! Happens-before: which steps of a list come before which in order, which accesses race by it, and the laws of both.
 //!
-//! Nothing in the program uses it yet. Begin with the definitions in `specs/`: `Order` says what happens before what, `Races` which
+//! Begin with the definitions in `specs/`: `Order` says what happens before what, `Races` which
 //! accesses race and what each step is answered, `Clocks` what the vector clocks of a list are.
 //!
 //! What it promises: order is the least relation that is closed under chains (`order_is_by_chains`); vector clocks decide it

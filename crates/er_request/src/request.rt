@@ -29,6 +29,8 @@ pub struct Replay<'a> {
     pub max_races: Option<u64>,
     /// The path of the trace, or `-` for standard input.
     pub trace: &'a str,
+    /// By which rule accesses are races.
+    pub analysis: Analysis,
     /// How the report is written.
     pub format: Format,
     /// The path of the folder that has the source files, if the page is to show lines of them. Given only with [`Format::Html`].
@@ -58,6 +60,17 @@ pub struct Explain<'a> {
     /// How many bytes the trace may have, at most 2^62.
     pub byte_limit: u64,
     pub ghost few_bytes: { byte_limit ≤ 2 ^ 62 },
+}
+
+/// By which rule accesses are races.
+#[derive(Clone, Copy, Debug, PartialEq, Eq, Drop)]
+pub enum Analysis {
+    /// No lock was held at each access of the word.
+    Lockset,
+    /// Two accesses were not ordered in this run.
+    HappensBefore,
+    /// Each of the two, with a report of its own.
+    Both,
 }
 
 /// How a report is written.
@@ -183,6 +196,17 @@ fn with_forms<'a>(alloc: Global, command: Command<'a>) -> Result<Command<'a>, Al
     command.arg(source_option(alloc))
 }
 
+fn analysis_option<'a>(alloc: Global) -> Arg<'a> {
+    Arg::new(alloc, "analysis")
+        .long("analysis")
+        .value_name("ANALYSIS")
+        .value_parser(ANALYSES.as_slice())
+        .default_value("lockset")
+        .help(
+            "Report accesses that no lock protects, accesses that were not ordered in this run, or both",
+        )
+}
+
 // The options that say how the trace is replayed.
 fn with_limits<'a>(alloc: Global, command: Command<'a>) -> Result<Command<'a>, AllocError> {
     let workers = count(
@@ -213,6 +237,7 @@ fn byte_limit<'a>(alloc: Global) -> Arg<'a> {
 
 fn replay_command<'a>(alloc: Global) -> Result<Command<'a>, AllocError> {
     let command = Command::new(alloc, "replay").about("Replay a trace and report its races");
+    let command = command.arg(analysis_option(alloc))?;
     let command = with_rules(alloc, command)?;
     let command = with_forms(alloc, command)?;
     let command = with_limits(alloc, command)?;
@@ -251,6 +276,8 @@ prints
     access 1: line 2, t1 write at -, holding none: exclusive t1
 
 The earlier accesses are those that count since the word's last reuse. Each one that changed the word's state has a line.";
+
+const ANALYSES: [&str; 3] = ["lockset", "happens-before", "both"];
 
 const FORMS: [&str; 4] = ["text", "json", "sarif", "html"];
 
@@ -322,6 +349,15 @@ fn demo_of(name: &str) -> Option<Demo> {
     }
 }
 
+fn analysis_of(name: &str) -> Option<Analysis> {
+    match name {
+        "lockset" => Some(Analysis::Lockset),
+        "happens-before" => Some(Analysis::HappensBefore),
+        "both" => Some(Analysis::Both),
+        _ => None,
+    }
+}
+
 fn format_of(by_site: bool, form: &str) -> Option<Format> {
     match (by_site, form) {
         (true, _) => Some(Format::BySite),
@@ -360,6 +396,7 @@ fn replay_of<'a>(found: &ArgMatches<'a>, suppressions: Vec<&'a str>) -> Option<R
     if byte_limit > MOST_BYTES {
         return None;
     }
+    let analysis = analysis_of(found.get_str("analysis")?)?;
     let format = format_of(found.get_flag("by-site"), found.get_str("format")?)?;
     Some(Replay {
         suppressions,
@@ -367,6 +404,7 @@ fn replay_of<'a>(found: &ArgMatches<'a>, suppressions: Vec<&'a str>) -> Option<R
         unused_rules: found.get_flag("unused-rules"),
         max_races: found.get_one::<u64>("max-races"),
         trace: found.get_str("trace")?,
+        analysis,
         format,
         source: found.get_str("source"),
         explain: has_reasons(format) || found.get_flag("explain"),
@@ -421,6 +459,30 @@ fn lacks_page(request: &Request<'_>) -> bool {
     }
 }
 
+// Whether a report of unordered accesses is asked for in a form that it doesn't have.
+fn lacks_form(request: &Request<'_>) -> bool {
+    match request {
+        Request::Replay(replay) => {
+            replay.analysis != Analysis::Lockset
+                && (replay.explain || replay.format != Format::Text)
+        }
+        Request::Explain(_) | Request::Demo(_) => false,
+    }
+}
+
+// Whether more than two reports is asked for of both analyses.
+fn asks_more_of_both(request: &Request<'_>) -> bool {
+    match request {
+        Request::Replay(replay) => {
+            replay.analysis == Analysis::Both
+                && (replay.write_rules.is_some()
+                    || replay.unused_rules
+                    || replay.max_races.is_some())
+        }
+        Request::Explain(_) | Request::Demo(_) => false,
+    }
+}
+
 // Whether the file that gets rules is one of those whose rules are asked: they would be lost.
 fn overwrites_rules(request: &Request<'_>) -> bool {
     match request {
@@ -440,6 +502,14 @@ pub fn read_request<'a>(alloc: Global, words: &'a [String]) -> Result<Request<'a
         Some(request) if lacks_page(&request) => Err(command.error(
             ErrorKind::ArgumentConflict,
             "--source goes with --format html alone",
+        )?),
+        Some(request) if lacks_form(&request) => Err(command.error(
+            ErrorKind::ArgumentConflict,
+            "--explain, --by-site and --format go with --analysis lockset alone",
+        )?),
+        Some(request) if asks_more_of_both(&request) => Err(command.error(
+            ErrorKind::ArgumentConflict,
+            "--write-rules, --unused-rules and --max-races do not go with --analysis both",
         )?),
         Some(request) if overwrites_rules(&request) => Err(command.error(
             ErrorKind::ArgumentConflict,

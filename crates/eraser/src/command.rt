@@ -8,12 +8,14 @@ ghost use Rattle.er_request.specs.declared.request.Format.TheVariants.{Text};
 ghost use Rattle.er_run.specs.Replays.{IsReplayed};
 ghost use Rattle.er_triage.specs.Notes.{AreNotes};
 ghost use Rattle.eraser.specs.Notes.{AsksNoNotes, GetsNotes};
-ghost use Rattle.eraser.specs.Replays.{EndsAs, IsPlain, ReplaysTo};
+ghost use Rattle.er_unordered.specs.declared.replay.Analysis.{Analysis as Order};
+ghost use Rattle.eraser.specs.Replays.{EndsAs, EndsBy, IsPlain, IsPlainBy, ReplaysTo};
 
 use crate::advice::report_replay_fault;
+use crate::analyses::{order_of, replay_by_order};
 use crate::faults::fault_of;
 use crate::rules::suppressions_of;
-use crate::sorting::{Ended, replay_and_sort, status_of};
+use crate::sorting::{Ended, asks_more, replay_and_sort, status_of};
 use crate::stories::explain_step;
 use clap::error::ErrorKind;
 use er_device::Device;
@@ -222,6 +224,7 @@ where
     ensures notes { IfOk result (λ ended. AreNotes ended.notes.items) }
     ensures silent { replay.now.unused_rules ≡ false → replay.now.max_races ≡ None → IfOk result (λ ended. ended.notes.items ≡ []) }
     ensures report { IsPlain replay.now → replay.now.suppressions.items ≡ [] → replay.now.trace.now ≡ codes "-" → IfOk result (λ ended. IfSome (I.remaining (inner_of input.old)) (λ text. ReplaysTo text replay.now.byte_limit replay.now.explain (O.contents (inner_of output.old)) (O.contents (inner_of output.new)) ended.status)) }
+    ensures report_by { (analysis : Order) → IsPlainBy analysis replay.now → replay.now.suppressions.items ≡ [] → replay.now.trace.now ≡ codes "-" → IfOk result (λ ended. IfSome (I.remaining (inner_of input.old)) (λ text. EndsBy analysis text replay.now.byte_limit [] replay.now.explain (O.contents (inner_of output.old)) (O.contents (inner_of output.new)) ended.status)) }
     ensures nothing { IfErr result (LeavesOutput (O.contents (inner_of output.old)) (O.contents (inner_of output.new))) }
 {
     let options = options_of(replay);
@@ -247,6 +250,7 @@ where
     ensures notes { IfOk result (λ ended. AreNotes ended.notes.items) }
     ensures silent { replay.now.unused_rules ≡ false → replay.now.max_races ≡ None → IfOk result (λ ended. ended.notes.items ≡ []) }
     ensures report { IsPlain replay.now → replay.now.trace.now ≡ codes "-" → IfOk result (λ ended. IfSome (I.remaining (inner_of input.old)) (λ text. EndsAs text options.now.byte_limit (targets_of suppressions.now) options.now.explain (O.contents (inner_of output.old)) (O.contents (inner_of output.new)) ended.status)) }
+    ensures report_by { (analysis : Order) → IsPlainBy analysis replay.now → replay.now.trace.now ≡ codes "-" → IfOk result (λ ended. IfSome (I.remaining (inner_of input.old)) (λ text. EndsBy analysis text options.now.byte_limit (targets_of suppressions.now) options.now.explain (O.contents (inner_of output.old)) (O.contents (inner_of output.new)) ended.status)) }
     ensures nothing { IfErr result (LeavesOutput (O.contents (inner_of output.old)) (O.contents (inner_of output.new))) }
 {
     if replay.trace == "-" {
@@ -278,9 +282,21 @@ where
     ensures notes { IfOk result (λ ended. AreNotes ended.notes.items) }
     ensures silent { replay.now.unused_rules ≡ false → replay.now.max_races ≡ None → IfOk result (λ ended. ended.notes.items ≡ []) }
     ensures report { IsPlain replay.now → IfOk result (λ ended. IfSome (D.remaining (inner_of source.old)) (λ text. EndsAs text options.now.byte_limit (targets_of suppressions.now) options.now.explain (O.contents (inner_of output.old)) (O.contents (inner_of output.new)) ended.status)) }
+    ensures report_by { (analysis : Order) → IsPlainBy analysis replay.now → IfOk result (λ ended. IfSome (D.remaining (inner_of source.old)) (λ text. EndsBy analysis text options.now.byte_limit (targets_of suppressions.now) options.now.explain (O.contents (inner_of output.old)) (O.contents (inner_of output.new)) ended.status)) }
     ensures nothing { IfErr result (LeavesOutput (O.contents (inner_of output.old)) (O.contents (inner_of output.new))) }
 {
-    if asks_more(replay) {
+    if let Some(analysis) = order_of(replay.analysis) {
+        return replay_by_order(
+            rt,
+            replay,
+            analysis,
+            source,
+            output,
+            suppressions,
+            options,
+        );
+    }
+    if asks_more(replay) || shows_sources(replay) {
         return replay_and_sort(rt, replay, source, output, suppressions, options);
     }
     match replay_in(rt, replay.format, source, output, suppressions, options) {
@@ -292,14 +308,11 @@ where
     }
 }
 
-// Whether more is asked for than a report.
-fn asks_more(replay: &Replay<'_>) -> bool
-    ensures { IsPlain replay.now → result ≡ false }
+// Whether the page that is asked for shows lines of source files.
+fn shows_sources(replay: &Replay<'_>) -> bool
+    ensures { replay.now.format ≡ Text → result ≡ false }
 {
-    replay.write_rules.is_some()
-        || replay.unused_rules
-        || replay.max_races.is_some()
-        || (matches!(replay.format, Format::Html) && replay.source.is_some())
+    matches!(replay.format, Format::Html) && replay.source.is_some()
 }
 
 // Replays what the reader gives, and writes the report in the format that was asked for.

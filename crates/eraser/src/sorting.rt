@@ -5,7 +5,8 @@ ghost use Rattle.er_exit.specs.declared.faults.Fault.TheVariants.{Memory, WriteR
 ghost use Rattle.er_exit.specs.Writes.{LeavesOutput};
 ghost use Rattle.er_report.specs.Names.{HasNames};
 ghost use Rattle.er_triage.specs.Notes.{AreNotes};
-ghost use Rattle.eraser.specs.Replays.{verdict_status};
+ghost use Rattle.er_unordered.specs.declared.replay.Analysis.{Analysis as Order};
+ghost use Rattle.eraser.specs.Replays.{IsPlain, IsPlainBy, verdict_status};
 
 use crate::faults::fault_of;
 use crate::rules::write_rules;
@@ -49,6 +50,14 @@ pub(crate) fn status_of(verdict: Verdict) -> u8
     }
 }
 
+/// Whether more is asked of a report than its text.
+pub(crate) fn asks_more(replay: &Replay<'_>) -> bool
+    ensures plain { IsPlain replay.now → result ≡ false }
+    ensures plain_by { (analysis : Order) → IsPlainBy analysis replay.now → result ≡ false }
+{
+    replay.write_rules.is_some() || replay.unused_rules || replay.max_races.is_some()
+}
+
 /// Replays what the reader gives, writes the report as it is asked for, and then the file of rules, unless the replay stopped.
 pub(crate) fn replay_and_sort<R, D, O>(
     rt: &R,
@@ -87,8 +96,8 @@ where
     finish(rt, replay.write_rules, triaged)
 }
 
-// The report as it is asked for, and what is asked for besides.
-fn sorted(
+/// The report as it is asked for, and what is asked for besides.
+pub(crate) fn sorted(
     alloc: Global,
     report: Report,
     trace: &Trace,
@@ -147,8 +156,8 @@ fn write_as<O: Write>(
     }
 }
 
-// Writes the file of rules behind the report, unless the replay stopped.
-fn finish<R: Files>(rt: &R, path: Option<&str>, triaged: Triaged) -> Result<Ended, Fault>
+/// Writes the file of rules behind the report, unless the replay stopped.
+pub(crate) fn finish<R: Files>(rt: &R, path: Option<&str>, triaged: Triaged) -> Result<Ended, Fault>
     requires { AreNotes triaged.notes.items }
     ensures status { IfOk result (λ ended. (ended.status ≤ 4) × (ended.status ≢ 2)) }
     ensures notes { IfOk result (λ ended. ended.notes.items ≡ triaged.notes.items) }

@@ -1,0 +1,260 @@
+#!/usr/bin/env python3
+"""`eraser replay --analysis happens-before` and `both`, beside a second reading: happens-before by chains of steps, without clocks.
+
+- worked traces give the reports of tests/analysis/*.txt, by path, by standard input and with several workers
+- random traces give what tests/order_reference.py and tests/reference.py say of them, with suppressions and without: traces of all three
+  texts, a quarter of them damaged, and lists of text 3 in which every sort of order stands
+- `both` writes the report of the one analysis, and then that of the other
+- `--analysis lockset` writes what stands without it
+- `--write-rules`, `--unused-rules` and `--max-races` with happens-before: the rules take all unordered accesses, and so on
+- each allocation refused in turn, each read and each write failed in turn
+- steps, a fault and unordered accesses on both sides of the ends of batches
+- what does not go together is refused
+"""
+
+import os
+import pathlib
+import re
+import subprocess
+import sys
+import tempfile
+
+sys.path.insert(0, str(pathlib.Path(__file__).parent))
+sys.dont_write_bytecode = True
+import order_reference
+import order_tests
+import reference
+from alone import each_failed, each_refused, run_alone
+from site_tests import preloaded
+
+TOP = pathlib.Path(__file__).resolve().parent.parent
+PROGRAM = TOP / "crates/eraser/out/eraser"
+CASES = TOP / "tests/analysis"
+RANDOM_TRACES = 400
+RANDOM_LISTS = 700
+BATCH = 1024
+HAPPENS_BEFORE, BOTH = ["--analysis", "happens-before"], ["--analysis", "both"]
+
+
+def run(words, text=b"", **more):
+    done = subprocess.run([str(PROGRAM), "replay", *words], input=text, capture_output=True, timeout=120, **more)
+    return done.stdout, done.stderr, done.returncode
+
+
+def run_with(rules, text, *options):
+    """A replay of a text from standard input, by these suppressions if there are some."""
+    if rules is None:
+        return run([*options, "-"], text)
+    with tempfile.NamedTemporaryFile() as file:
+        file.write(rules)
+        file.flush()
+        return run([*options, "--suppress", file.name, "-"], text)
+
+
+# ---- A second reading ----
+
+
+class Noting(reference.Replay):
+    """A replay that also notes the locks that the thread of each counted access holds, by the access's line."""
+
+    def __init__(self):
+        super().__init__([])
+        self.holds = {}
+
+    def access(self, line, thread, verb, operands):
+        self.holds[line] = self.names(self.cover(thread, b"read"))
+        super().access(line, thread, verb, operands)
+
+
+def taker_of(rules, step):
+    """The first rule that takes the access, counted from 0."""
+    return next((k for k, rule in enumerate(rules) if reference.takes(rule, step.site.encode(), step.words.start)), None)
+
+
+def unordered_report(text, rules):
+    """The report of a text that has no fault."""
+    noting = Noting()
+    for line, (thread, verb, operands) in reference.events_of(text):
+        noting.step(line, thread, verb, operands)
+    lines = [(int(line.split(":")[0].removeprefix("line ")), line) for line in noting.lines if re.match(r"line \d+: refused: ", line)]
+    taken, races = [0] * len(rules), 0
+    for race in order_reference.races(order_reference.mark(order_reference.read(text))):
+        step, taker = race.marked.step, taker_of(rules, race.marked.step)
+        if taker is not None:
+            taken[taker] += 1
+            continue
+        races += 1
+        address = f"0x{step.words.start * 4:012x}"
+        lines.append((step.line, f"line {step.line}: unordered: {step.thread} {step.verb} {address} at {step.site}, holds {noting.holds[step.line]}"))
+    found = [line for _, line in sorted(lines)]
+    found += [f"suppression {number}: {count}" for number, count in enumerate(taken, 1)]
+    found.append(f"steps {noting.steps}, unordered {races}, suppressed {sum(taken)}, refused {noting.refused}")
+    return "".join(line + "\n" for line in found), 1 if races else 0
+
+
+def expected(text, rules, analysis):
+    """What a replay by this analysis writes to both streams, and its status."""
+    output, errors, status = reference.replay(text, rules or b"")
+    if status == 2:
+        return output.encode(), errors.encode(), status
+    unordered, unordered_status = unordered_report(text, reference.rules_of(rules or b""))
+    if analysis == "happens-before":
+        return unordered.encode(), b"", unordered_status
+    return (output + unordered).encode(), b"", max(status, unordered_status)
+
+
+# ---- Worked traces ----
+
+
+def worked(record):
+    """Each case is a trace, the report by happens-before below `->`, and what the lockset rule reports below `and by locks ->`."""
+    names = []
+    for path in sorted(CASES.glob("*.txt")):
+        for case in path.read_text().split("\n== ")[1:]:
+            name, _, body = case.partition("\n")
+            trace, ordered = body.split("\n->\n")
+            ordered, by_locks = ordered.split("and by locks ->\n")
+            text, rest = trace.strip().encode() + b"\n", by_locks.split("\n\n")[0].strip() + "\n"
+            names.append(name)
+            status = 1 if ": unordered: " in ordered else 0
+            wanted = (ordered.encode(), b"", status)
+            both = ((rest + ordered).encode(), b"", 1 if ": race: " in rest else status)
+            with tempfile.NamedTemporaryFile() as file:
+                file.write(text)
+                file.flush()
+                for options in ([], ["--workers", "2"], ["--workers", "7", "--shards", "3"]):
+                    for analysis, want in ((HAPPENS_BEFORE, wanted), (BOTH, both)):
+                        by_path, by_input = run([*analysis, *options, file.name]), run([*analysis, *options, "-"], text)
+                        record(f"{analysis[1]}: {name} {options}", by_path == by_input == want, f"{by_path}, {by_input}")
+    record("analyses: worked traces are found", len(names) >= 10, f"{names}")
+
+
+# ---- Random traces ----
+
+
+def random_traces(record):
+    texts = [(f"random trace {seed}", reference.random_trace(seed), rules) for seed in range(RANDOM_TRACES) for rules in (None, reference.random_rules(seed))]
+    texts += [(f"random list {seed}", order_tests.random_list(seed), None) for seed in range(RANDOM_LISTS)]
+    racy = 0
+    for at, (name, text, rules) in enumerate(texts):
+        for analysis in (HAPPENS_BEFORE, BOTH):
+            want, crew = expected(text, rules, analysis[1]), ([], ["--workers", "2"], ["--workers", "7"])[at % 3]
+            found = run_with(rules, text, *analysis, *crew)
+            record(f"{analysis[1]}: {name}{'' if rules is None else ' with suppressions'} {crew}", found == want, f"{found}, not {want}")
+            racy += b": unordered: " in want[0]
+    record("analyses: some random traces have unordered accesses, and some have none", len(texts) // 5 < racy < len(texts) * 9 // 5, f"{racy} of {len(texts)}")
+    for seed in range(50):
+        text = reference.random_trace(seed)
+        record(f"lockset: random trace {seed}", run(["--analysis", "lockset", "-"], text) == run(["-"], text))
+
+
+# ---- What is made of a report besides ----
+
+
+RACY = b"""eraser trace 3
+t1 write 0x1000 a.c:1
+t1 write 0x2000 a.c:2
+t1 write 0x3000 a.c:3
+t2 read 0x1000 b.c:1
+t2 read 0x2000 b.c:2
+t2 write 0x3000 b.c:3
+end
+"""
+
+
+def more_of_a_report(record):
+    with tempfile.TemporaryDirectory() as folder:
+        rules = pathlib.Path(folder) / "known.rules"
+        first = run([*HAPPENS_BEFORE, "--write-rules", str(rules), "-"], RACY)
+        record("happens-before: rules are written", first == run([*HAPPENS_BEFORE, "-"], RACY) and rules.exists(), f"{first}")
+        again = run([*HAPPENS_BEFORE, "--suppress", str(rules), "-"], RACY)
+        want = b"suppression 1: 1\nsuppression 2: 1\nsuppression 3: 1\nsteps 6, unordered 0, suppressed 3, refused 0\n"
+        record("happens-before: the rules that were written take all", again == (want, b"", 0), f"{again}")
+        other = pathlib.Path(folder) / "other.rules"
+        other.write_text("site nowhere.c:1\nsite b.c:2\n")
+        found = run([*HAPPENS_BEFORE, "--suppress", str(other), "--unused-rules", "-"], RACY)
+        plain = run([*HAPPENS_BEFORE, "--suppress", str(other), "-"], RACY)
+        record("happens-before: unused rules are named", found[::2] == plain[::2] and b"1" in found[1] and found[1].count(b"\n") == 1, f"{found}")
+    whole, found = run([*HAPPENS_BEFORE, "-"], RACY), run([*HAPPENS_BEFORE, "--max-races", "1", "-"], RACY)
+    lines = whole[0].splitlines(keepends=True)
+    record("happens-before: the first races alone", found[0] == lines[0] + lines[-1] and found[2] == 1 and found[1].count(b"\n") == 1, f"{found}")
+
+
+# ---- Want of memory, failed reads and writes, batches ----
+
+
+def refusals(record, preloaded):
+    with tempfile.TemporaryDirectory() as folder:
+        library, trace = preloaded(folder, "refuse"), pathlib.Path(folder) / "trace"
+        lines = ["eraser trace 3", "t1 start t2", *(f"t{1 + k % 3} {verb}" for k in range(12) for verb in ("lock m", f"write {4096 * k} s{k}", f"read {64 * k}", "unlock m", f"signal x{k}", f"await x{k - 1}"))]
+        trace.write_text("\n".join(lines) + "\n")
+        for analysis in (HAPPENS_BEFORE, BOTH):
+            whole, met = run([*analysis, str(trace)]), set()
+            record(f"{analysis[1]}: the trace for refusals is a trace", whole[2] in (0, 1) and b"steps" in whole[0], f"{whole}")
+            for nth, found, was_refused in each_refused(library, folder, lambda env: run([*analysis, str(trace)], env=env)):
+                is_told = was_refused and found == (b"", b"out of memory\n", 3)
+                record(f"{analysis[1]}: without allocation {nth}", is_told or found == whole, f"{found}")
+                met.add(found[2])
+            record(f"{analysis[1]}: refused allocations are told", 3 in met, f"{met}")
+        library = preloaded(folder, "pieces")
+        trace.write_bytes(RACY)
+        for analysis in (HAPPENS_BEFORE, BOTH):
+            words = [*analysis, str(trace)]
+            whole = run(words)
+            found = run(words, env={**os.environ, "LD_PRELOAD": str(library), "PIECE": "1"})
+            record(f"{analysis[1]}: byte by byte", found == whole, f"{found}")
+            fell = 0
+            for nth, found, has_failed in each_failed(library, folder, "FAIL_READ", "FAIL_FOUND", lambda env: run(words, env={**env, "PIECE": "20"})):
+                record(f"{analysis[1]}: with read {nth} failed", found == ((b"", b"read fault\n", 4) if has_failed else whole), f"{found}")
+                fell += has_failed
+            record(f"{analysis[1]}: with reads failed", fell > 2, f"{fell}")
+            fell = 0
+            for nth, found, has_failed in each_failed(library, folder, "FAIL_WRITE", "FAIL_FOUND", lambda env: run(words, env={**env, "PIECE": "1"})):
+                record(f"{analysis[1]}: with write {nth} failed", found == ((whole[0][: nth - 1], b"write fault\n", 4) if has_failed else whole), f"{found}")
+                fell += has_failed
+            record(f"{analysis[1]}: with writes failed", fell == len(whole[0]), f"{fell}")
+
+
+def batches(record):
+    """What orders two accesses, and what doesn't, on both sides of the ends of batches, and a fault behind them."""
+    for number in [*range(BATCH - 5, BATCH + 3), *range(2 * BATCH - 5, 2 * BATCH + 3)]:
+        lines = ["t1 write 0x1000 a", "t1 write 0x2000 a", "t1 signal x", "t2 await x", "t2 write 0x1000 b", "t3 write 0x2000 c"]
+        text = ("eraser trace 3\n" + "\n" * (number - 2) + "".join(line + "\n" for line in lines)).encode()
+        want = f"line {number + 5}: unordered: t3 write 0x000000002000 at c, holds none\nsteps 6, unordered 1, suppressed 0, refused 0\n".encode()
+        found = run([*HAPPENS_BEFORE, "-"], text)
+        record(f"happens-before: steps from line {number} on", found == (want, b"", 1), f"{found}")
+        found = run([*BOTH, "-"], text)
+        record(f"both: steps from line {number} on", found == (run(["-"], text)[0] + want, b"", 1), f"{found}")
+        for analysis in (HAPPENS_BEFORE, BOTH):
+            found = run([*analysis, "-"], text + b"t1 hop\n")
+            record(f"{analysis[1]}: a fault behind steps from line {number} on", found == (b"", f"line {number + 6}: bad verb\n".encode(), 2), f"{found}")
+
+
+# ---- What does not go together ----
+
+
+def wrong_arguments(record):
+    for analysis in (HAPPENS_BEFORE, BOTH):
+        for more in (["--explain"], ["--by-site"], ["--format", "json"], ["--format", "sarif"], ["--format", "html"]):
+            output, errors, status = run([*analysis, *more, "-"], RACY)
+            record(f"{analysis[1]} with {more}", (output, status) == (b"", 2) and b"--analysis" in errors, f"{errors}")
+    for more in (["--write-rules", "/nonexistent/rules"], ["--unused-rules"], ["--max-races", "1"]):
+        output, errors, status = run([*BOTH, *more, "-"], RACY)
+        record(f"both with {more}", (output, status) == (b"", 2) and b"--analysis" in errors, f"{errors}")
+    output, errors, status = run(["--analysis", "neither", "-"], RACY)
+    record("an analysis that there is not", (output, status) == (b"", 2) and b"invalid value 'neither'" in errors, f"{errors}")
+    for more in (["--explain"], ["--by-site"], ["--format", "json"]):
+        record(f"lockset with {more}", run(["--analysis", "lockset", *more, "-"], RACY) == run([*more, "-"], RACY))
+
+
+def tests(record, preloaded):
+    worked(record)
+    random_traces(record)
+    more_of_a_report(record)
+    refusals(record, preloaded)
+    batches(record)
+    wrong_arguments(record)
+
+
+if __name__ == "__main__":
+    run_alone(tests, preloaded)
