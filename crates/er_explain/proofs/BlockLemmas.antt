@@ -1,5 +1,5 @@
 -- One book, or some that lie side by side, change in one block: what that makes of the books of all words.
-use Rattle.std.proofs.Common.{◌≡◌, ◌≢◌, ◌∙◌, ◌==◌, ℕ, zero, suc, ◌+◌, ◌<◌, ◌≤◌, ◌/◌, ◌%◌, ◌&&◌, nat_eq, nat_le, nat_lt, Bool, true, false, cond, List, [], ◌∷◌, ◌++◌, length, get_or, position, slice_get, slice_index_or, slice_set, Option, Some, None, refl, sym, ap, arith}
+use Rattle.std.proofs.Common.{◌≡◌, ◌≢◌, ◌∙◌, ◌==◌, ℕ, zero, suc, ◌+◌, ◌<◌, ◌≤◌, ◌/◌, ◌%◌, ◌&&◌, nat_eq, nat_le, nat_lt, Bool, true, false, cond, List, [], ◌∷◌, ◌++◌, length, get_or, position, replicate, slice_get, slice_index_or, slice_set, Option, Some, None, ◌⊎◌, inl, inr, refl, sym, ap, arith}
 use Rattle.std.specs.Cmp.{nat_eq_equiv}
 use Rattle.std.specs.Map.{lookup, keys_of, values_of}
 use Rattle.std.proofs.lemmas.Bool.Decides.{nat_tests}
@@ -11,7 +11,9 @@ use Rattle.indexmap.proofs.CallerLemmas.{updates-with_value_at}
 use borrow.Author.Tests.{eqb-true, eqb-false, eq-eqb, lt-ltb}
 use Rattle.er_event.specs.declared.addresses.PageRange.{PageRange}
 use Rattle.er_model.specs.Words.{is_within}
-use Rattle.er_explain.specs.Inner.Slots.{listed, slot_book, kept_book, kept_books}
+use Rattle.er_explain.specs.Inner.Slots.{listed, slot_at, emptied, slot_book, kept_books, book_number, AreApart}
+use Rattle.er_explain.specs.declared.block.Slot.{Slot}
+use Rattle.er_explain.specs.declared.block.Slot.TheVariants.{Free, Emptied, Kept}
 use Rattle.er_explain.specs.WordBooks.{Blocks, book_at_place, book_in_block, book_in, is_place_in}
 use Rattle.er_explain.specs.declared.book.Book.{Book}
 use Rattle.er_explain.specs.declared.book.Book.TheVariants.{Untouched}
@@ -75,6 +77,108 @@ put_before f place v is i = by (nat_eq place i) refl
     by : (at : Bool) → nat_eq place i ≡ at → f i ≡ cond at v (f i)
     by true e = ap f (sym (eqb-true place i e)) ∙ is
     by false e = refl
+
+-- Slots
+
+free_at : (n i : ℕ) → slot_at (replicate n Free) i ≡ Free
+free_at zero i = refl
+free_at (suc n) zero = refl
+free_at (suc n) (suc i) = free_at n i
+
+all_free : (slots : List Slot) → slots ≡ replicate 128 Free → (i : ℕ) → slot_at slots i ≡ Free
+all_free slots free i = ap (λ all. slot_at all i) free ∙ free_at 128 i
+
+-- no slot has a book
+pub apart-free : (slots : List Slot) (count : ℕ) → slots ≡ replicate 128 Free → AreApart slots count
+apart-free slots count free = record { within = λ i n is. absurd (none i n is); apart = λ i j n is that. absurd (none i n is) }
+  where
+    none : (i n : ℕ) → book_number (slot_at slots i) ≡ Some n → ⊥
+    none i n is = let never : None ≡ Some n = sym (ap book_number (all_free slots free i)) ∙ is in cc
+
+-- each slot has the book that it had
+pub apart-same : (slots left : List Slot) (count more : ℕ) → AreApart slots count → count ≡ more → ((i : ℕ) → book_number (slot_at left i) ≡ book_number (slot_at slots i)) → AreApart left more
+apart-same slots left count more was long same = record {
+  within = λ i n is. near n (was.within i n (sym (same i) ∙ is));
+  apart = λ i j n is that. was.apart i j n (sym (same i) ∙ is) (sym (same j) ∙ that);
+}
+  where
+    near : (n : ℕ) → n < count → n < more
+    near n below = omega (arith, long, below)
+
+-- a slot counts again
+pub put_again : (slots left : List Slot) (place number : ℕ) → book_number (slot_at slots place) ≡ Some number
+    → ((i : ℕ) → slot_at left i ≡ cond (nat_eq place i) (Kept number) (slot_at slots i)) → (i : ℕ) → book_number (slot_at left i) ≡ book_number (slot_at slots i)
+put_again slots left place number own put i = ap book_number (put i) ∙ by (nat_eq place i) refl
+  where
+    by : (at : Bool) → nat_eq place i ≡ at → book_number (cond at (Kept number) (slot_at slots i)) ≡ book_number (slot_at slots i)
+    by true e = sym own ∙ ap (λ k. book_number (slot_at slots k)) (eqb-true place i e)
+    by false e = refl
+
+-- some slots are emptied
+pub left_empty : (slots left : List Slot) (test : ℕ → Bool) → ((i : ℕ) → slot_at left i ≡ cond (test i) (emptied (slot_at slots i)) (slot_at slots i))
+    → (i : ℕ) → book_number (slot_at left i) ≡ book_number (slot_at slots i)
+left_empty slots left test fewer i = ap book_number (fewer i) ∙ by (test i) (slot_at slots i)
+  where
+    by : (t : Bool) (slot : Slot) → book_number (cond t (emptied slot) slot) ≡ book_number slot
+    by true Free = refl
+    by true (Emptied n) = refl
+    by true (Kept n) = refl
+    by false slot = refl
+
+-- a slot gets a new book
+pub apart-more : (slots left : List Slot) (place number more : ℕ) → AreApart slots number → more ≡ number + 1
+    → ((i : ℕ) → slot_at left i ≡ cond (nat_eq place i) (Kept number) (slot_at slots i)) → AreApart left more
+apart-more slots left place number more was long put = record {
+  within = λ i n is. near i n (found i n (nat_eq place i) refl (sym (ap book_number (put i)) ∙ is));
+  apart = λ i j n is that. meet i j n (found i n (nat_eq place i) refl (sym (ap book_number (put i)) ∙ is)) (found j n (nat_eq place j) refl (sym (ap book_number (put j)) ∙ that));
+}
+  where
+    some_same : (a b : ℕ) → Some a ≡ Some b → a ≡ b
+    some_same a b e = cc
+
+    -- the slot is the new one, or as it was
+    found : (i n : ℕ) (at : Bool) → nat_eq place i ≡ at → book_number (cond at (Kept number) (slot_at slots i)) ≡ Some n
+        → ((place ≡ i) × (number ≡ n)) ⊎ (book_number (slot_at slots i) ≡ Some n)
+    found i n true e is = inl (eqb-true place i e, some_same number n is)
+    found i n false e is = inr is
+
+    near : (i n : ℕ) → ((place ≡ i) × (number ≡ n)) ⊎ (book_number (slot_at slots i) ≡ Some n) → n < more
+    near i n (inl new) = let same : number ≡ n = new.1 in omega (arith, long, same)
+    near i n (inr old) = let below : n < number = was.within i n old in omega (arith, long, below)
+
+    past : (n : ℕ) → number ≡ n → n < number → ⊥
+    past n same below = omega (arith, same, below)
+
+    meet : (i j n : ℕ) → ((place ≡ i) × (number ≡ n)) ⊎ (book_number (slot_at slots i) ≡ Some n) → ((place ≡ j) × (number ≡ n)) ⊎ (book_number (slot_at slots j) ≡ Some n) → i ≡ j
+    meet i j n (inl this) (inl that) = sym this.0 ∙ that.0
+    meet i j n (inl this) (inr that) = absurd (past n this.1 (was.within j n that))
+    meet i j n (inr this) (inl that) = absurd (past n that.1 (was.within i n this))
+    meet i j n (inr this) (inr that) = was.apart i j n this that
+
+-- one slot more is emptied
+pub emptied-more : (f g h : ℕ → Slot) (start place : ℕ) (slot : Slot) → start ≤ place
+    → ((i : ℕ) → g i ≡ cond (nat_le start i && nat_lt i place) (emptied (f i)) (f i)) → slot ≡ emptied (g place)
+    → ((i : ℕ) → h i ≡ cond (nat_eq place i) slot (g i)) → (i : ℕ) → h i ≡ cond (nat_le start i && nat_lt i (place + 1)) (emptied (f i)) (f i)
+emptied-more f g h start place slot ordered so_far is put i = put i ∙ by (nat_eq place i) refl
+  where
+    behind : (nat_le start place && nat_lt place place) ≡ false
+    behind = grind (arith, nat_tests)
+
+    now : place ≡ i → (nat_le start i && nat_lt i (place + 1)) ≡ true
+    now e = grind (arith, nat_tests)
+
+    same : place ≢ i → (nat_le start i && nat_lt i place) ≡ (nat_le start i && nat_lt i (place + 1))
+    same differ = ap (λ b. nat_le start i && b) (bound differ)
+      where
+        bound : place ≢ i → nat_lt i place ≡ nat_lt i (place + 1)
+        bound apart = grind (arith, nat_tests)
+
+    by : (at : Bool) → nat_eq place i ≡ at → cond at slot (g i) ≡ cond (nat_le start i && nat_lt i (place + 1)) (emptied (f i)) (f i)
+    by true e =
+        let here : place ≡ i = eqb-true place i e in
+        is ∙ ap emptied (so_far place ∙ ap (λ b. cond b (emptied (f place)) (f place)) behind) ∙ ap (λ k. emptied (f k)) here
+        ∙ ap (λ b. cond b (emptied (f i)) (f i)) (sym (now here))
+    by false e = so_far i ∙ ap (λ b. cond b (emptied (f i)) (f i)) (same (eqb-false place i e))
 
 module _ {A : Type 0} where
   -- the books of block p for which `here` holds of their places are those for which `changes` holds, and they become s
@@ -282,86 +386,27 @@ module _ {A : Type 0} where
       by true false = refl
       by false t = refl
 
-  -- a book that isn't marked any more
-  pub unmarked_book : (test was left : Bool) (book : Book A) → left ≡ cond test false was → cond left book Untouched ≡ cond test Untouched (cond was book Untouched)
-  unmarked_book true was left book fewer = ap (λ b. cond b book Untouched) fewer
-  unmarked_book false was left book fewer = ap (λ b. cond b book Untouched) fewer
-
-  -- a book is put into a slot that is no other place's
-  pub put_in : (m1 m2 : ℕ → Bool) (s1 s2 o1 o2 : ℕ → ℕ) (k1 k2 : ℕ → Book A) (place slot : ℕ) (b : Book A)
-      → ((i : ℕ) → m2 i ≡ cond (nat_eq place i) true (m1 i))
-      → ((i : ℕ) → s2 i ≡ cond (nat_eq place i) slot (s1 i))
-      → ((i : ℕ) → o2 i ≡ cond (nat_eq slot i) place (o1 i))
-      → ((i : ℕ) → k2 i ≡ cond (nat_eq slot i) b (k1 i))
-      → ((i : ℕ) → nat_eq place i ≡ false → slot_book o1 k1 slot i ≡ Untouched)
-      → (i : ℕ) → kept_book m2 s2 o2 k2 i ≡ cond (nat_eq place i) b (kept_book m1 s1 o1 k1 i)
-  put_in m1 m2 s1 s2 o1 o2 k1 k2 place slot b ms ss os ks free i = by (nat_eq place i) refl
+  -- a book is put into a slot, and no other place has that book
+  pub put_in : (s1 s2 : ℕ → Slot) (k1 k2 : ℕ → Book A) (place number : ℕ) (b : Book A)
+      → ((i : ℕ) → s2 i ≡ cond (nat_eq place i) (Kept number) (s1 i))
+      → ((n : ℕ) → k2 n ≡ cond (nat_eq number n) b (k1 n))
+      → ((i : ℕ) → nat_eq place i ≡ false → book_number (s1 i) ≡ Some number → ⊥)
+      → (i : ℕ) → slot_book k2 (s2 i) ≡ cond (nat_eq place i) b (slot_book k1 (s1 i))
+  put_in s1 s2 k1 k2 place number b ss ks free i = ap (λ s. slot_book k2 s) (ss i) ∙ by (nat_eq place i) refl
     where
-      here : nat_eq place i ≡ true → kept_book m2 s2 o2 k2 i ≡ b
-      here e =
-          let marked : m2 i ≡ true = ms i ∙ ap (λ c. cond c true (m1 i)) e in
-          let placed : s2 i ≡ slot = ss i ∙ ap (λ c. cond c slot (s1 i)) e in
-          let owned : o2 slot ≡ place = os slot ∙ ap (λ c. cond c place (o1 slot)) (eq-eqb slot slot refl) in
-          let held : k2 slot ≡ b = ks slot ∙ ap (λ c. cond c b (k1 slot)) (eq-eqb slot slot refl) in
-          rw (marked, placed, owned, held, e) refl
+      differs : (n : ℕ) (same : Bool) → nat_eq number n ≡ same → (Some n ≡ Some number → ⊥) → same ≡ false
+      differs n true e other = absurd (other (ap Some (sym (eqb-true number n e))))
+      differs n false e other = refl
 
-      in_slot : nat_eq place i ≡ false → (at : Bool) → nat_eq slot (s1 i) ≡ at → slot_book o2 k2 (s1 i) i ≡ slot_book o1 k1 (s1 i) i
-      in_slot e true at =
-          let owned : o2 (s1 i) ≡ place = os (s1 i) ∙ ap (λ c. cond c place (o1 (s1 i))) at in
-          let none : slot_book o1 k1 (s1 i) i ≡ Untouched = ap (λ s. slot_book o1 k1 s i) (sym (eqb-true slot (s1 i) at)) ∙ free i e in
-          let gone : slot_book o2 k2 (s1 i) i ≡ Untouched = rw (owned, e) refl in
-          gone ∙ sym none
-      in_slot e false at =
-          let owned : o2 (s1 i) ≡ o1 (s1 i) = os (s1 i) ∙ ap (λ c. cond c place (o1 (s1 i))) at in
-          let held : k2 (s1 i) ≡ k1 (s1 i) = ks (s1 i) ∙ ap (λ c. cond c b (k1 (s1 i))) at in
-          rw (owned, held) refl
+      -- the book of another slot stays
+      stays : (slot : Slot) → (book_number slot ≡ Some number → ⊥) → slot_book k2 slot ≡ slot_book k1 slot
+      stays Free other = refl
+      stays (Emptied n) other = refl
+      stays (Kept n) other = ks n ∙ ap (λ same. cond same b (k1 n)) (differs n (nat_eq number n) refl other)
 
-      by : (at : Bool) → nat_eq place i ≡ at → kept_book m2 s2 o2 k2 i ≡ cond at b (kept_book m1 s1 o1 k1 i)
-      by true e = here e
-      by false e =
-          let marked : m2 i ≡ m1 i = ms i ∙ ap (λ c. cond c true (m1 i)) e in
-          let placed : s2 i ≡ s1 i = ss i ∙ ap (λ c. cond c slot (s1 i)) e in
-          (λ k. cond (marked k) (slot_book o2 k2 (placed k) i) Untouched) ∙ ap (λ x. cond (m1 i) x Untouched) (in_slot e (nat_eq slot (s1 i)) refl)
-
-  -- a slot that is a place's own is no other's
-  pub own_slot : (o : ℕ → ℕ) (k : ℕ → Book A) (place slot : ℕ) → o slot ≡ place → (i : ℕ) → nat_eq place i ≡ false → slot_book o k slot i ≡ Untouched
-  own_slot o k place slot own i e = rw (own, e) refl
-
-  -- nor is a slot without a book
-  pub no_slot : (o : ℕ → ℕ) (k : ℕ → Book A) (slot : ℕ) → k slot ≡ Untouched → (i : ℕ) → slot_book o k slot i ≡ Untouched
-  no_slot o k slot none i = by (nat_eq (o slot) i)
-    where
-      by : (b : Bool) → cond b (k slot) Untouched ≡ Untouched
-      by true = none
-      by false = refl
-
-  -- the books of a block
-  pub nothing_kept : (begun : List Bool) (slots owners : List ℕ) (books : List (Book A)) → books ≡ [] → (i : ℕ) → book_at_place (kept_books begun slots owners books) i ≡ Untouched
-  unfolding kept_books
-  nothing_kept begun slots owners books none i =
-      ap (λ bs. book_at_place (kept_books begun slots owners bs) i) none
-      ∙ no_books (kept_book (λ k. slice_index_or begun k false) (λ k. slice_index_or slots k 0) (λ k. slice_index_or owners k 128) (λ k. Untouched))
-      (λ k. by (slice_index_or begun k false) (nat_eq (slice_index_or owners (slice_index_or slots k 0) 128) k) Untouched) i
-    where
-      by : (m o : Bool) (book : Book A) → cond m (cond o book book) book ≡ book
-      by true true book = refl
-      by true false book = refl
-      by false o book = refl
-
-  -- past the last slot there is no book
-  past_books : (books : List (Book A)) (slot : ℕ) → nat_lt slot (length books) ≡ false → slice_index_or books slot Untouched ≡ Untouched
-  past_books [] slot past = refl
-  past_books (b ∷ books) zero past = absurd (true_false (sym first ∙ past))
-    where
-      first : nat_lt 0 (suc (length books)) ≡ true
-      first = grind (arith, nat_tests)
-
-      true_false : true ≡ false → ⊥
-      true_false e = cc
-  past_books (b ∷ books) (suc slot) past = past_books books slot (one_less slot (length books) ∙ past)
-    where
-      one_less : (x y : ℕ) → nat_lt x y ≡ nat_lt (suc x) (suc y)
-      one_less x y = grind (arith, nat_tests)
+      by : (at : Bool) → nat_eq place i ≡ at → slot_book k2 (cond at (Kept number) (s1 i)) ≡ cond at b (slot_book k1 (s1 i))
+      by true e = ks number ∙ ap (λ same. cond same b (k1 number)) (eq-eqb number number refl)
+      by false e = stays (s1 i) (free i e)
 
   -- one book more
   pub appended_at : (books : List (Book A)) (b : Book A) (i : ℕ) → slice_index_or (books ++ (b ∷ [])) i Untouched ≡ cond (nat_eq (length books) i) b (slice_index_or books i Untouched)
@@ -379,6 +424,7 @@ module _ {A : Type 0} where
       one_less : (x y : ℕ) → nat_eq x y ≡ nat_eq (suc x) (suc y)
       one_less x y = grind (arith, nat_tests)
 
+  -- a book is written over
   pub set_at : (books : List (Book A)) (slot : ℕ) (b : Book A) → slot < length books → (i : ℕ) → slice_index_or (slice_set books slot b) i Untouched ≡ cond (nat_eq slot i) b (slice_index_or books i Untouched)
   set_at books slot b within i = by (nat_eq slot i) refl
     where
@@ -386,65 +432,45 @@ module _ {A : Type 0} where
       by true e = ap (λ k. slice_index_or (slice_set books slot b) k Untouched) (sym (eqb-true slot i e)) ∙ get_or-set_same books slot b Untouched within
       by false e = get_or-set_other books slot i b Untouched (λ at. eqb-false slot i e (sym at))
 
-  -- the book of a place by its slot
-  pub own_book : (begun : List Bool) (slots owners : List ℕ) (books now : List (Book A)) (place slot : ℕ) → kept_books begun slots owners books ≡ now → place < 128
-      → slice_index_or begun place false ≡ true → slot ≡ slice_index_or slots place 0 → slice_index_or owners slot 128 ≡ place
-      → book_at_place now place ≡ slice_index_or books slot Untouched
+  -- the book of a place is that of its slot
+  pub own_book : (slots : List Slot) (books now : List (Book A)) (place : ℕ) (slot : Slot) → kept_books slots books ≡ now → place < 128 → slot_at slots place ≡ slot
+      → book_at_place now place ≡ slot_book (λ n. slice_index_or books n Untouched) slot
   unfolding kept_books
-  own_book begun slots owners books now place slot seen within marked is own =
-      kept_at _ now place seen within
-      ∙ (ap (λ m. cond m (slot_book (λ k. slice_index_or owners k 128) (λ k. slice_index_or books k Untouched) (slice_index_or slots place 0) place) Untouched) marked
-      ∙ (ap (λ s. slot_book (λ k. slice_index_or owners k 128) (λ k. slice_index_or books k Untouched) s place) (sym is)
-      ∙ (ap (λ o. cond (nat_eq o place) (slice_index_or books slot Untouched) Untouched) own ∙ ap (λ c. cond c (slice_index_or books slot Untouched) Untouched) (eq-eqb place place refl))))
+  own_book slots books now place slot seen within is =
+      kept_at _ now place seen within ∙ ap (λ s. slot_book (λ n. slice_index_or books n Untouched) s) is
 
-  pub unmarked_place : (begun : List Bool) (slots owners : List ℕ) (books now : List (Book A)) (place : ℕ) → kept_books begun slots owners books ≡ now → place < 128
-      → slice_index_or begun place false ≡ false → book_at_place now place ≡ Untouched
+  past_block : (slots : List Slot) (books now : List (Book A)) (place : ℕ) → kept_books slots books ≡ now → nat_lt place 128 ≡ false → book_at_place now place ≡ Untouched
   unfolding kept_books
-  unmarked_place begun slots owners books now place seen within unmarked =
-      kept_at _ now place seen within
-      ∙ ap (λ m. cond m (slot_book (λ k. slice_index_or owners k 128) (λ k. slice_index_or books k Untouched) (slice_index_or slots place 0) place) Untouched) unmarked
-
-  pub past_block : (begun : List Bool) (slots owners : List ℕ) (books now : List (Book A)) (place : ℕ) → kept_books begun slots owners books ≡ now
-      → nat_lt place 128 ≡ false → book_at_place now place ≡ Untouched
-  unfolding kept_books
-  past_block begun slots owners books now place seen past =
+  past_block slots books now place seen past =
       ap (λ bs. book_at_place bs place) (sym seen)
-      ∙ (listed-from (kept_book (λ k. slice_index_or begun k false) (λ k. slice_index_or slots k 0) (λ k. slice_index_or owners k 128) (λ k. slice_index_or books k Untouched)) 128 place
-      ∙ ap (λ b. cond b (kept_book (λ k. slice_index_or begun k false) (λ k. slice_index_or slots k 0) (λ k. slice_index_or owners k 128) (λ k. slice_index_or books k Untouched) place) Untouched) past)
+      ∙ (listed-from (λ i. slot_book (λ n. slice_index_or books n Untouched) (slot_at slots i)) 128 place
+      ∙ ap (λ b. cond b (slot_book (λ n. slice_index_or books n Untouched) (slot_at slots place)) Untouched) past)
 
-  pub unowned_place : (begun : List Bool) (slots owners : List ℕ) (books now : List (Book A)) (place : ℕ) → kept_books begun slots owners books ≡ now → place < 128
-      → (nat_lt (slice_index_or slots place 0) (length books) && nat_eq (slice_index_or owners (slice_index_or slots place 0) 128) place) ≡ false → book_at_place now place ≡ Untouched
+  -- the books of a block without a slot that counts
+  pub nothing_kept : (slots : List Slot) (books : List (Book A)) → slots ≡ replicate 128 Free → (i : ℕ) → book_at_place (kept_books slots books) i ≡ Untouched
   unfolding kept_books
-  unowned_place begun slots owners books now place seen within unowned =
-      kept_at _ now place seen within
-      ∙ by (slice_index_or begun place false) (nat_eq (slice_index_or owners (slice_index_or slots place 0) 128) place) refl
-    where
-      past : (b : Bool) → (b && true) ≡ false → b ≡ false
-      past true e = e
-      past false e = refl
-
-      by : (m o : Bool) → nat_eq (slice_index_or owners (slice_index_or slots place 0) 128) place ≡ o
-          → cond m (cond o (slice_index_or books (slice_index_or slots place 0) Untouched) Untouched) Untouched ≡ Untouched
-      by false o e = refl
-      by true false e = refl
-      by true true e =
-          past_books books (slice_index_or slots place 0)
-          (past (nat_lt (slice_index_or slots place 0) (length books)) (ap (λ o. nat_lt (slice_index_or slots place 0) (length books) && o) (sym e) ∙ unowned))
+  nothing_kept slots books none i =
+      no_books (λ k. slot_book (λ n. slice_index_or books n Untouched) (slot_at slots k)) (λ k. ap (λ s. slot_book (λ n. slice_index_or books n Untouched) s) (all_free slots none k)) i
 
   -- some books don't count any more
-  pub emptied_books : (begun left : List Bool) (slots owners : List ℕ) (books now : List (Book A)) (test : ℕ → Bool) → kept_books begun slots owners books ≡ now
-      → ((i : ℕ) → slice_index_or left i false ≡ cond (test i) false (slice_index_or begun i false))
-      → (i : ℕ) → book_at_place (kept_books left slots owners books) i ≡ cond (test i) Untouched (book_at_place now i)
+  pub emptied_books : (slots left : List Slot) (books now : List (Book A)) (test : ℕ → Bool) → kept_books slots books ≡ now
+      → ((i : ℕ) → slot_at left i ≡ cond (test i) (emptied (slot_at slots i)) (slot_at slots i))
+      → (i : ℕ) → book_at_place (kept_books left books) i ≡ cond (test i) Untouched (book_at_place now i)
   unfolding kept_books
-  emptied_books begun left slots owners books now test seen fewer =
-      some_emptied (kept_book (λ k. slice_index_or begun k false) (λ k. slice_index_or slots k 0) (λ k. slice_index_or owners k 128) (λ k. slice_index_or books k Untouched))
-      (kept_book (λ k. slice_index_or left k false) (λ k. slice_index_or slots k 0) (λ k. slice_index_or owners k 128) (λ k. slice_index_or books k Untouched)) now test seen
-      (λ i. unmarked_book (test i) (slice_index_or begun i false) (slice_index_or left i false) (slot_book (λ k. slice_index_or owners k 128) (λ k. slice_index_or books k Untouched) (slice_index_or slots i 0) i) (fewer i))
+  emptied_books slots left books now test seen fewer =
+      some_emptied (λ i. slot_book (λ n. slice_index_or books n Untouched) (slot_at slots i)) (λ i. slot_book (λ n. slice_index_or books n Untouched) (slot_at left i)) now test seen
+      (λ i. ap (λ s. slot_book (λ n. slice_index_or books n Untouched) s) (fewer i) ∙ by (test i) (slot_at slots i))
+    where
+      by : (t : Bool) (slot : Slot) → slot_book (λ n. slice_index_or books n Untouched) (cond t (emptied slot) slot) ≡ cond t Untouched (slot_book (λ n. slice_index_or books n Untouched) slot)
+      by true Free = refl
+      by true (Emptied n) = refl
+      by true (Kept n) = refl
+      by false slot = refl
 
   -- a whole block is emptied
-  pub all_emptied : (begun : List Bool) (slots owners : List ℕ) (books none now : List (Book A)) (lo hi : ℕ) → kept_books begun slots owners books ≡ now → none ≡ [] → lo ≡ 0 → hi ≡ 127
-      → (i : ℕ) → book_at_place (kept_books begun slots owners none) i ≡ cond (nat_le lo i && nat_le i hi) Untouched (book_at_place now i)
-  all_emptied begun slots owners books none now lo hi seen gone low high i = nothing_kept begun slots owners none gone i ∙ by (nat_lt i 128) refl
+  pub all_emptied : (slots left : List Slot) (books none now : List (Book A)) (lo hi : ℕ) → kept_books slots books ≡ now → left ≡ replicate 128 Free → lo ≡ 0 → hi ≡ 127
+      → (i : ℕ) → book_at_place (kept_books left none) i ≡ cond (nat_le lo i && nat_le i hi) Untouched (book_at_place now i)
+  all_emptied slots left books none now lo hi seen gone low high i = nothing_kept left none gone i ∙ by (nat_lt i 128) refl
     where
       within : nat_lt i 128 ≡ true → (nat_le lo i && nat_le i hi) ≡ true
       within e = grind (arith, nat_tests)
@@ -455,50 +481,43 @@ module _ {A : Type 0} where
 
       by : (b : Bool) → nat_lt i 128 ≡ b → Untouched ≡ cond (nat_le lo i && nat_le i hi) Untouched (book_at_place now i)
       by true e = ap (λ b. cond b Untouched (book_at_place now i)) (sym (within e))
-      by false e = still (nat_le lo i && nat_le i hi) (book_at_place now i) (past_block begun slots owners books now i seen e)
+      by false e = still (nat_le lo i && nat_le i hi) (book_at_place now i) (past_block slots books now i seen e)
 
-  -- one book of a block goes on in a slot
-  pub goes_on : (begun1 begun2 : List Bool) (slots1 slots2 owners1 owners2 : List ℕ) (books1 books2 now : List (Book A)) (place slot : ℕ) (after : Book A) (f : Book A → Book A)
-      → kept_books begun1 slots1 owners1 books1 ≡ now → place < 128
-      → ((i : ℕ) → slice_index_or begun2 i false ≡ cond (nat_eq place i) true (slice_index_or begun1 i false))
-      → ((i : ℕ) → slice_index_or slots2 i 0 ≡ cond (nat_eq place i) slot (slice_index_or slots1 i 0))
-      → ((i : ℕ) → slice_index_or owners2 i 128 ≡ cond (nat_eq slot i) place (slice_index_or owners1 i 128))
-      → ((i : ℕ) → slice_index_or books2 i Untouched ≡ cond (nat_eq slot i) after (slice_index_or books1 i Untouched))
-      → ((i : ℕ) → nat_eq place i ≡ false → slot_book (λ k. slice_index_or owners1 k 128) (λ k. slice_index_or books1 k Untouched) slot i ≡ Untouched)
+  -- one book of a block goes on
+  pub goes_on : (slots1 slots2 : List Slot) (books1 books2 now : List (Book A)) (place number : ℕ) (after : Book A) (f : Book A → Book A)
+      → kept_books slots1 books1 ≡ now → place < 128
+      → ((i : ℕ) → slot_at slots2 i ≡ cond (nat_eq place i) (Kept number) (slot_at slots1 i))
+      → ((n : ℕ) → slice_index_or books2 n Untouched ≡ cond (nat_eq number n) after (slice_index_or books1 n Untouched))
+      → ((i : ℕ) → nat_eq place i ≡ false → book_number (slot_at slots1 i) ≡ Some number → ⊥)
       → after ≡ f (book_at_place now place)
-      → (i : ℕ) → book_at_place (kept_books begun2 slots2 owners2 books2) i ≡ cond (nat_eq place i) (f (book_at_place now place)) (book_at_place now i)
+      → (i : ℕ) → book_at_place (kept_books slots2 books2) i ≡ cond (nat_eq place i) (f (book_at_place now place)) (book_at_place now i)
   unfolding kept_books
-  goes_on begun1 begun2 slots1 slots2 owners1 owners2 books1 books2 now place slot after f seen within ms ss os ks free goes i =
+  goes_on slots1 slots2 books1 books2 now place number after f seen within ss ks free goes i =
       one_changed _ _ now place after seen within
-      (put_in (λ k. slice_index_or begun1 k false) (λ k. slice_index_or begun2 k false) (λ k. slice_index_or slots1 k 0) (λ k. slice_index_or slots2 k 0) (λ k. slice_index_or owners1 k 128) (λ k. slice_index_or owners2 k 128)
-      (λ k. slice_index_or books1 k Untouched) (λ k. slice_index_or books2 k Untouched) place slot after ms ss os ks free) i
+      (put_in (λ k. slot_at slots1 k) (λ k. slot_at slots2 k) (λ n. slice_index_or books1 n Untouched) (λ n. slice_index_or books2 n Untouched) place number after ss ks free) i
       ∙ ap (λ b. cond (nat_eq place i) b (book_at_place now i)) goes
 
-  -- and so it does in a slot of its own
-  pub goes_on_here : (begun1 begun2 : List Bool) (slots owners : List ℕ) (books now : List (Book A)) (place slot : ℕ) (after : Book A) (f : Book A → Book A)
-      → kept_books begun1 slots owners books ≡ now → place < 128
-      → ((i : ℕ) → slice_index_or begun2 i false ≡ cond (nat_eq place i) true (slice_index_or begun1 i false))
-      → slot ≡ slice_index_or slots place 0 → slice_index_or owners slot 128 ≡ place → slot < length books
+  -- and so it does where the place has a book
+  pub goes_on_here : (slots1 slots2 : List Slot) (books now : List (Book A)) (place number : ℕ) (after : Book A) (f : Book A → Book A)
+      → kept_books slots1 books ≡ now → place < 128 → AreApart slots1 (length books)
+      → book_number (slot_at slots1 place) ≡ Some number
+      → ((i : ℕ) → slot_at slots2 i ≡ cond (nat_eq place i) (Kept number) (slot_at slots1 i))
       → after ≡ f (book_at_place now place)
-      → (i : ℕ) → book_at_place (kept_books begun2 slots owners (slice_set books slot after)) i ≡ cond (nat_eq place i) (f (book_at_place now place)) (book_at_place now i)
-  goes_on_here begun1 begun2 slots owners books now place slot after f seen within ms is own short goes =
-      goes_on begun1 begun2 slots slots owners owners books (slice_set books slot after) now place slot after f seen within ms
-      (put_before (λ k. slice_index_or slots k 0) place slot (sym is)) (put_before (λ k. slice_index_or owners k 128) slot place own) (set_at books slot after short)
-      (own_slot (λ k. slice_index_or owners k 128) (λ k. slice_index_or books k Untouched) place slot own) goes
+      → (i : ℕ) → book_at_place (kept_books slots2 (slice_set books number after)) i ≡ cond (nat_eq place i) (f (book_at_place now place)) (book_at_place now i)
+  goes_on_here slots1 slots2 books now place number after f seen within was own ss goes =
+      goes_on slots1 slots2 books (slice_set books number after) now place number after f seen within ss (set_at books number after (was.within place number own))
+      (λ i e that. eqb-false place i e (was.apart place i number own that)) goes
 
-  -- or in a new one
-  pub goes_on_behind : (begun1 begun2 : List Bool) (slots1 slots2 owners1 owners2 : List ℕ) (books now : List (Book A)) (place slot : ℕ) (after : Book A) (f : Book A → Book A)
-      → kept_books begun1 slots1 owners1 books ≡ now → place < 128 → slot ≡ length books
-      → ((i : ℕ) → slice_index_or begun2 i false ≡ cond (nat_eq place i) true (slice_index_or begun1 i false))
-      → ((i : ℕ) → slice_index_or slots2 i 0 ≡ cond (nat_eq place i) slot (slice_index_or slots1 i 0))
-      → ((i : ℕ) → slice_index_or owners2 i 128 ≡ cond (nat_eq slot i) place (slice_index_or owners1 i 128))
+  -- or gets a new one
+  pub goes_on_behind : (slots1 slots2 : List Slot) (books now : List (Book A)) (place number : ℕ) (after : Book A) (f : Book A → Book A)
+      → kept_books slots1 books ≡ now → place < 128 → AreApart slots1 (length books) → number ≡ length books
+      → ((i : ℕ) → slot_at slots2 i ≡ cond (nat_eq place i) (Kept number) (slot_at slots1 i))
       → after ≡ f (book_at_place now place)
-      → (i : ℕ) → book_at_place (kept_books begun2 slots2 owners2 (books ++ (after ∷ []))) i ≡ cond (nat_eq place i) (f (book_at_place now place)) (book_at_place now i)
-  goes_on_behind begun1 begun2 slots1 slots2 owners1 owners2 books now place slot after f seen within last ms ss os goes =
-      goes_on begun1 begun2 slots1 slots2 owners1 owners2 books (books ++ (after ∷ [])) now place slot after f seen within ms ss os
-      (λ i. appended_at books after i ∙ ap (λ l. cond (nat_eq l i) after (slice_index_or books i Untouched)) (sym last))
-      (λ i e. no_slot (λ k. slice_index_or owners1 k 128) (λ k. slice_index_or books k Untouched) slot
-      (past_books books slot (ap (nat_lt slot) (sym last) ∙ never slot)) i) goes
+      → (i : ℕ) → book_at_place (kept_books slots2 (books ++ (after ∷ []))) i ≡ cond (nat_eq place i) (f (book_at_place now place)) (book_at_place now i)
+  goes_on_behind slots1 slots2 books now place number after f seen within was last ss goes =
+      goes_on slots1 slots2 books (books ++ (after ∷ [])) now place number after f seen within ss
+      (λ n. appended_at books after n ∙ ap (λ l. cond (nat_eq l n) after (slice_index_or books n Untouched)) (sym last))
+      (λ i e that. past (was.within i number that)) goes
     where
-      never : (k : ℕ) → nat_lt k k ≡ false
-      never k = grind (arith, nat_tests)
+      past : number < length books → ⊥
+      past below = omega (arith, last, below)

@@ -1,46 +1,67 @@
 -- The book at the place goes on, whether it counted before or not.
-use Rattle.std.proofs.Common.{ℕ, ◌<◌, ◌&&◌, arith, nat_lt, nat_eq, length, true, false, slice_index_or, ◌∙◌, ◌≡◌, ap, sym, refl}
+use Rattle.std.proofs.Common.{◌≡◌, ◌∙◌, ℕ, ◌+◌, List, [], ◌∷◌, ◌++◌, length, slice_index_or, slice_set, sym, ap, refl, arith, length-set, length-append}
 use Rattle.std.proofs.lemmas.List.{get_or_default}
 use Rattle.std.proofs.lemmas.Result.{on_ok_weaker}
 use Rattle.er_explain.specs.Books.{book_accessed}
+use Rattle.er_explain.specs.declared.book.Book.{Book}
 use Rattle.er_explain.specs.declared.book.Book.TheVariants.{Untouched, Owned}
-use Rattle.er_explain.specs.Inner.Slots.{kept_books}
+use Rattle.er_explain.specs.declared.block.Slot.TheVariants.{Free, Emptied, Kept}
+use Rattle.er_explain.specs.Inner.Slots.{kept_books, slot_at, book_number}
 use Rattle.er_explain.specs.WordBooks.{book_at_place}
 use Rattle.er_held.specs.ThreadLocks.{held_by}
 use Rattle.er_model.specs.Following.{locks_for}
-use Rattle.er_explain.proofs.BlockLemmas.{put_before, own_book, unmarked_place, unowned_place, goes_on_here, goes_on_behind}
+use Rattle.er_explain.proofs.BlockLemmas.{put_before, put_again, apart-same, apart-more, own_book, goes_on_here, goes_on_behind}
 use Rattle.er_explain.proofs.block.Block.access.Goals as goal
 
--- the slot that was found is there
-within : (slot count length : ℕ) → slot < count → count ≡ length → slot < length
-within slot count length below same = omega (arith, below, same)
+-- one book more
+one_longer : {A : Type 0} (books : List (Book A)) (book : Book A) (n : ℕ) → length books ≡ n → length (books ++ (book ∷ [])) ≡ n + 1
+one_longer books book n long = omega (arith, long, length-append books (book ∷ []))
 
-pub returns-then-self-place : goal.returns-then-self-place
-returns-then-self-place g c =
+pub index_mut-requires : goal.index_mut-requires
+index_mut-requires g c =
+    let below = c.self.invariant.within c.args.place c.in-Kept.number (ap book_number c.in-Kept.is) in omega (arith, below)
+
+pub set-requires : goal.set-requires
+set-requires g c = c.self.invariant.within c.args.place c.in-Emptied.number (ap book_number c.in-Emptied.is)
+
+pub invariant_of-self-in-Emptied : goal.invariant_of-self-in-Emptied
+invariant_of-self-in-Emptied g c =
+    apart-same c.self.inside.slots c.put.new.slots (length c.self.inside.books.items) (length c.set.new.books.items) c.self.invariant
+    (let same : length c.set.new.books.items ≡ length (slice_set c.self.inside.books.items c.in-Emptied.number (Owned c.args.at c.args.thread)) = ap (λ bs. length bs) c.set.ensures in
+    omega (arith, same, length-set c.self.inside.books.items c.in-Emptied.number (Owned c.args.at c.args.thread)))
+    (put_again c.self.inside.slots c.put.new.slots c.args.place c.in-Emptied.number (ap book_number c.in-Emptied.is) c.put.ensures)
+
+pub invariant_of-self-in-Free : goal.invariant_of-self-in-Free
+invariant_of-self-in-Free g c =
+    apart-more c.self.inside.slots c.put-in-Free.new.slots c.args.place c.len-number.result (length c.push.new.self.items)
+    (apart-same c.self.inside.slots c.self.inside.slots (length c.self.inside.books.items) c.len-number.result c.self.invariant (omega (arith, c.len-number.ensures)) (λ i. refl))
+    (ap (λ bs. length bs) c.in_ok-push-in-Free.ensures.items ∙ one_longer c.self.inside.books.items (Owned c.args.at c.args.thread) c.len-number.result (omega (arith, c.len-number.ensures))) c.put-in-Free.ensures
+
+pub returns-in-Kept : goal.returns-in-Kept
+returns-in-Kept g c =
     on_ok_weaker c.access.result
-    (λ went. goes_on_here c.self.inside.begun c.self.inside.begun c.self.inside.slots c.self.inside.owners c.self.inside.books.items c.args.self.now c.args.place c.in-Some.slot c.access.new.self
+    (λ went. goes_on_here c.self.inside.slots c.self.inside.slots c.self.inside.books.items c.args.self.now c.args.place c.in-Kept.number c.access.new.self
     (λ b. book_accessed b c.args.at c.args.thread c.args.kind (locks_for (held_by c.args.locks.now c.args.thread) c.args.kind))
-    c.self.view_is c.requires (put_before (λ i. slice_index_or c.self.inside.begun i false) c.args.place true c.if-self-place.true)
-    c.in-Some.ensures.some.0 c.in-Some.ensures.some.1 (within c.in-Some.slot c.len.result (length c.self.inside.books.items) c.in-Some.ensures.some.2 (omega (arith, c.len.ensures)))
+    c.self.view_is c.requires c.self.invariant (ap book_number c.in-Kept.is) (put_before (λ i. slot_at c.self.inside.slots i) c.args.place (Kept c.in-Kept.number) c.in-Kept.is)
     (went ∙ ap (λ b. book_accessed b c.args.at c.args.thread c.args.kind (locks_for (held_by c.args.locks.now c.args.thread) c.args.kind))
-    (sym (own_book c.self.inside.begun c.self.inside.slots c.self.inside.owners c.self.inside.books.items c.args.self.now c.args.place c.in-Some.slot c.self.view_is c.requires c.if-self-place.true c.in-Some.ensures.some.0 c.in-Some.ensures.some.1
-    ∙ (get_or_default c.self.inside.books.items c.in-Some.slot Untouched c.index_mut.result.now (within c.in-Some.slot c.len.result (length c.self.inside.books.items) c.in-Some.ensures.some.2 (omega (arith, c.len.ensures))) ∙ sym c.index_mut.ensures.value)))))
+    (sym (own_book c.self.inside.slots c.self.inside.books.items c.args.self.now c.args.place (Kept c.in-Kept.number) c.self.view_is c.requires c.in-Kept.is
+    ∙ (get_or_default c.self.inside.books.items c.in-Kept.number Untouched c.index_mut.result.now (c.self.invariant.within c.args.place c.in-Kept.number (ap book_number c.in-Kept.is)) ∙ sym c.index_mut.ensures.value)))))
     c.access.ensures
 
-pub returns-else-self-place : goal.returns-else-self-place
-returns-else-self-place g c i =
-    ap (λ bs. book_at_place (kept_books c.mark.new.begun c.self.inside.slots c.self.inside.owners bs) i) c.set.ensures
-    ∙ goes_on_here c.self.inside.begun c.mark.new.begun c.self.inside.slots c.self.inside.owners c.self.inside.books.items c.args.self.now c.args.place c.in-Some.slot (Owned c.args.at c.args.thread)
+pub returns-in-Emptied : goal.returns-in-Emptied
+returns-in-Emptied g c i =
+    ap (λ bs. book_at_place (kept_books c.put.new.slots bs) i) c.set.ensures
+    ∙ goes_on_here c.self.inside.slots c.put.new.slots c.self.inside.books.items c.args.self.now c.args.place c.in-Emptied.number (Owned c.args.at c.args.thread)
     (λ b. book_accessed b c.args.at c.args.thread c.args.kind (locks_for (held_by c.args.locks.now c.args.thread) c.args.kind))
-    c.self.view_is c.requires c.mark.ensures c.in-Some.ensures.some.0 c.in-Some.ensures.some.1 (within c.in-Some.slot c.len.result (length c.self.inside.books.items) c.in-Some.ensures.some.2 (omega (arith, c.len.ensures)))
+    c.self.view_is c.requires c.self.invariant (ap book_number c.in-Emptied.is) c.put.ensures
     (ap (λ b. book_accessed b c.args.at c.args.thread c.args.kind (locks_for (held_by c.args.locks.now c.args.thread) c.args.kind))
-    (sym (unmarked_place c.self.inside.begun c.self.inside.slots c.self.inside.owners c.self.inside.books.items c.args.self.now c.args.place c.self.view_is c.requires c.if-self-place.false))) i
+    (sym (own_book c.self.inside.slots c.self.inside.books.items c.args.self.now c.args.place (Emptied c.in-Emptied.number) c.self.view_is c.requires c.in-Emptied.is))) i
 
-pub returns-in_ok-push-in-None : goal.returns-in_ok-push-in-None
-returns-in_ok-push-in-None g c i =
-    ap (λ bs. book_at_place (kept_books c.mark-in-None.new.begun c.put.new.values c.put-in-None.new.values bs) i) c.in_ok-push-in-None.ensures.items
-    ∙ goes_on_behind c.self.inside.begun c.mark-in-None.new.begun c.self.inside.slots c.put.new.values c.self.inside.owners c.put-in-None.new.values c.self.inside.books.items c.args.self.now c.args.place c.len-slot.result (Owned c.args.at c.args.thread)
+pub returns-in_ok-push-in-Free : goal.returns-in_ok-push-in-Free
+returns-in_ok-push-in-Free g c i =
+    ap (λ bs. book_at_place (kept_books c.put-in-Free.new.slots bs) i) c.in_ok-push-in-Free.ensures.items
+    ∙ goes_on_behind c.self.inside.slots c.put-in-Free.new.slots c.self.inside.books.items c.args.self.now c.args.place c.len-number.result (Owned c.args.at c.args.thread)
     (λ b. book_accessed b c.args.at c.args.thread c.args.kind (locks_for (held_by c.args.locks.now c.args.thread) c.args.kind))
-    c.self.view_is c.requires (omega (arith, c.len-slot.ensures)) c.mark-in-None.ensures (λ k. c.put.ensures k 0) (λ k. c.put-in-None.ensures k 128)
+    c.self.view_is c.requires c.self.invariant (omega (arith, c.len-number.ensures)) c.put-in-Free.ensures
     (ap (λ b. book_accessed b c.args.at c.args.thread c.args.kind (locks_for (held_by c.args.locks.now c.args.thread) c.args.kind))
-    (sym (unowned_place c.self.inside.begun c.self.inside.slots c.self.inside.owners c.self.inside.books.items c.args.self.now c.args.place c.self.view_is c.requires (ap (λ n. nat_lt (slice_index_or c.self.inside.slots c.args.place 0) n && nat_eq (slice_index_or c.self.inside.owners (slice_index_or c.self.inside.slots c.args.place 0) 128) c.args.place) (omega (arith, c.len.ensures)) ∙ c.in-None.ensures.none refl)))) i
+    (sym (own_book c.self.inside.slots c.self.inside.books.items c.args.self.now c.args.place Free c.self.view_is c.requires c.in-Free.is))) i
