@@ -18,6 +18,9 @@ use std::marker::Model;
 /// How many words a block has.
 const WORDS: u64 = 128;
 
+/// How many blocks are found without a hash.
+const HINTS: u64 = 4096;
+
 /// A book for each word, as steps go by. An access is named as the caller likes: by its place in a list, or by what is to be said of
 /// it. Contracts see the books by `book_in`.
 ///
@@ -26,8 +29,9 @@ const WORDS: u64 = 128;
 #[derive(Drop)]
 pub struct WordBooks<A> {
     blocks: IndexMap<u64, Block<A>>,
-    // Where the block stands that was accessed last.
-    last: usize,
+    // Where the block of a number stood when it was accessed, by the lowest bits of the number. Another block may have the same bits, so whoever
+    // asks must check what it gets.
+    hints: Vec<usize>,
     alloc: Global,
 }
 
@@ -46,7 +50,7 @@ impl<A: Copy> WordBooks<A> {
     {
         WordBooks {
             blocks: IndexMap::new(alloc),
-            last: 0,
+            hints: Vec::new(alloc),
             alloc,
         }
     }
@@ -80,16 +84,17 @@ impl<A: Copy> WordBooks<A> {
     {
         let number = block_of(word);
         let place = place_of(word);
-        match index_of_block(&self.blocks, self.last, number) {
+        match index_of_block(&self.blocks, hint(&self.hints, number), number) {
             Some(index) => {
-                self.last = index;
+                note(&mut self.hints, number, index);
                 self.blocks[index].access(self.alloc, locks, place, at, thread, kind)?;
                 Ok(())
             }
             None => {
                 let mut block = Block::new(self.alloc);
                 block.access(self.alloc, locks, place, at, thread, kind)?;
-                self.last = self.blocks.len();
+                make_room(self.alloc, &mut self.hints)?;
+                note(&mut self.hints, number, self.blocks.len());
                 self.blocks.insert(number, block)?;
                 Ok(())
             }
@@ -113,7 +118,7 @@ impl<A: Copy> WordBooks<A> {
         requires { to < 128 }
         ensures { (w : ℕ) → book_in self.new w ≡ cond (is_place_in number from to w) Book.Untouched (book_in self.old w) }
     {
-        if let Some(index) = index_of_block(&self.blocks, self.last, number) {
+        if let Some(index) = index_of_block(&self.blocks, hint(&self.hints, number), number) {
             self.blocks[index].empty(from, to);
         }
     }
@@ -122,23 +127,49 @@ impl<A: Copy> WordBooks<A> {
     pub fn joining(&self, word: Word) -> Option<&Joint<A>>
         ensures { option_copied result ≡ joining_in (book_in self.now word) }
     {
-        match self.blocks.get(&block_of(word)) {
-            Some(block) => block.joining(place_of(word)),
+        let number = block_of(word);
+        match index_of_block(&self.blocks, hint(&self.hints, number), number) {
+            Some(index) => self.blocks[index].joining(place_of(word)),
             None => None,
         }
     }
 }
 
-// Where the block of this number stands. It looks at the one at `last` first.
+// Makes room for all hints, unless it is there.
+fn make_room(alloc: Global, hints: &mut Vec<usize>) -> Result<(), AllocError> {
+    if hints.is_empty() {
+        *hints = vec![in alloc; 0; HINTS as usize]?;
+    }
+    Ok(())
+}
+
+// Where the block of this number stands, as a rule.
+#[inline(always)]
+fn hint(hints: &[usize], number: u64) -> usize {
+    match hints.get((number % HINTS) as usize) {
+        Some(&index) => index,
+        None => 0,
+    }
+}
+
+// Notes where the block of this number stands.
+#[inline(always)]
+fn note(hints: &mut [usize], number: u64, index: usize) {
+    if let Some(hint) = hints.get_mut((number % HINTS) as usize) {
+        *hint = index;
+    }
+}
+
+// Where the block of this number stands. It looks at the one at `hint` first, and needs no hash if that is the one.
 #[inline]
-fn index_of_block<A>(blocks: &IndexMap<u64, Block<A>>, last: usize, number: u64) -> Option<usize>
+fn index_of_block<A>(blocks: &IndexMap<u64, Block<A>>, hint: usize, number: u64) -> Option<usize>
     ensures key { IfSome result (λ index. slice_get (keys blocks.now) index ≡ Some number) }
     ensures within { IfSome result (λ index. index < index_map_len blocks.now) }
     ensures none { IfNone result (get nat_eq blocks.now number ≡ None) }
     ensures unique { IsUnique nat_eq blocks.now }
 {
-    match blocks.as_slice().get_index(last) {
-        Some((key, _)) if *key == number => Some(last),
+    match blocks.as_slice().get_index(hint) {
+        Some((key, _)) if *key == number => Some(hint),
         _ => blocks.get_index_of(&number),
     }
 }

@@ -1,14 +1,14 @@
 //! The lines of a report.
-ghost use Rattle.std.specs.Prelude.{◌≡◌, ◌++◌, All, flat_map, OnOk};
+ghost use Rattle.std.specs.Prelude.{◌≡◌, [], ◌∷◌, ◌++◌, All, codes, flat_map, OnOk};
 ghost use Rattle.er_report.specs.Lines.{line_view};
-ghost use Rattle.er_report.specs.Names.{HasNames, HasReasonNames};
+ghost use Rattle.er_report.specs.Names.{HasLabelName, HasNames, HasReasonNames};
 ghost use Rattle.er_report.specs.Report.{told};
-ghost use Rattle.er_print.specs.Printed.{place_text, reason_text, own_text, line_text, stop_text, count_text, counts_text, totals_text};
+ghost use Rattle.er_print.specs.Printed.{kind_text, label_text, place_text, reason_text, own_text, line_text, stop_text, count_text, counts_text, totals_text};
 
-use crate::naming::{put_event, put_kind, put_label, put_locks, put_site, put_state, put_thread};
+use crate::naming::{put_event, put_kind, put_lock, put_locks, put_site, put_state, put_thread};
 use crate::numbers::{put_address, put_number};
-use er_event::NoRoom;
-use er_report::{Because, Line, Report};
+use er_event::{Kind, NoRoom};
+use er_report::{Because, Label, Line, Report};
 use er_trace::Names;
 use std::alloc::AllocError;
 
@@ -92,15 +92,38 @@ fn put_reason(out: &mut Vec<u8>, names: &Names, because: &Because) -> Result<(),
     requires { HasReasonNames names.now because.now }
     ensures { OnOk result (out.new.items ≡ out.old.items ++ reason_text names.now because.now) }
 {
-    out.extend_from_slice(b"  ")?;
     put_label(out, names, because.label)?;
-    out.extend_from_slice(b": line ")?;
     put_number(out, because.line)?;
     out.extend_from_slice(b", ")?;
     put_thread(out, names, because.thread)?;
-    out.extend_from_slice(b" ")?;
-    put_kind(out, because.kind)?;
-    out.extend_from_slice(b"\n")
+    out.extend_from_slice(last_verb(because.kind))
+}
+
+// Puts what the line of an access that makes a race begins with.
+fn put_label(out: &mut Vec<u8>, names: &Names, label: Label) -> Result<(), AllocError>
+    requires { HasLabelName names.now label }
+    ensures { OnOk result (out.new.items ≡ out.old.items ++ (codes "  " ++ label_text names.now label ++ codes ": line ")) }
+{
+    match label {
+        Label::First => out.extend_from_slice(b"  first: line "),
+        Label::Joined => out.extend_from_slice(b"  joined: line "),
+        Label::Write => out.extend_from_slice(b"  write: line "),
+        Label::Uncovered(lock) => {
+            out.extend_from_slice(b"  ")?;
+            put_lock(out, names, lock)?;
+            out.extend_from_slice(b" not covering: line ")
+        }
+    }
+}
+
+// The verb of an access at the end of a line, behind a space.
+fn last_verb(kind: Kind) -> &'static [u8]
+    ensures { result.now ≡ codes " " ++ kind_text kind ++ 10 ∷ [] }
+{
+    match kind {
+        Kind::Read => b" read\n".as_slice(),
+        Kind::Write => b" write\n".as_slice(),
+    }
 }
 
 /// Puts the line of the stop, if there is one.

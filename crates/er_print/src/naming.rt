@@ -1,11 +1,10 @@
 //! Threads, locks and sites by their names, and what a step or a state says of them.
 ghost use Rattle.std.specs.Prelude.{◌≡◌, ◌++◌, ◌<◌, ◌≤◌, length, OnOk};
-ghost use Rattle.er_report.specs.Names.{HasLabelName, HasLockName, HasLockNames, HasEventNames, HasStateNames};
-ghost use Rattle.er_print.specs.Printed.{name_at, site_text, lock_text, label_text, more_locks, locks_text, kind_text, acquire_text, release_text, event_text, order_text, candidates_text, state_text};
+ghost use Rattle.er_report.specs.Names.{HasLockName, HasLockNames, HasEventNames, HasStateNames};
+ghost use Rattle.er_print.specs.Printed.{name_at, site_text, lock_text, more_locks, locks_text, kind_text, acquire_text, release_text, event_text, order_text, candidates_text, state_text};
 
 use crate::numbers::put_number;
 use er_event::{Event, Kind, LockId, Lockset, Mode, Site, Sync, ThreadId, WordState};
-use er_report::Label;
 use er_trace::Names;
 use std::alloc::AllocError;
 
@@ -38,22 +37,6 @@ pub fn put_lock(out: &mut Vec<u8>, names: &Names, lock: LockId) -> Result<(), Al
         return put_number(out, u64::from(lock.number() - LockId::BELOW_LEVELS));
     }
     out.extend_from_slice(names.lock_name(lock).as_bytes())
-}
-
-/// Puts what an access has to do with a race.
-pub(crate) fn put_label(out: &mut Vec<u8>, names: &Names, label: Label) -> Result<(), AllocError>
-    requires { HasLabelName names.now label }
-    ensures { OnOk result (out.new.items ≡ out.old.items ++ label_text names.now label) }
-{
-    match label {
-        Label::First => out.extend_from_slice(b"first"),
-        Label::Joined => out.extend_from_slice(b"joined"),
-        Label::Write => out.extend_from_slice(b"write"),
-        Label::Uncovered(lock) => {
-            put_lock(out, names, lock)?;
-            out.extend_from_slice(b" not covering")
-        }
-    }
 }
 
 /// Puts the locks of a set, parted by spaces, or says that there are none.

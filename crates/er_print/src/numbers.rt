@@ -4,17 +4,16 @@ ghost use Rattle.std.specs.Char.{digit_char};
 ghost use Rattle.er_print.specs.Printed.{hex_digits, address_text};
 
 use er_event::Word;
+use itoa::Buffer;
 use std::alloc::AllocError;
 
 /// Puts a number in decimal, without leading zeros.
+#[inline]
 pub fn put_number(out: &mut Vec<u8>, n: u64) -> Result<(), AllocError>
     ensures { OnOk result (out.new.items ≡ out.old.items ++ decimal n) }
 {
-    if n >= 10 {
-        put_number(out, n / 10)?;
-    }
-    out.push(b'0' + (n % 10) as u8)?;
-    Ok(())
+    let mut digits = Buffer::new();
+    out.extend_from_slice(digits.format(n).as_bytes())
 }
 
 /// Puts the address of the word's first byte.
