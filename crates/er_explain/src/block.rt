@@ -1,5 +1,5 @@
 //! `Block`, the books of words that lie side by side.
-ghost use Rattle.std.specs.Prelude.{◌≡◌, ◌<◌, ◌≤◌, ◌&&◌, ℕ, nat_eq, nat_le, nat_lt, cond, length, slice_set, option_copied, OnOk};
+ghost use Rattle.std.specs.Prelude.{◌≡◌, ◌<◌, ◌≤◌, ◌&&◌, ℕ, nat_eq, nat_le, nat_lt, cond, [], length, slice_set, option_copied, OnOk};
 ghost use Rattle.er_explain.specs.Books.{book_accessed};
 ghost use Rattle.er_explain.specs.Inner.Slots.{emptied, slot_at};
 ghost use Rattle.er_explain.specs.WordBooks.{book_at_place, joining_in};
@@ -58,10 +58,11 @@ impl<A: Copy> Block<A> {
         }
     }
 
-    /// The book of the word at a place goes on by a counted access.
+    /// The book of the word at a place goes on by a counted access. A joining may be a spare one.
     pub(crate) fn access(
         &mut self,
         alloc: Global,
+        spare: &mut Vec<Joint<A>>,
         locks: &ThreadLocks,
         place: usize,
         at: A,
@@ -72,7 +73,9 @@ impl<A: Copy> Block<A> {
         ensures { OnOk result ((i : ℕ) → book_at_place self.new i ≡ cond (nat_eq place i) (book_accessed (book_at_place self.old place) at thread kind (locks_for (held_by locks.now thread) kind)) (book_at_place self.old i)) }
     {
         match self.slots[place] {
-            Slot::Kept(number) => self.books[number as usize].access(alloc, locks, at, thread, kind),
+            Slot::Kept(number) => {
+                self.books[number as usize].access(alloc, spare, locks, at, thread, kind)
+            }
             Slot::Emptied(number) => {
                 set(&mut self.books, number as usize, Book::Owned(at, thread));
                 put(&mut self.slots, place, Slot::Kept(number));
@@ -91,13 +94,13 @@ impl<A: Copy> Block<A> {
         }
     }
 
-    /// Empties the books from `lo` to `hi`, both included.
-    pub(crate) fn empty(&mut self, lo: usize, hi: usize)
+    /// Empties the books from `lo` to `hi`, both included. If these are all books, their joinings are spare.
+    pub(crate) fn empty(&mut self, spare: &mut Vec<Joint<A>>, lo: usize, hi: usize)
         requires { hi < 128 }
         ensures { (i : ℕ) → book_at_place self.new i ≡ cond (nat_le lo i && nat_le i hi) Book.Untouched (book_at_place self.old i) }
     {
         if lo == 0 && hi == 127 {
-            self.books.clear();
+            let_go(&mut self.books, spare);
             self.slots = [Slot::Free; 128];
             return;
         }
@@ -123,6 +126,18 @@ fn joining_at<A>(books: &[Book<A>], number: usize) -> Option<&Joint<A>>
     match books.get(number) {
         Some(Book::Joined(joint)) => Some(joint),
         _ => None,
+    }
+}
+
+// Lets go of all books, and keeps their joinings for others. It doesn't look at what a joining says.
+fn let_go<A: Copy>(books: &mut Vec<Book<A>>, spare: &mut Vec<Joint<A>>)
+    ensures { books.new.items ≡ [] }
+{
+    while let Some(book) = books.pop() {
+        if let Book::Joined(joint) = book {
+            // Without memory for it, it is dropped.
+            let _ = spare.push(joint);
+        }
     }
 }
 

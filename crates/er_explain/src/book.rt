@@ -1,5 +1,5 @@
 //! `Book`, what one pass over a list of steps keeps of a word.
-ghost use Rattle.std.specs.Prelude.{◌≡◌, ◌<◌, ◌≤◌, ◌↔◌, ℕ, length, map, IfOk, OnOk, Some};
+ghost use Rattle.std.specs.Prelude.{◌≡◌, ◌<◌, ◌≤◌, ◌↔◌, ℕ, length, map, IfOk, OnOk, None, Some};
 ghost use Rattle.er_explain.specs.Books.{begun, gone_on, pair_after, book_accessed, book_after, joining_of};
 ghost use Rattle.er_held.specs.ThreadLocks.{held_by};
 ghost use Rattle.er_model.specs.Explanations.{Explanation as Explained};
@@ -57,9 +57,10 @@ pub(crate) enum Book<A> {
 }
 
 impl<A: Copy> Joint<A> {
-    // A second thread has joined, under these locks.
+    // A second thread has joined, under these locks. It takes a spare joining over, if there is one.
     fn begin(
         alloc: Global,
+        spare: &mut Vec<Joint<A>>,
         first: A,
         join: A,
         kind: Kind,
@@ -67,23 +68,44 @@ impl<A: Copy> Joint<A> {
     ) -> Result<Joint<A>, AllocError>
         ensures { IfOk result (λ joint. joint ≡ begun first join kind cover.now) }
     {
-        let mut pairs = Vec::with_capacity(alloc, cover.len())?;
-        for &lock in cover.as_slice() {
-            pairs.push(Pair { lock, at: None })?;
-        }
-        let write = match kind {
-            Kind::Read => None,
-            Kind::Write => Some(join),
+        let mut joint = match spare.pop() {
+            Some(joint) => joint,
+            None => Joint::blank(alloc, join)?,
         };
+        joint.restart(first, join, kind, cover)?;
+        Ok(joint)
+    }
+
+    // One that is to be begun.
+    fn blank(alloc: Global, any: A) -> Result<Joint<A>, AllocError> {
         let parts = Parts {
-            first,
-            join,
-            write,
-            pairs,
+            first: any,
+            join: any,
+            write: None,
+            pairs: Vec::new(alloc),
         };
         Ok(Joint {
             parts: Box::new(alloc, parts)?,
         })
+    }
+
+    // Forgets what it says and begins anew.
+    fn restart(
+        &mut self,
+        first: A,
+        join: A,
+        kind: Kind,
+        cover: &Lockset,
+    ) -> Result<(), AllocError>
+        ensures { OnOk result (self.new ≡ begun first join kind cover.now) }
+    {
+        self.parts.first = first;
+        self.parts.join = join;
+        self.parts.write = match kind {
+            Kind::Read => None,
+            Kind::Write => Some(join),
+        };
+        put_locks(&mut self.parts.pairs, cover.as_slice())
     }
 
     /// The first access since the word's last reuse.
@@ -125,6 +147,17 @@ impl<A: Copy> Joint<A> {
     }
 }
 
+// Puts a pair for each lock in place of all that are there.
+fn put_locks<A: Copy>(pairs: &mut Vec<Pair<A>>, locks: &[LockId]) -> Result<(), AllocError>
+    ensures { OnOk result (pairs.new.items ≡ map (λ l. record { lock = l; at = None }) locks.now) }
+{
+    pairs.clear();
+    for &lock in locks {
+        pairs.push(Pair { lock, at: None })?;
+    }
+    Ok(())
+}
+
 // The pairs after a later access.
 fn look_for_uncovered<A: Copy>(
     pairs: &mut [Pair<A>],
@@ -158,10 +191,11 @@ fn pair_after<A: Copy>(
 }
 
 impl<A: Copy> Book<A> {
-    /// Goes on by a counted access of the word.
+    /// Goes on by a counted access of the word. A joining may be a spare one.
     pub(crate) fn access(
         &mut self,
         alloc: Global,
+        spare: &mut Vec<Joint<A>>,
         locks: &ThreadLocks,
         at: A,
         thread: ThreadId,
@@ -174,7 +208,7 @@ impl<A: Copy> Book<A> {
             Book::Owned(first, owner) => {
                 if *owner != thread {
                     let cover = locks.cover_of(alloc, thread, kind)?;
-                    *self = Book::Joined(Joint::begin(alloc, *first, at, kind, &cover)?);
+                    *self = Book::Joined(Joint::begin(alloc, spare, *first, at, kind, &cover)?);
                 }
             }
             Book::Joined(joint) => joint.go_on(locks, at, thread, kind),
@@ -186,6 +220,7 @@ impl<A: Copy> Book<A> {
     pub(crate) fn follow(
         &mut self,
         alloc: Global,
+        spare: &mut Vec<Joint<A>>,
         locks: &ThreadLocks,
         word: Word,
         at: A,
@@ -196,7 +231,7 @@ impl<A: Copy> Book<A> {
         match step.event {
             Event::Access(kind, accessed, _) => {
                 if accessed == word && !locks.is_ignoring(step.thread) {
-                    self.access(alloc, locks, at, step.thread, kind)?;
+                    self.access(alloc, spare, locks, at, step.thread, kind)?;
                 }
             }
             Event::Reuse(range) => {

@@ -66,9 +66,10 @@ fn book_of(alloc: Global, steps: &[Step], end: usize, word: Word) -> Result<Book
     ensures { IfOk result (λ book. book ≡ book_at (reading_of steps.now) word end) }
 {
     let mut locks = ThreadLocks::new(alloc);
+    let mut spare = Vec::new(alloc);
     let mut book = Book::Untouched;
     for (at, step) in steps[..end].iter().enumerate() {
-        book.follow(alloc, &locks, word, at as u64, step)?;
+        book.follow(alloc, &mut spare, &locks, word, at as u64, step)?;
         locks.follow(alloc, step)?;
     }
     Ok(book)

@@ -32,6 +32,8 @@ pub struct WordBooks<A> {
     // Where the block of a number stood when it was accessed, by the lowest bits of the number. Another block may have the same bits, so whoever
     // asks must check what it gets.
     hints: Vec<usize>,
+    // Joinings that nobody needs, for words that are joined later. So a reuse of many words frees nothing and looks at no joining.
+    spare: Vec<Joint<A>>,
     alloc: Global,
 }
 
@@ -51,6 +53,7 @@ impl<A: Copy> WordBooks<A> {
         WordBooks {
             blocks: IndexMap::new(alloc),
             hints: Vec::new(alloc),
+            spare: Vec::new(alloc),
             alloc,
         }
     }
@@ -87,12 +90,13 @@ impl<A: Copy> WordBooks<A> {
         match index_of_block(&self.blocks, hint(&self.hints, number), number) {
             Some(index) => {
                 note(&mut self.hints, number, index);
-                self.blocks[index].access(self.alloc, locks, place, at, thread, kind)?;
+                let block = &mut self.blocks[index];
+                block.access(self.alloc, &mut self.spare, locks, place, at, thread, kind)?;
                 Ok(())
             }
             None => {
                 let mut block = Block::new(self.alloc);
-                block.access(self.alloc, locks, place, at, thread, kind)?;
+                block.access(self.alloc, &mut self.spare, locks, place, at, thread, kind)?;
                 make_room(self.alloc, &mut self.hints)?;
                 note(&mut self.hints, number, self.blocks.len());
                 self.blocks.insert(number, block)?;
@@ -119,7 +123,7 @@ impl<A: Copy> WordBooks<A> {
         ensures { (w : ℕ) → book_in self.new w ≡ cond (is_place_in number from to w) Book.Untouched (book_in self.old w) }
     {
         if let Some(index) = index_of_block(&self.blocks, hint(&self.hints, number), number) {
-            self.blocks[index].empty(from, to);
+            self.blocks[index].empty(&mut self.spare, from, to);
         }
     }
 

@@ -9,7 +9,7 @@ up_to : (i hi : ℕ) → nat_lt i (hi + 1) ≡ nat_le i hi
 up_to i hi = grind (arith, nat_tests)
 
 pub invariant_of-self : goal.invariant_of-self
-invariant_of-self g c = apart-free _ (length c.clear.new.self.items) refl
+invariant_of-self g c = apart-free _ (length c.let_go.new.books.items) refl
 
 pub invariant_of-self-2 : goal.invariant_of-self-2
 invariant_of-self-2 g c =
@@ -18,7 +18,7 @@ invariant_of-self-2 g c =
 
 pub returns-then-hi-eq127 : goal.returns-then-hi-eq127
 returns-then-hi-eq127 g c =
-    all_emptied c.self.inside.slots _ c.self.inside.books.items c.clear.new.self.items c.args.self.now c.args.lo c.args.hi c.self.view_is refl c.if-lo-eq0.true c.if-hi-eq127.true
+    all_emptied c.self.inside.slots _ c.self.inside.books.items c.let_go.new.books.items c.args.self.now c.args.lo c.args.hi c.self.view_is refl c.if-lo-eq0.true c.if-hi-eq127.true
 
 pub returns : goal.returns
 returns g c =

@@ -11,11 +11,11 @@ pub returns-in_ok-access-in-Some : goal.returns-in_ok-access-in-Some
 returns-in_ok-access-in-Some g c =
     subst (λ old. (w : ℕ) → book_in (with_value_at c.self.inside.blocks c.in-Some.index c.access.new.self).entries w
     ≡ cond (c.args.word == w) (book_accessed (book_in old c.args.word) c.args.at c.args.thread c.args.kind (locks_for (held_by c.args.locks.now c.args.thread) c.args.kind)) (book_in old w)) c.self.view_is
-    (one_book c.self.inside.blocks.entries (with_value_at c.self.inside.blocks c.in-Some.index c.access.new.self).entries c.args.word c.block_of-number.result c.place_of-place.result (Some c.index_mut.result.now) c.access.new.self
+    (one_book c.self.inside.blocks.entries (with_value_at c.self.inside.blocks c.in-Some.index c.access.new.self).entries c.args.word c.block_of-number.result c.place_of-place.result (Some c.index_mut-block.result.now) c.access.new.self
     (λ b. book_accessed b c.args.at c.args.thread c.args.kind (locks_for (held_by c.args.locks.now c.args.thread) c.args.kind))
     c.block_of-number.ensures c.place_of-place.ensures.value
-    (block_found c.self.inside.blocks c.in-Some.index c.block_of-number.result c.index_mut.result.now c.in-Some.ensures.unique c.in-Some.ensures.key c.index_mut.ensures.value)
-    (block_put c.self.inside.blocks c.in-Some.index c.block_of-number.result c.index_mut.result.now c.in-Some.ensures.unique c.in-Some.ensures.key c.index_mut.ensures.value c.access.new.self)
+    (block_found c.self.inside.blocks c.in-Some.index c.block_of-number.result c.index_mut-block.result.now c.in-Some.ensures.unique c.in-Some.ensures.key c.index_mut-block.ensures.value)
+    (block_put c.self.inside.blocks c.in-Some.index c.block_of-number.result c.index_mut-block.result.now c.in-Some.ensures.unique c.in-Some.ensures.key c.index_mut-block.ensures.value c.access.new.self)
     c.in_ok-access-in-Some.ensures)
 
 pub returns-in_ok-insert-in-None : goal.returns-in_ok-insert-in-None
