@@ -12,7 +12,7 @@ use Rattle.std.proofs.lemmas.List.Folds.{list_all-append}
 use Rattle.std.proofs.lemmas.List.Splits.{slice_split_at, slice_split_none}
 use Rattle.std.proofs.lemmas.List.Sums.{AllPass-from_list_all, list_all-from_AllPass}
 use Rattle.er_event.specs.declared.steps.Kind.{Kind}
-use Rattle.er_event.specs.declared.steps.Mode.TheVariants as mode
+use Rattle.er_event.specs.declared.steps.Mode.{Mode}
 use Rattle.er_text.specs.declared.verbs.Version.{Version}
 use Rattle.er_text.specs.Lines.{is_gap, is_ascii, is_comment, has_bytes, words, word_at}
 use Rattle.er_text.specs.Number.{number_of}
@@ -22,7 +22,7 @@ use Rattle.er_text.specs.declared.stages.Stage.{Stage}
 use Rattle.er_text.specs.declared.stages.Stage.TheVariants.{Events}
 use Rattle.er_trace.specs.Names.{number_of as place_of}
 use Rattle.er_trace.specs.Trace.{Recording, with_thread_name}
-use Rattle.er_text.specs.Trace.{kind_word}
+use Rattle.er_text.specs.Trace.{acquire_word, release_word, kind_word}
 use Rattle.er_text.specs.Inner.Parsing.{parsed_of}
 use Rattle.er_text.specs.Inner.Idle.{last_actor, without_idle, order_fault, waits_for, is_known_name}
 use Rattle.er_text.specs.Inner.Traces.{Progress, past_event, add_event, add_parsed, closed, read_words, plain_at}
@@ -169,26 +169,28 @@ access_tells k bytes rest operation ascii whole a =
       one = λ line thread r. access_one line thread (a.n / 4) k a.site r;
     })
 
-pub lock_tells : (bytes rest : List ℕ) (operation : Operation) → bytes ≡ codes "lock " ++ rest → is_lock_name rest ≡ true → operation ≡ Acquires rest mode.Write → IsFastOperation bytes operation
-lock_tells bytes rest operation is named told =
+pub lock_tells : (m : Mode) (bytes rest : List ℕ) (operation : Operation) → list_all is_ascii bytes ≡ list_all is_ascii rest → words bytes ≡ acquire_word m ∷ words rest
+    → is_lock_name rest ≡ true → operation ≡ Acquires rest m → IsFastOperation bytes operation
+lock_tells m bytes rest operation ascii whole named told =
     let parts = name_parts rest (lock_is_name rest named) in
     subst (IsFastOperation bytes) (sym told) (record {
-      ascii = ap (list_all is_ascii) is ∙ name_ascii rest parts.named;
+      ascii = ascii ∙ name_ascii rest parts.named;
       says = λ v thread. (
-        ap (λ (w : List (List ℕ)). thread ∷ w) (ap words is ∙ ap (λ (w : List (List ℕ)). codes "lock" ∷ w) (word_alone rest parts.gapless parts.some)),
+        ap (λ (w : List (List ℕ)). thread ∷ w) (whole ∙ ap (λ (w : List (List ℕ)). acquire_word m ∷ w) (word_alone rest parts.gapless parts.some)),
         named,
       );
       alone = refl;
       one = λ line thread r. last_added r.steps _;
     })
 
-pub unlock_tells : (bytes rest : List ℕ) (operation : Operation) → bytes ≡ codes "unlock " ++ rest → is_lock_name rest ≡ true → operation ≡ Releases rest mode.Write → IsFastOperation bytes operation
-unlock_tells bytes rest operation is named told =
+pub unlock_tells : (m : Mode) (bytes rest : List ℕ) (operation : Operation) → list_all is_ascii bytes ≡ list_all is_ascii rest → words bytes ≡ release_word m ∷ words rest
+    → is_lock_name rest ≡ true → operation ≡ Releases rest m → IsFastOperation bytes operation
+unlock_tells m bytes rest operation ascii whole named told =
     let parts = name_parts rest (lock_is_name rest named) in
     subst (IsFastOperation bytes) (sym told) (record {
-      ascii = ap (list_all is_ascii) is ∙ name_ascii rest parts.named;
+      ascii = ascii ∙ name_ascii rest parts.named;
       says = λ v thread. (
-        ap (λ (w : List (List ℕ)). thread ∷ w) (ap words is ∙ ap (λ (w : List (List ℕ)). codes "unlock" ∷ w) (word_alone rest parts.gapless parts.some)),
+        ap (λ (w : List (List ℕ)). thread ∷ w) (whole ∙ ap (λ (w : List (List ℕ)). release_word m ∷ w) (word_alone rest parts.gapless parts.some)),
         named,
       );
       alone = refl;

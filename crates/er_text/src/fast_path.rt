@@ -1,5 +1,6 @@
-//! Event lines in their usual form, read in one pass over their bytes: a name, `read`, `write`, `lock` or `unlock`, an address of
-//! at most 12 hexadecimal digits and perhaps a site, or a lock, with one space between any two of them.
+//! Event lines in their usual form, read in one pass over their bytes: a name, `read` or `write`, an address of at most 12
+//! hexadecimal digits and perhaps a site, or a name, `lock`, `unlock`, `rlock` or `runlock`, and a lock, with one space between any
+//! two of them.
 //!
 //! The steps are those of `parsing` and `adding`, in less than half the time. A line of any other form is left to `parsing`.
 ghost use Rattle.std.specs.Prelude.{◌≡◌, ◌+◌, ◌<◌, ◌≤◌, ◌∷◌, ◌++◌, not, position, length, codes, ℕ, List, IfSome};
@@ -91,6 +92,28 @@ fn after_unlock(bytes: &[u8]) -> Option<&[u8]>
 {
     match bytes {
         [b'u', b'n', b'l', b'o', b'c', b'k', b' ', rest @ ..] => Some(rest),
+        _ => None,
+    }
+}
+
+/// What follows `rlock ` in front.
+#[inline(always)]
+fn after_rlock(bytes: &[u8]) -> Option<&[u8]>
+    ensures { IfSome result (λ rest. bytes.now ≡ codes "rlock " ++ rest.now) }
+{
+    match bytes {
+        [b'r', b'l', b'o', b'c', b'k', b' ', rest @ ..] => Some(rest),
+        _ => None,
+    }
+}
+
+/// What follows `runlock ` in front.
+#[inline(always)]
+fn after_runlock(bytes: &[u8]) -> Option<&[u8]>
+    ensures { IfSome result (λ rest. bytes.now ≡ codes "runlock " ++ rest.now) }
+{
+    match bytes {
+        [b'r', b'u', b'n', b'l', b'o', b'c', b'k', b' ', rest @ ..] => Some(rest),
         _ => None,
     }
 }
@@ -236,14 +259,15 @@ fn add_usual_acquire(
     trace: &mut Trace,
     line: u64,
     thread: &str,
+    mode: Mode,
     bytes: &[u8],
 ) -> Result<bool, AllocError>
-    ensures { AddsOperation (IsFastAcquire bytes.now) line thread.now trace.old trace.new result }
+    ensures { AddsOperation (IsFastAcquire mode bytes.now) line thread.now trace.old trace.new result }
 {
     if !is_lock_name(bytes) {
         return Ok(false);
     }
-    add_acquire(trace, line, thread, text(bytes), Mode::Write)?;
+    add_acquire(trace, line, thread, text(bytes), mode)?;
     Ok(true)
 }
 
@@ -253,14 +277,15 @@ fn add_usual_release(
     trace: &mut Trace,
     line: u64,
     thread: &str,
+    mode: Mode,
     bytes: &[u8],
 ) -> Result<bool, AllocError>
-    ensures { AddsOperation (IsFastRelease bytes.now) line thread.now trace.old trace.new result }
+    ensures { AddsOperation (IsFastRelease mode bytes.now) line thread.now trace.old trace.new result }
 {
     if !is_lock_name(bytes) {
         return Ok(false);
     }
-    add_release(trace, line, thread, text(bytes), Mode::Write)?;
+    add_release(trace, line, thread, text(bytes), mode)?;
     Ok(true)
 }
 
@@ -281,10 +306,29 @@ fn add_usual_operation(
         return add_usual_access(trace, line, thread, Kind::Write, rest);
     }
     if let Some(rest) = after_lock(bytes) {
-        return add_usual_acquire(trace, line, thread, rest);
+        return add_usual_acquire(trace, line, thread, Mode::Write, rest);
     }
     if let Some(rest) = after_unlock(bytes) {
-        return add_usual_release(trace, line, thread, rest);
+        return add_usual_release(trace, line, thread, Mode::Write, rest);
+    }
+    add_usual_read_lock(trace, line, thread, bytes)
+}
+
+/// Adds the acquire or the release of a lock in read mode, and says whether it did.
+#[inline(always)]
+fn add_usual_read_lock(
+    trace: &mut Trace,
+    line: u64,
+    thread: &str,
+    bytes: &[u8],
+) -> Result<bool, AllocError>
+    ensures { AddsOperation (IsFastOperation bytes.now) line thread.now trace.old trace.new result }
+{
+    if let Some(rest) = after_rlock(bytes) {
+        return add_usual_acquire(trace, line, thread, Mode::Read, rest);
+    }
+    if let Some(rest) = after_runlock(bytes) {
+        return add_usual_release(trace, line, thread, Mode::Read, rest);
     }
     Ok(false)
 }

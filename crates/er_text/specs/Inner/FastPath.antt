@@ -4,7 +4,7 @@ use Rattle.std.specs.List.{list_all}
 use Rattle.std.specs.Char.{is_digit}
 use Rattle.std.specs.Str.Parse.{digits_value}
 use Rattle.er_event.specs.declared.steps.Kind.{Kind}
-use Rattle.er_event.specs.declared.steps.Mode.TheVariants as mode
+use Rattle.er_event.specs.declared.steps.Mode.{Mode}
 use Rattle.er_text.specs.declared.verbs.Version.{Version}
 use Rattle.er_text.specs.declared.stages.Stage.{Stage}
 use Rattle.er_text.specs.Lines.{words, word_at, has_bytes, is_ascii, is_comment}
@@ -59,13 +59,13 @@ pub record IsFastAccess (k : Kind) (bytes : List ℕ) (operation : Operation) : 
   pub names : IsSite behind site
   pub is : operation ≡ Accesses k (n / 4) site
 
--- behind the verb of an acquire
-abbrev pub IsFastAcquire : List ℕ → Operation → Type 0
-IsFastAcquire bytes operation = (is_lock_name bytes ≡ true) × (operation ≡ Acquires bytes mode.Write)
+-- behind the verb of an acquire in this mode
+abbrev pub IsFastAcquire : Mode → List ℕ → Operation → Type 0
+IsFastAcquire m bytes operation = (is_lock_name bytes ≡ true) × (operation ≡ Acquires bytes m)
 
--- behind the verb of a release
-abbrev pub IsFastRelease : List ℕ → Operation → Type 0
-IsFastRelease bytes operation = (is_lock_name bytes ≡ true) × (operation ≡ Releases bytes mode.Write)
+-- behind the verb of a release in this mode
+abbrev pub IsFastRelease : Mode → List ℕ → Operation → Type 0
+IsFastRelease m bytes operation = (is_lock_name bytes ≡ true) × (operation ≡ Releases bytes m)
 
 -- behind a thread
 pub record IsFastOperation (bytes : List ℕ) (operation : Operation) : Type 0 where

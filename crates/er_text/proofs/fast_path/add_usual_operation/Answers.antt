@@ -2,6 +2,7 @@
 use Rattle.std.proofs.Common.{ap}
 use Rattle.std.specs.List.{list_all}
 use Rattle.er_event.specs.declared.steps.Kind.TheVariants.{Read, Write}
+use Rattle.er_event.specs.declared.steps.Mode.TheVariants as mode
 use Rattle.er_text.specs.Lines.{is_ascii, words}
 use Rattle.er_text.specs.Inner.FastPath.{IsFastAccess, IsFastAcquire, IsFastRelease, IsFastOperation}
 use Rattle.er_text.proofs.FastPathLaws.{access_tells, lock_tells, unlock_tells}
@@ -25,11 +26,13 @@ returns-in-Some-after_write c =
 pub returns-in-Some-after_lock : goal.returns-in-Some-after_lock
 returns-in-Some-after_lock c =
     let rest = c.in-Some-after_lock.rest.now in
-    adds_as (IsFastAcquire rest) (IsFastOperation c.args.bytes.now) c.args.line c.args.thread.now c.args.trace.now c.add_usual_acquire.new.trace c.add_usual_acquire.result
-    (λ operation is. lock_tells c.args.bytes.now rest operation c.in-Some-after_lock.ensures is.0 is.1) c.add_usual_acquire.ensures
+    let is = c.in-Some-after_lock.ensures in
+    adds_as (IsFastAcquire mode.Write rest) (IsFastOperation c.args.bytes.now) c.args.line c.args.thread.now c.args.trace.now c.add_usual_acquire.new.trace c.add_usual_acquire.result
+    (λ operation a. lock_tells mode.Write c.args.bytes.now rest operation (ap (list_all is_ascii) is) (ap words is) a.0 a.1) c.add_usual_acquire.ensures
 
 pub returns-in-Some-after_unlock : goal.returns-in-Some-after_unlock
 returns-in-Some-after_unlock c =
     let rest = c.in-Some-after_unlock.rest.now in
-    adds_as (IsFastRelease rest) (IsFastOperation c.args.bytes.now) c.args.line c.args.thread.now c.args.trace.now c.add_usual_release.new.trace c.add_usual_release.result
-    (λ operation is. unlock_tells c.args.bytes.now rest operation c.in-Some-after_unlock.ensures is.0 is.1) c.add_usual_release.ensures
+    let is = c.in-Some-after_unlock.ensures in
+    adds_as (IsFastRelease mode.Write rest) (IsFastOperation c.args.bytes.now) c.args.line c.args.thread.now c.args.trace.now c.add_usual_release.new.trace c.add_usual_release.result
+    (λ operation a. unlock_tells mode.Write c.args.bytes.now rest operation (ap (list_all is_ascii) is) (ap words is) a.0 a.1) c.add_usual_release.ensures
