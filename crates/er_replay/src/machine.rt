@@ -233,6 +233,9 @@ impl<'t> Machine<'t> {
         let Some(locks) = cover(self.threads.get(thread), kind) else {
             return Ok((Reply::Ignored, false));
         };
+        if self.words.is_settled(thread, word, kind, locks) {
+            return Ok((Reply::Quiet, false));
+        }
         Ok(self.words.access_noting(rt, thread, word, kind, locks)?)
     }
 

@@ -9,7 +9,7 @@ ghost use Rattle.er_shadow.specs.Replies.{reply_if};
 
 use crate::Hints;
 use crate::page::{Page, WORDS};
-use crate::refining::{named, step};
+use crate::refining::{is_settled, named, step};
 use er_event::{Kind, Lockset, NoRoom, PageRange, Reply, ThreadId, Word, WordState};
 use er_journal::Stamp;
 use er_owner::Shadow;
@@ -160,6 +160,24 @@ impl<'t> ShadowMap<'t> {
         }
     }
 
+    /// Whether an access leaves its word as it is, and reports nothing. If the answer is no, it may do so all the same. It is quicker
+    /// than the access, and most accesses of a program are such.
+    #[inline(always)]
+    pub fn is_settled(&self, thread: ThreadId, word: Word, kind: Kind, locks: &Lockset) -> bool
+        ensures same { IsTrue result → (w : ℕ) → moved (states self.now w) w (Counted thread kind word locks.now) ≡ states self.now w }
+        ensures quiet { IsTrue result → reports (states self.now word) (advanced (states self.now word) thread kind locks.now) ≡ false }
+    {
+        let number = word.page();
+        let place = place_of(word);
+        match index_near(&self.pages, self.places.hint(number), number) {
+            Some(index) => {
+                let shadow = self.pages[index].get(place);
+                is_settled(&self.known, shadow, thread, kind, locks)
+            }
+            None => false,
+        }
+    }
+
     /// The access of a stamp, as `access` takes it.
     pub fn apply<R: Wait>(&mut self, rt: &R, stamp: &Stamp) -> Result<Reply, NoRoom>
         ensures ok { OnOk result ((w : ℕ) → states self.new w ≡ moved (states self.old w) w (Counted stamp.now.thread stamp.now.kind stamp.now.word (stamped stamp.now stamp.now.kind))) }
@@ -233,6 +251,19 @@ fn index_of_page(pages: &IndexMap<u64, Page>, hint: usize, number: u64) -> Optio
     match pages.as_slice().get_index(hint) {
         Some((key, _)) if *key == number => Some(hint),
         _ => pages.get_index_of(&number),
+    }
+}
+
+// Where the page of this number stands, if it stands at `hint`.
+#[inline(always)]
+fn index_near(pages: &IndexMap<u64, Page>, hint: usize, number: u64) -> Option<usize>
+    ensures key { IfSome result (λ index. slice_get (keys pages.now) index ≡ Some number) }
+    ensures within { IfSome result (λ index. index < index_map_len pages.now) }
+    ensures unique { IsUnique nat_eq pages.now }
+{
+    match pages.as_slice().get_index(hint) {
+        Some((key, _page)) => (*key == number).then_some(hint),
+        None => None,
     }
 }
 

@@ -1,5 +1,6 @@
 //! One word's step from state to state, with the sets of locks that it needs.
-ghost use Rattle.std.specs.Prelude.{◌≡◌, ◌<◌, ◌^◌, length, IsOk, IfOk, IsErrOf};
+ghost use Rattle.std.specs.Prelude.{◌≡◌, ◌<◌, ◌^◌, length, IsTrue, IsOk, IfOk, IsErrOf};
+ghost use Rattle.er_event.specs.Lockset.{meet};
 ghost use Rattle.er_model.specs.Table.{advanced, reports};
 ghost use Rattle.er_owner.specs.Advancing.{need_of};
 ghost use Rattle.er_owner.specs.Numbering.{state_in, IsNumbered, IsNumberOf, IsNeedIn, IsRefined};
@@ -33,6 +34,39 @@ pub(crate) fn step<R: Wait>(
     let key = key_of(thread, kind);
     let set = refined(rt, known, covers, key, need(shadow, thread, kind), locks)?;
     Ok(advance(shadow, thread, kind, set))
+}
+
+/// Whether an access leaves the word as it is. Then it is no race that is to be reported.
+#[inline(always)]
+pub(crate) fn is_settled(
+    known: &Known,
+    shadow: Shadow,
+    thread: ThreadId,
+    kind: Kind,
+    locks: &Lockset,
+) -> bool
+    requires { IsNumbered known.now shadow }
+    ensures { IsTrue result → advanced (state_in known.now shadow) thread kind locks.now ≡ state_in known.now shadow }
+{
+    match shadow.state() {
+        NumberedState::Virgin => false,
+        NumberedState::Exclusive(owner) => owner == thread,
+        NumberedState::Shared(set) => match kind {
+            Kind::Read => covers_all(known, set, locks),
+            Kind::Write => false,
+        },
+        NumberedState::SharedModified(set) => covers_all(known, set, locks),
+    }
+}
+
+// Whether these locks are the candidates, or there is no candidate: then all candidates are among them.
+#[inline(always)]
+fn covers_all(known: &Known, candidates: u32, locks: &Lockset) -> bool
+    requires { candidates < length known.now }
+    ensures { IsTrue result → meet (set_at known.now candidates) locks.now ≡ set_at known.now candidates }
+{
+    let set = known.set(candidates);
+    candidates == 0 || set == locks
 }
 
 // The number of the set that is needed. The thread's locks go into the table before what they have in common with the candidates.
