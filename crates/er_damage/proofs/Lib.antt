@@ -1,0 +1,4 @@
+pub mod CountLemmas
+pub mod HoldLemmas
+pub mod LineLemmas
+pub mod StandLemmas

@@ -1,0 +1,18 @@
+//! What is damaged in a recording: a refused step, and a lock that two threads hold at once.
+//!
+//! Begin with [`Inspector`]. It follows the steps of a trace, batch by batch, and knows the line of the first step that is refused and
+//! that of the first step by which a lock is held twice. A recorder that works writes neither: a thread that takes a lock that another
+//! holds waits for it. So either shows that the recording lacks steps, or has them in another order than the program took them.
+//!
+//! What it promises, by the names of clauses: an inspector that stands for a recording's steps stands for the longer recording after
+//! `follow` (`goes_on`), and what it then knows is what the definitions say of those steps (`refused`, `held_twice`).
+//!
+//! It keeps its own account of what each thread holds and of how many threads hold each lock, and so needs no machine's answers. The
+//! account costs memory by the threads and the locks, and a look at an access costs nothing.
+#![tactic(auto)]
+
+pub use inspector::Inspector;
+
+mod counter;
+mod inspector;
+mod threads;
