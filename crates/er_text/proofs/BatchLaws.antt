@@ -18,12 +18,14 @@ use Rattle.er_text.specs.Lines.{Placed, placed, has_content, words, width, is_as
 use Rattle.er_text.specs.Events.{EventLine, Operation, Acquires, Releases, Accesses, Reuses, IgnoresOn, IgnoresOff, Shows, Levels, Starts, Joins, Signals, Awaits, with_operation}
 use Rattle.er_text.specs.declared.stages.Stage.{Stage}
 use Rattle.er_text.specs.declared.stages.Stage.TheVariants.{Front, Events, Ended}
-use Rattle.er_text.specs.Trace.{version_in, is_end}
+use Rattle.er_text.specs.Trace.{version_in, is_end, IsTrace, IsFault}
 use Rattle.er_text.specs.Inner.Parsing.{parsed_of}
 use Rattle.er_text.specs.Inner.Idle.{order_fault, idle_past}
+use Rattle.er_text.specs.Inner.Endings.{KeepsCut, BatchesCut}
 use Rattle.er_text.specs.Inner.Lending.{lines_left}
 use Rattle.er_text.specs.Inner.Reading.{read_line, go_on, read_lines, Continues}
 use Rattle.er_text.specs.Inner.Traces.{Progress, at_front, progress, skip, add_event, add_parsed, open_with, closed, read_words, read_content, finish_as, finish, Batches}
+use Rattle.er_text.proofs.CutLemmas.{cut_goes_on}
 use Rattle.er_text.proofs.TraceLaws.{trace_is, fault_is}
 
 abbrev recording : NameTable → List Step → List ℕ → Recording
@@ -53,10 +55,10 @@ operation_joined steps lines line thread (Signals object) r = behind steps _ lin
 operation_joined steps lines line thread (Awaits object) r = behind steps _ lines _ r _
 
 -- behind the steps that were taken away
-abbrev after : List Step → List ℕ → Progress → Progress
+abbrev pub after : List Step → List ℕ → Progress → Progress
 after steps lines p = record p { told = joined steps lines p.told }
 
-abbrev mapped : {T U E : Type 0} → (T → U) → Result T E → Result U E
+abbrev pub mapped : {T U E : Type 0} → (T → U) → Result T E → Result U E
 mapped f (Ok t) = Ok (f t)
 mapped f (Err e) = Err e
 
@@ -115,7 +117,7 @@ goes_after : (limit : ℕ) (steps : List Step) (lines : List ℕ) (line : Placed
 goes_after limit steps lines line left (Ok p) more = more p
 goes_after limit steps lines line left (Err k) more = refl
 
-lines_after : (limit : ℕ) (steps : List Step) (lines : List ℕ) (left : List Placed) (p : Progress)
+pub lines_after : (limit : ℕ) (steps : List Step) (lines : List ℕ) (left : List Placed) (p : Progress)
     → read_lines limit read_content left (after steps lines p) ≡ mapped (after steps lines) (read_lines limit read_content left p)
 lines_after limit steps lines [] p = refl
 lines_after limit steps lines (line ∷ left) p =
@@ -138,15 +140,27 @@ whole : (limit : ℕ) (text : List ℕ) (steps : List Step) (lines : List ℕ) (
 whole limit text steps lines left p r on e =
     ap finish (on ∙ lines_after limit steps lines left p) ∙ finish_after steps lines (read_lines limit read_content left p) ∙ ap (mapped (joined steps lines)) e
 
+-- what was read of the lines, and what a batch gives of them, without how they end
+abbrev HasReadLines : List ℕ → List Step → List ℕ → Reached → Option (List ℕ) → Recording → Type 0
+HasReadLines text steps lines reader known trace =
+    Continues reader.place.limit read_content (Some (placed text)) (lines_left reader.place known) at_front (progress reader (joined steps lines trace))
+
+abbrev GivesLines : List ℕ → List Step → List ℕ → Reached → Option (List ℕ) → Recording → Result Batch ReadFault → Type 0
+GivesLines text steps lines reader known trace (Ok More) = HasReadLines text steps lines reader known trace
+GivesLines text steps lines reader known trace (Ok End) = IsTrace text reader.place.limit (joined steps lines trace)
+GivesLines text steps lines reader known trace (Err (fault.Text f)) = IsFault text reader.place.limit f
+GivesLines text steps lines reader known trace (Err fault.Memory) = Unit {0}
+GivesLines text steps lines reader known trace (Err fault.Read) = Unit {0}
+
 left_gives : (text : List ℕ) (steps : List Step) (lines : List ℕ) (limit : ℕ) (new : Reached) (left : List Placed) (rest known : Option (List Placed)) (p : Progress) (told : Recording)
     (after_it : Option (List ℕ)) (result : Result Batch ReadFault) → new.place.limit ≡ limit → lines_left new.place after_it ≡ rest
     → read_lines limit read_content (placed text) at_front ≡ read_lines limit read_content left (after steps lines p)
-    → Batches limit (Some left) rest p (progress new told) result → GivesBatch text steps lines new after_it told result
+    → Batches limit (Some left) rest p (progress new told) result → GivesLines text steps lines new after_it told result
 left_gives text steps lines limit new left None known p told after_it (Ok More) same shown on batch = absurd batch
 left_gives text steps lines limit new left (Some rest) known p told after_it (Ok More) same shown on batch =
     rw (shown, same) (on ∙ lines_after limit steps lines left p ∙ ap (mapped (after steps lines)) batch ∙ sym (lines_after limit steps lines rest (progress new told)))
 left_gives text steps lines limit new left rest known p told after_it (Ok End) same shown on batch =
-    rw same (trace_is limit text (joined steps lines told) (whole limit text steps lines left p (Ok told) on batch))
+    rw same (trace_is limit text (joined steps lines told) (whole limit text steps lines left p (Ok told) on (ap finish batch.0 ∙ batch.1)))
 left_gives text steps lines limit new left rest known p told after_it (Err (fault.Text f)) same shown on batch =
     rw same (fault_is limit text f (whole limit text steps lines left p (Err f) on batch))
 left_gives text steps lines limit new left rest known p told after_it (Err fault.Memory) same shown on batch = tt
@@ -155,18 +169,30 @@ left_gives text steps lines limit new left rest known p told after_it (Err fault
 -- a batch goes on with the text that was read so far
 known_gives : (text : List ℕ) (steps : List Step) (lines : List ℕ) (old new : Reached) (left : Option (List Placed)) (before after_it : Option (List ℕ)) (t u : Recording)
     (result : Result Batch ReadFault) → lines_left old.place before ≡ left → new.place.limit ≡ old.place.limit
-    → HasRead text steps lines old before t → Batches old.place.limit left (lines_left new.place after_it) (progress old t) (progress new u) result
-    → GivesBatch text steps lines new after_it u result
+    → HasReadLines text steps lines old before t → Batches old.place.limit left (lines_left new.place after_it) (progress old t) (progress new u) result
+    → GivesLines text steps lines new after_it u result
 known_gives text steps lines old new None before after_it t u result shown same read batch = absurd (rw shown at read)
 known_gives text steps lines old new (Some left) before after_it t u result shown same read batch =
     left_gives text steps lines old.place.limit new left (lines_left new.place after_it) None (progress old t) u after_it result same refl (rw shown at read) batch
 
+with_cut : (text : List ℕ) (steps : List Step) (lines : List ℕ) (old new : Reached) (left rest : Option (List Placed)) (after_it : Option (List ℕ)) (u : Recording)
+    (result : Result Batch ReadFault) → lines_left new.place after_it ≡ rest → KeepsCut (Some (placed text)) left false old.cut → BatchesCut left rest old.cut new.cut result
+    → GivesLines text steps lines new after_it u result → GivesBatch text steps lines new after_it u result
+with_cut text steps lines old new left rest after_it u (Ok More) shown on cut gives =
+    (gives, rw shown (cut_goes_on (Some (placed text)) left rest false old.cut new.cut on cut))
+with_cut text steps lines old new left rest after_it u (Ok End) shown on cut gives = gives
+with_cut text steps lines old new left rest after_it u (Err (fault.Text f)) shown on cut gives = gives
+with_cut text steps lines old new left rest after_it u (Err fault.Memory) shown on cut gives = gives
+with_cut text steps lines old new left rest after_it u (Err fault.Read) shown on cut gives = gives
+
 pub batch_gives : (text : List ℕ) (steps : List Step) (lines : List ℕ) (old new : Reached) (before after_it : Option (List ℕ)) (t u : Recording)
     (result : Result Batch ReadFault) → new.place.limit ≡ old.place.limit → HasRead text steps lines old before t
     → Batches old.place.limit (lines_left old.place before) (lines_left new.place after_it) (progress old t) (progress new u) result
+    → BatchesCut (lines_left old.place before) (lines_left new.place after_it) old.cut new.cut result
     → GivesBatch text steps lines new after_it u result
-batch_gives text steps lines old new before after_it t u result same read batch =
-    known_gives text steps lines old new (lines_left old.place before) before after_it t u result refl same read batch
+batch_gives text steps lines old new before after_it t u result same read batch cut =
+    with_cut text steps lines old new (lines_left old.place before) (lines_left new.place after_it) after_it u result refl read.1 cut
+    (known_gives text steps lines old new (lines_left old.place before) before after_it t u result refl same read.0 batch)
 
 -- a trace whose steps are taken away is seen as it was
 same_joined : (steps : List Step) (lines : List ℕ) (trace : Recording) → joined steps lines trace ≡ joined (steps ++ trace.steps) (lines ++ trace.lines) (without_steps trace)
@@ -176,4 +202,4 @@ pub forgotten : (text : List ℕ) (steps : List Step) (lines : List ℕ) (reader
     → HasRead text steps lines reader known trace → HasRead text (steps ++ trace.steps) (lines ++ trace.lines) reader known (without_steps trace)
 forgotten text steps lines reader known trace read =
     let P : Recording → Type 0 = λ r. Continues reader.place.limit read_content (Some (placed text)) (lines_left reader.place known) at_front (progress reader r) in
-    subst P (same_joined steps lines trace) read
+    (subst P (same_joined steps lines trace) read.0, read.1)

@@ -22,7 +22,9 @@ pub mod NamedLaws
 pub mod RuleLaws
 pub mod RuleTexts
 pub mod PlaceLemmas
+pub mod CutLemmas
 pub mod BatchLaws
+pub mod EndingLaws
 pub mod BlockLemmas
 pub mod GrowthLemmas
 pub mod IdleLemmas

@@ -4,6 +4,7 @@ pub mod Idle
 pub mod Reading
 pub mod Lending
 pub mod Traces
+pub mod Endings
 pub mod RuleLines
 pub mod Windows
 pub mod Blocks

@@ -9,5 +9,6 @@ pub mod Trace
 pub mod Named
 pub mod Rules
 pub mod Places
+pub mod Ending
 pub mod Batches
 pub mod Inner

@@ -9,8 +9,10 @@ pub record Place : Type 0 where
   pub start : ℕ
   pub ahead : List ℕ
 
--- the place, how far the text has come, and which threads, by number, are named in lines before and don't act there
+-- the place, how far the text has come, which threads, by number, are named in lines before and don't act there, and whether the line before lacks
+-- its LF
 pub record Reached : Type 0 where
   pub place : Place
   pub stage : Stage
   pub idle : List Bool
+  pub cut : Bool

@@ -139,4 +139,11 @@ impl FrontLine {
     {
         self.len as u64 + u64::from(self.ended)
     }
+
+    /// Whether an LF follows it.
+    pub(crate) fn is_ended(self) -> bool
+        ensures { result ≡ self.ended }
+    {
+        self.ended
+    }
 }

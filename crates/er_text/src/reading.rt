@@ -7,6 +7,8 @@ ghost use Rattle.er_trace.specs.Trace.{Recording, no_steps};
 ghost use Rattle.er_event.specs.declared.steps.Step.{Step};
 ghost use Rattle.er_text.specs.Named.{Grows};
 ghost use Rattle.er_text.specs.Batches.{HasRead, GivesBatch};
+ghost use Rattle.er_text.specs.Ending.{KnowsEnd, IsEndingOf};
+ghost use Rattle.er_text.specs.Inner.Endings.{PassesCut, BatchesCut};
 ghost use Rattle.er_text.specs.Inner.Lending.{taken_by, lines_left};
 ghost use Rattle.er_text.specs.Inner.Reading.{Reads, Turns};
 ghost use Rattle.er_text.specs.Inner.FastPath.{ReadsUsual};
@@ -16,6 +18,7 @@ ghost use Rattle.er_text.specs.Inner.Traces.{progress, at_line, open_with, add_p
 
 use crate::adding::add_steps;
 use crate::bytes::{is_ascii, says_something};
+use crate::endings::{Ending, lacks_end};
 use crate::fast_path::add_usual;
 use crate::faults::{ReadFault, TextKind, fault_at};
 use crate::lines::LineReader;
@@ -151,6 +154,7 @@ pub enum Batch {
 pub struct TraceReader {
     lines: LineReader,
     header: Header,
+    cut: bool,
 }
 
 impl Model for TraceReader {
@@ -158,7 +162,7 @@ impl Model for TraceReader {
 
     ghost Value = { Reached };
 
-    ghost view = { λ r. record { place = r.lines; stage = r.header.stage; idle = r.header.idle } };
+    ghost view = { λ r. record { place = r.lines; stage = r.header.stage; idle = r.header.idle; cut = r.cut } };
 }
 
 impl TraceReader {
@@ -170,6 +174,7 @@ impl TraceReader {
         ensures start { IfOk result (λ r. r.place.start ≡ 0) }
         ensures ahead { IfOk result (λ r. length r.place.ahead ≡ 0) }
         ensures stage { IfOk result (λ r. r.stage ≡ Stage.Front) }
+        ensures cut { IfOk result (λ r. r.cut ≡ false) }
         ensures starts { IfOk result (λ r. (text : List ℕ) → HasRead text [] [] r (Some text) no_steps) }
     {
         let lines = LineReader::new(alloc, limit)?;
@@ -179,6 +184,7 @@ impl TraceReader {
                 stage: Stage::Front,
                 idle: IdleThreads::new(alloc),
             },
+            cut: false,
         })
     }
 
@@ -191,6 +197,7 @@ impl TraceReader {
         requires { has_failed reader.old ≡ false }
         ensures turn { Turns self.old.place.limit read_content (lines_left self.old.place (R.remaining (inner_of reader.old)))
             (lines_left self.new.place (R.remaining (inner_of reader.new))) (progress self.old trace.old) (progress self.new trace.new) result }
+        ensures cut { PassesCut (lines_left self.old.place (R.remaining (inner_of reader.old))) (lines_left self.new.place (R.remaining (inner_of reader.new))) self.old.cut self.new.cut result }
         ensures grows { OnOk result (Grows trace.old trace.new) }
         ensures limit { self.new.place.limit ≡ self.old.place.limit }
         ensures more { IfOk result (λ more. more ≡ true → self.old.place.start < self.new.place.start) }
@@ -206,6 +213,7 @@ impl TraceReader {
         let bytes = self.lines.bytes(front);
         self.header.read_plain(trace, line, bytes)?;
         self.lines.pass(front);
+        self.cut = !front.is_ended();
         Ok(true)
     }
 
@@ -230,6 +238,7 @@ impl TraceReader {
         requires { has_failed reader.old ≡ false }
         ensures batch { Batches self.old.place.limit (lines_left self.old.place (R.remaining (inner_of reader.old)))
             (lines_left self.new.place (R.remaining (inner_of reader.new))) (progress self.old trace.old) (progress self.new trace.new) result }
+        ensures cut { BatchesCut (lines_left self.old.place (R.remaining (inner_of reader.old))) (lines_left self.new.place (R.remaining (inner_of reader.new))) self.old.cut self.new.cut result }
         ensures grows { OnOk result (Grows trace.old trace.new) }
         ensures limit { self.new.place.limit ≡ self.old.place.limit }
         ensures more { IfOk result (λ batch. batch ≡ Batch.More → self.old.place.start + most_lines ≤ self.new.place.start) }
@@ -266,6 +275,11 @@ impl TraceReader {
             → HasRead text steps lines self.old (R.remaining (inner_of reader.old)) trace.old
             → GivesBatch text steps lines self.new (R.remaining (inner_of reader.new)) trace.new result }
 
+        // At the end of the text it knows how the text ends.
+        ensures ends { (text : List ℕ) (steps : List Step) (lines : List ℕ)
+            → HasRead text steps lines self.old (R.remaining (inner_of reader.old)) trace.old
+            → IfOk result (λ batch. batch ≡ Batch.End → KnowsEnd text self.new) }
+
         // The steps that the trace had stay in front, and names keep their numbers.
         ensures grows { OnOk result (Grows trace.old trace.new) }
 
@@ -280,6 +294,17 @@ impl TraceReader {
         ensures most { taken_by self.new.place ≤ self.new.place.limit + bytes_past_limit }
     {
         self.read_batch(reader, trace, most_lines)
+    }
+
+    /// How the text ended, once a batch was the last.
+    pub fn ending(&self) -> Ending
+        ensures { (text : List ℕ) → KnowsEnd text self.now → IsEndingOf text result }
+    {
+        Ending {
+            lines: self.lines.number().saturating_sub(1),
+            is_cut: self.cut,
+            is_open: lacks_end(self.header.stage),
+        }
     }
 }
 

@@ -103,7 +103,7 @@ abbrev pub Batches : ℕ → Option (List Placed) → Option (List Placed) → P
 Batches limit None rest p q result = Unit {0}
 Batches limit (Some left) None p q (Ok More) = ⊥
 Batches limit (Some left) (Some rest) p q (Ok More) = read_lines limit read_content left p ≡ read_lines limit read_content rest q
-Batches limit (Some left) rest p q (Ok End) = finish (read_lines limit read_content left p) ≡ Ok q.told
+Batches limit (Some left) rest p q (Ok End) = (read_lines limit read_content left p ≡ Ok q) × (finish_as q.stage q ≡ Ok q.told)
 Batches limit (Some left) rest p q (Err (fault.Text f)) = finish (read_lines limit read_content left p) ≡ Err f
 Batches limit (Some left) rest p q (Err fault.Memory) = Unit {0}
 Batches limit (Some left) rest p q (Err fault.Read) = Unit {0}
