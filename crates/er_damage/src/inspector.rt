@@ -1,10 +1,16 @@
 //! `Inspector`, which looks for damage in the steps of a trace.
 ghost use Rattle.std.specs.Prelude.{◌≡◌, ◌++◌, ℕ, List, [], length, slice_index, OnOk};
+ghost use Rattle.er_damage.specs.Damaged.{IsDamageOf};
 ghost use Rattle.er_event.specs.declared.steps.Step.{Step as Steps};
+ghost use Rattle.er_text.specs.Ending.{IsEndingOf};
+ghost use Rattle.er_text.specs.Trace.{IsTrace};
+ghost use Rattle.er_trace.specs.Trace.{Recording};
 
+use crate::Damage;
 use crate::counter::Counter;
 use crate::threads::Threads;
 use er_event::{Event, Mode, Step};
+use er_text::Ending;
 use std::alloc::{AllocError, Global};
 use std::marker::Model;
 
@@ -47,20 +53,6 @@ impl Inspector {
         }
     }
 
-    /// The line of the first step that is refused, if there is one.
-    pub fn refused(&self) -> Option<u64>
-        ensures { result ≡ self.now.refused }
-    {
-        self.refused
-    }
-
-    /// The line of the first step by which two threads hold a lock at once, and not both to read only, if there is one.
-    pub fn held_twice(&self) -> Option<u64>
-        ensures { result ≡ self.now.held_twice }
-    {
-        self.held_twice
-    }
-
     /// Goes on by these steps, each with its line. `AllocError`: memory was refused, and nothing is known of what it has now.
     pub fn follow(&mut self, steps: &[Step], lines: &[u64]) -> Result<(), AllocError>
         requires { length lines.now ≡ length steps.now }
@@ -71,6 +63,19 @@ impl Inspector {
             self.follow_step(step, lines[k])?;
         }
         Ok(())
+    }
+
+    /// The damage of a trace whose steps it has followed and whose text ends so.
+    pub fn damage(&self, ending: Ending) -> Damage
+        ensures told { (text : List ℕ) (limit : ℕ) (recording : Recording) → IsTrace text limit recording → StandsFor self.now recording.steps recording.lines
+            → IsEndingOf text ending → IsDamageOf text limit result }
+    {
+        Damage {
+            refused: self.refused,
+            held_twice: self.held_twice,
+            no_line_feed: ending.is_cut.then_some(ending.lines),
+            no_end: ending.is_open.then_some(ending.lines),
+        }
     }
 
     // Goes on by one step.

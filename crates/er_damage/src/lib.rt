@@ -1,18 +1,21 @@
-//! What is damaged in a recording: a refused step, and a lock that two threads hold at once.
+//! What is damaged in a trace: a refused step, a lock that two threads hold at once, a last line without its LF, and a missing `end`.
 //!
 //! Begin with [`Inspector`]. It follows the steps of a trace, batch by batch, and knows the line of the first step that is refused and
 //! that of the first step by which a lock is held twice. A recorder that works writes neither: a thread that takes a lock that another
-//! holds waits for it. So either shows that the recording lacks steps, or has them in another order than the program took them.
+//! holds waits for it. So either shows that the recording lacks steps, or has them in another order than the program took them. At the
+//! end it makes the [`Damage`] of the trace of these and of how the text ended.
 //!
 //! What it promises, by the names of clauses: an inspector that stands for a recording's steps stands for the longer recording after
-//! `follow` (`goes_on`), and what it then knows is what the definitions say of those steps (`refused`, `held_twice`).
+//! `follow` (`goes_on`), and then `damage` is what the definitions say of those steps and of the text (`told`).
 //!
 //! It keeps its own account of what each thread holds and of how many threads hold each lock, and so needs no machine's answers. The
 //! account costs memory by the threads and the locks, and a look at an access costs nothing.
 #![tactic(auto)]
 
+pub use damage::Damage;
 pub use inspector::Inspector;
 
 mod counter;
+mod damage;
 mod inspector;
 mod threads;
