@@ -19,12 +19,12 @@
 #![tactic(auto)]
 
 pub use fault::WriteFault;
-pub use lines::{put_line, put_rule_counts, put_stop, put_totals};
+pub use lines::{put_line, put_place, put_rule_counts, put_stop, put_totals};
 pub use naming::{
     order_verb, put_event, put_kind, put_lock, put_locks, put_site, put_state, put_thread,
 };
 pub use numbers::{put_address, put_number};
-pub use report::write_report;
+pub use report::{report_text, write_report};
 
 mod fault;
 mod lines;

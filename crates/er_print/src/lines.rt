@@ -175,8 +175,8 @@ pub fn put_totals(out: &mut Vec<u8>, report: &Report) -> Result<(), AllocError>
     out.extend_from_slice(b"\n")
 }
 
-// Puts what a line that tells of a line of the trace begins with.
-fn put_place(out: &mut Vec<u8>, line: u64) -> Result<(), AllocError>
+/// Puts what a line that tells of a line of the trace begins with.
+pub fn put_place(out: &mut Vec<u8>, line: u64) -> Result<(), AllocError>
     ensures { OnOk result (out.new.items ≡ out.old.items ++ place_text line) }
 {
     out.extend_from_slice(b"line ")?;

@@ -36,8 +36,9 @@ pub fn write_report<W: Write>(
     Ok(())
 }
 
+/// The text of a report, with these names for its numbers.
 #[tactic(auto, unfolding(crate::specs::Printed::report_text))]
-fn report_text(alloc: Global, report: &Report, names: &Names) -> Result<Vec<u8>, AllocError>
+pub fn report_text(alloc: Global, report: &Report, names: &Names) -> Result<Vec<u8>, AllocError>
     requires { All (HasNames names.now) report.now.lines.items }
     ensures { IfOk result (λ text. text.items ≡ report_text names.now (told report.now)) }
 {

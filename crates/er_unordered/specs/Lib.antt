@@ -2,3 +2,4 @@ pub mod Answers
 pub mod Faults
 pub mod Inner
 pub mod Reports
+pub mod Text

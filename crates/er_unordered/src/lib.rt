@@ -15,6 +15,8 @@
 
 pub use fault::OrderFault;
 pub use passes::{UnorderedReport, report_unordered};
+pub use text::{write_both, write_unordered};
 
 mod fault;
 mod passes;
+mod text;
