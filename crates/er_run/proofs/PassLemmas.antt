@@ -1,5 +1,5 @@
 -- A run that forgets its steps is a run over all of them: a batch goes on behind what was answered, and the names may have grown.
-use Rattle.std.proofs.Common.{◌≡◌, ◌<◌, ◌≤◌, ◌+◌, ℕ, zero, suc, List, [], ◌∷◌, ◌++◌, length, length-append, take, slice_get, slice_index, get_or, Option, Some, None, is_some, false, IfSome, IfOk, IfErr, Result, Ok, Err, refl, sym, ap, subst, ◌∙◌, inl, inr, arith}
+use Rattle.std.proofs.Common.{◌≡◌, ◌<◌, ◌≤◌, ◌+◌, ℕ, zero, suc, List, [], ◌++◌, length, length-append, take, slice_index, get_or, Option, Some, None, is_some, false, IfSome, Ok, refl, sym, ap, subst, ◌∙◌, inl, inr, arith}
 use Rattle.std.specs.List.{All}
 use Rattle.std.proofs.lemmas.List.{take-append-le, length-take-le, get_or_append_left, get_or-append-add}
 use Rattle.std.proofs.Math.Seq.{take-append_seam, take-length}
@@ -14,7 +14,7 @@ use Rattle.er_event.specs.declared.steps.Sync.TheVariants.{Start, Join, Signal, 
 use Rattle.er_event.specs.declared.steps.Step.{Step}
 use Rattle.er_journal.specs.declared.answers.Stopped.{Stopped}
 use Rattle.er_replay.specs.Standing.{Replayed, Stands}
-use Rattle.er_replay.specs.Stops.{MayLack, MayStop}
+use Rattle.er_replay.specs.Stops.{MayStop}
 use Rattle.er_report.proofs.GrowthLemmas.{reported-on}
 use Rattle.er_report.specs.Builder.{Built, IsReported, GoesOn}
 use Rattle.er_report.specs.Report.{stop_line}

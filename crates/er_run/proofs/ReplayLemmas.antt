@@ -3,24 +3,18 @@ use Rattle.std.proofs.Common.{◌≡◌, ℕ, nat_lt, Bool, true, false, cond, L
 use Rattle.std.specs.Io.KnownBytes.{Appends, Keeps}
 use Rattle.er_trace.specs.Trace.{Recording}
 use Rattle.er_event.specs.declared.refusals.NoRoom.{NoRoom}
-use Rattle.er_event.specs.declared.steps.Step.{Step}
 use Rattle.er_journal.specs.declared.answers.Stopped.{Stopped}
-use Rattle.er_parallel.specs.Faults.{MayFail}
-use Rattle.er_parallel.specs.declared.faults.ReplayFault.{ReplayFault}
-use Rattle.er_parallel.specs.declared.faults.ReplayFault.TheVariants as replaying
 use Rattle.er_print.specs.Printed.{report_text}
 use Rattle.er_trace.specs.Names.{NameTable}
-use Rattle.er_text.specs.Trace.{Tells}
 use Rattle.er_print.specs.declared.fault.WriteFault.TheVariants as writing
 use Rattle.er_report.specs.Report.{report_of, told as summary, Summary}
 use Rattle.er_report.specs.declared.report.Report.{Report}
 use Rattle.er_rules.specs.Rules.{Target}
-use Rattle.er_run.specs.Faults.{fault_of}
 use Rattle.er_run.specs.Inner.Reports.{WritesFound}
-use Rattle.er_run.specs.Replays.{IsReplayed, IsFailed, IsFailedBy, FailsBy, WritesNothing, IsReportOfRun, verdict_of, verdict_by, is_stopped, is_verdict_of}
+use Rattle.er_run.specs.Replays.{IsReplayed, IsFailed, IsFailedBy, FailsBy, WritesNothing, verdict_of, verdict_by, is_stopped, is_verdict_of}
 use Rattle.er_run.specs.Reports.{IsReportOfText, IsFaultOfText}
 use Rattle.er_run.specs.declared.fault.RunFault.{RunFault}
-use Rattle.er_run.specs.declared.fault.RunFault.TheVariants.{Read, Write, Replay, Memory}
+use Rattle.er_run.specs.declared.fault.RunFault.TheVariants.{Read, Write, Replay, Memory, Damaged}
 use Rattle.er_run.specs.declared.fault.Verdict.{Verdict}
 use Rattle.er_text.specs.declared.faults.ReadFault.TheVariants as reading
 use Rattle.er_run.specs.declared.fault.Verdict.TheVariants as verdict
@@ -59,6 +53,7 @@ part told limit rules explain old new names report (Ok verdict) built written = 
 part told limit rules explain old new names report (Err (Read fault)) built written = absurd written
 part told limit rules explain old new names report (Err (Replay fault)) built written = absurd written
 part told limit rules explain old new names report (Err Memory) built written = absurd written
+part told limit rules explain old new names report (Err (Damaged damage)) built written = absurd written
 part told limit rules explain old new names report (Err (Write writing.Memory)) built written = tt
 part None limit rules explain old new names report (Err (Write writing.Write)) built written = tt
 part (Some text) limit rules explain old new names report (Err (Write writing.Write)) built written = record {
@@ -75,6 +70,7 @@ nothing old new text (Ok verdict) written = tt
 nothing old new text (Err (Read fault)) written = absurd written
 nothing old new text (Err (Replay fault)) written = absurd written
 nothing old new text (Err Memory) written = absurd written
+nothing old new text (Err (Damaged damage)) written = absurd written
 nothing old new text (Err (Write writing.Memory)) written = written
 nothing old new text (Err (Write writing.Write)) written = tt
 
@@ -86,6 +82,7 @@ unwritten Begins told limit (Read reading.Read) is = tt
 unwritten Begins told limit (Write fault) is = absurd is
 unwritten Begins told limit (Replay fault) is = is
 unwritten Begins told limit Memory is = tt
+unwritten Begins told limit (Damaged damage) is = is
 
 keeps : (old : Option (List ℕ)) → Keeps old old
 keeps None = tt
@@ -96,6 +93,7 @@ untouched told old limit (Read fault) is = keeps old
 untouched told old limit (Write fault) is = absurd is
 untouched told old limit (Replay fault) is = keeps old
 untouched told old limit Memory is = keeps old
+untouched told old limit (Damaged damage) is = keeps old
 
 -- which of the two failed is told by the fault alone
 pub fails-again : (X Y : Type 0) (read : Bool) (why : RunFault) → FailsBy {X = X} read false (Err why) → FailsBy {X = Y} read false (Err why)
@@ -106,6 +104,7 @@ fails-again X Y read (Write writing.Memory) by = by
 fails-again X Y read (Write writing.Write) by = by
 fails-again X Y read (Replay fault) by = by
 fails-again X Y read Memory by = by
+fails-again X Y read (Damaged damage) by = by
 
 whole_by : (b : Bool) → IsFalse (is_stopped (cond b verdict.Races verdict.Clean))
 whole_by true = refl

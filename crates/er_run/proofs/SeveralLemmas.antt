@@ -1,16 +1,13 @@
 -- A batch that workers have answered goes on behind the steps that are past.
-use Rattle.std.proofs.Common.{◌≡◌, ◌⊎◌, ◌<◌, ◌≤◌, ◌+◌, ℕ, suc, add-one, true, false, List, [], ◌∷◌, ◌++◌, length, length-append, slice_get, slice_index, Option, Some, None, IfSome, is_some, Result, Ok, Err, refl, sym, ap, subst, ◌∙◌, inl, inr, arith}
+use Rattle.std.proofs.Common.{◌≡◌, ◌⊎◌, ◌<◌, ◌≤◌, ◌+◌, ℕ, suc, add-one, true, false, List, [], ◌++◌, length, length-append, slice_get, slice_index, Option, Some, None, IfSome, is_some, Ok, Err, refl, sym, ap, subst, ◌∙◌, inl, inr, arith}
 use Rattle.std.specs.List.{All}
 use Rattle.std.proofs.lemmas.List.{append_assoc, append-nil}
 use Rattle.std.proofs.lemmas.List.Elements.{All-append, All-nil}
 use Rattle.std.proofs.lemmas.Bool.{cases_lt}
 use Rattle.std.proofs.lemmas.Option.{slice_get_within}
 use Rattle.er_event.proofs.Lists.{get_behind, get_still}
-use Rattle.er_event.specs.declared.refusals.Refusal.{Refusal}
 use Rattle.er_event.specs.declared.steps.Event.{Event}
 use Rattle.er_event.specs.declared.steps.Event.TheVariants.{Acquire, Release, Access, Reuse, IgnoreOn, IgnoreOff, Show, Level, Sync}
-use Rattle.er_event.specs.declared.steps.Reply.{Reply}
-use Rattle.er_event.specs.declared.steps.Reply.TheVariants.{Race}
 use Rattle.er_event.specs.declared.steps.Step.{Step}
 use Rattle.er_event.specs.declared.steps.WordState.{WordState}
 use Rattle.er_explain.proofs.RaceLemmas.{race-is}
@@ -21,7 +18,7 @@ use Rattle.er_model.specs.Answers.{answer, state_at}
 use Rattle.er_model.specs.Explanations.{word_in, word_of}
 use Rattle.er_model.specs.Holdings.{Holdings, holdings_at}
 use Rattle.er_model.specs.Threads.{accepted, held}
-use Rattle.er_parallel.specs.Crews.{Crewed, AreNoted, AreUnusual, HaveAnswered, LeavesWord, IsAmong, IsAnswered, Rise}
+use Rattle.er_parallel.specs.Crews.{Crewed, AreNoted, AreUnusual, HaveAnswered, LeavesWord, IsAmong, IsAnswered}
 use Rattle.er_parallel.specs.Faults.{AsksForSet, MayFail}
 use Rattle.er_parallel.specs.Found.{usual}
 use Rattle.er_parallel.specs.declared.faults.ReplayFault.{ReplayFault}

@@ -1,5 +1,5 @@
 -- What a machine says of a step that comes after the first k is what the definitions say of the step at position k.
-use Rattle.std.proofs.Common.{◌≡◌, ◌<◌, ◌+◌, ◌==◌, ℕ, Bool, true, false, cond, List, [], ◌∷◌, ◌++◌, length, take, drop, slice_get, slice_index, Some, None, Result, Ok, refl, sym, ap, subst, ◌∙◌, ◌≤◌, suc, add-one, arith}
+use Rattle.std.proofs.Common.{◌≡◌, ◌<◌, ◌+◌, ◌==◌, ℕ, Bool, true, false, cond, List, [], ◌∷◌, ◌++◌, length, take, drop, slice_get, slice_index, Some, None, Result, Ok, refl, sym, ap, ◌∙◌, suc, add-one, arith}
 use Rattle.std.proofs.lemmas.List.{take_more, take-append-drop, length-take-le}
 use Rattle.std.proofs.lemmas.Option.{slice_get_within, get_or_from_slice_get}
 use Rattle.er_trace.specs.Names.{NameTable}

@@ -2,3 +2,4 @@
 pub mod Reports
 pub mod Passes
 pub mod Several
+pub mod Inspected

@@ -1,6 +1,8 @@
 -- What a whole replay comes to, from the bytes read to the bytes written.
 use Rattle.std.specs.Prelude.{◌≡◌, ℕ, ◌<◌, nat_lt, Bool, true, false, cond, List, [], length, take, Option, Some, None, IfSome, Result, Ok, Err}
 use Rattle.std.specs.Io.KnownBytes.{Appends, Keeps}
+use Rattle.er_damage.specs.Damaged.{IsDamageOf, has_damage}
+use Rattle.er_damage.specs.declared.damage.Damage.{Damage}
 use Rattle.er_event.specs.declared.refusals.NoRoom.{NoRoom}
 use Rattle.er_trace.specs.Trace.{Recording}
 use Rattle.er_journal.specs.declared.answers.Stopped.{Stopped}
@@ -14,7 +16,7 @@ use Rattle.er_report.specs.Report.{report_of, told as summary}
 use Rattle.er_report.specs.declared.report.Report.{Report}
 use Rattle.er_rules.specs.Rules.{Target}
 use Rattle.er_run.specs.declared.fault.RunFault.{RunFault}
-use Rattle.er_run.specs.declared.fault.RunFault.TheVariants.{Read, Write, Replay, Memory}
+use Rattle.er_run.specs.declared.fault.RunFault.TheVariants.{Read, Write, Replay, Memory, Damaged}
 use Rattle.er_run.specs.declared.fault.Verdict.{Verdict}
 use Rattle.er_run.specs.declared.fault.Verdict.TheVariants as verdict
 use Rattle.er_text.specs.Trace.{IsTrace, IsFault}
@@ -60,7 +62,12 @@ IsReplayFault told limit replaying.TableFull = IfSome told (λ text. HasStepForS
 IsReplayFault told limit replaying.WorkerNotStarted = Unit {0}
 IsReplayFault told limit replaying.WorkerLost = ⊥
 
--- where there is a fault: one of the text is its first, one of the workers is theirs, and a failed write left a beginning that may be
+-- the text is a trace, and this is its damage, of which it has some
+abbrev pub IsFoundDamage : Option (List ℕ) → ℕ → Damage → Type 0
+IsFoundDamage told limit damage = IfSome told (λ text. IsDamageOf text limit damage) × (has_damage damage ≡ true)
+
+-- where there is a fault: one of the text is its first, one of the workers is theirs, damage is that of the text, and a failed write left a
+-- beginning that may be
 abbrev pub IsFailedBy : (List ℕ → Type 0) → Option (List ℕ) → ℕ → Result Verdict RunFault → Type 0
 IsFailedBy Begins told limit (Ok verdict) = Unit {0}
 IsFailedBy Begins told limit (Err (Read (reading.Text fault))) = IfSome told (λ text. IsFault text limit fault)
@@ -70,6 +77,7 @@ IsFailedBy Begins told limit (Err (Write writing.Memory)) = Unit {0}
 IsFailedBy Begins told limit (Err (Write writing.Write)) = IfSome told Begins
 IsFailedBy Begins told limit (Err (Replay fault)) = IsReplayFault told limit fault
 IsFailedBy Begins told limit (Err Memory) = Unit {0}
+IsFailedBy Begins told limit (Err (Damaged damage)) = IsFoundDamage told limit damage
 
 -- the same, where a failed write left a beginning of the report
 abbrev pub IsFailed : Option (List ℕ) → ℕ → List Target → Bool → Option (List ℕ) → Option (List ℕ) → Result Verdict RunFault → Type 0
@@ -82,6 +90,7 @@ WritesNothing old new (Write writing.Memory) = Keeps old new
 WritesNothing old new (Write writing.Write) = Unit {0}
 WritesNothing old new (Replay fault) = Keeps old new
 WritesNothing old new Memory = Keeps old new
+WritesNothing old new (Damaged damage) = Keeps old new
 
 -- the reader failed exactly where a failed read is told, and the writer exactly where a failed write is
 abbrev pub FailsBy : {X : Type 0} → Bool → Bool → Result X RunFault → Type 0
@@ -93,6 +102,15 @@ FailsBy read written (Err (Write writing.Memory)) = (read ≡ false) × (written
 FailsBy read written (Err (Write writing.Write)) = (read ≡ false) × (written ≡ true)
 FailsBy read written (Err (Replay fault)) = (read ≡ false) × (written ≡ false)
 FailsBy read written (Err Memory) = (read ≡ false) × (written ≡ false)
+FailsBy read written (Err (Damaged damage)) = (read ≡ false) × (written ≡ false)
+
+-- the fault is no damage
+abbrev pub IsNoDamage : RunFault → Type 0
+IsNoDamage (Damaged damage) = ⊥
+IsNoDamage (Read fault) = Unit {0}
+IsNoDamage (Write fault) = Unit {0}
+IsNoDamage (Replay fault) = Unit {0}
+IsNoDamage Memory = Unit {0}
 
 -- the replay stopped for want of room
 abbrev pub is_stopped : Verdict → Bool

@@ -4,9 +4,9 @@ use Rattle.er_journal.specs.declared.answers.Stopped.{Stopped}
 use Rattle.er_report.specs.Report.{report_of, told as summary}
 use Rattle.er_report.specs.declared.report.Report.{Report}
 use Rattle.er_rules.specs.Rules.{Target}
-use Rattle.er_run.specs.Replays.{IsRunOf, IsReplayFault}
+use Rattle.er_run.specs.Replays.{IsRunOf, IsReplayFault, IsFoundDamage}
 use Rattle.er_run.specs.declared.fault.RunFault.{RunFault}
-use Rattle.er_run.specs.declared.fault.RunFault.TheVariants.{Read, Write, Replay, Memory}
+use Rattle.er_run.specs.declared.fault.RunFault.TheVariants.{Read, Write, Replay, Memory, Damaged}
 use Rattle.er_text.specs.Trace.{IsFault}
 use Rattle.er_text.specs.declared.faults.ReadFault.TheVariants as reading
 use Rattle.er_trace.specs.Names.{NameTable}
@@ -20,7 +20,7 @@ pub record IsReportOfText (text : List ℕ) (limit : ℕ) (rules : List Target) 
   pub says : summary report ≡ report_of recording rules explain stop
   pub names : used ≡ recording.names
 
--- nothing was written yet: a fault of the text is its first, and one of the workers is theirs
+-- nothing was written yet: a fault of the text is its first, one of the workers is theirs, and damage is that of the text
 abbrev pub IsFaultOfText : Option (List ℕ) → ℕ → RunFault → Type 0
 IsFaultOfText told limit (Read (reading.Text fault)) = IfSome told (λ text. IsFault text limit fault)
 IsFaultOfText told limit (Read reading.Memory) = Unit {0}
@@ -28,3 +28,4 @@ IsFaultOfText told limit (Read reading.Read) = Unit {0}
 IsFaultOfText told limit (Write fault) = ⊥
 IsFaultOfText told limit (Replay fault) = IsReplayFault told limit fault
 IsFaultOfText told limit Memory = Unit {0}
+IsFaultOfText told limit (Damaged damage) = IsFoundDamage told limit damage

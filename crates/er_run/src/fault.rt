@@ -3,6 +3,7 @@ ghost use Rattle.std.specs.Prelude.{◌≡◌, Some};
 ghost use Rattle.er_run.specs.Faults.{text_of, fault_of};
 ghost use Rattle.er_run.specs.declared.fault.RunFault.TheVariants.{Read, Write, Memory};
 
+use er_damage::Damage;
 use er_parallel::ReplayFault;
 use er_print::WriteFault;
 use er_text::ReadFault;
@@ -32,6 +33,8 @@ pub enum RunFault {
     Replay(ReplayFault),
     /// Memory was refused between the two.
     Memory,
+    /// The trace is damaged, and the replay is strict.
+    Damaged(Damage),
 }
 
 impl fmt::Display for RunFault {
@@ -43,6 +46,7 @@ impl fmt::Display for RunFault {
             RunFault::Write(_) => "the report was not written",
             RunFault::Replay(_) => "the trace was not replayed",
             RunFault::Memory => "out of memory",
+            RunFault::Damaged(_) => "the trace is damaged",
         })
     }
 }

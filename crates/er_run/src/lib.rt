@@ -28,6 +28,7 @@ pub use replay::{ReplayedTrace, replay_report, replay_text, verdict_of};
 
 mod adding;
 mod fault;
+mod inspecting;
 mod options;
 mod passes;
 mod replay;

@@ -15,6 +15,8 @@ pub struct Options {
     pub shards: u32,
     /// How many workers replay the shards, from 1 to 16. One worker has all words in one shard.
     pub workers: u32,
+    /// Whether a damaged trace is a fault.
+    pub strict: bool,
     pub ghost some_sets: { 1 ≤ max_sets },
     pub ghost few_sets: { max_sets ≤ most_sets },
     pub ghost few_bytes: { byte_limit ≤ most_bytes },
@@ -48,6 +50,7 @@ impl Options {
         ensures kept { IfSome result (λ options. (options.max_sets ≡ max_sets) × (options.byte_limit ≡ byte_limit)) }
         ensures plain { IfSome result (λ options. options.explain ≡ false) }
         ensures alone { IfSome result (λ options. (options.shards ≡ usual_shards) × (options.workers ≡ 1)) }
+        ensures lenient { IfSome result (λ options. options.strict ≡ false) }
         ensures some { 1 ≤ max_sets → max_sets ≤ most_sets → byte_limit ≤ most_bytes → IsSome result }
         ensures none { (max_sets ≡ 0) ⊎ ((most_sets < max_sets) ⊎ (most_bytes < byte_limit)) → IsNone result }
     {
@@ -59,6 +62,7 @@ impl Options {
                 explain: false,
                 shards: Options::USUAL_SHARDS,
                 workers: 1,
+                strict: false,
             })
         } else {
             None
@@ -71,6 +75,7 @@ impl Options {
         ensures bytes { result.byte_limit ≡ usual_bytes }
         ensures plain { result.explain ≡ false }
         ensures alone { (result.shards ≡ usual_shards) × (result.workers ≡ 1) }
+        ensures lenient { result.strict ≡ false }
     {
         Options {
             max_sets: Options::MOST_SETS,
@@ -78,6 +83,7 @@ impl Options {
             explain: false,
             shards: Options::USUAL_SHARDS,
             workers: 1,
+            strict: false,
         }
     }
 
@@ -87,6 +93,7 @@ impl Options {
         ensures sets { result.max_sets ≡ self.max_sets }
         ensures bytes { result.byte_limit ≡ self.byte_limit }
         ensures crew { (result.shards ≡ self.shards) × (result.workers ≡ self.workers) }
+        ensures strict { result.strict ≡ self.strict }
     {
         Options {
             max_sets: self.max_sets,
@@ -94,6 +101,25 @@ impl Options {
             explain,
             shards: self.shards,
             workers: self.workers,
+            strict: self.strict,
+        }
+    }
+
+    /// The same options, by which a damaged trace is a fault, or isn't.
+    pub fn with_strict(self, strict: bool) -> Options
+        ensures strict { result.strict ≡ strict }
+        ensures sets { result.max_sets ≡ self.max_sets }
+        ensures bytes { result.byte_limit ≡ self.byte_limit }
+        ensures explain { result.explain ≡ self.explain }
+        ensures crew { (result.shards ≡ self.shards) × (result.workers ≡ self.workers) }
+    {
+        Options {
+            max_sets: self.max_sets,
+            byte_limit: self.byte_limit,
+            explain: self.explain,
+            shards: self.shards,
+            workers: self.workers,
+            strict,
         }
     }
 
@@ -101,6 +127,7 @@ impl Options {
     pub fn with_byte_limit(self, byte_limit: u64) -> Option<Options>
         ensures kept { IfSome result (λ options. (options.max_sets ≡ self.max_sets) × ((options.byte_limit ≡ byte_limit) × (options.explain ≡ self.explain))) }
         ensures crew { IfSome result (λ options. (options.shards ≡ self.shards) × (options.workers ≡ self.workers)) }
+        ensures strict { IfSome result (λ options. options.strict ≡ self.strict) }
         ensures some { byte_limit ≤ most_bytes → IsSome result }
         ensures none { most_bytes < byte_limit → IsNone result }
     {
@@ -113,6 +140,7 @@ impl Options {
             explain: self.explain,
             shards: self.shards,
             workers: self.workers,
+            strict: self.strict,
         })
     }
 
@@ -120,6 +148,7 @@ impl Options {
     pub fn with_workers(self, shards: u32, workers: u32) -> Option<Options>
         ensures kept { IfSome result (λ options. (options.max_sets ≡ self.max_sets) × ((options.byte_limit ≡ self.byte_limit) × (options.explain ≡ self.explain))) }
         ensures crew { IfSome result (λ options. (options.shards ≡ shards) × (options.workers ≡ workers)) }
+        ensures strict { IfSome result (λ options. options.strict ≡ self.strict) }
         ensures some { AreInLimits shards workers → IsSome result }
         ensures some_only { IsSome result → AreInLimits shards workers }
     {
@@ -135,6 +164,7 @@ impl Options {
             explain: self.explain,
             shards,
             workers,
+            strict: self.strict,
         })
     }
 }

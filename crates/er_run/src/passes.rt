@@ -1,22 +1,26 @@
 //! A replay in one pass: each batch of lines is read, run and forgotten.
-ghost use Rattle.std.specs.Prelude.{◌≡◌, ◌+◌, ◌<◌, ◌≤◌, ◌^◌, ℕ, List, Option, All, false, true, length, is_some, IfSome, IfOk, IfErr, IsTrue, OnOk};
+ghost use Rattle.std.specs.Prelude.{◌≡◌, ◌+◌, ◌<◌, ◌≤◌, ◌^◌, ℕ, List, Option, All, false, true, length, is_some, IfSome, IfOk, IfErr, IsNone, IsTrue, IsFalse, OnOk};
+ghost use Rattle.er_damage.specs.Damaged.{IsDamageOf, no_damage};
 ghost use Rattle.er_device.specs.Device.{inner_of, has_failed, taken_of};
 ghost use Rattle.er_event.specs.declared.steps.Step.{Step as Steps};
 ghost use Rattle.er_replay.specs.Wants.{is_access};
 ghost use Rattle.er_report.specs.Builder.{IsBuilt, IsReported, IsStepAt, is_plain};
 ghost use Rattle.er_report.specs.Names.{HasNames, HasSiteName};
 ghost use Rattle.er_rules.specs.Rules.{targets_of};
+ghost use Rattle.er_run.specs.Inner.Inspected.{HasSeen, HasSeenAll, HasFound};
 ghost use Rattle.er_run.specs.Inner.Passes.{HasAnswered, Answers, HasRun, HasCome, HasEnded, Lags, recorded};
 ghost use Rattle.er_run.specs.Inner.Reports.{IsReportOfText, IsFaultOfText};
 ghost use Rattle.er_run.specs.Limits.{bytes_past_limit, most_bytes};
-ghost use Rattle.er_run.specs.Replays.{FailsBy};
+ghost use Rattle.er_run.specs.Replays.{FailsBy, IsNoDamage};
 ghost use Rattle.er_text.specs.Batches.{joined};
 ghost use Rattle.er_text.specs.Inner.Lending.{taken_by};
 ghost use Rattle.er_text.specs.Named.{KeepsNames};
 ghost use Rattle.er_trace.specs.Names.{NameTable};
 ghost use Rattle.er_trace.specs.Trace.{Recording};
 
+use crate::inspecting::{damage_of, inspect, start};
 use crate::{Options, RunFault};
+use er_damage::{Damage, Inspector};
 use er_device::Device;
 use er_event::{Event, Lockset, NoRoom, Refusal, Reply, Step};
 use er_journal::Stopped;
@@ -49,6 +53,7 @@ struct Pass<'t, 'r> {
     machine: Machine<'t>,
     builder: ReportBuilder<'r>,
     stop: Option<(u64, NoRoom)>,
+    inspector: Option<Inspector>,
 }
 
 impl<'t, 'r> Pass<'t, 'r> {
@@ -56,25 +61,26 @@ impl<'t, 'r> Pass<'t, 'r> {
         alloc: Global,
         table: &'t LocksetTable,
         suppressions: &'r Suppressions,
-        byte_limit: u64,
-        explain: bool,
+        options: &Options,
     ) -> Result<Pass<'t, 'r>, AllocError>
-        requires { byte_limit ≤ most_bytes }
         ensures come { IfOk result (λ pass. (told : Option (List ℕ)) → HasCome told told pass.lines pass.trace pass.machine pass.builder pass.stop) }
         ensures rules { IfOk result (λ pass. pass.builder.rules ≡ targets_of suppressions.now) }
-        ensures explains { IfOk result (λ pass. is_some pass.builder.kept ≡ explain) }
-        ensures limit { IfOk result (λ pass. pass.lines.place.limit ≡ byte_limit) }
+        ensures explains { IfOk result (λ pass. is_some pass.builder.kept ≡ options.now.explain) }
+        ensures seen { IfOk result (λ pass. (told : Option (List ℕ)) → HasSeen told told pass.lines pass.trace pass.inspector) }
+        ensures strict { IfOk result (λ pass. is_some pass.inspector ≡ options.now.strict) }
+        ensures limit { IfOk result (λ pass. pass.lines.place.limit ≡ options.now.byte_limit) }
         ensures taken { IfOk result (λ pass. taken_by pass.lines.place ≡ 0) }
     {
-        let lines = TraceReader::new(alloc, byte_limit)?;
+        let lines = TraceReader::new(alloc, options.byte_limit)?;
         let machine = Machine::new(alloc, table)?;
-        let builder = ReportBuilder::explaining(alloc, suppressions, explain)?;
+        let builder = ReportBuilder::explaining(alloc, suppressions, options.explain)?;
         Ok(Pass {
             lines,
             trace: Trace::new(alloc),
             machine,
             builder,
             stop: None,
+            inspector: start(alloc, options.strict),
         })
     }
 
@@ -89,6 +95,12 @@ impl<'t, 'r> Pass<'t, 'r> {
             → IfErr result (λ why. IsFaultOfText told self.old.lines.place.limit why) }
         ensures rules { OnOk result (self.new.builder.rules ≡ self.old.builder.rules) }
         ensures explains { OnOk result (is_some self.new.builder.kept ≡ is_some self.old.builder.kept) }
+        ensures seen { (told : Option (List ℕ)) → HasSeen told (D.remaining (inner_of reader.old)) self.old.lines self.old.trace self.old.inspector
+            → IfOk result (λ more. more ≡ true → HasSeen told (D.remaining (inner_of reader.new)) self.new.lines self.new.trace self.new.inspector) }
+        ensures seen_all { (told : Option (List ℕ)) → HasSeen told (D.remaining (inner_of reader.old)) self.old.lines self.old.trace self.old.inspector
+            → IfOk result (λ more. more ≡ false → IfSome told (λ text. HasSeenAll text self.old.lines.place.limit self.new.lines self.new.inspector)) }
+        ensures strict { OnOk result (is_some self.new.inspector ≡ is_some self.old.inspector) }
+        ensures undamaged { IfErr result IsNoDamage }
         ensures limit { self.new.lines.place.limit ≡ self.old.lines.place.limit }
         ensures more { IfOk result (λ more. more ≡ true → self.old.lines.place.start < self.new.lines.place.start) }
         ensures within { self.new.lines.place.start ≤ self.new.lines.place.limit }
@@ -97,6 +109,7 @@ impl<'t, 'r> Pass<'t, 'r> {
         ensures most { taken_by self.new.lines.place ≤ self.new.lines.place.limit + bytes_past_limit }
     {
         let batch = self.lines.next_batch(reader, &mut self.trace, BATCH_LINES)?;
+        inspect(&mut self.inspector, &self.trace)?;
         self.stop = answer_batch(
             rt,
             &mut self.machine,
@@ -122,11 +135,43 @@ impl<'t, 'r> Pass<'t, 'r> {
             → IfErr result (λ why. IsFaultOfText told self.old.lines.place.limit why) }
         ensures rules { OnOk result (self.new.builder.rules ≡ self.old.builder.rules) }
         ensures explains { OnOk result (is_some self.new.builder.kept ≡ is_some self.old.builder.kept) }
+        ensures seen_all { (told : Option (List ℕ)) → HasSeen told (D.remaining (inner_of reader.old)) self.old.lines self.old.trace self.old.inspector
+            → OnOk result (IfSome told (λ text. HasSeenAll text self.old.lines.place.limit self.new.lines self.new.inspector)) }
+        ensures strict { OnOk result (is_some self.new.inspector ≡ is_some self.old.inspector) }
+        ensures undamaged { IfErr result IsNoDamage }
         ensures failed { FailsBy (has_failed reader.new) false result }
         ensures taken { taken_of reader.new + taken_by self.old.lines.place ≤ taken_of reader.old + self.old.lines.place.limit + bytes_past_limit }
     {
         while self.turn(rt, reader)? {}
         Ok(())
+    }
+
+    /// The damage of the text that was read, if the replay is strict and there is any.
+    fn damage(&self) -> Option<Damage>
+        ensures found { (told : Option (List ℕ)) (limit : ℕ) → IfSome told (λ text. HasSeenAll text limit self.now.lines self.now.inspector)
+            → HasFound told limit (is_some self.now.inspector) result }
+        ensures lenient { is_some self.now.inspector ≡ false → IsNone result }
+    {
+        damage_of(&self.inspector, &self.lines)
+    }
+
+    /// The report of the text that was read, or its damage, if the replay is strict and there is any.
+    fn end(self) -> Result<Reported, RunFault>
+        ensures report { (told : Option (List ℕ)) (limit : ℕ) → HasEnded told limit self.entry.trace self.entry.machine self.entry.builder self.entry.stop
+            → IfOk result (λ found. IfSome told (λ text. IsReportOfText text limit self.entry.builder.rules (is_some self.entry.builder.kept) found.trace.names found.report)) }
+        ensures named { (told : Option (List ℕ)) (limit : ℕ) → HasEnded told limit self.entry.trace self.entry.machine self.entry.builder self.entry.stop
+            → IfOk result (λ found. All (HasNames found.trace.names) found.report.lines.items) }
+        ensures fault { (told : Option (List ℕ)) (limit : ℕ) → IfSome told (λ text. HasSeenAll text limit self.entry.lines self.entry.inspector)
+            → IfErr result (λ why. IsFaultOfText told limit why) }
+        ensures undamaged { (told : Option (List ℕ)) (limit : ℕ) → IfSome told (λ text. HasSeenAll text limit self.entry.lines self.entry.inspector)
+            → is_some self.entry.inspector ≡ true → OnOk result (IfSome told (λ text. IsDamageOf text limit no_damage)) }
+        ensures lenient { is_some self.entry.inspector ≡ false → IfErr result IsNoDamage }
+        ensures failed { FailsBy false false result }
+    {
+        match self.damage() {
+            None => Ok(self.finish()),
+            Some(damage) => Err(RunFault::Damaged(damage)),
+        }
     }
 
     /// The report of the text that was read, and its names.
@@ -142,8 +187,9 @@ impl<'t, 'r> Pass<'t, 'r> {
             machine,
             builder,
             stop,
+            inspector,
         } = self;
-        close(lines, machine);
+        close(lines, machine, inspector);
         Reported {
             report: builder.finish_explained(stop),
             trace,
@@ -152,7 +198,7 @@ impl<'t, 'r> Pass<'t, 'r> {
 }
 
 // Lets go of what has read and answered the steps. Split for the prover.
-fn close(_lines: TraceReader, _machine: Machine<'_>) {}
+fn close(_lines: TraceReader, _machine: Machine<'_>, _inspector: Option<Inspector>) {}
 
 /// The report of a replay by one worker that forgets the steps, with reasons if they are asked for.
 pub(crate) fn report_in_batches<R: Wait, D: Read>(
@@ -166,19 +212,15 @@ pub(crate) fn report_in_batches<R: Wait, D: Read>(
     ensures report { IfOk result (λ found. IfSome (D.remaining (inner_of reader.old)) (λ text. IsReportOfText text options.now.byte_limit (targets_of suppressions.now) options.now.explain found.trace.names found.report)) }
     ensures named { IfOk result (λ found. All (HasNames found.trace.names) found.report.lines.items) }
     ensures fault { IfErr result (λ why. IsFaultOfText (D.remaining (inner_of reader.old)) options.now.byte_limit why) }
+    ensures undamaged { IsTrue options.now.strict → OnOk result (IfSome (D.remaining (inner_of reader.old)) (λ text. IsDamageOf text options.now.byte_limit no_damage)) }
+    ensures lenient { IsFalse options.now.strict → IfErr result IsNoDamage }
     ensures failed { FailsBy (has_failed reader.new) false result }
     ensures taken { taken_of reader.new ≤ taken_of reader.old + options.now.byte_limit + bytes_past_limit }
 {
     let table = LocksetTable::new(alloc, options.max_sets)?;
-    let mut pass = Pass::new(
-        alloc,
-        &table,
-        suppressions,
-        options.byte_limit,
-        options.explain,
-    )?;
+    let mut pass = Pass::new(alloc, &table, suppressions, options)?;
     match pass.run(rt, reader) {
-        Ok(()) => Ok(pass.finish()),
+        Ok(()) => pass.end(),
         Err(why) => Err(why),
     }
 }

@@ -1,5 +1,6 @@
 //! A replay by several workers, who answer one batch of lines while the next is read.
-ghost use Rattle.std.specs.Prelude.{◌≡◌, ◌+◌, ◌++◌, ◌<◌, ◌≤◌, ℕ, List, Option, All, None, [], false, true, length, is_some, IfSome, IfOk, IfErr, IsTrue, OnOk};
+ghost use Rattle.std.specs.Prelude.{◌≡◌, ◌+◌, ◌++◌, ◌<◌, ◌≤◌, ℕ, List, Option, All, None, [], false, true, length, is_some, IfSome, IfOk, IfErr, IsNone, IsTrue, IsFalse, OnOk};
+ghost use Rattle.er_damage.specs.Damaged.{IsDamageOf, no_damage};
 ghost use Rattle.er_device.specs.Device.{inner_of, has_failed, taken_of};
 ghost use Rattle.er_event.specs.declared.steps.Step.{Step as Steps};
 ghost use Rattle.er_parallel.specs.Crews.{AreNoted, AreUnusual, HaveAnswered};
@@ -7,21 +8,25 @@ ghost use Rattle.er_parallel.specs.Faults.{MayFail};
 ghost use Rattle.er_report.specs.Builder.{IsReported};
 ghost use Rattle.er_report.specs.Names.{HasNames};
 ghost use Rattle.er_rules.specs.Rules.{targets_of};
+ghost use Rattle.er_run.specs.Inner.Inspected.{HasSeen, HasSeenAll, HasFound};
 ghost use Rattle.er_run.specs.Inner.Passes.{recorded};
 ghost use Rattle.er_run.specs.Inner.Reports.{IsReportOfText, IsFaultOfText};
 ghost use Rattle.er_run.specs.Inner.Several.{HasReadAll, HasReadOn, HasReportedAll, Pending};
 ghost use Rattle.er_run.specs.Limits.{bytes_past_limit, most_bytes};
-ghost use Rattle.er_run.specs.Replays.{FailsBy};
+ghost use Rattle.er_run.specs.Replays.{FailsBy, IsNoDamage};
 ghost use Rattle.er_text.specs.Batches.{HasRead, GivesBatch};
+ghost use Rattle.er_text.specs.Ending.{KnowsEnd};
 ghost use Rattle.er_text.specs.Inner.Lending.{taken_by};
 ghost use Rattle.er_text.specs.Named.{Grows};
 ghost use Rattle.er_text.specs.Trace.{HasFailedBy};
 ghost use Rattle.er_trace.specs.Trace.{IsNamed, without_steps};
 
 use crate::adding::add_batch;
+use crate::inspecting::{damage_of, inspect, start};
 use crate::passes::Reported;
 use crate::rest::fault_behind;
 use crate::{Options, RunFault};
+use er_damage::{Damage, Inspector};
 use er_device::Device;
 use er_event::Step;
 use er_parallel::{Crew, ReplayConfig, ReplayFault, Unusual};
@@ -50,6 +55,7 @@ struct Shared<'t, 'r> {
     builder: ReportBuilder<'r>,
     steps: Vec<Step>,
     numbers: Vec<u64>,
+    inspector: Option<Inspector>,
 }
 
 // The workers answer the steps while the next batch is read.
@@ -70,6 +76,9 @@ fn answer_and_read<R: Threads + Wait + Sync, D: Read>(
     ensures told { (text : List ℕ) (past : List Steps) (numbers : List ℕ)
         → HasRead text past numbers lines.old (D.remaining (inner_of reader.old)) trace.old
         → GivesBatch text past numbers lines.new (D.remaining (inner_of reader.new)) trace.new result.1 }
+    ensures ends { (text : List ℕ) (past : List Steps) (numbers : List ℕ)
+        → HasRead text past numbers lines.old (D.remaining (inner_of reader.old)) trace.old
+        → IfOk result.1 (λ batch. batch ≡ Batch.End → KnowsEnd text lines.new) }
     ensures grows { OnOk result.1 (Grows trace.old trace.new) }
     ensures limit { lines.new.place.limit ≡ lines.old.place.limit }
     ensures more { IfOk result.1 (λ batch. batch ≡ Batch.More → lines.old.place.start < lines.new.place.start) }
@@ -123,9 +132,12 @@ impl<'t, 'r> Shared<'t, 'r> {
         ensures same { OnOk result ((D.remaining (inner_of reader.new) ≡ D.remaining (inner_of reader.old)) × (taken_of reader.new ≡ taken_of reader.old)) }
         ensures rules { IfOk result (λ shared. shared.builder.rules ≡ targets_of suppressions.now) }
         ensures explains { IfOk result (λ shared. is_some shared.builder.kept ≡ options.now.explain) }
+        ensures seen { IfOk result (λ shared. (told : Option (List ℕ)) → HasSeen told told shared.lines shared.trace shared.inspector) }
+        ensures strict { IfOk result (λ shared. is_some shared.inspector ≡ options.now.strict) }
         ensures limit { IfOk result (λ shared. shared.lines.place.limit ≡ options.now.byte_limit) }
         ensures none { IfOk result (λ shared. taken_by shared.lines.place ≡ 0) }
         ensures fault { IfErr result (λ why. IsFaultOfText (D.remaining (inner_of reader.old)) options.now.byte_limit why) }
+        ensures undamaged { IfErr result IsNoDamage }
         ensures failed { FailsBy (has_failed reader.new) false result }
         ensures taken { taken_of reader.new ≤ taken_of reader.old + options.now.byte_limit + bytes_past_limit }
     {
@@ -145,6 +157,7 @@ impl<'t, 'r> Shared<'t, 'r> {
                 builder,
                 steps: Vec::new(alloc),
                 numbers: Vec::new(alloc),
+                inspector: start(alloc, options.strict),
             }),
             Err(why) => {
                 let fault = fault_behind(&mut lines, reader, &mut trace, Batch::More, why);
@@ -173,6 +186,12 @@ impl<'t, 'r> Shared<'t, 'r> {
         ensures named { OnOk result (All (IsNamed self.new.trace.names) self.new.steps.items) }
         ensures rules { OnOk result (self.new.builder.rules ≡ self.old.builder.rules) }
         ensures explains { OnOk result (is_some self.new.builder.kept ≡ is_some self.old.builder.kept) }
+        ensures seen { (told : Option (List ℕ)) → HasSeen told (D.remaining (inner_of reader.old)) self.old.lines self.old.trace self.old.inspector
+            → IfOk result (λ more. more ≡ true → HasSeen told (D.remaining (inner_of reader.new)) self.new.lines self.new.trace self.new.inspector) }
+        ensures seen_all { (told : Option (List ℕ)) → HasSeen told (D.remaining (inner_of reader.old)) self.old.lines self.old.trace self.old.inspector
+            → IfOk result (λ more. more ≡ false → IfSome told (λ text. HasSeenAll text self.old.lines.place.limit self.new.lines self.new.inspector)) }
+        ensures strict { OnOk result (is_some self.new.inspector ≡ is_some self.old.inspector) }
+        ensures undamaged { IfErr result IsNoDamage }
         ensures limit { self.new.lines.place.limit ≡ self.old.lines.place.limit }
         ensures more { IfOk result (λ more. more ≡ true → self.old.lines.place.start < self.new.lines.place.start) }
         ensures within { self.new.lines.place.start ≤ self.new.lines.place.limit }
@@ -207,6 +226,7 @@ impl<'t, 'r> Shared<'t, 'r> {
             self.numbers.as_slice(),
             items.as_slice(),
         )?;
+        inspect(&mut self.inspector, &self.trace)?;
         move_batch(&mut self.trace, &mut self.steps, &mut self.numbers)?;
         match batch {
             Batch::More => Ok(true),
@@ -224,6 +244,8 @@ impl<'t, 'r> Shared<'t, 'r> {
             → IfErr result (λ why. IsFaultOfText told limit why) }
         ensures rules { OnOk result (self.new.builder.rules ≡ self.old.builder.rules) }
         ensures explains { OnOk result (is_some self.new.builder.kept ≡ is_some self.old.builder.kept) }
+        ensures same { (self.new.lines ≡ self.old.lines) × (self.new.inspector ≡ self.old.inspector) }
+        ensures undamaged { IfErr result IsNoDamage }
         ensures failed { FailsBy false false result }
     {
         let items = match self
@@ -259,11 +281,44 @@ impl<'t, 'r> Shared<'t, 'r> {
             → IfErr result (λ why. IsFaultOfText told self.old.lines.place.limit why) }
         ensures rules { OnOk result (self.new.builder.rules ≡ self.old.builder.rules) }
         ensures explains { OnOk result (is_some self.new.builder.kept ≡ is_some self.old.builder.kept) }
+        ensures seen_all { (told : Option (List ℕ)) → HasSeen told (D.remaining (inner_of reader.old)) self.old.lines self.old.trace self.old.inspector
+            → OnOk result (IfSome told (λ text. HasSeenAll text self.old.lines.place.limit self.new.lines self.new.inspector)) }
+        ensures strict { OnOk result (is_some self.new.inspector ≡ is_some self.old.inspector) }
+        ensures undamaged { IfErr result IsNoDamage }
         ensures failed { FailsBy (has_failed reader.new) false result }
         ensures taken { taken_of reader.new + taken_by self.old.lines.place ≤ taken_of reader.old + self.old.lines.place.limit + bytes_past_limit }
     {
         while self.turn(rt, reader)? {}
         self.last(rt)
+    }
+
+    /// The damage of the text that was read, if the replay is strict and there is any.
+    fn damage(&self) -> Option<Damage>
+        ensures found { (told : Option (List ℕ)) (limit : ℕ) → IfSome told (λ text. HasSeenAll text limit self.now.lines self.now.inspector)
+            → HasFound told limit (is_some self.now.inspector) result }
+        ensures lenient { is_some self.now.inspector ≡ false → IsNone result }
+    {
+        damage_of(&self.inspector, &self.lines)
+    }
+
+    /// The report of the text that was read, or its damage, if the replay is strict and there is any.
+    fn end(self) -> Result<Reported, RunFault>
+        ensures report { (told : Option (List ℕ)) (limit : ℕ) → HasReportedAll told limit self.entry.trace.names self.entry.builder
+            → IfOk result (λ found. IfSome told (λ text. IsReportOfText text limit self.entry.builder.rules (is_some self.entry.builder.kept) found.trace.names found.report)) }
+        ensures named { (told : Option (List ℕ)) (limit : ℕ) → HasReportedAll told limit self.entry.trace.names self.entry.builder
+            → IfOk result (λ found. All (HasNames found.trace.names) found.report.lines.items) }
+        ensures fault { (told : Option (List ℕ)) (limit : ℕ) → IfSome told (λ text. HasSeenAll text limit self.entry.lines self.entry.inspector)
+            → IfErr result (λ why. IsFaultOfText told limit why) }
+        ensures undamaged { (told : Option (List ℕ)) (limit : ℕ) → IfSome told (λ text. HasSeenAll text limit self.entry.lines self.entry.inspector)
+            → is_some self.entry.inspector ≡ true → OnOk result (IfSome told (λ text. IsDamageOf text limit no_damage)) }
+        ensures lenient { is_some self.entry.inspector ≡ false → IfErr result IsNoDamage }
+        ensures failed { FailsBy false false result }
+        ensures whole { IfOk result (λ found. found.report.stop ≡ None) }
+    {
+        match self.damage() {
+            None => Ok(self.finish()),
+            Some(damage) => Err(RunFault::Damaged(damage)),
+        }
     }
 
     /// The report of the text that was read, and its names.
@@ -282,8 +337,9 @@ impl<'t, 'r> Shared<'t, 'r> {
             builder,
             steps,
             numbers,
+            inspector,
         } = self;
-        close(lines, crew, steps, numbers);
+        close(lines, crew, steps, numbers, inspector);
         Reported {
             report: builder.finish_explained(None),
             trace,
@@ -295,7 +351,13 @@ impl<'t, 'r> Shared<'t, 'r> {
 fn abandon(_lines: TraceReader, _trace: Trace, _builder: ReportBuilder<'_>) {}
 
 // Lets go of what has read and answered the steps. Split for the prover.
-fn close(_lines: TraceReader, _crew: Crew<'_>, _steps: Vec<Step>, _numbers: Vec<u64>) {}
+fn close(
+    _lines: TraceReader,
+    _crew: Crew<'_>,
+    _steps: Vec<Step>,
+    _numbers: Vec<u64>,
+    _inspector: Option<Inspector>,
+) {}
 
 /// The report of a replay by several workers, who answer one batch of lines while the next is read.
 pub(crate) fn report_by_crew<R, D>(
@@ -312,6 +374,8 @@ where
     ensures report { IfOk result (λ found. IfSome (D.remaining (inner_of reader.old)) (λ text. IsReportOfText text options.now.byte_limit (targets_of suppressions.now) options.now.explain found.trace.names found.report)) }
     ensures named { IfOk result (λ found. All (HasNames found.trace.names) found.report.lines.items) }
     ensures fault { IfErr result (λ why. IsFaultOfText (D.remaining (inner_of reader.old)) options.now.byte_limit why) }
+    ensures undamaged { IsTrue options.now.strict → OnOk result (IfSome (D.remaining (inner_of reader.old)) (λ text. IsDamageOf text options.now.byte_limit no_damage)) }
+    ensures lenient { IsFalse options.now.strict → IfErr result IsNoDamage }
     ensures failed { FailsBy (has_failed reader.new) false result }
     ensures taken { taken_of reader.new ≤ taken_of reader.old + options.now.byte_limit + bytes_past_limit }
     ensures whole { IfOk result (λ found. found.report.stop ≡ None) }
@@ -322,7 +386,7 @@ where
         Err(why) => return Err(why),
     };
     match shared.run(rt, reader) {
-        Ok(()) => Ok(shared.finish()),
+        Ok(()) => shared.end(),
         Err(why) => Err(why),
     }
 }

@@ -5,7 +5,7 @@ use Rattle.er_print.specs.declared.fault.WriteFault.TheVariants as writing
 pub use Rattle.er_run.specs.Reports.{IsReportOfText, IsFaultOfText}
 use Rattle.er_run.specs.declared.fault.Verdict.{Verdict}
 use Rattle.er_run.specs.declared.fault.RunFault.{RunFault}
-use Rattle.er_run.specs.declared.fault.RunFault.TheVariants.{Read, Write, Replay, Memory}
+use Rattle.er_run.specs.declared.fault.RunFault.TheVariants.{Read, Write, Replay, Memory, Damaged}
 
 -- all of the text was written, or a beginning of it where a write failed, or nothing
 abbrev pub WritesFound : Option (List ℕ) → Option (List ℕ) → List ℕ → Result Verdict RunFault → Type 0
@@ -15,3 +15,4 @@ WritesFound old new text (Err (Write writing.Write)) = (n : ℕ) × Appends old 
 WritesFound old new text (Err (Read fault)) = ⊥
 WritesFound old new text (Err (Replay fault)) = ⊥
 WritesFound old new text (Err Memory) = ⊥
+WritesFound old new text (Err (Damaged damage)) = ⊥

@@ -1,5 +1,5 @@
 -- A step has its unusual answer or its usual one.
-use Rattle.std.proofs.Common.{◌≡◌, ◌∙◌, ◌+◌, ◌++◌, ℕ, List, Option, Result, Some, length, slice_get, sym, ap, subst}
+use Rattle.std.proofs.Common.{◌+◌, ◌++◌, ℕ, Result, length, sym, subst}
 use Rattle.er_event.specs.declared.refusals.Refusal.{Refusal}
 use Rattle.er_event.specs.declared.steps.Reply.{Reply}
 use Rattle.er_report.specs.Builder.{IsStepAt}

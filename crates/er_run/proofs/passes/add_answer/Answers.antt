@@ -1,5 +1,5 @@
 -- A step that has nothing to say is one plain step more.
-use Rattle.std.proofs.Common.{◌≡◌, ◌∙◌, ◌≤◌, ◌<◌, ◌+◌, ℕ, true, Result, arith, sym, ap}
+use Rattle.std.proofs.Common.{◌≡◌, ◌∙◌, ℕ, true, Result, arith, sym, ap}
 use Rattle.er_event.specs.declared.refusals.Refusal.{Refusal}
 use Rattle.er_event.specs.declared.steps.Reply.{Reply}
 use Rattle.er_event.specs.declared.steps.Step.{Step}

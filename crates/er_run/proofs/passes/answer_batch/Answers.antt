@@ -1,6 +1,5 @@
 -- A run that has stopped stays where it is, and one that hasn't goes on to the end of the batch or to a stop in it.
-use Rattle.std.proofs.Common.{◌≡◌, ◌∙◌, Option, Some, None, false, is_some, length, refl, sym, ap, subst}
-use Rattle.er_journal.specs.declared.answers.Stopped.{Stopped}
+use Rattle.std.proofs.Common.{◌≡◌, ◌∙◌, Option, None, is_some, length, refl, sym, ap, subst}
 use Rattle.er_run.specs.Inner.Passes.{Answers, HasAnswered}
 use Rattle.er_text.specs.Batches.{joined}
 use Rattle.er_run.proofs.PassLemmas.{stays, goes, whole, part, none-by}

@@ -2,10 +2,9 @@
 use Rattle.std.proofs.Common.{ℕ, List, Option, sym, subst}
 use Rattle.er_device.specs.Device.{inner_of}
 use Rattle.er_run.specs.Inner.Reports.{IsFaultOfText}
-use Rattle.er_run.specs.Inner.Several.{BeginsWith, IsReadFault}
-use Rattle.er_run.specs.declared.fault.RunFault.{RunFault}
+use Rattle.er_run.specs.Inner.Several.{BeginsWith}
 use Rattle.er_text.specs.Batches.{HasRead}
-use Rattle.er_run.proofs.SeveralLemmas.{ended-begins, known-of, of-crew, of-reader, read-of}
+use Rattle.er_run.proofs.SeveralLemmas.{ended-begins, known-of, of-crew, read-of}
 use Rattle.er_run.proofs.rest.fault_behind.Goals as goal
 
 pub returns-in-End-clause-fault : goal.returns-in-End-clause-fault

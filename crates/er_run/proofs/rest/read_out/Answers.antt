@@ -1,6 +1,6 @@
 use Rattle.std.proofs.Common.{refl, arith}
 use Rattle.er_device.specs.Device.{inner_of}
-use Rattle.er_run.proofs.SeveralLemmas.{more-again, none-more}
+use Rattle.er_run.proofs.SeveralLemmas.{none-more}
 use Rattle.er_run.proofs.rest.read_out.Goals as goal
 
 pub loop-init : goal.loop-init

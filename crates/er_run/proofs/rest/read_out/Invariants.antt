@@ -1,4 +1,4 @@
-use Rattle.std.proofs.Common.{◌≡◌, ◌+◌, ◌-◌, ◌≤◌, ℕ, List, Option, false}
+use Rattle.std.proofs.Common.{◌≡◌, ◌+◌, ◌-◌, ◌≤◌, ℕ, List, false}
 use Rattle.er_device.specs.Device.{inner_of, has_failed, taken_of}
 use Rattle.er_event.specs.declared.steps.Step.{Step}
 use Rattle.er_run.specs.Inner.Several.{HasMore}

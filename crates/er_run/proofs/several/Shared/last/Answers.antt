@@ -1,5 +1,5 @@
 -- All steps of the text are in the report.
-use Rattle.std.proofs.Common.{◌++◌, ◌∙◌}
+use Rattle.std.proofs.Common.{◌∙◌}
 use Rattle.er_run.proofs.SeveralLemmas.{reports-all}
 use Rattle.er_run.proofs.several.Shared.last.Goals as goal
 

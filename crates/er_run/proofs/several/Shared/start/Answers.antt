@@ -3,6 +3,7 @@ use Rattle.std.proofs.Common.{[], ℕ, List, Option, subst}
 use Rattle.er_device.specs.Device.{inner_of}
 use Rattle.er_run.specs.Inner.Reports.{IsFaultOfText}
 use Rattle.er_run.proofs.SeveralLemmas.{start-may, start-read}
+use Rattle.er_run.proofs.SeenLemmas.{seen-begun}
 use Rattle.er_run.proofs.several.Shared.start.Goals as goal
 
 pub returns-in-Err-clause-fault : goal.returns-in-Err-clause-fault
@@ -11,3 +12,6 @@ returns-in-Err-clause-fault g c =
     subst (λ (n : ℕ). IsFaultOfText told n c.fault_behind-fault.result) c.in_ok-lines.ensures.limit
     (c.fault_behind-fault.ensures.fault told [] [] (start-may c.in-Err.why c.in-Err.ensures.fault)
     (start-read told c.in_ok-lines.lines c.new-trace.result c.new-trace.ensures c.in_ok-lines.ensures.starts))
+
+pub returns-in-Ok-clause-seen : goal.returns-in-Ok-clause-seen
+returns-in-Ok-clause-seen g c = seen-begun c.in_ok-lines.lines c.new-trace.result c.start.result c.new-trace.ensures c.in_ok-lines.ensures.starts c.start.ensures.seen

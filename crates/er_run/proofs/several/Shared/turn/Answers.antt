@@ -1,19 +1,21 @@
 -- A batch that the workers have answered goes into the report, and the one that was read takes its place.
-use Rattle.std.proofs.Common.{◌≡◌, ◌∙◌, ◌+◌, ◌++◌, ℕ, List, Option, Result, IfErr, IfOk, OnOk, is_some, length, refl, subst}
+use Rattle.std.proofs.Common.{◌≡◌, ◌∙◌, ◌++◌, ℕ, List, Option, Result, IfErr, IfOk, OnOk, refl, subst, sym}
 use Rattle.er_device.specs.Device.{inner_of}
 use Rattle.er_event.specs.declared.steps.Step.{Step}
 use Rattle.er_parallel.specs.Crews.{AreNoted, AreUnusual, HaveAnswered}
 use Rattle.er_parallel.specs.Faults.{MayFail}
 use Rattle.er_parallel.specs.declared.faults.ReplayFault.{ReplayFault}
-use Rattle.er_report.specs.Builder.{IsReported}
 use Rattle.er_run.proofs.PassLemmas.{all-named}
 use Rattle.er_run.proofs.SeveralLemmas.{given-of, reads-all, reads-on}
-use Rattle.er_run.specs.Inner.Passes.{recorded}
+use Rattle.er_run.proofs.SeenLemmas.{seen-part, seen-whole}
+use Rattle.er_run.specs.Inner.Inspected.{HasSeen}
 use Rattle.er_run.specs.Inner.Reports.{IsFaultOfText}
-use Rattle.er_text.specs.Batches.{GivesBatch, HasRead}
+use Rattle.er_text.specs.Batches.{GivesBatch}
+use Rattle.er_text.specs.Ending.{KnowsEnd}
 use Rattle.er_text.specs.Named.{Grows}
 use Rattle.er_text.specs.declared.faults.ReadFault.{ReadFault}
 use Rattle.er_text.specs.declared.reading.Batch.{Batch}
+use Rattle.er_text.specs.declared.reading.Batch.TheVariants.{End}
 use Rattle.er_trace.specs.Trace.{Recording}
 use Rattle.er_run.proofs.several.Shared.turn.Goals as goal
 
@@ -88,3 +90,26 @@ returns-clause-ended g c = λ told state ended.
     (rw (c.as_slice-2.ensures.value, c.as_slice-3.ensures.value, c.as_slice-4.ensures.value, c.names.ensures) at c.in_ok-add_batch.ensures.reported)
     state c.in-End.is c.answer_and_read-answers.ensures.limit c.move_batch.new.trace.names (rw c.in_ok-move_batch.ensures.trace refl) c.move_batch.new.steps.items
     c.in_ok-move_batch.ensures.steps c.move_batch.new.numbers.items c.in_ok-move_batch.ensures.numbers
+
+pub returns-in-More-clause-seen : goal.returns-in-More-clause-seen
+returns-in-More-clause-seen g c = λ told state more.
+    let known : Option (List ℕ) = g.D.Read.remaining (inner_of c.args.reader.now) in
+    let rest : Option (List ℕ) = g.D.Read.remaining (inner_of c.answer_and_read-answers.new.reader) in
+    let u : Recording = c.answer_and_read-answers.new.trace in
+    subst (λ (trace : Recording). HasSeen told rest c.answer_and_read-answers.new.lines trace c.inspect.new.inspector) (sym c.in_ok-move_batch.ensures.trace)
+    (seen-part told c.args.self.now.lines c.answer_and_read-answers.new.lines known rest c.args.self.now.trace u c.in-Ok.batch c.args.self.now.inspector c.inspect.new.inspector state
+    (λ text past lines read. subst (λ (r : Result Batch ReadFault). GivesBatch text past lines c.answer_and_read-answers.new.lines rest u r) c.in-Ok.is
+    (c.answer_and_read-answers.ensures.told text past lines read))
+    c.inspect.ensures.level (c.in_ok-inspect.ensures.seen state.past state.lines state.even state.stands) c.in-More.is)
+
+pub returns-clause-seen_all : goal.returns-clause-seen_all
+returns-clause-seen_all g c = λ told state ended.
+    let known : Option (List ℕ) = g.D.Read.remaining (inner_of c.args.reader.now) in
+    let rest : Option (List ℕ) = g.D.Read.remaining (inner_of c.answer_and_read-answers.new.reader) in
+    let u : Recording = c.answer_and_read-answers.new.trace in
+    seen-whole told c.args.self.now.lines c.answer_and_read-answers.new.lines known rest c.args.self.now.trace u c.in-Ok.batch c.args.self.now.inspector c.inspect.new.inspector state
+    (λ text past lines read. subst (λ (r : Result Batch ReadFault). GivesBatch text past lines c.answer_and_read-answers.new.lines rest u r) c.in-Ok.is
+    (c.answer_and_read-answers.ensures.told text past lines read))
+    c.inspect.ensures.level (c.in_ok-inspect.ensures.seen state.past state.lines state.even state.stands) c.in-End.is c.answer_and_read-answers.ensures.limit
+    (λ text past lines read. subst (λ (r : Result Batch ReadFault). IfOk r (λ batch. batch ≡ End → KnowsEnd text c.answer_and_read-answers.new.lines)) c.in-Ok.is
+    (c.answer_and_read-answers.ensures.ends text past lines read))

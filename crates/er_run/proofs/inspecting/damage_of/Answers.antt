@@ -1,0 +1,22 @@
+-- The inspector's damage is the text's.
+use Rattle.std.proofs.Common.{Option, Some, None, IfSome, is_some, sym, subst, ◌∙◌}
+use Rattle.er_damage.specs.Standing.{Inspected}
+use Rattle.er_run.specs.Inner.Inspected.{HasSeenAll, HasFound}
+use Rattle.er_run.proofs.SeenLemmas.{some-found, none-found}
+use Rattle.er_run.proofs.inspecting.damage_of.Goals as goal
+
+pub returns-then-is_any-clause-found : goal.returns-then-is_any-clause-found
+returns-then-is_any-clause-found c = λ told limit all.
+    let P : Option Inspected → Type 0 = λ o. IfSome told (λ text. HasSeenAll text limit c.args.lines.now o) in
+    let Q : Option Inspected → Type 0 = λ o. HasFound told limit (is_some o) (Some c.damage-damage.result) in
+    subst Q (sym c.in-Some.is)
+    (some-found told limit c.args.lines.now c.in-Some.inspector c.ending.result c.damage-damage.result (subst P c.in-Some.is all) c.ending.ensures c.damage-damage.ensures.told
+    (sym c.is_any.ensures ∙ c.if-is_any.true))
+
+pub returns-else-is_any-clause-found : goal.returns-else-is_any-clause-found
+returns-else-is_any-clause-found c = λ told limit all.
+    let P : Option Inspected → Type 0 = λ o. IfSome told (λ text. HasSeenAll text limit c.args.lines.now o) in
+    let Q : Option Inspected → Type 0 = λ o. HasFound told limit (is_some o) None in
+    subst Q (sym c.in-Some.is)
+    (none-found told limit c.args.lines.now c.in-Some.inspector c.ending.result c.damage-damage.result (subst P c.in-Some.is all) c.ending.ensures c.damage-damage.ensures.told
+    (sym c.is_any.ensures ∙ c.if-is_any.false))
