@@ -17,7 +17,7 @@ use Rattle.er_run.proofs.ReplayLemmas.{not_stopped}
 use Rattle.er_run.specs.Replays.{IsReportOfRun, WritesNothing, is_stopped}
 use Rattle.er_run.specs.Reports.{IsReportOfText}
 use Rattle.er_run.specs.declared.fault.RunFault.{RunFault}
-use Rattle.er_run.specs.declared.fault.RunFault.TheVariants.{Read, Write, Replay, Memory}
+use Rattle.er_run.specs.declared.fault.RunFault.TheVariants.{Read, Write, Replay, Memory, Damaged}
 use Rattle.er_run.specs.declared.fault.Verdict.{Verdict}
 use Rattle.er_sarif.specs.Document.{sarif_text}
 use Rattle.er_sites.specs.Text.{sites_text}
@@ -81,6 +81,7 @@ module _ (form : Form) (told : Option (List ℕ)) (limit : ℕ) (rules : List Ta
   part (Err (Read fault)) built written = absurd written
   part (Err (Replay fault)) built written = absurd written
   part (Err Memory) built written = absurd written
+  part (Err (Damaged damage)) built written = absurd written
   part (Err (Write writing.Memory)) built written = tt
   part (Err (Write writing.Write)) built written = by told built
     where
@@ -103,6 +104,7 @@ nothing form old new names rules report (Ok verdict) written = tt
 nothing form old new names rules report (Err (Read fault)) written = absurd written
 nothing form old new names rules report (Err (Replay fault)) written = absurd written
 nothing form old new names rules report (Err Memory) written = absurd written
+nothing form old new names rules report (Err (Damaged damage)) written = absurd written
 nothing form old new names rules report (Err (Write writing.Memory)) written = written
 nothing form old new names rules report (Err (Write writing.Write)) written = tt
 

@@ -49,6 +49,7 @@ pub record IsBegunAs (form : Form) (text : List ℕ) (limit : ℕ) (rules : List
   pub whole : IsForm form recording.names rules report bytes
   pub written : Appends old new (take count bytes)
 
--- where there is a fault: one of the text is its first, one of the workers is theirs, and a failed write left a beginning of the form
+-- where there is a fault: one of the text is its first, one of the workers is theirs, damage is that of the text, and a failed write left a beginning
+-- of the form
 abbrev pub IsFailedAs : Form → Option (List ℕ) → ℕ → List Target → Bool → Option (List ℕ) → Option (List ℕ) → Result Verdict RunFault → Type 0
 IsFailedAs form told limit rules explain old new result = IsFailedBy (λ text. IsBegunAs form text limit rules explain old new) told limit result

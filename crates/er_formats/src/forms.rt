@@ -1,5 +1,6 @@
 //! Bytes in, a form of the report out.
-ghost use Rattle.std.specs.Prelude.{◌≡◌, ◌+◌, ◌≤◌, ◌<◌, All, false, IfSome, IfOk, IfErr, IsFalse};
+ghost use Rattle.std.specs.Prelude.{◌≡◌, ◌+◌, ◌≤◌, ◌<◌, All, false, IfSome, IfOk, IfErr, OnOk, IsTrue, IsFalse};
+ghost use Rattle.er_damage.specs.Damaged.{IsDamageOf, no_damage};
 ghost use Rattle.er_device.specs.Device.{inner_of, has_failed, taken_of};
 ghost use Rattle.er_formats.specs.Forms.{IsForm, IsReplayedAs, IsFailedAs};
 ghost use Rattle.er_formats.specs.Inner.Writes.{WritesForm, WritesFound};
@@ -7,7 +8,7 @@ ghost use Rattle.er_print.specs.Written.{FailsWriting};
 ghost use Rattle.er_report.specs.Names.{HasNames};
 ghost use Rattle.er_rules.specs.Rules.{targets_of};
 ghost use Rattle.er_run.specs.Limits.{bytes_past_limit};
-ghost use Rattle.er_run.specs.Replays.{WritesNothing, FailsBy, is_stopped};
+ghost use Rattle.er_run.specs.Replays.{IsNoDamage, WritesNothing, FailsBy, is_stopped};
 
 use er_device::Device;
 use er_html::write_html;
@@ -55,6 +56,8 @@ where
     requires writer { has_failed writer.old ≡ false }
     ensures form { IfOk result (λ verdict. IfSome (D.remaining (inner_of reader.old)) (λ text. IsReplayedAs form text options.now.byte_limit (targets_of suppressions.now) options.now.explain (W.contents (inner_of writer.old)) (W.contents (inner_of writer.new)) verdict)) }
     ensures fault { IsFailedAs form (D.remaining (inner_of reader.old)) options.now.byte_limit (targets_of suppressions.now) options.now.explain (W.contents (inner_of writer.old)) (W.contents (inner_of writer.new)) result }
+    ensures undamaged { IsTrue options.now.strict → OnOk result (IfSome (D.remaining (inner_of reader.old)) (λ text. IsDamageOf text options.now.byte_limit no_damage)) }
+    ensures lenient { IsFalse options.now.strict → IfErr result IsNoDamage }
     ensures nothing { IfErr result (λ why. WritesNothing (W.contents (inner_of writer.old)) (W.contents (inner_of writer.new)) why) }
     ensures failed { FailsBy (has_failed reader.new) (has_failed writer.new) result }
     ensures taken { taken_of reader.new ≤ taken_of reader.old + options.now.byte_limit + bytes_past_limit }

@@ -9,7 +9,7 @@ use Rattle.er_report.specs.declared.report.Report.{Report}
 use Rattle.er_rules.specs.Rules.{Target}
 use Rattle.er_run.specs.Replays.{is_verdict_of}
 use Rattle.er_run.specs.declared.fault.RunFault.{RunFault}
-use Rattle.er_run.specs.declared.fault.RunFault.TheVariants.{Read, Write, Replay, Memory}
+use Rattle.er_run.specs.declared.fault.RunFault.TheVariants.{Read, Write, Replay, Memory, Damaged}
 use Rattle.er_run.specs.declared.fault.Verdict.{Verdict}
 use Rattle.er_trace.specs.Names.{NameTable}
 
@@ -26,3 +26,4 @@ WritesFound form old new names rules report (Err (Write fault)) = WritesForm {X 
 WritesFound form old new names rules report (Err (Read fault)) = ⊥
 WritesFound form old new names rules report (Err (Replay fault)) = ⊥
 WritesFound form old new names rules report (Err Memory) = ⊥
+WritesFound form old new names rules report (Err (Damaged damage)) = ⊥
