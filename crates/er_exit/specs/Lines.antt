@@ -1,16 +1,18 @@
 -- The lines that the program writes by itself, to the byte: that of a fault, and that of a demo.
-use Rattle.std.specs.Prelude.{ℕ, ◌++◌, List, Some, None, codes, decimal}
+use Rattle.std.specs.Prelude.{ℕ, ◌++◌, List, [], Option, Some, None, codes, decimal}
+use Rattle.er_damage.specs.declared.damage.Damage.{Damage}
 use Rattle.er_event.specs.Refusal.{text_of as refusal_text}
 use Rattle.er_settle.specs.Texts.{text_of as unsettled_text}
 use Rattle.er_text.specs.Faults.{text_of as kind_text}
 use Rattle.er_exit.specs.declared.faults.Fault.{Fault}
-use Rattle.er_exit.specs.declared.faults.Fault.TheVariants.{Arguments, Text, Suppressions, NoStep, Memory, TableFull, CountFull, OpenTrace, OpenSuppressions, Read, ReadSuppressions, Write, WriteRules, Refused, WorkerNotStarted, WorkerLost, Unsettled}
+use Rattle.er_exit.specs.declared.faults.Fault.TheVariants.{Arguments, Text, Suppressions, Damaged, NoStep, Memory, TableFull, CountFull, OpenTrace, OpenSuppressions, Read, ReadSuppressions, Write, WriteRules, Refused, WorkerNotStarted, WorkerLost, Unsettled}
 
 -- a fault in words
 abbrev pub text_of : Fault → List ℕ
 text_of Arguments = codes "the arguments are not text"
 text_of (Text fault) = kind_text fault.kind
 text_of (Suppressions file fault) = kind_text fault.kind
+text_of (Damaged damage) = codes "damaged trace"
 text_of (NoStep line) = codes "no step"
 text_of Memory = codes "out of memory"
 text_of TableFull = codes "table full"
@@ -26,6 +28,17 @@ text_of WorkerNotStarted = codes "worker not started"
 text_of WorkerLost = codes "worker lost"
 text_of (Unsettled why) = unsettled_text why
 
+-- the line of one kind of damage, where there is some
+abbrev pub damage_line : Option ℕ → List ℕ → List ℕ
+damage_line None text = []
+damage_line (Some line) text = codes "line " ++ (decimal line ++ (codes ": " ++ (text ++ codes "\n")))
+
+-- a line for each kind of damage that a trace has, in this order
+abbrev pub damage_lines : Damage → List ℕ
+damage_lines damage =
+    damage_line damage.refused (codes "refused step") ++ (damage_line damage.held_twice (codes "lock held twice")
+    ++ (damage_line damage.no_line_feed (codes "no line feed") ++ damage_line damage.no_end (codes "no end")))
+
 -- a fault's line: a text's fault has the number of its line, and so has a line without a step, a fault of one of several files of suppressions the number of the file, and a
 -- demo's refusal or settling fault says what it is
 abbrev pub fault_line : Fault → List ℕ
@@ -33,6 +46,7 @@ fault_line (Text fault) = codes "line " ++ (decimal fault.line ++ (codes ": " ++
 fault_line (Suppressions None fault) = codes "suppressions line " ++ (decimal fault.line ++ (codes ": " ++ (kind_text fault.kind ++ codes "\n")))
 fault_line (Suppressions (Some file) fault) =
     codes "suppressions file " ++ (decimal file ++ (codes " line " ++ (decimal fault.line ++ (codes ": " ++ (kind_text fault.kind ++ codes "\n")))))
+fault_line (Damaged damage) = damage_lines damage
 fault_line (NoStep line) = codes "line " ++ (decimal line ++ codes ": no step\n")
 fault_line (OpenSuppressions None) = codes "cannot open suppressions\n"
 fault_line (OpenSuppressions (Some file)) = codes "cannot open suppressions file " ++ (decimal file ++ codes "\n")

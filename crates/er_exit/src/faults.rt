@@ -4,6 +4,7 @@ ghost use Rattle.er_exit.specs.Faults.{demo_fault, rules_fault, trace_fault};
 ghost use Rattle.er_exit.specs.Lines.{text_of};
 ghost use Rattle.er_exit.specs.Statuses.{fault_status};
 
+use er_damage::Damage;
 use er_event::Refusal;
 use er_load::LoadFault;
 use er_settle::Unsettled;
@@ -18,6 +19,8 @@ pub enum Fault {
     Text(TextFault),
     /// The suppressions' text has this fault. If there are several files, this is the one of that number, from 1.
     Suppressions(Option<u64>, TextFault),
+    /// The trace is damaged so, and its replay is strict.
+    Damaged(Damage),
     /// The trace has no step on the line that is to be explained.
     NoStep(u64),
     /// There was no memory.
@@ -54,7 +57,11 @@ impl Fault {
         ensures { result ≡ fault_status self }
     {
         match self {
-            Fault::Arguments | Fault::Text(_) | Fault::Suppressions(..) | Fault::NoStep(_) => 2,
+            Fault::Arguments
+            | Fault::Text(_)
+            | Fault::Suppressions(..)
+            | Fault::Damaged(_)
+            | Fault::NoStep(_) => 2,
             Fault::Memory
             | Fault::TableFull
             | Fault::CountFull
@@ -78,6 +85,7 @@ impl Fault {
         match self {
             Fault::Arguments => "the arguments are not text",
             Fault::Text(fault) | Fault::Suppressions(_, fault) => fault.kind.text(),
+            Fault::Damaged(_) => "damaged trace",
             Fault::NoStep(_) => "no step",
             Fault::Memory => "out of memory",
             Fault::TableFull => "table full",

@@ -1,11 +1,12 @@
 //! The lines that the program writes by itself: that of a fault, and that of a demo.
 ghost use Rattle.std.specs.Prelude.{◌≡◌, IfOk, false, string_bytes};
 ghost use Rattle.er_device.specs.Device.{inner_of, has_failed};
-ghost use Rattle.er_exit.specs.Lines.{demo_line, fault_line};
+ghost use Rattle.er_exit.specs.Lines.{damage_line, damage_lines, demo_line, fault_line};
 ghost use Rattle.er_exit.specs.Statuses.{fault_status};
 ghost use Rattle.er_exit.specs.Writes.{GetsLine, WritesBytes, WritesLine};
 
 use crate::faults::Fault;
+use er_damage::Damage;
 use er_device::Device;
 use er_text::TextFault;
 use std::alloc::{AllocError, Global};
@@ -23,12 +24,33 @@ fn line_of(alloc: Global, fault: Fault) -> Result<String, AllocError>
         Fault::Suppressions(Some(file), TextFault { line, .. }) => {
             format!(in alloc; "suppressions file {file} line {line}: {text}\n")
         }
+        Fault::Damaged(damage) => damage_lines(alloc, &damage),
         Fault::NoStep(line) => format!(in alloc; "line {line}: {text}\n"),
         Fault::OpenSuppressions(Some(file)) => format!(in alloc; "{text} file {file}\n"),
         Fault::ReadSuppressions(file) => format!(in alloc; "{text} in suppressions file {file}\n"),
         Fault::Refused(_) => format!(in alloc; "refused: {text}\n"),
         Fault::Unsettled(_) => format!(in alloc; "unsettled: {text}\n"),
         _ => format!(in alloc; "{text}\n"),
+    }
+}
+
+// A line for each kind of damage that there is.
+fn damage_lines(alloc: Global, damage: &Damage) -> Result<String, AllocError>
+    ensures { IfOk result (λ lines. string_bytes lines ≡ damage_lines damage.now) }
+{
+    let refused = damage_line(alloc, damage.refused, "refused step")?;
+    let held_twice = damage_line(alloc, damage.held_twice, "lock held twice")?;
+    let no_line_feed = damage_line(alloc, damage.no_line_feed, "no line feed")?;
+    let no_end = damage_line(alloc, damage.no_end, "no end")?;
+    format!(in alloc; "{refused}{held_twice}{no_line_feed}{no_end}")
+}
+
+fn damage_line(alloc: Global, line: Option<u64>, text: &str) -> Result<String, AllocError>
+    ensures { IfOk result (λ written. string_bytes written ≡ damage_line line text.now) }
+{
+    match line {
+        Some(line) => format!(in alloc; "line {line}: {text}\n"),
+        None => Ok(String::new(alloc)),
     }
 }
 
