@@ -24,6 +24,7 @@
 
 pub use fault::{RunFault, Verdict};
 pub use options::Options;
+pub use passes::answer_batch;
 pub use replay::{ReplayedTrace, replay_report, replay_text, verdict_of};
 
 mod adding;

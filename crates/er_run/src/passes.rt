@@ -225,8 +225,9 @@ pub(crate) fn report_in_batches<R: Wait, D: Read>(
     }
 }
 
-// Answers the steps of a batch and adds them to the report, and says where the run has stopped. Once it has stopped nothing is added.
-fn answer_batch<R: Wait>(
+/// Answers the steps of a batch and adds them to the report, and says where the run has stopped. Once it has stopped nothing is added.
+/// Another analysis of the same batches can be made beside it.
+pub fn answer_batch<R: Wait>(
     rt: &R,
     machine: &mut Machine<'_>,
     trace: &Trace,

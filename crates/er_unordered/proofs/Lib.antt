@@ -1,3 +1,5 @@
 pub mod AnswerLemmas
+pub mod BothLemmas
 pub mod PassLemmas
+pub mod ReplayLemmas
 pub mod TextLemmas

@@ -1,5 +1,6 @@
 pub mod Answers
 pub mod Faults
 pub mod Inner
+pub mod Replays
 pub mod Reports
 pub mod Text
