@@ -18,6 +18,7 @@ complete -c eraser -n '__fish_seen_subcommand_from replay' -l explain -d 'Name t
 complete -c eraser -n '__fish_seen_subcommand_from replay' -l by-site -d 'Write a table of the sites with races, most words first, and explain a race of each'
 complete -c eraser -n '__fish_seen_subcommand_from replay' -l format -x -a 'text json sarif html' -d 'How the report is written: as text for scripts, as JSON for programs, as SARIF for code hosts, or as one page of HTML for people'
 complete -c eraser -n '__fish_seen_subcommand_from replay' -l source -x -a '(__fish_complete_directories)' -d 'With --format html, show the lines around each site, from the files below this folder'
+complete -c eraser -n '__fish_seen_subcommand_from replay' -l strict -d 'End with 2 if the trace is damaged, and write no report'
 complete -c eraser -n '__fish_seen_subcommand_from replay' -l workers -x -a '(seq 16)' -d 'How many threads replay the trace, 1 to 16'
 complete -c eraser -n '__fish_seen_subcommand_from replay' -l shards -x -a '1 2 4 8 16 32 64' -d 'Into how many parts several workers cut the words, 1 to 64'
 complete -c eraser -n '__fish_seen_subcommand_from replay' -l byte-limit -x -d 'The most bytes that a text may have, 1 to 4611686018427387904'

@@ -235,7 +235,7 @@ def batches(record):
 
 def wrong_arguments(record):
     for analysis in (HAPPENS_BEFORE, BOTH):
-        for more in (["--explain"], ["--by-site"], ["--format", "json"], ["--format", "sarif"], ["--format", "html"]):
+        for more in (["--explain"], ["--by-site"], ["--format", "json"], ["--format", "sarif"], ["--format", "html"], ["--strict"]):
             output, errors, status = run([*analysis, *more, "-"], RACY)
             record(f"{analysis[1]} with {more}", (output, status) == (b"", 2) and b"--analysis" in errors, f"{errors}")
     for more in (["--write-rules", "/nonexistent/rules"], ["--unused-rules"], ["--max-races", "1"]):

@@ -235,7 +235,7 @@ def analysed(folder, findings, program):
     trace = folder / "analysed.trace"
     done = command([RUN, "-q", "-o", trace, "--analysis", "lockset", program])
     findings.check("record/run --analysis lockset", done.returncode == 0 and trace.read_text().startswith("eraser trace 1\n") and "races" in done.stdout, f"{done}")
-    for more in (["--explain"], ["--by-site"], ["--format", "json"]):
+    for more in (["--explain"], ["--by-site"], ["--format", "json"], ["--strict"]):
         done = command([RUN, "--analysis", "both", *more, program])
         findings.check(f"record/run --analysis both {more}", (done.returncode, done.stdout) == (125, "") and "--analysis" in done.stderr, f"{done}")
     done = command([RUN, "--analysis", "neither", program])

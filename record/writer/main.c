@@ -30,6 +30,7 @@ struct options {
     bool replays;
     bool explains;
     bool by_site;
+    bool is_strict;
     const char *format;
     const char *analysis;
     bool ends_as_report;
@@ -57,6 +58,7 @@ static const char usage[] =
     "      --explain           name the accesses that make each race\n"
     "      --by-site           report the races by their sites, most words first\n"
     "      --format FORM       write the report as `text` (the default), `json`, `sarif` or `html`\n"
+    "      --strict            end the replay with 2 if the trace is damaged, and write no report\n"
     "      --exit-status WHOSE end with the status of the `program` (the default) or of the `report`\n"
     "      --order             record what orders threads as well: starts and joins, semaphores, atomic operations ..\n"
     "      --limit BYTES       record at most so much text; 0: no limit. The default is 268435456\n"
@@ -123,12 +125,12 @@ static bool needs_order(void)
 
 static void read_options(int count, char **words)
 {
-    enum { REPLAY = 256, REPORT, SUPPRESS, EXPLAIN, BY_SITE, FORMAT, ANALYSIS, EXIT_STATUS, ORDER, LIMIT, PATHS };
+    enum { REPLAY = 256, REPORT, SUPPRESS, EXPLAIN, BY_SITE, STRICT, FORMAT, ANALYSIS, EXIT_STATUS, ORDER, LIMIT, PATHS };
     static const struct option names[] = {
         {"output", 1, NULL, 'o'},         {"replay", 0, NULL, REPLAY}, {"report", 1, NULL, REPORT}, {"suppress", 1, NULL, SUPPRESS},
         {"exit-status", 1, NULL, EXIT_STATUS}, {"limit", 1, NULL, LIMIT},   {"paths", 0, NULL, PATHS},   {"quiet", 0, NULL, 'q'},
         {"explain", 0, NULL, EXPLAIN},    {"by-site", 0, NULL, BY_SITE}, {"format", 1, NULL, FORMAT}, {"help", 0, NULL, 'h'},
-        {"order", 0, NULL, ORDER},        {"analysis", 1, NULL, ANALYSIS},
+        {"order", 0, NULL, ORDER},        {"analysis", 1, NULL, ANALYSIS}, {"strict", 0, NULL, STRICT},
         {NULL, 0, NULL, 0},
     };
     output.limit = USUAL_LIMIT;
@@ -141,6 +143,7 @@ static void read_options(int count, char **words)
         case EXPLAIN: options.explains = true; break;
         case BY_SITE: options.by_site = true; break;
         case ANALYSIS: options.analysis = read_analysis(optarg); break;
+        case STRICT: options.is_strict = true; break;
         case FORMAT: options.format = read_format(optarg); break;
         case EXIT_STATUS: options.ends_as_report = is_report(optarg); break;
         case ORDER: trace_orders = true; break;
@@ -154,8 +157,8 @@ static void read_options(int count, char **words)
         fputs("record: --by-site and --format are not given together\n", stderr);
         exit(STATUS_FAILED);
     }
-    if (needs_order() && (options.explains || options.by_site || options.format)) {
-        fputs("record: --explain, --by-site and --format go with --analysis lockset alone\n", stderr);
+    if (needs_order() && (options.explains || options.by_site || options.format || options.is_strict)) {
+        fputs("record: --explain, --by-site, --format and --strict go with --analysis lockset alone\n", stderr);
         exit(STATUS_FAILED);
     }
     trace_orders |= needs_order();
@@ -163,7 +166,8 @@ static void read_options(int count, char **words)
         fputs(usage, stderr);
         exit(STATUS_FAILED);
     }
-    options.replays |= !options.trace || options.report || options.rules || options.explains || options.by_site || options.format || options.analysis || options.ends_as_report;
+    options.replays |= !options.trace || options.report || options.rules || options.explains || options.by_site || options.is_strict || options.format
+        || options.analysis || options.ends_as_report;
 }
 
 /* ---- Processes ---- */
@@ -235,7 +239,7 @@ static void start_replay(void)
     int ends[2];
     const char *command = getenv("ERASER");
     /* The writer ends the trace at its limit, so the replay needs none. This is the greatest that it knows. */
-    char *words[14] = {(char *)(command ? command : "eraser"), "replay", "--byte-limit", "4611686018427387904", NULL};
+    char *words[16] = {(char *)(command ? command : "eraser"), "replay", "--byte-limit", "4611686018427387904", NULL};
     int count = 4;
     if (options.rules) {
         words[count++] = "--suppress";
@@ -249,6 +253,8 @@ static void start_replay(void)
         words[count++] = "--explain";
     if (options.by_site)
         words[count++] = "--by-site";
+    if (options.is_strict)
+        words[count++] = "--strict";
     if (options.format) {
         words[count++] = "--format";
         words[count++] = (char *)options.format;

@@ -37,6 +37,8 @@ pub struct Replay<'a> {
     pub source: Option<&'a str>,
     /// Whether races are explained, as they are by site, as SARIF and as HTML.
     pub explain: bool,
+    /// Whether a damaged trace is a fault.
+    pub strict: bool,
     /// In how many shards the words are, from 1 to 64.
     pub shards: u32,
     /// How many workers replay them, from 1 to 16.
@@ -207,6 +209,13 @@ fn analysis_option<'a>(alloc: Global) -> Arg<'a> {
         )
 }
 
+fn strict_option<'a>(alloc: Global) -> Arg<'a> {
+    Arg::new(alloc, "strict")
+        .long("strict")
+        .action(ArgAction::SetTrue)
+        .help("End with 2 if the trace is damaged, and write no report")
+}
+
 // The options that say how the trace is replayed.
 fn with_limits<'a>(alloc: Global, command: Command<'a>) -> Result<Command<'a>, AllocError> {
     let workers = count(
@@ -223,6 +232,7 @@ fn with_limits<'a>(alloc: Global, command: Command<'a>) -> Result<Command<'a>, A
         "8",
         "Into how many parts several workers cut the words, 1 to 64",
     );
+    let command = command.arg(strict_option(alloc))?;
     command.arg(workers)?.arg(shards)?.arg(byte_limit(alloc))
 }
 
@@ -334,7 +344,7 @@ A suppression file has a rule a line, and the first that fits a race takes it:
 Exit status:
   0  no race was printed
   1  some race was printed
-  2  wrong arguments, or a text with a fault
+  2  wrong arguments, a text with a fault, or with --strict a damaged trace
   3  the replay ran out of room, or a demo was refused or did not settle
   4  a file could not be opened, read or written
 
@@ -408,6 +418,7 @@ fn replay_of<'a>(found: &ArgMatches<'a>, suppressions: Vec<&'a str>) -> Option<R
         format,
         source: found.get_str("source"),
         explain: has_reasons(format) || found.get_flag("explain"),
+        strict: found.get_flag("strict"),
         shards,
         workers,
         byte_limit,
@@ -459,12 +470,12 @@ fn lacks_page(request: &Request<'_>) -> bool {
     }
 }
 
-// Whether a report of unordered accesses is asked for in a form that it doesn't have.
+// Whether more is asked of a report of unordered accesses than it has.
 fn lacks_form(request: &Request<'_>) -> bool {
     match request {
         Request::Replay(replay) => {
             replay.analysis != Analysis::Lockset
-                && (replay.explain || replay.format != Format::Text)
+                && (replay.explain || replay.format != Format::Text || replay.strict)
         }
         Request::Explain(_) | Request::Demo(_) => false,
     }
@@ -505,7 +516,7 @@ pub fn read_request<'a>(alloc: Global, words: &'a [String]) -> Result<Request<'a
         )?),
         Some(request) if lacks_form(&request) => Err(command.error(
             ErrorKind::ArgumentConflict,
-            "--explain, --by-site and --format go with --analysis lockset alone",
+            "--explain, --by-site, --format and --strict go with --analysis lockset alone",
         )?),
         Some(request) if asks_more_of_both(&request) => Err(command.error(
             ErrorKind::ArgumentConflict,

@@ -201,8 +201,10 @@ where
 fn options_of(replay: &Replay<'_>) -> Options
     ensures explain { result.explain ≡ replay.now.explain }
     ensures bytes { result.byte_limit ≡ replay.now.byte_limit }
+    ensures strict { result.strict ≡ replay.now.strict }
 {
     let options = Options::usual().with_explain(replay.explain);
+    let options = options.with_strict(replay.strict);
     let options = options.with_byte_limit(replay.byte_limit).unwrap();
     options.with_workers(replay.shards, replay.workers).unwrap()
 }

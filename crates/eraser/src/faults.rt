@@ -21,6 +21,7 @@ pub fn fault_of(fault: RunFault) -> Fault
         RunFault::Replay(ReplayFault::TableFull) => Fault::TableFull,
         RunFault::Replay(ReplayFault::WorkerNotStarted) => Fault::WorkerNotStarted,
         RunFault::Replay(ReplayFault::WorkerLost) => Fault::WorkerLost,
+        RunFault::Damaged(damage) => Fault::Damaged(damage),
     }
 }
 
