@@ -88,11 +88,15 @@ where
     ensures silent { replay.now.unused_rules ≡ false → replay.now.max_races ≡ None → IfOk result (λ ended. ended.notes.items ≡ []) }
     ensures nothing { IfErr result (LeavesOutput (O.contents (inner_of output.old)) (O.contents (inner_of output.new))) }
 {
-    let (report, trace) =
-        match report_unordered(rt.alloc(), source, suppressions, options.byte_limit) {
-            Ok(UnorderedReport { report, trace }) => (report, trace),
-            Err(why) => return Err(order_fault_of(why)),
-        };
+    let (report, trace) = match report_unordered(
+        rt.alloc(),
+        source,
+        suppressions,
+        options.byte_limit,
+    ) {
+        Ok(UnorderedReport { report, trace }) => (report, trace),
+        Err(why) => return Err(order_fault_of(why)),
+    };
     let triaged = sorted(rt.alloc(), report, &trace, suppressions, replay)?;
     write_sorted(rt.alloc(), &triaged.report, trace.names(), output)?;
     finish(rt, replay.write_rules, triaged)

@@ -288,15 +288,7 @@ where
     ensures nothing { IfErr result (LeavesOutput (O.contents (inner_of output.old)) (O.contents (inner_of output.new))) }
 {
     if let Some(analysis) = order_of(replay.analysis) {
-        return replay_by_order(
-            rt,
-            replay,
-            analysis,
-            source,
-            output,
-            suppressions,
-            options,
-        );
+        return replay_by_order(rt, replay, analysis, source, output, suppressions, options);
     }
     if asks_more(replay) || shows_sources(replay) {
         return replay_and_sort(rt, replay, source, output, suppressions, options);
