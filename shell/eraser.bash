@@ -21,7 +21,7 @@ _eraser() {
         return
         ;;
     replay:--analysis)
-        _eraser_words "lockset happens-before both"
+        _eraser_words "lockset happens-before"
         return
         ;;
     replay:--format)

@@ -1,10 +1,10 @@
 #!/usr/bin/env python3
-"""`eraser replay --analysis happens-before` and `both`, beside a second reading: happens-before by chains of steps, without clocks.
+"""`eraser replay --analysis happens-before`, beside a second reading: by chains of steps, without clocks.
 
 - worked traces give the reports of tests/analysis/*.txt, by path, by standard input and with several workers
 - random traces give what tests/order_reference.py and tests/reference.py say of them, with suppressions and without: traces of all three
   texts, a quarter of them damaged, and lists of text 3 in which every sort of order stands
-- `both` writes the report of the one analysis, and then that of the other
+- the report by locks of a worked trace stands beside it
 - `--analysis lockset` writes what stands without it
 - `--write-rules`, `--unused-rules` and `--max-races` with happens-before: the rules take all unordered accesses, and so on
 - each allocation refused in turn, each read and each write failed in turn
@@ -33,7 +33,7 @@ CASES = TOP / "tests/analysis"
 RANDOM_TRACES = 400
 RANDOM_LISTS = 700
 BATCH = 1024
-HAPPENS_BEFORE, BOTH = ["--analysis", "happens-before"], ["--analysis", "both"]
+HAPPENS_BEFORE = ["--analysis", "happens-before"]
 
 
 def run(words, text=b"", **more):
@@ -92,15 +92,13 @@ def unordered_report(text, rules):
     return "".join(line + "\n" for line in found), 1 if races else 0
 
 
-def expected(text, rules, analysis):
-    """What a replay by this analysis writes to both streams, and its status."""
+def expected(text, rules):
+    """What a replay writes to both streams, and its status."""
     output, errors, status = reference.replay(text, rules or b"")
     if status == 2:
         return output.encode(), errors.encode(), status
     unordered, unordered_status = unordered_report(text, reference.rules_of(rules or b""))
-    if analysis == "happens-before":
-        return unordered.encode(), b"", unordered_status
-    return (output + unordered).encode(), b"", max(status, unordered_status)
+    return unordered.encode(), b"", unordered_status
 
 
 # ---- Worked traces ----
@@ -118,12 +116,12 @@ def worked(record):
             names.append(name)
             status = 1 if ": unordered: " in ordered else 0
             wanted = (ordered.encode(), b"", status)
-            both = ((rest + ordered).encode(), b"", 1 if ": race: " in rest else status)
+            locks = (rest.encode(), b"", 1 if ": race: " in rest else 0)
             with tempfile.NamedTemporaryFile() as file:
                 file.write(text)
                 file.flush()
                 for options in ([], ["--workers", "2"], ["--workers", "7", "--shards", "3"]):
-                    for analysis, want in ((HAPPENS_BEFORE, wanted), (BOTH, both)):
+                    for analysis, want in ((HAPPENS_BEFORE, wanted), (["--analysis", "lockset"], locks)):
                         by_path, by_input = run([*analysis, *options, file.name]), run([*analysis, *options, "-"], text)
                         record(f"{analysis[1]}: {name} {options}", by_path == by_input == want, f"{by_path}, {by_input}")
     record("analyses: worked traces are found", len(names) >= 10, f"{names}")
@@ -137,12 +135,11 @@ def random_traces(record):
     texts += [(f"random list {seed}", order_tests.random_list(seed), None) for seed in range(RANDOM_LISTS)]
     racy = 0
     for at, (name, text, rules) in enumerate(texts):
-        for analysis in (HAPPENS_BEFORE, BOTH):
-            want, crew = expected(text, rules, analysis[1]), ([], ["--workers", "2"], ["--workers", "7"])[at % 3]
-            found = run_with(rules, text, *analysis, *crew)
-            record(f"{analysis[1]}: {name}{'' if rules is None else ' with suppressions'} {crew}", found == want, f"{found}, not {want}")
-            racy += b": unordered: " in want[0]
-    record("analyses: some random traces have unordered accesses, and some have none", len(texts) // 5 < racy < len(texts) * 9 // 5, f"{racy} of {len(texts)}")
+        want, crew = expected(text, rules), ([], ["--workers", "2"], ["--workers", "7"])[at % 3]
+        found = run_with(rules, text, *HAPPENS_BEFORE, *crew)
+        record(f"happens-before: {name}{'' if rules is None else ' with suppressions'} {crew}", found == want, f"{found}, not {want}")
+        racy += b": unordered: " in want[0]
+    record("happens-before: some random traces have unordered accesses, and some have none", len(texts) // 10 < racy < len(texts) * 9 // 10, f"{racy} of {len(texts)}")
     for seed in range(50):
         text = reference.random_trace(seed)
         record(f"lockset: random trace {seed}", run(["--analysis", "lockset", "-"], text) == run(["-"], text))
@@ -188,7 +185,7 @@ def refusals(record, preloaded):
         library, trace = preloaded(folder, "refuse"), pathlib.Path(folder) / "trace"
         lines = ["eraser trace 3", "t1 start t2", *(f"t{1 + k % 3} {verb}" for k in range(12) for verb in ("lock m", f"write {4096 * k} s{k}", f"read {64 * k}", "unlock m", f"signal x{k}", f"await x{k - 1}"))]
         trace.write_text("\n".join(lines) + "\n")
-        for analysis in (HAPPENS_BEFORE, BOTH):
+        for analysis in (HAPPENS_BEFORE,):
             whole, met = run([*analysis, str(trace)]), set()
             record(f"{analysis[1]}: the trace for refusals is a trace", whole[2] in (0, 1) and b"steps" in whole[0], f"{whole}")
             for nth, found, was_refused in each_refused(library, folder, lambda env: run([*analysis, str(trace)], env=env)):
@@ -198,7 +195,7 @@ def refusals(record, preloaded):
             record(f"{analysis[1]}: refused allocations are told", 3 in met, f"{met}")
         library = preloaded(folder, "pieces")
         trace.write_bytes(RACY)
-        for analysis in (HAPPENS_BEFORE, BOTH):
+        for analysis in (HAPPENS_BEFORE,):
             words = [*analysis, str(trace)]
             whole = run(words)
             found = run(words, env={**os.environ, "LD_PRELOAD": str(library), "PIECE": "1"})
@@ -223,9 +220,7 @@ def batches(record):
         want = f"line {number + 5}: unordered: t3 write 0x000000002000 at c, holds none\nsteps 6, unordered 1, suppressed 0, refused 0\n".encode()
         found = run([*HAPPENS_BEFORE, "-"], text)
         record(f"happens-before: steps from line {number} on", found == (want, b"", 1), f"{found}")
-        found = run([*BOTH, "-"], text)
-        record(f"both: steps from line {number} on", found == (run(["-"], text)[0] + want, b"", 1), f"{found}")
-        for analysis in (HAPPENS_BEFORE, BOTH):
+        for analysis in (HAPPENS_BEFORE,):
             found = run([*analysis, "-"], text + b"t1 hop\n")
             record(f"{analysis[1]}: a fault behind steps from line {number} on", found == (b"", f"line {number + 6}: bad verb\n".encode(), 2), f"{found}")
 
@@ -234,13 +229,10 @@ def batches(record):
 
 
 def wrong_arguments(record):
-    for analysis in (HAPPENS_BEFORE, BOTH):
+    for analysis in (HAPPENS_BEFORE,):
         for more in (["--explain"], ["--by-site"], ["--format", "json"], ["--format", "sarif"], ["--format", "html"], ["--strict"]):
             output, errors, status = run([*analysis, *more, "-"], RACY)
             record(f"{analysis[1]} with {more}", (output, status) == (b"", 2) and b"--analysis" in errors, f"{errors}")
-    for more in (["--write-rules", "/nonexistent/rules"], ["--unused-rules"], ["--max-races", "1"]):
-        output, errors, status = run([*BOTH, *more, "-"], RACY)
-        record(f"both with {more}", (output, status) == (b"", 2) and b"--analysis" in errors, f"{errors}")
     output, errors, status = run(["--analysis", "neither", "-"], RACY)
     record("an analysis that there is not", (output, status) == (b"", 2) and b"invalid value 'neither'" in errors, f"{errors}")
     for more in (["--explain"], ["--by-site"], ["--format", "json"]):

@@ -142,7 +142,7 @@ def analysis_fault(source, text):
     sites = set(re.findall(r": unordered: .* at (\S+), holds", found[0].decode()))
     if found[1] or sites != marked(source, "UNORDERED"):
         return f"reported at {sorted(sites)}, {found[1]}"
-    if len(text) < SHORT and found != analysis_tests.expected(text.encode(), None, "happens-before"):
+    if len(text) < SHORT and found != analysis_tests.expected(text.encode(), None):
         return f"reported {found}"
     return None
 
@@ -228,16 +228,14 @@ def analysed(folder, findings, program):
     done = command([RUN, "-q", "--analysis", "happens-before", program])
     sites = set(re.findall(r": unordered: .* at (\S+), holds", done.stdout))
     findings.check("record/run --analysis happens-before", (done.returncode, done.stderr, sites) == (0, "", wanted) and ": race: " not in done.stdout, f"{done}")
-    done = command([RUN, "-q", "--analysis", "both", "--exit-status", "report", program])
-    sites = set(re.findall(r": unordered: .* at (\S+), holds", done.stdout))
-    totals = re.findall(r"^steps \d+, (races|unordered) \d+, suppressed 0, refused 0$", done.stdout, re.M)
-    findings.check("record/run --analysis both", (done.returncode, sites, totals) == (1, wanted, ["races", "unordered"]) and ": race: " in done.stdout, f"{done}")
+    done = command([RUN, "-q", "--analysis", "happens-before", "--exit-status", "report", program])
+    findings.check("record/run --analysis happens-before --exit-status report", done.returncode == 1, f"{done}")
     trace = folder / "analysed.trace"
     done = command([RUN, "-q", "-o", trace, "--analysis", "lockset", program])
     findings.check("record/run --analysis lockset", done.returncode == 0 and trace.read_text().startswith("eraser trace 1\n") and "races" in done.stdout, f"{done}")
     for more in (["--explain"], ["--by-site"], ["--format", "json"], ["--strict"]):
-        done = command([RUN, "--analysis", "both", *more, program])
-        findings.check(f"record/run --analysis both {more}", (done.returncode, done.stdout) == (125, "") and "--analysis" in done.stderr, f"{done}")
+        done = command([RUN, "--analysis", "happens-before", *more, program])
+        findings.check(f"record/run --analysis happens-before {more}", (done.returncode, done.stdout) == (125, "") and "--analysis" in done.stderr, f"{done}")
     done = command([RUN, "--analysis", "neither", program])
     findings.check("record/run with another analysis", (done.returncode, done.stdout) == (125, "") and "'neither'" in done.stderr, f"{done}")
 

@@ -54,7 +54,7 @@ static const char usage[] =
     "      --replay            with -o: replay as well\n"
     "      --report FILE       write the report to FILE instead of standard output\n"
     "      --suppress RULES    leave out the races that these rules take (docs/FORMATS.md)\n"
-    "      --analysis RULE     `lockset` (the default), `happens-before` or `both`; the last two record with --order\n"
+    "      --analysis RULE     `lockset` (the default) or `happens-before`, which records with --order\n"
     "      --explain           name the accesses that make each race\n"
     "      --by-site           report the races by their sites, most words first\n"
     "      --format FORM       write the report as `text` (the default), `json`, `sarif` or `html`\n"
@@ -110,10 +110,10 @@ static const char *read_format(const char *text)
 
 static const char *read_analysis(const char *text)
 {
-    static const char *const analyses[] = {"lockset", "happens-before", "both"};
+    static const char *const analyses[] = {"lockset", "happens-before"};
     for (size_t place = 0; place < sizeof analyses / sizeof *analyses; place++)
         if (strcmp(text, analyses[place]) == 0) return text;
-    fprintf(stderr, "record: --analysis is 'lockset', 'happens-before' or 'both', not '%s'\n", text);
+    fprintf(stderr, "record: --analysis is 'lockset' or 'happens-before', not '%s'\n", text);
     exit(STATUS_FAILED);
 }
 

@@ -71,8 +71,6 @@ pub enum Analysis {
     Lockset,
     /// Two accesses were not ordered in this run.
     HappensBefore,
-    /// Each of the two, with a report of its own.
-    Both,
 }
 
 /// How a report is written.
@@ -205,7 +203,7 @@ fn analysis_option<'a>(alloc: Global) -> Arg<'a> {
         .value_parser(ANALYSES.as_slice())
         .default_value("lockset")
         .help(
-            "Report accesses that no lock protects, accesses that were not ordered in this run, or both",
+            "Report accesses that no lock protects, or accesses that were not ordered in this run",
         )
 }
 
@@ -287,7 +285,7 @@ prints
 
 The earlier accesses are those that count since the word's last reuse. Each one that changed the word's state has a line.";
 
-const ANALYSES: [&str; 3] = ["lockset", "happens-before", "both"];
+const ANALYSES: [&str; 2] = ["lockset", "happens-before"];
 
 const FORMS: [&str; 4] = ["text", "json", "sarif", "html"];
 
@@ -363,7 +361,6 @@ fn analysis_of(name: &str) -> Option<Analysis> {
     match name {
         "lockset" => Some(Analysis::Lockset),
         "happens-before" => Some(Analysis::HappensBefore),
-        "both" => Some(Analysis::Both),
         _ => None,
     }
 }
@@ -481,19 +478,6 @@ fn lacks_form(request: &Request<'_>) -> bool {
     }
 }
 
-// Whether more than two reports is asked for of both analyses.
-fn asks_more_of_both(request: &Request<'_>) -> bool {
-    match request {
-        Request::Replay(replay) => {
-            replay.analysis == Analysis::Both
-                && (replay.write_rules.is_some()
-                    || replay.unused_rules
-                    || replay.max_races.is_some())
-        }
-        Request::Explain(_) | Request::Demo(_) => false,
-    }
-}
-
 // Whether the file that gets rules is one of those whose rules are asked: they would be lost.
 fn overwrites_rules(request: &Request<'_>) -> bool {
     match request {
@@ -517,10 +501,6 @@ pub fn read_request<'a>(alloc: Global, words: &'a [String]) -> Result<Request<'a
         Some(request) if lacks_form(&request) => Err(command.error(
             ErrorKind::ArgumentConflict,
             "--explain, --by-site, --format and --strict go with --analysis lockset alone",
-        )?),
-        Some(request) if asks_more_of_both(&request) => Err(command.error(
-            ErrorKind::ArgumentConflict,
-            "--write-rules, --unused-rules and --max-races do not go with --analysis both",
         )?),
         Some(request) if overwrites_rules(&request) => Err(command.error(
             ErrorKind::ArgumentConflict,

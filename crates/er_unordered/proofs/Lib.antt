@@ -1,5 +1,3 @@
 pub mod AnswerLemmas
-pub mod BothLemmas
 pub mod PassLemmas
-pub mod ReplayLemmas
 pub mod TextLemmas

@@ -1,4 +1,2 @@
--- How far a replay has come, and what it leaves in the writer.
-pub mod Both
+-- How far a replay has come.
 pub mod Passes
-pub mod Written

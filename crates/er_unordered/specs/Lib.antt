@@ -1,6 +1,5 @@
 pub mod Answers
 pub mod Faults
 pub mod Inner
-pub mod Replays
 pub mod Reports
 pub mod Text

@@ -1,6 +1,6 @@
--- The report of a text's unordered accesses, and that of both analyses.
-use Rattle.std.specs.Prelude.{◌≡◌, ℕ, Bool, List, None}
-use Rattle.er_report.specs.Report.{Summary, report_by, report_of, no_reasons, told as summary}
+-- The report of a text's unordered accesses.
+use Rattle.std.specs.Prelude.{◌≡◌, ℕ, List, None}
+use Rattle.er_report.specs.Report.{Summary, report_by, no_reasons, told as summary}
 use Rattle.er_report.specs.declared.report.Report.{Report}
 use Rattle.er_rules.specs.Rules.{Target}
 use Rattle.er_text.specs.Trace.{IsTrace}
@@ -17,13 +17,4 @@ pub record IsReportOfText (text : List ℕ) (limit : ℕ) (rules : List Target) 
   pub recording : Recording
   pub trace : IsTrace text limit recording
   pub says : summary report ≡ unordered_report recording rules
-  pub names : used ≡ recording.names
-
--- the reports of the text's trace by both analyses under these rules, of which that of the lockset rule has reasons or not, and the names of
--- that trace
-pub record AreReportsOfText (text : List ℕ) (limit : ℕ) (rules : List Target) (explain : Bool) (used : NameTable) (lockset unordered : Report) : Type 0 where
-  pub recording : Recording
-  pub trace : IsTrace text limit recording
-  pub says : summary lockset ≡ report_of recording rules explain None
-  pub says_too : summary unordered ≡ unordered_report recording rules
   pub names : used ≡ recording.names

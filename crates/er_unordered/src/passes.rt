@@ -26,7 +26,7 @@ use std::alloc::{AllocError, Global};
 use std::io::Read;
 
 /// How many lines a batch has.
-pub(crate) const BATCH_LINES: u32 = 1024;
+const BATCH_LINES: u32 = 1024;
 
 /// The report of a text's unordered accesses, and a trace that has the names of the numbers in it.
 #[derive(Drop)]
@@ -81,7 +81,7 @@ impl<'r> Pass<'r> {
         ensures limit { self.new.lines.place.limit ≡ self.old.lines.place.limit }
         ensures more { IfOk result (λ more. more ≡ true → self.old.lines.place.start < self.new.lines.place.start) }
         ensures within { self.new.lines.place.start ≤ self.new.lines.place.limit }
-        ensures failed { FailsBy (has_failed reader.new) false result }
+        ensures failed { FailsBy (has_failed reader.new) result }
         ensures taken { taken_of reader.new + taken_by self.old.lines.place ≤ taken_of reader.old + taken_by self.new.lines.place }
         ensures most { taken_by self.new.lines.place ≤ self.new.lines.place.limit + bytes_past_limit }
     {
@@ -104,7 +104,7 @@ impl<'r> Pass<'r> {
         ensures fault { (told : Option (List ℕ)) → HasCome told (D.remaining (inner_of reader.old)) self.old.lines self.old.trace self.old.machine self.old.builder
             → IfErr result (λ why. IsFaultOfText told self.old.lines.place.limit why) }
         ensures rules { OnOk result (self.new.builder.rules ≡ self.old.builder.rules) }
-        ensures failed { FailsBy (has_failed reader.new) false result }
+        ensures failed { FailsBy (has_failed reader.new) result }
         ensures taken { taken_of reader.new + taken_by self.old.lines.place ≤ taken_of reader.old + self.old.lines.place.limit + bytes_past_limit }
     {
         while self.turn(reader)? {}
@@ -151,7 +151,7 @@ pub fn report_unordered<D: Read>(
     ensures report { IfOk result (λ found. IfSome (D.remaining (inner_of reader.old)) (λ text. IsReportOfText text byte_limit (targets_of suppressions.now) found.trace.names found.report)) }
     ensures named { IfOk result (λ found. All (HasNames found.trace.names) found.report.lines.items) }
     ensures fault { IfErr result (λ why. IsFaultOfText (D.remaining (inner_of reader.old)) byte_limit why) }
-    ensures failed { FailsBy (has_failed reader.new) false result }
+    ensures failed { FailsBy (has_failed reader.new) result }
     ensures taken { taken_of reader.new ≤ taken_of reader.old + byte_limit + bytes_past_limit }
 {
     let mut pass = Pass::new(alloc, suppressions, byte_limit)?;
@@ -163,7 +163,7 @@ pub fn report_unordered<D: Read>(
 
 // Answers each step of a batch by happens-before, and adds it to the report. So many steps that they can't be counted any more are
 // reported as a want of memory.
-pub(crate) fn answer_steps(
+fn answer_steps(
     machine: &mut OrderMachine,
     trace: &Trace,
     builder: &mut ReportBuilder<'_>,

@@ -8,21 +8,20 @@ ghost use Rattle.er_request.specs.declared.request.Format.TheVariants.{Text};
 ghost use Rattle.er_run.specs.Replays.{IsReplayed};
 ghost use Rattle.er_triage.specs.Notes.{AreNotes};
 ghost use Rattle.eraser.specs.Notes.{AsksNoNotes, GetsNotes};
-ghost use Rattle.er_unordered.specs.declared.replay.Analysis.{Analysis as Order};
-ghost use Rattle.eraser.specs.Replays.{EndsAs, EndsBy, IsPlain, IsPlainBy, ReplaysTo};
+ghost use Rattle.eraser.specs.Replays.{EndsAs, IsPlain, ReplaysTo};
 
 use crate::advice::report_replay_fault;
-use crate::analyses::{order_of, replay_by_order};
 use crate::faults::fault_of;
 use crate::rules::suppressions_of;
 use crate::sorting::{Ended, asks_more, replay_and_sort, status_of};
 use crate::stories::explain_step;
+use crate::unordered::replay_unordered;
 use clap::error::ErrorKind;
 use er_device::Device;
 use er_exit::{Fault, put, report_fault, run_demo};
 use er_formats::{Form, replay_as};
 use er_load::Workload;
-use er_request::{Demo, Explain, Format, Replay, Request, read_request};
+use er_request::{Analysis, Demo, Explain, Format, Replay, Request, read_request};
 use er_rules::Suppressions;
 use er_run::{Options, Verdict, replay_text};
 use std::alloc::Global;
@@ -226,7 +225,6 @@ where
     ensures notes { IfOk result (λ ended. AreNotes ended.notes.items) }
     ensures silent { replay.now.unused_rules ≡ false → replay.now.max_races ≡ None → IfOk result (λ ended. ended.notes.items ≡ []) }
     ensures report { IsPlain replay.now → replay.now.suppressions.items ≡ [] → replay.now.trace.now ≡ codes "-" → IfOk result (λ ended. IfSome (I.remaining (inner_of input.old)) (λ text. ReplaysTo text replay.now.byte_limit replay.now.explain (O.contents (inner_of output.old)) (O.contents (inner_of output.new)) ended.status)) }
-    ensures report_by { (analysis : Order) → IsPlainBy analysis replay.now → replay.now.suppressions.items ≡ [] → replay.now.trace.now ≡ codes "-" → IfOk result (λ ended. IfSome (I.remaining (inner_of input.old)) (λ text. EndsBy analysis text replay.now.byte_limit [] replay.now.explain (O.contents (inner_of output.old)) (O.contents (inner_of output.new)) ended.status)) }
     ensures nothing { IfErr result (LeavesOutput (O.contents (inner_of output.old)) (O.contents (inner_of output.new))) }
 {
     let options = options_of(replay);
@@ -252,7 +250,6 @@ where
     ensures notes { IfOk result (λ ended. AreNotes ended.notes.items) }
     ensures silent { replay.now.unused_rules ≡ false → replay.now.max_races ≡ None → IfOk result (λ ended. ended.notes.items ≡ []) }
     ensures report { IsPlain replay.now → replay.now.trace.now ≡ codes "-" → IfOk result (λ ended. IfSome (I.remaining (inner_of input.old)) (λ text. EndsAs text options.now.byte_limit (targets_of suppressions.now) options.now.explain (O.contents (inner_of output.old)) (O.contents (inner_of output.new)) ended.status)) }
-    ensures report_by { (analysis : Order) → IsPlainBy analysis replay.now → replay.now.trace.now ≡ codes "-" → IfOk result (λ ended. IfSome (I.remaining (inner_of input.old)) (λ text. EndsBy analysis text options.now.byte_limit (targets_of suppressions.now) options.now.explain (O.contents (inner_of output.old)) (O.contents (inner_of output.new)) ended.status)) }
     ensures nothing { IfErr result (LeavesOutput (O.contents (inner_of output.old)) (O.contents (inner_of output.new))) }
 {
     if replay.trace == "-" {
@@ -284,11 +281,10 @@ where
     ensures notes { IfOk result (λ ended. AreNotes ended.notes.items) }
     ensures silent { replay.now.unused_rules ≡ false → replay.now.max_races ≡ None → IfOk result (λ ended. ended.notes.items ≡ []) }
     ensures report { IsPlain replay.now → IfOk result (λ ended. IfSome (D.remaining (inner_of source.old)) (λ text. EndsAs text options.now.byte_limit (targets_of suppressions.now) options.now.explain (O.contents (inner_of output.old)) (O.contents (inner_of output.new)) ended.status)) }
-    ensures report_by { (analysis : Order) → IsPlainBy analysis replay.now → IfOk result (λ ended. IfSome (D.remaining (inner_of source.old)) (λ text. EndsBy analysis text options.now.byte_limit (targets_of suppressions.now) options.now.explain (O.contents (inner_of output.old)) (O.contents (inner_of output.new)) ended.status)) }
     ensures nothing { IfErr result (LeavesOutput (O.contents (inner_of output.old)) (O.contents (inner_of output.new))) }
 {
-    if let Some(analysis) = order_of(replay.analysis) {
-        return replay_by_order(rt, replay, analysis, source, output, suppressions, options);
+    if replay.analysis == Analysis::HappensBefore {
+        return replay_unordered(rt, replay, source, output, suppressions, options.byte_limit);
     }
     if asks_more(replay) || shows_sources(replay) {
         return replay_and_sort(rt, replay, source, output, suppressions, options);

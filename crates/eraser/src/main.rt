@@ -5,13 +5,13 @@
 #![tactic(auto)]
 
 mod advice;
-mod analyses;
 mod command;
 mod faults;
 mod rules;
 mod sorting;
 mod sources;
 mod stories;
+mod unordered;
 
 pub use command::command;
 use er_device::Device;

@@ -10,7 +10,7 @@ use Rattle.er_trace.specs.Names.{NameTable}
 use Rattle.er_trace.specs.Trace.{Recording, IsNamed}
 use Rattle.er_unordered.specs.Answers.{unordered_answer}
 use Rattle.er_unordered.specs.declared.fault.OrderFault.{OrderFault}
-use Rattle.er_unordered.specs.declared.fault.OrderFault.TheVariants.{Read, Write, TableFull, CountFull, Memory}
+use Rattle.er_unordered.specs.declared.fault.OrderFault.TheVariants.{Read, CountFull, Memory}
 
 -- these steps and their lines, under these names
 abbrev pub recorded : List Step → List ℕ → NameTable → Recording
@@ -48,7 +48,5 @@ pub record HasEnded (told : Option (List ℕ)) (limit : ℕ) (trace : Recording)
 -- the steps weren't answered: not a fault of the text
 abbrev pub IsOrderFault : OrderFault → Type 0
 IsOrderFault (Read fault) = ⊥
-IsOrderFault (Write fault) = ⊥
-IsOrderFault TableFull = ⊥
 IsOrderFault CountFull = Unit {0}
 IsOrderFault Memory = Unit {0}
