@@ -185,31 +185,34 @@ def refusals(record, preloaded):
         library, trace = preloaded(folder, "refuse"), pathlib.Path(folder) / "trace"
         lines = ["eraser trace 3", "t1 start t2", *(f"t{1 + k % 3} {verb}" for k in range(12) for verb in ("lock m", f"write {4096 * k} s{k}", f"read {64 * k}", "unlock m", f"signal x{k}", f"await x{k - 1}"))]
         trace.write_text("\n".join(lines) + "\n")
-        for analysis in (HAPPENS_BEFORE,):
-            whole, met = run([*analysis, str(trace)]), set()
-            record(f"{analysis[1]}: the trace for refusals is a trace", whole[2] in (0, 1) and b"steps" in whole[0], f"{whole}")
-            for nth, found, was_refused in each_refused(library, folder, lambda env: run([*analysis, str(trace)], env=env)):
-                is_told = was_refused and found == (b"", b"out of memory\n", 3)
-                record(f"{analysis[1]}: without allocation {nth}", is_told or found == whole, f"{found}")
-                met.add(found[2])
-            record(f"{analysis[1]}: refused allocations are told", 3 in met, f"{met}")
-        library = preloaded(folder, "pieces")
+        words, met = [*HAPPENS_BEFORE, str(trace)], set()
+        whole = run(words)
+        record("happens-before: the trace for refusals is a trace", whole[2] in (0, 1) and b"steps" in whole[0], f"{whole}")
+        for nth, found, was_refused in each_refused(library, folder, lambda env: run(words, env=env)):
+            is_told = was_refused and found == (b"", b"out of memory\n", 3)
+            record(f"happens-before: without allocation {nth}", is_told or found == whole, f"{found}")
+            met.add(found[2])
+        record("happens-before: refused allocations are told", 3 in met, f"{met}")
+
+
+def failures(record, preloaded):
+    """Reads and writes of a few bytes at a time, and each of them failed in turn."""
+    with tempfile.TemporaryDirectory() as folder:
+        library, trace = preloaded(folder, "pieces"), pathlib.Path(folder) / "trace"
         trace.write_bytes(RACY)
-        for analysis in (HAPPENS_BEFORE,):
-            words = [*analysis, str(trace)]
-            whole = run(words)
-            found = run(words, env={**os.environ, "LD_PRELOAD": str(library), "PIECE": "1"})
-            record(f"{analysis[1]}: byte by byte", found == whole, f"{found}")
-            fell = 0
-            for nth, found, has_failed in each_failed(library, folder, "FAIL_READ", "FAIL_FOUND", lambda env: run(words, env={**env, "PIECE": "20"})):
-                record(f"{analysis[1]}: with read {nth} failed", found == ((b"", b"read fault\n", 4) if has_failed else whole), f"{found}")
-                fell += has_failed
-            record(f"{analysis[1]}: with reads failed", fell > 2, f"{fell}")
-            fell = 0
-            for nth, found, has_failed in each_failed(library, folder, "FAIL_WRITE", "FAIL_FOUND", lambda env: run(words, env={**env, "PIECE": "1"})):
-                record(f"{analysis[1]}: with write {nth} failed", found == ((whole[0][: nth - 1], b"write fault\n", 4) if has_failed else whole), f"{found}")
-                fell += has_failed
-            record(f"{analysis[1]}: with writes failed", fell == len(whole[0]), f"{fell}")
+        words, fell = [*HAPPENS_BEFORE, str(trace)], 0
+        whole = run(words)
+        found = run(words, env={**os.environ, "LD_PRELOAD": str(library), "PIECE": "1"})
+        record("happens-before: byte by byte", found == whole, f"{found}")
+        for nth, found, has_failed in each_failed(library, folder, "FAIL_READ", "FAIL_FOUND", lambda env: run(words, env={**env, "PIECE": "20"})):
+            record(f"happens-before: with read {nth} failed", found == ((b"", b"read fault\n", 4) if has_failed else whole), f"{found}")
+            fell += has_failed
+        record("happens-before: with reads failed", fell > 2, f"{fell}")
+        fell = 0
+        for nth, found, has_failed in each_failed(library, folder, "FAIL_WRITE", "FAIL_FOUND", lambda env: run(words, env={**env, "PIECE": "1"})):
+            record(f"happens-before: with write {nth} failed", found == ((whole[0][: nth - 1], b"write fault\n", 4) if has_failed else whole), f"{found}")
+            fell += has_failed
+        record("happens-before: with writes failed", fell == len(whole[0]), f"{fell}")
 
 
 def batches(record):
@@ -220,19 +223,17 @@ def batches(record):
         want = f"line {number + 5}: unordered: t3 write 0x000000002000 at c, holds none\nsteps 6, unordered 1, suppressed 0, refused 0\n".encode()
         found = run([*HAPPENS_BEFORE, "-"], text)
         record(f"happens-before: steps from line {number} on", found == (want, b"", 1), f"{found}")
-        for analysis in (HAPPENS_BEFORE,):
-            found = run([*analysis, "-"], text + b"t1 hop\n")
-            record(f"{analysis[1]}: a fault behind steps from line {number} on", found == (b"", f"line {number + 6}: bad verb\n".encode(), 2), f"{found}")
+        found = run([*HAPPENS_BEFORE, "-"], text + b"t1 hop\n")
+        record(f"happens-before: a fault behind steps from line {number} on", found == (b"", f"line {number + 6}: bad verb\n".encode(), 2), f"{found}")
 
 
 # ---- What does not go together ----
 
 
 def wrong_arguments(record):
-    for analysis in (HAPPENS_BEFORE,):
-        for more in (["--explain"], ["--by-site"], ["--format", "json"], ["--format", "sarif"], ["--format", "html"], ["--strict"]):
-            output, errors, status = run([*analysis, *more, "-"], RACY)
-            record(f"{analysis[1]} with {more}", (output, status) == (b"", 2) and b"--analysis" in errors, f"{errors}")
+    for more in (["--explain"], ["--by-site"], ["--format", "json"], ["--format", "sarif"], ["--format", "html"], ["--strict"]):
+        output, errors, status = run([*HAPPENS_BEFORE, *more, "-"], RACY)
+        record(f"happens-before with {more}", (output, status) == (b"", 2) and b"--analysis" in errors, f"{errors}")
     output, errors, status = run(["--analysis", "neither", "-"], RACY)
     record("an analysis that there is not", (output, status) == (b"", 2) and b"invalid value 'neither'" in errors, f"{errors}")
     for more in (["--explain"], ["--by-site"], ["--format", "json"]):
@@ -244,6 +245,7 @@ def tests(record, preloaded):
     random_traces(record)
     more_of_a_report(record)
     refusals(record, preloaded)
+    failures(record, preloaded)
     batches(record)
     wrong_arguments(record)
 

@@ -196,7 +196,7 @@ def manual_tests(record, top, commands, options, values):
         record(f"manual: the command {name}", f".SS {name}\n{says}." in page)
     for (name, place), listed in values.items():
         record(f"manual: values of {place}", all(re.search(rf"^\.BR? {re.escape(word)}( [,.])?$", page, re.M) for word in listed), f"{listed}")
-    statuses = re.findall(r"^\.TP\n\.B (\d)\n(.*)$", page.split(".SH EXIT STATUS\n")[1], re.M)
+    statuses = [(status, roff_text(says)) for status, says in re.findall(r"^\.TP\n\.B (\d)\n(.*)$", page.split(".SH EXIT STATUS\n")[1], re.M)]
     wanted = [tuple(line.strip().split("  ", 1)) for line in section(top, "Exit status:")]
     record("manual: exit statuses", statuses == wanted, f"{statuses}")
     rules = section(top, "A suppression file has a rule a line, and the first that fits a race takes it:")
