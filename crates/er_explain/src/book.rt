@@ -90,13 +90,7 @@ impl<A: Copy> Joint<A> {
     }
 
     // Forgets what it says and begins anew.
-    fn restart(
-        &mut self,
-        first: A,
-        join: A,
-        kind: Kind,
-        cover: &Lockset,
-    ) -> Result<(), AllocError>
+    fn restart(&mut self, first: A, join: A, kind: Kind, cover: &Lockset) -> Result<(), AllocError>
         ensures { OnOk result (self.new ≡ begun first join kind cover.now) }
     {
         self.parts.first = first;
