@@ -9,7 +9,7 @@ complete -c eraser -n __fish_use_subcommand -a explain -d 'Say why one step is a
 complete -c eraser -n __fish_use_subcommand -a demo -d 'Run threads that call the detector, and print how many steps and races they made'
 complete -c eraser -n __fish_use_subcommand -a help -d 'Print this message or the help of the given subcommand(s)'
 
-complete -c eraser -n '__fish_seen_subcommand_from replay' -l analysis -x -a 'lockset happens-before' -d 'Report accesses that no lock protects, or accesses that were not ordered in this run'
+complete -c eraser -n '__fish_seen_subcommand_from replay' -l analysis -x -a 'lockset happens-before both' -d 'Report accesses that no lock protects, accesses that were not ordered in this run, or both'
 complete -c eraser -n '__fish_seen_subcommand_from replay' -l suppress -r -F -d 'Count the races that this file\'s rules take, and leave their lines out'
 complete -c eraser -n '__fish_seen_subcommand_from replay' -l write-rules -r -F -d 'Write rules to this file that take each race of the report'
 complete -c eraser -n '__fish_seen_subcommand_from replay' -l unused-rules -d 'Name each rule that took no race, on standard error'
@@ -19,6 +19,7 @@ complete -c eraser -n '__fish_seen_subcommand_from replay' -l by-site -d 'Write 
 complete -c eraser -n '__fish_seen_subcommand_from replay' -l format -x -a 'text json sarif html' -d 'How the report is written: as text for scripts, as JSON for programs, as SARIF for code hosts, or as one page of HTML for people'
 complete -c eraser -n '__fish_seen_subcommand_from replay' -l source -x -a '(__fish_complete_directories)' -d 'With --format html, show the lines around each site, from the files below this folder'
 complete -c eraser -n '__fish_seen_subcommand_from replay' -l strict -d 'End with 2 if the trace is damaged, and write no report'
+complete -c eraser -n '__fish_seen_subcommand_from replay' -l until-fault -d 'Report the steps before the first faulty line of the trace, and then its fault'
 complete -c eraser -n '__fish_seen_subcommand_from replay' -l workers -x -a '(seq 16)' -d 'How many threads replay the trace, 1 to 16'
 complete -c eraser -n '__fish_seen_subcommand_from replay' -l shards -x -a '1 2 4 8 16 32 64' -d 'Into how many parts several workers cut the words, 1 to 64'
 complete -c eraser -n '__fish_seen_subcommand_from replay' -l byte-limit -x -d 'The most bytes that a text may have, 1 to 4611686018427387904'

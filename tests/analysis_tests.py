@@ -1,12 +1,13 @@
 #!/usr/bin/env python3
-"""`eraser replay --analysis happens-before`, beside a second reading: by chains of steps, without clocks.
+"""`eraser replay --analysis happens-before` and `both`, beside a second reading: happens-before by chains of steps, without clocks.
 
-- worked traces give the reports of tests/analysis/*.txt, by path, by standard input and with several workers
+- worked traces give the reports of tests/analysis/*.txt, with reasons and without, by path, by standard input and with several workers
 - random traces give what tests/order_reference.py and tests/reference.py say of them, with suppressions and without: traces of all three
   texts, a quarter of them damaged, and lists of text 3 in which every sort of order stands
-- the report by locks of a worked trace stands beside it
+- `both` writes the report of the one analysis, and then that of the other; with `--by-site` the sites of both under two headings
 - `--analysis lockset` writes what stands without it
 - `--write-rules`, `--unused-rules` and `--max-races` with happens-before: the rules take all unordered accesses, and so on
+- the two reports of one text under rules are those of the two analyses, with the same counts of rules in each
 - each allocation refused in turn, each read and each write failed in turn
 - steps, a fault and unordered accesses on both sides of the ends of batches
 - what does not go together is refused
@@ -25,15 +26,17 @@ import order_reference
 import order_tests
 import reference
 from alone import each_failed, each_refused, run_alone
-from site_tests import preloaded
+from site_tests import by_site_of_both, preloaded, sites_in
 
 TOP = pathlib.Path(__file__).resolve().parent.parent
 PROGRAM = TOP / "crates/eraser/out/eraser"
 CASES = TOP / "tests/analysis"
 RANDOM_TRACES = 400
 RANDOM_LISTS = 700
+SITE_TRACES = 100
 BATCH = 1024
-HAPPENS_BEFORE = ["--analysis", "happens-before"]
+HAPPENS_BEFORE, BOTH = ["--analysis", "happens-before"], ["--analysis", "both"]
+WITH_AND_WITHOUT = (HAPPENS_BEFORE, [*HAPPENS_BEFORE, "--explain"], BOTH, [*BOTH, "--explain"])
 
 
 def run(words, text=b"", **more):
@@ -71,34 +74,39 @@ def taker_of(rules, step):
     return next((k for k, rule in enumerate(rules) if reference.takes(rule, step.site.encode(), step.words.start)), None)
 
 
-def unordered_report(text, rules):
-    """The report of a text that has no fault."""
+def unordered_report(text, rules, explain=False):
+    """The report of a text that has no fault, with reasons or without."""
     noting = Noting()
     for line, (thread, verb, operands) in reference.events_of(text):
         noting.step(line, thread, verb, operands)
     lines = [(int(line.split(":")[0].removeprefix("line ")), line) for line in noting.lines if re.match(r"line \d+: refused: ", line)]
     taken, races = [0] * len(rules), 0
-    for race in order_reference.races(order_reference.mark(order_reference.read(text))):
+    marked = order_reference.mark(order_reference.read(text))
+    for race in order_reference.races(marked):
         step, taker = race.marked.step, taker_of(rules, race.marked.step)
         if taker is not None:
             taken[taker] += 1
             continue
         races += 1
         address = f"0x{step.words.start * 4:012x}"
-        lines.append((step.line, f"line {step.line}: unordered: {step.thread} {step.verb} {address} at {step.site}, holds {noting.holds[step.line]}"))
+        told = f"line {step.line}: unordered: {step.thread} {step.verb} {address} at {step.site}, holds {noting.holds[step.line]}"
+        other = marked[race.earlier].step
+        lines.append((step.line, told + f"\n  unordered with: line {other.line}, {other.thread} {other.verb}" * explain))
     found = [line for _, line in sorted(lines)]
     found += [f"suppression {number}: {count}" for number, count in enumerate(taken, 1)]
     found.append(f"steps {noting.steps}, unordered {races}, suppressed {sum(taken)}, refused {noting.refused}")
     return "".join(line + "\n" for line in found), 1 if races else 0
 
 
-def expected(text, rules):
-    """What a replay writes to both streams, and its status."""
-    output, errors, status = reference.replay(text, rules or b"")
+def expected(text, rules, analysis, explain=False):
+    """What a replay by this analysis writes to both streams, with reasons or without, and its status."""
+    output, errors, status = reference.replay(text, rules or b"", explain)
     if status == 2:
         return output.encode(), errors.encode(), status
-    unordered, unordered_status = unordered_report(text, reference.rules_of(rules or b""))
-    return unordered.encode(), b"", unordered_status
+    unordered, unordered_status = unordered_report(text, reference.rules_of(rules or b""), explain)
+    if analysis == "happens-before":
+        return unordered.encode(), b"", unordered_status
+    return (output + unordered).encode(), b"", max(status, unordered_status)
 
 
 # ---- Worked traces ----
@@ -114,16 +122,17 @@ def worked(record):
             ordered, by_locks = ordered.split("and by locks ->\n")
             text, rest = trace.strip().encode() + b"\n", by_locks.split("\n\n")[0].strip() + "\n"
             names.append(name)
-            status = 1 if ": unordered: " in ordered else 0
-            wanted = (ordered.encode(), b"", status)
-            locks = (rest.encode(), b"", 1 if ": race: " in rest else 0)
+            status, plain = 1 if ": unordered: " in ordered else 0, re.sub("  unordered with: .*\n", "", ordered)
+            by_locks, either = reference.replay(text, explain=True)[0], 1 if ": race: " in rest else status
+            wanted = [(analysis, want.encode(), status) for analysis, want in ((HAPPENS_BEFORE, plain), ([*HAPPENS_BEFORE, "--explain"], ordered))]
+            wanted += [(analysis, want.encode(), either) for analysis, want in ((BOTH, rest + plain), ([*BOTH, "--explain"], by_locks + ordered))]
             with tempfile.NamedTemporaryFile() as file:
                 file.write(text)
                 file.flush()
                 for options in ([], ["--workers", "2"], ["--workers", "7", "--shards", "3"]):
-                    for analysis, want in ((HAPPENS_BEFORE, wanted), (["--analysis", "lockset"], locks)):
+                    for analysis, want, status in wanted:
                         by_path, by_input = run([*analysis, *options, file.name]), run([*analysis, *options, "-"], text)
-                        record(f"{analysis[1]}: {name} {options}", by_path == by_input == want, f"{by_path}, {by_input}")
+                        record(f"{analysis[1:]}: {name} {options}", by_path == by_input == (want, b"", status), f"{by_path}, {by_input}")
     record("analyses: worked traces are found", len(names) >= 10, f"{names}")
 
 
@@ -135,14 +144,39 @@ def random_traces(record):
     texts += [(f"random list {seed}", order_tests.random_list(seed), None) for seed in range(RANDOM_LISTS)]
     racy = 0
     for at, (name, text, rules) in enumerate(texts):
-        want, crew = expected(text, rules), ([], ["--workers", "2"], ["--workers", "7"])[at % 3]
-        found = run_with(rules, text, *HAPPENS_BEFORE, *crew)
-        record(f"happens-before: {name}{'' if rules is None else ' with suppressions'} {crew}", found == want, f"{found}, not {want}")
-        racy += b": unordered: " in want[0]
-    record("happens-before: some random traces have unordered accesses, and some have none", len(texts) // 10 < racy < len(texts) * 9 // 10, f"{racy} of {len(texts)}")
+        for analysis in (HAPPENS_BEFORE, BOTH):
+            crew = ([], ["--workers", "2"], ["--workers", "7"])[at % 3]
+            for more in ([], ["--explain"]):
+                want, found = expected(text, rules, analysis[1], bool(more)), run_with(rules, text, *analysis, *more, *crew)
+                record(f"{analysis[1]}: {name}{'' if rules is None else ' with suppressions'} {[*more, *crew]}", found == want, f"{found}, not {want}")
+            racy += b": unordered: " in want[0]
+    record("analyses: some random traces have unordered accesses, and some have none", len(texts) // 5 < racy < len(texts) * 9 // 5, f"{racy} of {len(texts)}")
     for seed in range(50):
         text = reference.random_trace(seed)
         record(f"lockset: random trace {seed}", run(["--analysis", "lockset", "-"], text) == run(["-"], text))
+
+
+# ---- By sites ----
+
+
+def by_sites(record):
+    """`both --by-site` beside a second reading of docs/FORMATS.md, made from what the other readings say of the text."""
+    texts = [(f"random trace {seed}", reference.random_trace(seed), rules) for seed in range(SITE_TRACES) for rules in (None, reference.random_rules(seed))]
+    texts += [(f"random list {seed}", order_tests.random_list(seed), None) for seed in range(SITE_TRACES)]
+    texts += [("two headings", TWO_HEADINGS, None)]
+    kinds = set()
+    for name, text, rules in texts:
+        output, errors, status = reference.replay(text, rules or b"", explain=True)
+        want = output.encode(), errors.encode(), status
+        if status != 2:
+            ordered, ordered_status = unordered_report(text, reference.rules_of(rules or b""), explain=True)
+            want = by_site_of_both(output, ordered, sites_in(text)).encode(), b"", max(status, ordered_status)
+            kinds.add((b"races in this run: none" in want[0], b"no common lock: none" in want[0]))
+        found = run_with(rules, text, *BOTH, "--by-site")
+        record(f"both by site: {name}{'' if rules is None else ' with suppressions'}", found == want, f"{found}, not {want}")
+    record("both by site: each part has sites in some text, and none in another", len(kinds) == 4, f"{kinds}")
+    found = run([*BOTH, "--by-site", "-"], TWO_HEADINGS)
+    record("both by site: the worked text", found == (TWO_HEADINGS_BY_SITE, b"", 1), f"{found}")
 
 
 # ---- What is made of a report besides ----
@@ -159,6 +193,46 @@ end
 """
 
 
+# The flag is handed on by a signal, and the counter has no lock at all.
+TWO_HEADINGS = b"""eraser trace 3
+t1 write 0x1000 flag.c:3
+t1 signal q
+t1 lock m
+t1 write 0x2000 count.c:7
+t1 unlock m
+t2 write 0x2000 count.c:7
+t2 await q
+t2 write 0x1000 flag.c:9
+end
+"""
+
+
+TWO_HEADINGS_BY_SITE = b"""races in this run
+words     kinds       threads   locks     site
+1         write       1         0         count.c:7
+
+count.c:7:
+  t2 wrote the word at 0x000000002000 (line 7)
+  t2 held no lock
+  nothing orders this before it: t1 wrote it (line 5)
+
+no common lock
+words     kinds       threads   locks     site
+1         write       1         0         flag.c:9
+
+flag.c:9:
+  t2 wrote the word at 0x000000001000 (line 9)
+  t2 held no lock
+  t1 used it first: it wrote it (line 2)
+  t2 was the second: it wrote it (line 9)
+  t2 has written it since then (line 9)
+  So no lock protected all accesses from the second thread's first one on
+
+steps 8, races 2, suppressed 0, refused 0
+steps 8, unordered 1, suppressed 0, refused 0
+"""
+
+
 def more_of_a_report(record):
     with tempfile.TemporaryDirectory() as folder:
         rules = pathlib.Path(folder) / "known.rules"
@@ -172,9 +246,16 @@ def more_of_a_report(record):
         found = run([*HAPPENS_BEFORE, "--suppress", str(other), "--unused-rules", "-"], RACY)
         plain = run([*HAPPENS_BEFORE, "--suppress", str(other), "-"], RACY)
         record("happens-before: unused rules are named", found[::2] == plain[::2] and b"1" in found[1] and found[1].count(b"\n") == 1, f"{found}")
+        for name, taken in ((str(other), b"suppression 1: 0\nsuppression 2: 1\n"), (str(rules), b"suppression 1: 1\nsuppression 2: 1\nsuppression 3: 1\n")):
+            alone = [run([*analysis, "--suppress", name, "-"], RACY) for analysis in ([], HAPPENS_BEFORE)]
+            found = run([*BOTH, "--suppress", name, "-"], RACY)
+            want = (alone[0][0] + alone[1][0], b"", max(one[2] for one in alone))
+            record(f"both: the rules of {pathlib.Path(name).name}", found == want and taken in alone[1][0], f"{found}, not {want}")
     whole, found = run([*HAPPENS_BEFORE, "-"], RACY), run([*HAPPENS_BEFORE, "--max-races", "1", "-"], RACY)
     lines = whole[0].splitlines(keepends=True)
     record("happens-before: the first races alone", found[0] == lines[0] + lines[-1] and found[2] == 1 and found[1].count(b"\n") == 1, f"{found}")
+    found = run([*HAPPENS_BEFORE, "--explain", "--max-races", "1", "-"], RACY)
+    record("happens-before: the first races alone, with reasons", found[0] == lines[0] + b"  unordered with: line 2, t1 write\n" + lines[-1], f"{found}")
 
 
 # ---- Want of memory, failed reads and writes, batches ----
@@ -185,14 +266,15 @@ def refusals(record, preloaded):
         library, trace = preloaded(folder, "refuse"), pathlib.Path(folder) / "trace"
         lines = ["eraser trace 3", "t1 start t2", *(f"t{1 + k % 3} {verb}" for k in range(12) for verb in ("lock m", f"write {4096 * k} s{k}", f"read {64 * k}", "unlock m", f"signal x{k}", f"await x{k - 1}"))]
         trace.write_text("\n".join(lines) + "\n")
-        words, met = [*HAPPENS_BEFORE, str(trace)], set()
-        whole = run(words)
-        record("happens-before: the trace for refusals is a trace", whole[2] in (0, 1) and b"steps" in whole[0], f"{whole}")
-        for nth, found, was_refused in each_refused(library, folder, lambda env: run(words, env=env)):
-            is_told = was_refused and found == (b"", b"out of memory\n", 3)
-            record(f"happens-before: without allocation {nth}", is_told or found == whole, f"{found}")
-            met.add(found[2])
-        record("happens-before: refused allocations are told", 3 in met, f"{met}")
+        for analysis in WITH_AND_WITHOUT:
+            words, met = [*analysis, str(trace)], set()
+            whole = run(words)
+            record(f"{' '.join(analysis[1:])}: the trace for refusals is a trace", whole[2] in (0, 1) and b"steps" in whole[0], f"{whole}")
+            for nth, found, was_refused in each_refused(library, folder, lambda env: run(words, env=env)):
+                is_told = was_refused and found == (b"", b"out of memory\n", 3)
+                record(f"{' '.join(analysis[1:])}: without allocation {nth}", is_told or found == whole, f"{found}")
+                met.add(found[2])
+            record(f"{' '.join(analysis[1:])}: refused allocations are told", 3 in met, f"{met}")
 
 
 def failures(record, preloaded):
@@ -200,19 +282,20 @@ def failures(record, preloaded):
     with tempfile.TemporaryDirectory() as folder:
         library, trace = preloaded(folder, "pieces"), pathlib.Path(folder) / "trace"
         trace.write_bytes(RACY)
-        words, fell = [*HAPPENS_BEFORE, str(trace)], 0
-        whole = run(words)
-        found = run(words, env={**os.environ, "LD_PRELOAD": str(library), "PIECE": "1"})
-        record("happens-before: byte by byte", found == whole, f"{found}")
-        for nth, found, has_failed in each_failed(library, folder, "FAIL_READ", "FAIL_FOUND", lambda env: run(words, env={**env, "PIECE": "20"})):
-            record(f"happens-before: with read {nth} failed", found == ((b"", b"read fault\n", 4) if has_failed else whole), f"{found}")
-            fell += has_failed
-        record("happens-before: with reads failed", fell > 2, f"{fell}")
-        fell = 0
-        for nth, found, has_failed in each_failed(library, folder, "FAIL_WRITE", "FAIL_FOUND", lambda env: run(words, env={**env, "PIECE": "1"})):
-            record(f"happens-before: with write {nth} failed", found == ((whole[0][: nth - 1], b"write fault\n", 4) if has_failed else whole), f"{found}")
-            fell += has_failed
-        record("happens-before: with writes failed", fell == len(whole[0]), f"{fell}")
+        for analysis in WITH_AND_WITHOUT:
+            words, fell = [*analysis, str(trace)], 0
+            whole = run(words)
+            found = run(words, env={**os.environ, "LD_PRELOAD": str(library), "PIECE": "1"})
+            record(f"{' '.join(analysis[1:])}: byte by byte", found == whole, f"{found}")
+            for nth, found, has_failed in each_failed(library, folder, "FAIL_READ", "FAIL_FOUND", lambda env: run(words, env={**env, "PIECE": "20"})):
+                record(f"{' '.join(analysis[1:])}: with read {nth} failed", found == ((b"", b"read fault\n", 4) if has_failed else whole), f"{found}")
+                fell += has_failed
+            record(f"{' '.join(analysis[1:])}: with reads failed", fell > 2, f"{fell}")
+            fell = 0
+            for nth, found, has_failed in each_failed(library, folder, "FAIL_WRITE", "FAIL_FOUND", lambda env: run(words, env={**env, "PIECE": "1"})):
+                record(f"{' '.join(analysis[1:])}: with write {nth} failed", found == ((whole[0][: nth - 1], b"write fault\n", 4) if has_failed else whole), f"{found}")
+                fell += has_failed
+            record(f"{' '.join(analysis[1:])}: with writes failed", fell == len(whole[0]), f"{fell}")
 
 
 def batches(record):
@@ -223,17 +306,33 @@ def batches(record):
         want = f"line {number + 5}: unordered: t3 write 0x000000002000 at c, holds none\nsteps 6, unordered 1, suppressed 0, refused 0\n".encode()
         found = run([*HAPPENS_BEFORE, "-"], text)
         record(f"happens-before: steps from line {number} on", found == (want, b"", 1), f"{found}")
-        found = run([*HAPPENS_BEFORE, "-"], text + b"t1 hop\n")
-        record(f"happens-before: a fault behind steps from line {number} on", found == (b"", f"line {number + 6}: bad verb\n".encode(), 2), f"{found}")
+        found, told = run([*HAPPENS_BEFORE, "--explain", "-"], text), f"  unordered with: line {number + 1}, t1 write\n".encode()
+        record(f"happens-before with reasons: steps from line {number} on", found == (want.replace(b"none\n", b"none\n" + told), b"", 1), f"{found}")
+        found = run([*BOTH, "-"], text)
+        record(f"both: steps from line {number} on", found == (run(["-"], text)[0] + want, b"", 1), f"{found}")
+        for analysis in (HAPPENS_BEFORE, BOTH):
+            found = run([*analysis, "-"], text + b"t1 hop\n")
+            record(f"{analysis[1]}: a fault behind steps from line {number} on", found == (b"", f"line {number + 6}: bad verb\n".encode(), 2), f"{found}")
 
 
 # ---- What does not go together ----
 
 
 def wrong_arguments(record):
-    for more in (["--explain"], ["--by-site"], ["--format", "json"], ["--format", "sarif"], ["--format", "html"], ["--strict"]):
-        output, errors, status = run([*HAPPENS_BEFORE, *more, "-"], RACY)
-        record(f"happens-before with {more}", (output, status) == (b"", 2) and b"--analysis" in errors, f"{errors}")
+    for analysis in (HAPPENS_BEFORE, BOTH):
+        of_one = [["--by-site"]] if analysis == HAPPENS_BEFORE else []
+        for more in (*of_one, ["--format", "json"], ["--format", "sarif"], ["--format", "html"], ["--strict"]):
+            output, errors, status = run([*analysis, *more, "-"], RACY)
+            record(f"{analysis[1]} with {more}", (output, status) == (b"", 2) and b"--analysis" in errors, f"{errors}")
+    found = run([*BOTH, "--explain", "-"], RACY)
+    want = run(["--explain", "-"], RACY)[0] + run([*HAPPENS_BEFORE, "--explain", "-"], RACY)[0]
+    record("both: each report has its reasons", found == (want, b"", 1), f"{found}, not {want}")
+    with tempfile.TemporaryDirectory() as folder:
+        rules = pathlib.Path(folder) / "known.rules"
+        for more in (["--write-rules", str(rules)], ["--unused-rules"], ["--max-races", "1"]):
+            output, errors, status = run([*BOTH, *more, "-"], RACY)
+            record(f"both with {more}", (output, status) == (b"", 2) and f"{more[0]}".encode() in errors and b"--analysis both" in errors, f"{errors}")
+        record("both: no rules are written", not rules.exists())
     output, errors, status = run(["--analysis", "neither", "-"], RACY)
     record("an analysis that there is not", (output, status) == (b"", 2) and b"invalid value 'neither'" in errors, f"{errors}")
     for more in (["--explain"], ["--by-site"], ["--format", "json"]):
@@ -243,6 +342,7 @@ def wrong_arguments(record):
 def tests(record, preloaded):
     worked(record)
     random_traces(record)
+    by_sites(record)
     more_of_a_report(record)
     refusals(record, preloaded)
     failures(record, preloaded)

@@ -271,7 +271,7 @@ def order_by_sets(marked):
 class Race:
     marked: Marked
     place: int
-    earlier: int  # the place of the first access that it is not ordered after
+    earlier: int  # the place of the last access before it that conflicts with it and does not come before it in order
 
 
 class Era:
@@ -294,7 +294,7 @@ def races(marked):
         apart = (era.accesses if is_write else era.writes) & ~before
         if apart and not era.is_reported:
             era.is_reported = True
-            found.append(Race(item, place, (apart & -apart).bit_length() - 1))
+            found.append(Race(item, place, apart.bit_length() - 1))
         era.accesses |= 1 << place
         era.writes |= is_write << place
     return found

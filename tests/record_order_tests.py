@@ -10,6 +10,7 @@ happens-before, in every schedule. The sites at which tests/order_reference.py f
 
 import collections
 import concurrent.futures
+import os
 import pathlib
 import re
 import sys
@@ -142,7 +143,7 @@ def analysis_fault(source, text):
     sites = set(re.findall(r": unordered: .* at (\S+), holds", found[0].decode()))
     if found[1] or sites != marked(source, "UNORDERED"):
         return f"reported at {sorted(sites)}, {found[1]}"
-    if len(text) < SHORT and found != analysis_tests.expected(text.encode(), None):
+    if len(text) < SHORT and found != analysis_tests.expected(text.encode(), None, "happens-before"):
         return f"reported {found}"
     return None
 
@@ -206,6 +207,13 @@ def with_a_limit(folder, findings):
     done = command([RUN, "-q", "--order", "--strict", "--exit-status", "report", "--limit", "100000", program, "300000"])
     is_told = re.search(r"^line \d+: no end$", done.stderr, re.M) and "steps" not in done.stdout
     findings.check("a limit with --order and --strict", done.returncode == 2 and is_told, f"{done}")
+    # A replay that says with which words it was called.
+    replay = folder / "replay"
+    replay.write_text('#!/bin/sh\ncat > /dev/null\necho "$@"\n')
+    replay.chmod(0o755)
+    done = command([RUN, "-q", "--strict", "--until-fault", "--report", folder / "called", program, "300"], env={**os.environ, "ERASER": str(replay)})
+    words = (folder / "called").read_text().split() if (folder / "called").exists() else []
+    findings.check("--strict and --until-fault are passed on", done.returncode == 0 and words[0] == "replay" and words[-3:] == ["--strict", "--until-fault", "-"], f"{done} {words}")
 
 
 def few_awaits(folder, findings, program):
@@ -233,12 +241,22 @@ def analysed(folder, findings, program):
     findings.check("record/run --analysis happens-before", (done.returncode, done.stderr, sites) == (0, "", wanted) and ": race: " not in done.stdout, f"{done}")
     done = command([RUN, "-q", "--analysis", "happens-before", "--exit-status", "report", program])
     findings.check("record/run --analysis happens-before --exit-status report", done.returncode == 1, f"{done}")
+    done = command([RUN, "-q", "--analysis", "both", "--exit-status", "report", program])
+    sites = set(re.findall(r": unordered: .* at (\S+), holds", done.stdout))
+    totals = re.findall(r"^steps \d+, (races|unordered) \d+, suppressed 0, refused 0$", done.stdout, re.M)
+    findings.check("record/run --analysis both", (done.returncode, sites, totals) == (1, wanted, ["races", "unordered"]) and ": race: " in done.stdout, f"{done}")
     trace = folder / "analysed.trace"
     done = command([RUN, "-q", "-o", trace, "--analysis", "lockset", program])
     findings.check("record/run --analysis lockset", done.returncode == 0 and trace.read_text().startswith("eraser trace 1\n") and "races" in done.stdout, f"{done}")
-    for more in (["--explain"], ["--by-site"], ["--format", "json"], ["--strict"]):
-        done = command([RUN, "--analysis", "happens-before", *more, program])
-        findings.check(f"record/run --analysis happens-before {more}", (done.returncode, done.stdout) == (125, "") and "--analysis" in done.stderr, f"{done}")
+    done = command([RUN, "-q", "--analysis", "both", "--by-site", program])
+    parts = [line.split(":")[0] for line in done.stdout.splitlines() if line.startswith(("races in this run", "no common lock"))]
+    findings.check("record/run --analysis both --by-site", (done.returncode, parts) == (0, ["races in this run", "no common lock"]), f"{done}")
+    done = command([RUN, "-q", "--analysis", "happens-before", "--explain", program])
+    findings.check("record/run --analysis happens-before --explain", done.returncode == 0 and "\n  unordered with: line " in done.stdout, f"{done}")
+    for analysis in ("happens-before", "both"):
+        for more in (*([["--by-site"]] if analysis == "happens-before" else []), ["--format", "json"], ["--strict"]):
+            done = command([RUN, "--analysis", analysis, *more, program])
+            findings.check(f"record/run --analysis {analysis} {more}", (done.returncode, done.stdout) == (125, "") and "--analysis" in done.stderr, f"{done}")
     done = command([RUN, "--analysis", "neither", program])
     findings.check("record/run with another analysis", (done.returncode, done.stdout) == (125, "") and "'neither'" in done.stderr, f"{done}")
 

@@ -21,7 +21,7 @@ PROGRAM = TOP / "crates/eraser/out/eraser"
 RANDOM_TRACES = 300
 WIDEST = 120
 
-RACE = re.compile(r"line (\d+): race: (\S+) (read|write) (0x[0-9a-f]{12}) at (\S+), holds (.*)")
+RACE = re.compile(r"line (\d+): (?:race|unordered): (\S+) (read|write) (0x[0-9a-f]{12}) at (\S+), holds (.*)")
 REASON = re.compile(r"  (.+): line (\d+), (\S+) (read|write)")
 REFUSED = re.compile(r"line (\d+): refused: .*: ([^:]+)")
 DID = {"read": "read", "write": "wrote"}
@@ -69,15 +69,17 @@ def story(race):
             yield f"  {one} was the second: it {deed} (line {at})"
         elif label == "write":
             yield f"  {one} has written it since then (line {at})"
+        elif label == "unordered with":
+            yield f"  nothing orders this before it: {one} {deed} (line {at})"
         else:
             yield f"  {lock_name(label.removesuffix(' not covering'))} did not protect it when {one} {deed} (line {at})"
-    if reasons:
+    if reasons and reasons[0][0] != "unordered with":
         yield "  So no lock protected all accesses from the second thread's first one on"
 
 
-def by_site(report, numbers):
-    """The text for people, from the lines of an explained report."""
-    races, refused, rest = [], None, []
+def read_report(report):
+    """The races of an explained report, the line of its first refusal, and the lines that it ends with."""
+    races, refused, rest = [], [], []
     for line in report.splitlines():
         race, reason, refusal = RACE.fullmatch(line), REASON.fullmatch(line), REFUSED.fullmatch(line)
         if race:
@@ -86,22 +88,52 @@ def by_site(report, numbers):
         elif reason:
             races[-1][-1].append((reason[1], reason[2], reason[3], reason[4]))
         elif refusal:
-            refused = refused or f"first refused: line {refusal[1]}: {refusal[2]}"
+            refused = refused or [f"first refused: line {refusal[1]}: {refusal[2]}"]
         elif not re.match(r"line \d+: state ", line):
             rest.append(line)
+    return races, refused, rest
+
+
+def rows_of(races, numbers):
+    """The sites of some races, each with its races, the site with most of them first."""
     sites = {}
     for race in races:
         sites.setdefault(race[4], []).append(race)
-    rows = sorted(sites.items(), key=lambda row: (-len(row[1]), numbers[row[0]]))
-    lines = ["words     kinds       threads   locks     site"] if rows else []
+    return sorted(sites.items(), key=lambda row: (-len(row[1]), numbers[row[0]]))
+
+
+def table(rows):
+    """The lines of a table and of an example for each of its rows."""
+    if not rows:
+        return []
+    lines = ["words     kinds       threads   locks     site"]
     for site, found in rows:
         kinds = " ".join(sorted({race[2] for race in found}))
         threads, locks = len({race[1] for race in found}), len({lock for race in found for lock in race[5]})
         lines.append(f"{len(found):<10}{kinds:<12}{threads:<10}{locks:<10}{short(site, 72)}")
     for _, found in rows:
         lines += story(found[0])
-    lines += ([""] if rows else []) + ([refused] if refused else []) + rest
-    return "".join(line + "\n" for line in lines)
+    return [*lines, ""]
+
+
+def part(title, rows):
+    """A heading, and below it the table and the examples, if there are rows."""
+    return [title, *table(rows)] if rows else [f"{title}: none", ""]
+
+
+def by_site(report, numbers):
+    """The text for people, from the lines of an explained report."""
+    races, refused, rest = read_report(report)
+    return "".join(line + "\n" for line in [*table(rows_of(races, numbers)), *refused, *rest])
+
+
+def by_site_of_both(lockset, unordered, numbers):
+    """The same of a trace that was analysed both ways: the sites of unordered accesses, and the other sites of races by locks."""
+    (races, refused, rest), (others, _, more) = read_report(lockset), read_report(unordered)
+    by_locks, by_order = rows_of(races, numbers), rows_of(others, numbers)
+    apart = [row for row in by_locks if row[0] not in dict(by_order)]
+    lines = [*part("races in this run", by_order), *part("no common lock", apart)]
+    return "".join(line + "\n" for line in [*lines, *refused, *rest, *more])
 
 
 def expected(text, rules):

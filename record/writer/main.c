@@ -31,6 +31,7 @@ struct options {
     bool explains;
     bool by_site;
     bool is_strict;
+    bool until_fault;
     const char *format;
     const char *analysis;
     bool ends_as_report;
@@ -54,11 +55,12 @@ static const char usage[] =
     "      --replay            with -o: replay as well\n"
     "      --report FILE       write the report to FILE instead of standard output\n"
     "      --suppress RULES    leave out the races that these rules take (docs/FORMATS.md)\n"
-    "      --analysis RULE     `lockset` (the default) or `happens-before`, which records with --order\n"
+    "      --analysis RULE     `lockset` (the default), `happens-before` or `both`; the last two record with --order\n"
     "      --explain           name the accesses that make each race\n"
     "      --by-site           report the races by their sites, most words first\n"
     "      --format FORM       write the report as `text` (the default), `json`, `sarif` or `html`\n"
     "      --strict            end the replay with 2 if the trace is damaged, and write no report\n"
+    "      --until-fault       report the steps before the first faulty line of the trace, and then its fault\n"
     "      --exit-status WHOSE end with the status of the `program` (the default) or of the `report`\n"
     "      --order             record what orders threads as well: starts and joins, semaphores, atomic operations ..\n"
     "      --limit BYTES       record at most so much text; 0: no limit. The default is 268435456\n"
@@ -110,10 +112,10 @@ static const char *read_format(const char *text)
 
 static const char *read_analysis(const char *text)
 {
-    static const char *const analyses[] = {"lockset", "happens-before"};
+    static const char *const analyses[] = {"lockset", "happens-before", "both"};
     for (size_t place = 0; place < sizeof analyses / sizeof *analyses; place++)
         if (strcmp(text, analyses[place]) == 0) return text;
-    fprintf(stderr, "record: --analysis is 'lockset' or 'happens-before', not '%s'\n", text);
+    fprintf(stderr, "record: --analysis is 'lockset', 'happens-before' or 'both', not '%s'\n", text);
     exit(STATUS_FAILED);
 }
 
@@ -125,12 +127,13 @@ static bool needs_order(void)
 
 static void read_options(int count, char **words)
 {
-    enum { REPLAY = 256, REPORT, SUPPRESS, EXPLAIN, BY_SITE, STRICT, FORMAT, ANALYSIS, EXIT_STATUS, ORDER, LIMIT, PATHS };
+    enum { REPLAY = 256, REPORT, SUPPRESS, EXPLAIN, BY_SITE, STRICT, UNTIL_FAULT, FORMAT, ANALYSIS, EXIT_STATUS, ORDER, LIMIT, PATHS };
     static const struct option names[] = {
         {"output", 1, NULL, 'o'},         {"replay", 0, NULL, REPLAY}, {"report", 1, NULL, REPORT}, {"suppress", 1, NULL, SUPPRESS},
         {"exit-status", 1, NULL, EXIT_STATUS}, {"limit", 1, NULL, LIMIT},   {"paths", 0, NULL, PATHS},   {"quiet", 0, NULL, 'q'},
         {"explain", 0, NULL, EXPLAIN},    {"by-site", 0, NULL, BY_SITE}, {"format", 1, NULL, FORMAT}, {"help", 0, NULL, 'h'},
         {"order", 0, NULL, ORDER},        {"analysis", 1, NULL, ANALYSIS}, {"strict", 0, NULL, STRICT},
+        {"until-fault", 0, NULL, UNTIL_FAULT},
         {NULL, 0, NULL, 0},
     };
     output.limit = USUAL_LIMIT;
@@ -144,6 +147,7 @@ static void read_options(int count, char **words)
         case BY_SITE: options.by_site = true; break;
         case ANALYSIS: options.analysis = read_analysis(optarg); break;
         case STRICT: options.is_strict = true; break;
+        case UNTIL_FAULT: options.until_fault = true; break;
         case FORMAT: options.format = read_format(optarg); break;
         case EXIT_STATUS: options.ends_as_report = is_report(optarg); break;
         case ORDER: trace_orders = true; break;
@@ -157,8 +161,8 @@ static void read_options(int count, char **words)
         fputs("record: --by-site and --format are not given together\n", stderr);
         exit(STATUS_FAILED);
     }
-    if (needs_order() && (options.explains || options.by_site || options.format || options.is_strict)) {
-        fputs("record: --explain, --by-site, --format and --strict go with --analysis lockset alone\n", stderr);
+    if (needs_order() && (options.format || options.is_strict || (options.by_site && strcmp(options.analysis, "both") != 0))) {
+        fputs("record: --format and --strict go with --analysis lockset alone, and --by-site with lockset or both\n", stderr);
         exit(STATUS_FAILED);
     }
     trace_orders |= needs_order();
@@ -166,7 +170,7 @@ static void read_options(int count, char **words)
         fputs(usage, stderr);
         exit(STATUS_FAILED);
     }
-    options.replays |= !options.trace || options.report || options.rules || options.explains || options.by_site || options.is_strict || options.format
+    options.replays |= !options.trace || options.report || options.rules || options.explains || options.by_site || options.is_strict || options.until_fault || options.format
         || options.analysis || options.ends_as_report;
 }
 
@@ -255,6 +259,8 @@ static void start_replay(void)
         words[count++] = "--by-site";
     if (options.is_strict)
         words[count++] = "--strict";
+    if (options.until_fault)
+        words[count++] = "--until-fault";
     if (options.format) {
         words[count++] = "--format";
         words[count++] = (char *)options.format;

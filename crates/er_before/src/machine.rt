@@ -2,11 +2,14 @@
 ghost use Rattle.std.specs.Prelude.{◌≡◌, ℕ, List, ◌++◌, ◌∷◌, [], IsFalse, IfOk, OnOk, OnErr, None, is_ok, length, true};
 ghost use Rattle.er_model.specs.Holdings.{refused_by, holdings_end};
 ghost use Rattle.er_event.specs.declared.steps.Step.{Step as Steps};
+ghost use Rattle.er_order.specs.Order.{acts_of};
+ghost use Rattle.er_order.specs.Clocks.{OfThread, clocks_at};
 ghost use Rattle.er_order.specs.Races.{order_answer};
+ghost use Rattle.er_clocks.specs.Counts.{count_by};
 
 use crate::holders::Holders;
 use er_clock::NoTick;
-use er_clocks::Clocks;
+use er_clocks::{Clocks, ThreadClock};
 use er_epochs::OrderWords;
 use er_event::{Event, Kind, LockId, Mode, PageRange, Refusal, Reply, Step, Sync, ThreadId, Word};
 use er_held::Held;
@@ -69,8 +72,37 @@ impl OrderMachine {
         self.holders.get(thread)
     }
 
+    /// The clock of a thread after the steps so far.
+    pub fn clock(&self, thread: ThreadId) -> ThreadClock<'_>
+        ensures clock { (past : List Steps) → Stands self.now past → (u : ℕ) → count_by result u ≡ clocks_at (acts_of past) (length past) (OfThread thread) u }
+        ensures thread { result.0 ≡ thread }
+        ensures counts { (u : ℕ) → count_by result u ≡ clock_of self.now thread u }
+    {
+        self.clocks.clock(thread)
+    }
+
     // An event of this thread.
     fn take(&mut self, thread: ThreadId, event: Event) -> Result<Result<Reply, Refusal>, NoTick>
+        ensures answered { IfOk result (λ answer. answer ≡ answered_by self.old (record { thread = thread; event = event })) }
+        ensures changes { OnOk result (Changes self.old (record { thread = thread; event = event }) self.new) }
+        ensures same { OnErr result (IsSame self.old self.new) }
+    {
+        // An access is never refused.
+        match event {
+            Event::Access(kind, word, _) => match self.access(thread, kind, word) {
+                Ok(reply) => Ok(Ok(reply)),
+                Err(why) => Err(why),
+            },
+            _ => self.take_unless_refused(thread, event),
+        }
+    }
+
+    // The same, if the event isn't refused.
+    fn take_unless_refused(
+        &mut self,
+        thread: ThreadId,
+        event: Event,
+    ) -> Result<Result<Reply, Refusal>, NoTick>
         ensures answered { IfOk result (λ answer. answer ≡ answered_by self.old (record { thread = thread; event = event })) }
         ensures changes { OnOk result (Changes self.old (record { thread = thread; event = event }) self.new) }
         ensures same { OnErr result (IsSame self.old self.new) }

@@ -1,2 +1,3 @@
+pub mod Blocks
 pub mod Epochs
-pub mod KeptLemmas
+pub mod Places

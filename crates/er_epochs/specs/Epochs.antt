@@ -1,17 +1,24 @@
 -- The epochs that are kept of a word, as the definitions see them.
-use Rattle.std.specs.Prelude.{List, map, Option, Some, None}
+use Rattle.std.specs.Prelude.{ℕ, ◌+◌, ◌^◌, nat_lt, nat_eq, cond, List, [], ◌∷◌, map, Option, Some, None}
 use Rattle.er_clock.specs.declared.clock.Epoch.{Epoch as Kept}
 use Rattle.er_order.specs.Clocks.{Epoch}
+
+-- the latest first
+abbrev pub EpochList : Type 0
+EpochList = List Epoch
 
 -- the thread and its count
 abbrev pub pair_of : Kept → Epoch
 pair_of epoch = (epoch.thread, epoch.count)
 
--- the last write's
-abbrev pub write_of : Option Kept → Option Epoch
-write_of None = None
-write_of (Some epoch) = Some (pair_of epoch)
-
 -- the latest reads'
-abbrev pub reads_of : List Kept → List Epoch
+abbrev pub reads_of : List Kept → EpochList
 reads_of epochs = map pair_of epochs
+
+-- that of a thread's number and its count; from 2^30 on no thread has the number
+abbrev pub epoch_in : ℕ → ℕ → Option Epoch
+epoch_in number count = cond (nat_lt number (2 ^ 30)) (Some (number, count)) None
+
+-- the reads: one, or those of a list, or none
+abbrev pub reads_in : ℕ → ℕ → EpochList → EpochList
+reads_in reader count listed = cond (nat_lt reader (2 ^ 30)) ((reader, count) ∷ []) (cond (nat_eq reader (2 ^ 30 + 1)) listed [])

@@ -1,14 +1,15 @@
 //! What happens-before keeps of each word: the epoch of the last write, and those of the latest reads since.
 //!
-//! Begin with [`OrderWord`]. [`OrderWords`] has those of all words.
+//! Begin with [`OrderWords`]. `OrderWord` is one of them, in 16 bytes.
 //!
 //! What it promises, by the names of clauses: an access is reported exactly if the definitions report it by what is kept and by its
 //! thread's clock (`reported`), what is then kept is what they keep (`ok`), and an error changes nothing (`err`). A call on one word
 //! leaves the others.
 #![tactic(auto)]
 
-pub use word::OrderWord;
 pub use words::OrderWords;
 
+mod block;
+mod reads;
 mod word;
 mod words;

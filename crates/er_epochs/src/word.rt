@@ -1,104 +1,222 @@
-//! What is kept of one word.
-ghost use Rattle.std.specs.Prelude.{◌≡◌, ◌&&◌, map, filter, not, cond, [], ◌∷◌, OnOk, OnErr, IfOk};
-ghost use Rattle.std.specs.List.{list_any};
-ghost use Rattle.er_order.specs.Following.{fresh, kept_by, reports_at, races_with, is_unordered, write_is_unordered};
+//! What is kept of one word, in 16 bytes.
+ghost use Rattle.std.specs.Prelude.{◌≡◌, ℕ, List, [], ◌∷◌, Some, false, not, IsTrue, IfSome, IfOk, OnErr};
+ghost use Rattle.er_order.specs.Following.{Seen, Reported, kept_by, reports_at, write_is_unordered};
 ghost use Rattle.er_clocks.specs.Counts.{count_by};
-ghost use Rattle.er_epochs.specs.Epochs.{write_of, reads_of, pair_of};
+ghost use Rattle.er_epochs.specs.Epochs.{pair_of, epoch_in, reads_in, EpochList};
+ghost use Rattle.er_epochs.specs.Words.{kept_in, kept_with, blank};
 
+use crate::reads::Reads;
 use er_clock::Epoch;
 use er_clocks::ThreadClock;
-use er_event::Kind;
-use std::alloc::{AllocError, Global};
-use std::marker::Model;
+use er_event::{Kind, ThreadId};
+use std::alloc::AllocError;
 
-/// Of a word's era, the epochs of the last write and of the latest reads since; or that a race was reported in it.
-#[derive(Drop)]
-pub struct OrderWord {
-    is_reported: bool,
-    write: Option<Epoch>,
-    // The latest first. Of two neither happens before the other, so most words have one.
-    reads: Vec<Epoch>,
-}
+/// In the place of a thread's number, which is less: there is none.
+pub(crate) const NONE: u32 = 1 << 30;
 
-impl Model for OrderWord {
-    ghost use Rattle.std.specs.Prelude.{cond};
-    ghost use Rattle.er_order.specs.Following.{Kept, Seen, Reported};
+/// In the reader's place: the list has the reads.
+pub(crate) const SEVERAL: u32 = (1 << 30) + 1;
 
-    ghost Value = { Kept };
+/// In the writer's place: a race was reported.
+const TOLD: u32 = (1 << 30) + 1;
 
-    ghost use Rattle.er_epochs.specs.Epochs.{write_of, reads_of};
-
-    ghost view = { λ w. cond w.is_reported Reported (Seen (write_of w.write) (reads_of w.reads.items)) };
+/// Of a word's era, the epochs of the last write and of the one latest read since; or that a list beside the word has several such reads; or
+/// that a race was reported. Contracts see it by `kept_in`, with that list.
+#[derive(Clone, Copy)]
+pub(crate) struct OrderWord {
+    writer: u32,
+    write_count: u32,
+    reader: u32,
+    read_count: u32,
 }
 
 impl OrderWord {
-    /// A word with no access in its era. It takes no memory.
-    pub fn new(alloc: Global) -> Self
-        ensures { result ≡ fresh }
+    /// A word with no access in its era.
+    #[inline]
+    pub(crate) fn new() -> OrderWord
+        ensures { result ≡ blank }
     {
         OrderWord {
-            is_reported: false,
-            write: None,
-            reads: Vec::new(alloc),
+            writer: NONE,
+            write_count: 0,
+            reader: NONE,
+            read_count: 0,
         }
     }
 
-    /// One counted access by the thread whose clock this is. Returns whether it is reported as a race: it is the first of its era that
-    /// some conflicting access doesn't happen before. `AllocError`: memory was refused, and what is kept is as it was.
-    pub fn access(&mut self, clock: &ThreadClock<'_>, kind: Kind) -> Result<bool, AllocError>
-        ensures ok { OnOk result (self.new ≡ kept_by (count_by clock.now) self.old clock.now.0 kind) }
-        ensures reported { IfOk result (λ reported. reported ≡ reports_at (count_by clock.now) self.old kind) }
-        ensures err { OnErr result (self.new ≡ self.old) }
+    /// Whether the epoch of this access is the word's last one, by the same kind of access. It is then no race, and leaves the word as it
+    /// is. If the answer is no, that may be so all the same.
+    #[inline]
+    pub(crate) fn is_settled(self, clock: &ThreadClock<'_>, kind: Kind) -> bool
+        ensures same { IsTrue result → (listed : EpochList) → kept_by (count_by clock.now) (kept_in self listed) clock.now.0 kind ≡ kept_in self listed }
+        ensures quiet { IsTrue result → (listed : EpochList) → reports_at (count_by clock.now) (kept_in self listed) kind ≡ false }
     {
-        if self.is_reported {
-            return Ok(false);
-        }
-        let is_race = match kind {
-            Kind::Read => is_unordered_write(self.write, clock),
-            Kind::Write => {
-                is_unordered_write(self.write, clock) || has_unordered(&self.reads, clock)
-            }
-        };
-        if is_race {
-            self.is_reported = true;
-            return Ok(true);
-        }
+        let epoch = clock.epoch();
         match kind {
-            Kind::Read => note_read(&mut self.reads, clock)?,
+            Kind::Read => self.is_read_by(epoch) && self.is_written_before(clock),
+            Kind::Write => self.is_written_by(epoch) && self.reader == NONE,
+        }
+    }
+
+    /// The word after a counted access by the thread whose clock this is, and whether the access is reported as a race: it is the first of
+    /// its era that some conflicting access doesn't happen before. `None`: that depends on the list of reads, or changes it.
+    #[inline]
+    pub(crate) fn access(self, clock: &ThreadClock<'_>, kind: Kind) -> Option<(OrderWord, bool)>
+        ensures kept { IfSome result (λ r. (listed : EpochList) → kept_in r.0 listed ≡ kept_by (count_by clock.now) (kept_in self listed) clock.now.0 kind) }
+        ensures reported { IfSome result (λ r. (listed : EpochList) → r.1 ≡ reports_at (count_by clock.now) (kept_in self listed) kind) }
+    {
+        if self.writer == TOLD {
+            return Some((self, false));
+        }
+        if !is_ordered(self.writer, self.write_count, clock) {
+            return Some((told(), true));
+        }
+        if self.reader == SEVERAL {
+            return None;
+        }
+        let is_alone = is_ordered(self.reader, self.read_count, clock);
+        match kind {
+            Kind::Read => {
+                if is_alone {
+                    Some((self.read(clock.epoch()), false))
+                } else {
+                    None
+                }
+            }
             Kind::Write => {
-                self.write = Some(clock.epoch());
-                self.reads.clear();
+                if is_alone {
+                    Some((written(clock.epoch()), false))
+                } else {
+                    Some((told(), true))
+                }
             }
         }
-        Ok(false)
+    }
+
+    /// The same with the list of reads, which may change. `AllocError`: memory was refused, and of the list the word says what it said.
+    pub(crate) fn access_listed(
+        self,
+        reads: &mut Reads,
+        clock: &ThreadClock<'_>,
+        kind: Kind,
+    ) -> Result<(OrderWord, bool), AllocError>
+        ensures kept { IfOk result (λ r. kept_in r.0 reads.new ≡ kept_by (count_by clock.now) (kept_in self reads.old) clock.now.0 kind) }
+        ensures reported { IfOk result (λ r. r.1 ≡ reports_at (count_by clock.now) (kept_in self reads.old) kind) }
+        ensures err { OnErr result (kept_in self reads.new ≡ kept_in self reads.old) }
+    {
+        if self.writer == TOLD {
+            return Ok((self, false));
+        }
+        if !is_ordered(self.writer, self.write_count, clock) {
+            return Ok((told(), true));
+        }
+        reads.gather(self.reader, self.read_count)?;
+        match kind {
+            Kind::Read => {
+                reads.note(clock)?;
+                Ok((self.listed(), false))
+            }
+            Kind::Write => {
+                if reads.has_unordered(clock) {
+                    Ok((told(), true))
+                } else {
+                    Ok((written(clock.epoch()), false))
+                }
+            }
+        }
+    }
+
+    // The word, with this read alone since its last write.
+    #[inline]
+    fn read(self, epoch: Epoch) -> OrderWord
+        ensures { (listed : EpochList) → kept_in result listed ≡ kept_with self (pair_of epoch ∷ []) }
+    {
+        let Epoch { thread, count } = epoch;
+        OrderWord {
+            writer: self.writer,
+            write_count: self.write_count,
+            reader: thread.number(),
+            read_count: count,
+        }
+    }
+
+    // The word, with the reads of the list.
+    #[inline]
+    fn listed(self) -> OrderWord
+        ensures { (listed : EpochList) → kept_in result listed ≡ kept_with self listed }
+    {
+        OrderWord {
+            writer: self.writer,
+            write_count: self.write_count,
+            reader: SEVERAL,
+            read_count: 0,
+        }
+    }
+
+    // Whether the latest read is of this epoch.
+    #[inline]
+    fn is_read_by(self, epoch: Epoch) -> bool
+        ensures { IsTrue result → (listed : EpochList) → reads_in self.reader self.read_count listed ≡ pair_of epoch ∷ [] }
+    {
+        let Epoch { thread, count } = epoch;
+        self.reader == thread.number() && self.read_count == count
+    }
+
+    // Whether no race was reported, and the last write, if there is one, happens before what the clock's thread does now.
+    #[inline]
+    fn is_written_before(self, clock: &ThreadClock<'_>) -> bool
+        ensures seen { IsTrue result → (reads : EpochList) → kept_with self reads ≡ Seen (epoch_in self.writer self.write_count) reads }
+        ensures ordered { IsTrue result → write_is_unordered (count_by clock.now) (epoch_in self.writer self.write_count) ≡ false }
+    {
+        self.writer != TOLD && is_ordered(self.writer, self.write_count, clock)
+    }
+
+    // Whether the last write is of this epoch.
+    #[inline]
+    fn is_written_by(self, epoch: Epoch) -> bool
+        ensures { IsTrue result → (reads : EpochList) → kept_with self reads ≡ Seen (Some (pair_of epoch)) reads }
+    {
+        let Epoch { thread, count } = epoch;
+        self.writer == thread.number() && self.write_count == count
     }
 }
 
-// The last write doesn't happen before what the clock's thread does now.
-fn is_unordered_write(write: Option<Epoch>, clock: &ThreadClock<'_>) -> bool
-    ensures { result ≡ write_is_unordered (count_by clock.now) (write_of write) }
+// A word of which a race was reported.
+#[inline]
+fn told() -> OrderWord
+    ensures { (listed : EpochList) → kept_in result listed ≡ Reported }
 {
-    match write {
-        Some(epoch) => !clock.covers(epoch),
-        None => false,
+    OrderWord {
+        writer: TOLD,
+        write_count: 0,
+        reader: NONE,
+        read_count: 0,
     }
 }
 
-// One of the reads doesn't happen before what the clock's thread does now.
-fn has_unordered(reads: &Vec<Epoch>, clock: &ThreadClock<'_>) -> bool
-    ensures { result ≡ list_any (is_unordered (count_by clock.now)) (reads_of reads.now.items) }
+// A word with no access since this write.
+#[inline]
+fn written(epoch: Epoch) -> OrderWord
+    ensures { (listed : EpochList) → kept_in result listed ≡ Seen (Some (pair_of epoch)) [] }
 {
-    reads.iter().any(|epoch| !clock.covers(*epoch))
+    let Epoch { thread, count } = epoch;
+    OrderWord {
+        writer: thread.number(),
+        write_count: count,
+        reader: NONE,
+        read_count: 0,
+    }
 }
 
-// Puts the clock's epoch in the place of the reads that it covers.
-fn note_read(reads: &mut Vec<Epoch>, clock: &ThreadClock<'_>) -> Result<(), AllocError>
-    ensures ok { OnOk result (reads_of reads.new.items ≡ (clock.now.0, count_by clock.now clock.now.0) ∷ filter (is_unordered (count_by clock.now)) (reads_of reads.old.items)) }
-    ensures err { OnErr result (reads.new.items ≡ reads.old.items) }
+// Whether what the thread of this number did in the epoch of this count happens before what the clock's thread does now. It is so if there
+// is no such thread.
+#[inline]
+fn is_ordered(number: u32, count: u32, clock: &ThreadClock<'_>) -> bool
+    ensures { result ≡ not (write_is_unordered (count_by clock.now) (epoch_in number count)) }
 {
-    reads.reserve(1)?;
-    reads.retain(|epoch| !clock.covers(*epoch));
-    let noted: Result<_, _> = reads.insert(0, clock.epoch());
-    noted.unwrap();
-    Ok(())
+    if number < NONE {
+        count <= clock.count(ThreadId::new(number))
+    } else {
+        true
+    }
 }

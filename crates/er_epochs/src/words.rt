@@ -1,31 +1,44 @@
 //! What is kept of each word.
-ghost use Rattle.std.specs.Prelude.{◌≡◌, ℕ, ◌==◌, cond, OnOk, OnErr, IfOk};
+ghost use Rattle.std.specs.Prelude.{◌≡◌, ◌<◌, ◌≤◌, ◌/◌, ◌%◌, ℕ, ◌==◌, nat_eq, nat_le, cond, slice_get, Some, None, IfSome, IfNone, OnOk, OnErr, IfOk};
+ghost use Rattle.indexmap.specs.IndexMap.{get, keys, index_map_len, IsUnique};
 ghost use Rattle.er_model.specs.Words.{is_within};
 ghost use Rattle.er_order.specs.Following.{fresh, kept_by, reports_at};
 ghost use Rattle.er_clocks.specs.Counts.{count_by};
-ghost use Rattle.er_epochs.specs.Words.{kept_among};
+ghost use Rattle.er_epochs.specs.Words.{kept_among, is_place_in};
 
-use crate::word::OrderWord;
+use crate::block::Block;
 use er_clocks::ThreadClock;
 use er_event::{Kind, PageRange, Word};
+use indexmap::IndexMap;
 use std::alloc::{AllocError, Global};
-use std::collections::HashMap;
 use std::marker::Model;
 
-/// What is kept of the words that were accessed in their era, by word. Contracts see it by `kept_among`.
+/// How many words a block has.
+const WORDS: u64 = 128;
+
+/// How many blocks are found without a hash.
+const HINTS: u64 = 4096;
+
+/// What is kept of each word, 16 bytes in a block of 128 words that is made at the first access of one of them. Contracts see it by
+/// `kept_among`.
+///
+/// An access takes one look at its word. Only a word that several threads have read, where neither read happens before the other, has a list
+/// besides. A reset takes one look at each block of its range.
 #[derive(Drop)]
 pub struct OrderWords {
-    words: HashMap<u64, OrderWord>,
+    blocks: IndexMap<u64, Block>,
+    // Where the block of a number stood when it was accessed, by the lowest bits of the number. Another block may have the same bits, so
+    // whoever asks must check what it gets.
+    hints: Vec<usize>,
     alloc: Global,
 }
 
 impl Model for OrderWords {
-    ghost use Rattle.std.specs.Prelude.{List, ℕ};
-    ghost use Rattle.er_order.specs.Following.{Kept};
+    ghost use Rattle.er_epochs.specs.Words.{WordBlocks};
 
-    ghost Value = { List (ℕ × Kept) };
+    ghost Value = { WordBlocks };
 
-    ghost view = { λ w. w.words.entries };
+    ghost view = { λ w. w.blocks.entries };
 }
 
 impl OrderWords {
@@ -34,13 +47,14 @@ impl OrderWords {
         ensures { (w : ℕ) → kept_among result w ≡ fresh }
     {
         OrderWords {
-            words: HashMap::new(alloc),
+            blocks: IndexMap::new(alloc),
+            hints: Vec::new(alloc),
             alloc,
         }
     }
 
-    /// One counted access of a word by the thread whose clock this is. Returns whether it is reported as a race. `AllocError`: memory
-    /// was refused, and what is kept is as it was.
+    /// One counted access of a word by the thread whose clock this is. Returns whether it is reported as a race: it is the first of its
+    /// era that some conflicting access doesn't happen before. `AllocError`: memory was refused, and what is kept is as it was.
     pub fn access(
         &mut self,
         word: Word,
@@ -51,13 +65,20 @@ impl OrderWords {
         ensures reported { IfOk result (λ reported. reported ≡ reports_at (count_by clock.now) (kept_among self.old word) kind) }
         ensures err { OnErr result ((w : ℕ) → kept_among self.new w ≡ kept_among self.old w) }
     {
-        let number = word.number();
-        match self.words.get_mut(&number) {
-            Some(kept) => kept.access(clock, kind),
+        let number = block_of(word);
+        let place = place_of(word);
+        match index_of_block(&self.blocks, hint(&self.hints, number), number) {
+            Some(index) => {
+                note(&mut self.hints, number, index);
+                let block = &mut self.blocks[index];
+                block.access(self.alloc, place, clock, kind)
+            }
             None => {
-                let mut kept = OrderWord::new(self.alloc);
-                let reported = kept.access(clock, kind)?;
-                self.words.insert(number, kept)?;
+                let mut block = Block::new(self.alloc)?;
+                let reported = block.access(self.alloc, place, clock, kind)?;
+                make_room(self.alloc, &mut self.hints)?;
+                note(&mut self.hints, number, self.blocks.len());
+                self.blocks.insert(number, block)?;
                 Ok(reported)
             }
         }
@@ -68,8 +89,101 @@ impl OrderWords {
         ensures { (w : ℕ) → kept_among self.new w ≡ cond (is_within w range) fresh (kept_among self.old w) }
     {
         let PageRange { lo, hi } = range;
-        for number in lo.number()..hi.number() + 1 {
-            let _ = self.words.remove(&number);
+        let first = block_of(lo);
+        let last = block_of(hi);
+        for number in first..last + 1 {
+            self.empty(number, from_in(number, lo), to_in(number, hi));
         }
     }
+
+    // Ends the era of words of a block, both ends included.
+    fn empty(&mut self, number: u64, from: usize, to: usize)
+        requires { to < 128 }
+        ensures { (w : ℕ) → kept_among self.new w ≡ cond (is_place_in number from to w) fresh (kept_among self.old w) }
+    {
+        if let Some(index) = index_of_block(&self.blocks, hint(&self.hints, number), number) {
+            self.blocks[index].reset(from, to);
+        }
+    }
+}
+
+// Makes room for all hints, unless it is there.
+fn make_room(alloc: Global, hints: &mut Vec<usize>) -> Result<(), AllocError> {
+    if hints.is_empty() {
+        *hints = vec![in alloc; 0; HINTS as usize]?;
+    }
+    Ok(())
+}
+
+// Where the block of this number stands, as a rule.
+#[inline(always)]
+fn hint(hints: &[usize], number: u64) -> usize {
+    match hints.get((number % HINTS) as usize) {
+        Some(&index) => index,
+        None => 0,
+    }
+}
+
+// Notes where the block of this number stands.
+#[inline(always)]
+fn note(hints: &mut [usize], number: u64, index: usize) {
+    if let Some(hint) = hints.get_mut((number % HINTS) as usize) {
+        *hint = index;
+    }
+}
+
+// Where the block of this number stands. It looks at the one at `hint` first, and needs no hash if that is the one.
+#[inline]
+fn index_of_block(blocks: &IndexMap<u64, Block>, hint: usize, number: u64) -> Option<usize>
+    ensures key { IfSome result (λ index. slice_get (keys blocks.now) index ≡ Some number) }
+    ensures within { IfSome result (λ index. index < index_map_len blocks.now) }
+    ensures none { IfNone result (get nat_eq blocks.now number ≡ None) }
+    ensures unique { IsUnique nat_eq blocks.now }
+{
+    match blocks.as_slice().get_index(hint) {
+        Some((key, _)) if *key == number => Some(hint),
+        _ => blocks.get_index_of(&number),
+    }
+}
+
+// The number of a word's block.
+#[inline]
+fn block_of(word: Word) -> u64
+    ensures { result ≡ word / 128 }
+{
+    word.number() / WORDS
+}
+
+// Where the words from `lo` on begin in the block of this number.
+fn from_in(number: u64, lo: Word) -> usize
+    requires { lo / 128 ≤ number }
+    ensures { (w : ℕ) → number ≡ w / 128 → nat_le result (w % 128) ≡ nat_le lo w }
+{
+    if number == block_of(lo) {
+        place_of(lo)
+    } else {
+        0
+    }
+}
+
+// Where the words up to `hi` end in the block of this number.
+fn to_in(number: u64, hi: Word) -> usize
+    requires { number ≤ hi / 128 }
+    ensures place { (w : ℕ) → number ≡ w / 128 → nat_le (w % 128) result ≡ nat_le w hi }
+    ensures within { result < 128 }
+{
+    if number == block_of(hi) {
+        place_of(hi)
+    } else {
+        127
+    }
+}
+
+// Where a word stands in its block.
+#[inline]
+fn place_of(word: Word) -> usize
+    ensures value { result ≡ word % 128 }
+    ensures within { result < 128 }
+{
+    (word.number() % WORDS) as usize
 }

@@ -25,7 +25,7 @@ pub enum Fault {
     NoStep(u64),
     /// There was no memory.
     Memory,
-    /// Several workers wanted more sets of locks than the table takes.
+    /// Several workers, or both analyses, wanted more sets of locks than the table takes.
     TableFull,
     /// A thread has come to 2^32 - 1 releases, starts and signals, and would come to one more.
     CountFull,

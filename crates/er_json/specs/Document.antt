@@ -90,6 +90,7 @@ label_member names label.First = codes ",\"label\":\"first\",\"lock\":null}"
 label_member names label.Joined = codes ",\"label\":\"joined\",\"lock\":null}"
 label_member names label.Write = codes ",\"label\":\"write\",\"lock\":null}"
 label_member names (label.Uncovered lock) = uncovered_member names lock
+label_member names label.Unordered = codes ",\"label\":\"unordered with\",\"lock\":null}"
 
 -- one of a race's reasons
 unfoldable pub reason_text : NameTable → Because → List ℕ

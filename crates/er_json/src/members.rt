@@ -64,6 +64,9 @@ pub(crate) fn put_label(out: &mut Vec<u8>, names: &Names, label: Label) -> Resul
         Label::Joined => out.extend_from_slice(b",\"label\":\"joined\",\"lock\":null}"),
         Label::Write => out.extend_from_slice(b",\"label\":\"write\",\"lock\":null}"),
         Label::Uncovered(lock) => put_uncovered(out, names, lock),
+        Label::Unordered => {
+            out.extend_from_slice(b",\"label\":\"unordered with\",\"lock\":null}")
+        }
     }
 }
 

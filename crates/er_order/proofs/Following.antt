@@ -57,7 +57,7 @@ module _ (order : Order) (r : Reading) (w n : ℕ) (stays : reuses (r n) w ≡ f
   unfolding had_race some_below
   had-step = rw (era-kept r w n stays) (rw (le-leb (era r w n) n (era-below r w n)) refl)
 
-  write-step : last_write r w (suc n) ≡ cond (counts (r n) w && writes (r n)) (Some n) (last_write r w n)
+  pub write-step : last_write r w (suc n) ≡ cond (counts (r n) w && writes (r n)) (Some n) (last_write r w n)
   unfolding last_write greatest_below
   write-step = rw (era-kept r w n stays) (rw (le-leb (era r w n) n (era-below r w n)) refl)
 
@@ -78,20 +78,20 @@ module _ (order : Order) (r : Reading) (w n : ℕ) (stays : reuses (r n) w ≡ f
   unfolding latest_from
   from_read s low counted read = rw (counted, read, le-leb s n low) refl
 
-  latest_other : counts (r n) w ≡ false → latest_reads order r w (suc n) ≡ latest_reads order r w n
+  pub latest_other : counts (r n) w ≡ false → latest_reads order r w (suc n) ≡ latest_reads order r w n
   unfolding latest_reads
   latest_other quiet = start_stays (rw quiet refl) ∙ from_other (past_write (era r w n) (last_write r w n)) quiet
 
-  latest_read : counts (r n) w ≡ true → writes (r n) ≡ false → latest_reads order r w (suc n) ≡ n ∷ filter (λ j. not (order j n)) (latest_reads order r w n)
+  pub latest_read : counts (r n) w ≡ true → writes (r n) ≡ false → latest_reads order r w (suc n) ≡ n ∷ filter (λ j. not (order j n)) (latest_reads order r w n)
   unfolding latest_reads
   latest_read counted read = start_stays (rw (counted, read) refl) ∙ from_read (past_write (era r w n) (last_write r w n)) (past_low (last_write r w n) refl) counted read
 
-  latest_write : counts (r n) w ≡ true → writes (r n) ≡ true → latest_reads order r w (suc n) ≡ []
+  pub latest_write : counts (r n) w ≡ true → writes (r n) ≡ true → latest_reads order r w (suc n) ≡ []
   unfolding latest_reads
   latest_write counted wrote =
       rw (era-kept r w n stays, write-step) (rw (counted, wrote) (latest-empty order r w (suc n) (suc n) (omega arith)))
 
-  reported-had : is_reported order r w n ≡ (is_race order r w n && not (had_race order r w n))
+  pub reported-had : is_reported order r w n ≡ (is_race order r w n && not (had_race order r w n))
   unfolding is_reported had_race
   reported-had = rw (era-kept r w n stays) (ap (λ b. is_race order r w n && b) (every-not n (λ j. counted_from r w (era r w n) j && is_race order r w j)))
 
@@ -101,16 +101,16 @@ module _ (order : Order) (r : Reading) (w n : ℕ) (reused : reuses (r n) w ≡ 
   unfolding had_race
   had_reused = rw (era-reused r w n reused) (some_below-none (suc n) (λ k. counted_from r w (suc n) k && is_race order r w k) (λ k l. rw (lt-leb (suc n) k l) refl))
 
-  write_reused : last_write r w (suc n) ≡ None
+  pub write_reused : last_write r w (suc n) ≡ None
   unfolding last_write
   write_reused = rw (era-reused r w n reused) (greatest-none (suc n) (λ k. counted_from r w (suc n) k && writes (r k)) (λ k l. rw (lt-leb (suc n) k l) refl))
 
-  latest_reused : latest_reads order r w (suc n) ≡ []
+  pub latest_reused : latest_reads order r w (suc n) ≡ []
   unfolding latest_reads
   latest_reused = rw (era-reused r w n reused, write_reused) (latest-empty order r w (suc n) (suc n) (omega arith))
 
 -- tests through a map
-module _ (p : ℕ → Bool) (q : Epoch → Bool) (f : ℕ → Epoch) where
+module _ {X : Type 0} (p : ℕ → Bool) (q : X → Bool) (f : ℕ → X) where
   pub any-mapped : (xs : List ℕ) → ((j : ℕ) → has xs j ≡ true → p j ≡ q (f j)) → list_any p xs ≡ list_any q (map f xs)
   any-mapped [] h = refl
   any-mapped (x ∷ xs) h =

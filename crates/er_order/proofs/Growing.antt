@@ -1,5 +1,5 @@
 -- A list grows by a step; a shadow word may have numbers of epochs; and the latest reads are of distinct threads.
-use Rattle.std.proofs.Common.{◌≡◌, ℕ, zero, suc, ◌<◌, ◌≤◌, Bool, true, false, ◌&&◌, not, cond, List, [], ◌∷◌, ◌++◌, filter, map, length, Option, refl, sym, ◌∙◌, arith, ⊎_elim, inl, inr, ◌⊎◌}
+use Rattle.std.proofs.Common.{◌≡◌, ℕ, zero, suc, ◌<◌, ◌≤◌, Bool, true, false, ◌&&◌, not, cond, List, [], ◌∷◌, ◌++◌, filter, map, length, Option, refl, ap, sym, ◌∙◌, arith, ⊎_elim, inl, inr, ◌⊎◌}
 use Rattle.std.proofs.lemmas.Bool.{and_parts, both_ways, not-true}
 use Rattle.er_event.specs.Lockset.{has}
 use Rattle.er_event.proofs.LocksetLemmas.{has-filtered}
@@ -12,11 +12,12 @@ use Rattle.er_event.specs.declared.steps.Step.{Step}
 use Rattle.er_model.specs.Answers.{reading_of}
 use Rattle.er_model.specs.Holdings.{holdings_at}
 use Rattle.er_order.specs.Order.{acts_of}
-use Rattle.er_order.specs.Clocks.{Epoch, OfThread, clocks_at}
+use Rattle.er_order.specs.Clocks.{Epoch, Keeper, OfThread, clocks_after, clocks_at}
 use Rattle.er_order.specs.Races.{Order, order_answer, latest_from}
-use Rattle.er_order.specs.Following.{Kept, Reported, Seen, kept_at, kept_after, access_answered, is_unordered, kept_by, reports_at, Shadow, Numbers, Told, epoch_numbered, kept_of, numbers_race, numbers_by, shadow_by}
+use Rattle.er_order.specs.Following.{act_by, Kept, Reported, Seen, kept_at, kept_after, access_answered, is_unordered, kept_by, reports_at, Shadow, Numbers, Told, epoch_numbered, kept_of, numbers_race, numbers_by, shadow_by}
 use Rattle.er_order.proofs.Order.{next-cases}
-use Rattle.er_order.proofs.StepLemmas.{some-at, held-front, clocks-front}
+use Rattle.er_order.proofs.ClockSteps.{local}
+use Rattle.er_order.proofs.StepLemmas.{some-at, held-front, clocks-front, clocks-grow}
 use Rattle.er_order.proofs.RaceLemmas.{latest-in}
 use Rattle.er_order.proofs.Following.{kept-none, kept-step, answer-access, any-mapped, filter-mapped}
 
@@ -41,6 +42,14 @@ module _ (steps : List Step) (s : Step) where
   answer-grow w site kind event =
       answer-access (steps ++ s ∷ []) (length steps) s (get_last steps s) w site kind event
       ∙ rw (clocks-front steps (s ∷ []) (length steps) (omega arith), held-front steps (s ∷ []) s.thread (length steps) (omega arith), kept-front steps (s ∷ []) w (length steps) (omega arith)) refl
+
+  -- an access moves no clock
+  pub clocks-access : (w site : ℕ) (kind : Kind) → s.event ≡ Access kind w site → (c : Keeper) (u : ℕ) →
+      clocks_at (acts_of (steps ++ s ∷ [])) (suc (length steps)) c u ≡ clocks_at (acts_of steps) (length steps) c u
+  clocks-access w site kind event c u =
+      clocks-grow steps s c u
+      ∙ ap (λ e. clocks_after (clocks_at (acts_of steps) (length steps)) (act_by (holdings_at steps s.thread (length steps)) (record { thread = s.thread; event = e })) c u) event
+      ∙ local (clocks_at (acts_of steps) (length steps)) s.thread u c
 
 -- numbers of epochs
 module _ (epochs : ℕ → Epoch) (clock : ℕ → ℕ) (y t : ℕ) (is : epochs y ≡ (t, clock t)) where

@@ -10,3 +10,6 @@ pub mod Following
 pub mod Growing
 pub mod Locality
 pub mod ClockSteps
+pub mod Rivals
+pub mod ReasonLemmas
+pub mod ReasonsGrow

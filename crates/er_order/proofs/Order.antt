@@ -45,7 +45,7 @@ module _ (acts : Acts) (j : ℕ) where
   unfolding reached
   reached-cases n i e = next-cases (joins_chain n) n i (reached acts j n) e
 
-  reached-below : (n i : ℕ) → has (reached acts j n) i ≡ true → i < n
+  pub reached-below : (n i : ℕ) → has (reached acts j n) i ≡ true → i < n
   unfolding reached
   reached-below zero i e = cc
   reached-below (suc n) i e =

@@ -40,7 +40,7 @@ greatest_there_by n k p true passes below e rest = (n, rw passes refl, omega ari
 greatest_there_by n k p false fails below e rest =
     ⊎_elim (λ low. let found = rest low in (found.0, rw fails found.1, found.2)) (λ same. absurd (both_ways (p n) fails (rw same at e))) (below_or_at k n below)
 
-greatest-there : (n k : ℕ) (p : ℕ → Bool) → k < n → p k ≡ true → (i : ℕ) × (greatest_below n p ≡ Some i) × (k ≤ i)
+pub greatest-there : (n k : ℕ) (p : ℕ → Bool) → k < n → p k ≡ true → (i : ℕ) × (greatest_below n p ≡ Some i) × (k ≤ i)
 unfolding greatest_below
 greatest-there zero k p below e = absurd (omega arith)
 greatest-there (suc n) k p below e = greatest_there_by n k p (p n) refl below e (λ low. greatest-there n k p low e)
@@ -137,7 +137,7 @@ module _ (order : Order) (r : Reading) (w : ℕ) where
       abbrev start : ℕ
       start = era r w k
 
-      start_at : era r w (suc k) ≡ start
+      pub start_at : era r w (suc k) ≡ start
       start_at = era-kept r w k (not-reused (r k) w here)
 
       -- an earlier access of the era isn't a race
@@ -148,7 +148,7 @@ module _ (order : Order) (r : Reading) (w : ℕ) where
           (some_below-from k (λ j. counted_from r w start j && is_race order r w j) v below (and_from (counted_from r w start v) (is_race order r w v) counted race))
 
       -- so an access comes in order before a later write
-      before_write : (j v : ℕ) → j < v → v < k → counted_from r w start j ≡ true → counted_from r w start v ≡ true → writes (r v) ≡ true → (b : Bool) → order j v ≡ b → order j v ≡ true
+      pub before_write : (j v : ℕ) → j < v → v < k → counted_from r w start j ≡ true → counted_from r w start v ≡ true → writes (r v) ≡ true → (b : Bool) → order j v ≡ b → order j v ≡ true
       before_write j v low below at_j at_v wrote true is = is
       before_write j v low below at_j at_v wrote false apart =
           let parts = and_parts (nat_le start v) (counts (r v) w) at_v in
@@ -157,7 +157,7 @@ module _ (order : Order) (r : Reading) (w : ℕ) where
           absurd (no_race v below at_v (race-from v (j, low, rw same at_j, parts.1, or_right (writes (r j)) (writes (r v)) wrote, apart)))
 
       -- what is apart from k leaves apart what comes after it
-      later_apart : (j p : ℕ) → order j k ≡ false → (p ≡ j) ⊎ (order j p ≡ true) → order p k ≡ false
+      pub later_apart : (j p : ℕ) → order j k ≡ false → (p ≡ j) ⊎ (order j p ≡ true) → order p k ≡ false
       later_apart j p apart (inl same) = rw same apart
       later_apart j p apart (inr first) = false_from_ne_true (order p k) (λ second. both_ways (order j k) apart (chain j p k first second))
 
@@ -170,14 +170,14 @@ module _ (order : Order) (r : Reading) (w : ℕ) where
       abbrev write_test : ℕ → Bool
       write_test i = counted_from r w start i && writes (r i)
 
-      found_write : (v : ℕ) → last_write r w k ≡ Some v → (v < k) × (counted_from r w start v ≡ true) × (writes (r v) ≡ true)
+      pub found_write : (v : ℕ) → last_write r w k ≡ Some v → (v < k) × (counted_from r w start v ≡ true) × (writes (r v) ≡ true)
       unfolding last_write
       found_write v is =
           let found = greatest-Some k v write_test is in
           let parts = and_parts (counted_from r w start v) (writes (r v)) found.1 in
           (found.0, parts.0, parts.1)
 
-      write_there : (j : ℕ) → j < k → counted_from r w start j ≡ true → writes (r j) ≡ true → (v : ℕ) × (last_write r w k ≡ Some v) × (j ≤ v)
+      pub write_there : (j : ℕ) → j < k → counted_from r w start j ≡ true → writes (r j) ≡ true → (v : ℕ) × (last_write r w k ≡ Some v) × (j ≤ v)
       unfolding last_write
       write_there j below counted wrote = greatest-there k j write_test below (and_from (counted_from r w start j) (writes (r j)) counted wrote)
 
@@ -227,13 +227,13 @@ module _ (order : Order) (r : Reading) (w : ℕ) where
           by j below counted either apart false read = from_read (last_write r w k) refl j below counted read (⊎_elim (λ wrote. absurd (both_ways (writes (r j)) read wrote)) (λ wrote. wrote) (or_cases (writes (r j)) (writes (r k)) either)) apart
 
       -- and the other way round
-      write_race : (o : Option ℕ) → last_write r w k ≡ o → is_apart order o k ≡ true → is_race order r w k ≡ true
+      pub write_race : (o : Option ℕ) → last_write r w k ≡ o → is_apart order o k ≡ true → is_race order r w k ≡ true
       write_race None is e = cc
       write_race (Some v) is e =
           let found = found_write v is in
           race-from k (v, found.0, rw start_at found.1, here, or_left (writes (r v)) (writes (r k)) found.2, not-true (order v k) e)
 
-      past_above : (o : Option ℕ) → last_write r w k ≡ o → start ≤ past_write start o
+      pub past_above : (o : Option ℕ) → last_write r w k ≡ o → start ≤ past_write start o
       past_above None is = omega arith
       past_above (Some v) is = let found = found_write v is in let above = leb-true start v (and_parts (nat_le start v) (counts (r v) w) found.1).0 in omega arith
 

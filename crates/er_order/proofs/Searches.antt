@@ -1,8 +1,8 @@
 -- What searches among the positions below a point find.
-use Rattle.std.proofs.Common.{◌≡◌, ℕ, zero, suc, ◌<◌, ◌≤◌, Bool, true, false, Option, Some, None, refl, arith, inl, inr, ◌⊎◌}
+use Rattle.std.proofs.Common.{◌≡◌, ℕ, zero, suc, ◌<◌, ◌≤◌, Bool, true, false, Option, Some, None, refl, arith, ⊎_elim, inl, inr, ◌⊎◌}
 use Rattle.std.proofs.lemmas.Bool.{both_ways}
 use Rattle.er_model.specs.Search.{least_below, greatest_below}
-use Rattle.er_model.proofs.Search.{least_below-None, least_below-first}
+use Rattle.er_model.proofs.Search.{below_or_at, least_below-None, least_below-first}
 
 -- what the greatest search finds
 greatest_cases : (n i : ℕ) (p : ℕ → Bool) (b : Bool) → p n ≡ b → greatest_below (suc n) p ≡ Some i →
@@ -42,3 +42,36 @@ pub greatest-none : (n : ℕ) (p : ℕ → Bool) → ((k : ℕ) → k < n → p 
 unfolding greatest_below
 greatest-none zero p h = refl
 greatest-none (suc n) p h = rw (h n (omega arith)) (greatest-none n p (λ k l. h k (omega arith)))
+
+-- of what passes nothing is greater than what is found
+found_last : (n i j : ℕ) (p : ℕ → Bool) (b : Bool) → p n ≡ b → greatest_below (suc n) p ≡ Some j → i < suc n → p i ≡ true → (greatest_below n p ≡ Some j → i < n → i ≤ j) → i ≤ j
+unfolding greatest_below
+found_last n i j p true passes e below here rest =
+    let is : Some n ≡ Some j = rw passes at e in
+    let same : n ≡ j = cc in
+    omega (arith, same)
+found_last n i j p false fails e below here rest =
+    ⊎_elim (λ low. rest (rw fails at e) low) (λ same. absurd (both_ways (p n) fails (rw same at here))) (below_or_at i n below)
+
+pub greatest-last : (n i j : ℕ) (p : ℕ → Bool) → greatest_below n p ≡ Some j → i < n → p i ≡ true → i ≤ j
+unfolding greatest_below
+greatest-last zero i j p e below here = absurd (omega arith)
+greatest-last (suc n) i j p e below here = found_last n i j p (p n) refl e below here (λ rest low. greatest-last n i j p rest low here)
+
+-- nothing passes where nothing is found
+none_passes : (n i : ℕ) (p : ℕ → Bool) (b : Bool) → p n ≡ b → greatest_below (suc n) p ≡ None → i < suc n → (greatest_below n p ≡ None → i < n → p i ≡ false) → p i ≡ false
+unfolding greatest_below
+none_passes n i p true passes e below rest = let is : Some n ≡ None = rw passes at e in cc
+none_passes n i p false fails e below rest =
+    ⊎_elim (λ low. rest (rw fails at e) low) (λ same. rw same fails) (below_or_at i n below)
+
+pub greatest-None : (n i : ℕ) (p : ℕ → Bool) → greatest_below n p ≡ None → i < n → p i ≡ false
+unfolding greatest_below
+greatest-None zero i p e below = absurd (omega arith)
+greatest-None (suc n) i p e below = none_passes n i p (p n) refl e below (λ rest low. greatest-None n i p rest low)
+
+-- tests that agree below the point find the same
+pub greatest-agree : (n : ℕ) (p q : ℕ → Bool) → ((k : ℕ) → k < n → p k ≡ q k) → greatest_below n p ≡ greatest_below n q
+unfolding greatest_below
+greatest-agree zero p q same = refl
+greatest-agree (suc n) p q same = rw (same n (omega arith), greatest-agree n p q (λ k below. same k (omega arith))) refl

@@ -94,7 +94,7 @@ module _ (steps more : List Step) where
   after-front k None below = refl
   after-front k (Some s) below = ap (λ past. act_unless (refusal past s.thread s.event) s) (past-front k below)
 
-  acts-front : (k : ℕ) → k < length steps → acts_of (steps ++ more) k ≡ acts_of steps k
+  pub acts-front : (k : ℕ) → k < length steps → acts_of (steps ++ more) k ≡ acts_of steps k
   unfolding acts_of
   acts-front k below = ap (act_after (steps ++ more) k) (get_front steps more k below) ∙ after-front k (slice_get steps k) (omega arith)
 

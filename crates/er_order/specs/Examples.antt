@@ -59,6 +59,14 @@ readers_joined = writes_word 1 ∷ does 1 (Sync (Start 2)) ∷ does 1 (Sync (Sta
 unfoldable pub one_reader_joined : List Step
 one_reader_joined = writes_word 1 ∷ does 1 (Sync (Start 2)) ∷ does 1 (Sync (Start 3)) ∷ reads_word 2 ∷ reads_word 3 ∷ does 1 (Sync (Join 2)) ∷ writes_word 1 ∷ []
 
+-- the same where the earlier reader isn't joined
+unfoldable pub other_reader_joined : List Step
+other_reader_joined = writes_word 1 ∷ does 1 (Sync (Start 2)) ∷ does 1 (Sync (Start 3)) ∷ reads_word 2 ∷ reads_word 3 ∷ does 1 (Sync (Join 3)) ∷ writes_word 1 ∷ []
+
+-- two readers, and a write that comes after neither in order
+unfoldable pub two_readers : List Step
+two_readers = reads_word 1 ∷ reads_word 2 ∷ writes_word 3 ∷ []
+
 -- read by two threads and written by none
 unfoldable pub only_read : List Step
 only_read = reads_word 1 ∷ reads_word 2 ∷ reads_word 1 ∷ []

@@ -1,5 +1,7 @@
 //! The laws of order and of its clocks: each function does nothing, and its contract is proved of the definitions in `specs/`.
 ghost use Rattle.std.specs.Prelude.{◌≡◌, ◌<◌, ◌≤◌, ◌++◌, ◌+◌, ◌==◌, ◌&&◌, cond, max, get_or, nat_le, slice_get, length, Option, [], ◌∷◌, ℕ, suc, Bool, List, false, IsTrue};
+ghost use Rattle.er_event.specs.declared.steps.Event.TheVariants.{Access};
+ghost use Rattle.er_event.specs.declared.steps.Kind.{Kind};
 ghost use Rattle.er_event.specs.declared.steps.Mode.{Mode};
 ghost use Rattle.er_event.specs.declared.steps.Step.{Step};
 ghost use Rattle.er_model.specs.Holdings.{holdings_at};
@@ -28,8 +30,8 @@ pub fn clocks_decide_order()
     ensures ahead { (acts : Acts) (n u : ℕ) (c : Keeper) → is_own c u ≡ false → clocks_at acts n c u < clocks_at acts n (OfThread u) u }
 {}
 
-/// The clocks after a step follow from those before it and from whether its thread's holdings refuse it; steps that come later change
-/// nothing at an earlier point.
+/// The clocks after a step follow from those before it and from whether its thread's holdings refuse it. An access moves no clock. Steps
+/// that come later change nothing at an earlier point.
 pub fn a_clock_follows_its_step()
     ensures act { (steps : List Step) (k : ℕ) (step : Step) → slice_get steps k ≡ Option.Some step
         → acts_of steps k ≡ act_by (holdings_at steps step.thread k) step }
@@ -38,6 +40,8 @@ pub fn a_clock_follows_its_step()
     ensures end { (steps : List Step) (step : Step) (c : Keeper) (u : ℕ)
         → clocks_at (acts_of (steps ++ step ∷ [])) (suc (length steps)) c u
         ≡ clocks_after (clocks_at (acts_of steps) (length steps)) (act_by (holdings_at steps step.thread (length steps)) step) c u }
+    ensures access { (steps : List Step) (step : Step) (w site : ℕ) (kind : Kind) (c : Keeper) (u : ℕ) → step.event ≡ Access kind w site
+        → clocks_at (acts_of (steps ++ step ∷ [])) (suc (length steps)) c u ≡ clocks_at (acts_of steps) (length steps) c u }
     ensures earlier { (steps more : List Step) (n : ℕ) → n ≤ length steps
         → clocks_at (acts_of (steps ++ more)) n ≡ clocks_at (acts_of steps) n }
 {}

@@ -1,14 +1,16 @@
 //! Happens-before: which steps of a list come before which in order, which accesses race by it, and the laws of both.
 //!
 //! Begin with the definitions in `specs/`: `Order` says what happens before what, `Races` which
-//! accesses race and what each step is answered, `Clocks` what the vector clocks of a list are.
+//! accesses race and what each step is answered, `Reasons` what a race is unordered with, `Clocks`
+//! what the vector clocks of a list are.
 //!
 //! What it promises: order is the least relation that is closed under chains (`order_is_by_chains`); vector clocks decide it
 //! (`clocks_decide_order`), and each step moves a few of them (`a_step_moves_its_clocks`); a race is found from the last write and the
 //! latest reads of a word (`races_are_found`), so that an answer follows step by step (`an_access_follows_its_word`,
-//! `an_ordered_list_grows_by_a_step`); an era is reported once (`an_era_is_reported_once`); more order gives fewer races, and no order
-//! at all each race that two threads can make (`more_order_fewer_races`, `with_no_order_each_shared_write_races`). Such a function
-//! does nothing: its contract is the law. The cases in `worked_races` are computed from the definitions alone.
+//! `an_ordered_list_grows_by_a_step`); a race is unordered with an earlier access (`a_race_is_unordered_with_an_access`), which is found
+//! among the same ones (`a_reason_is_found`); an era is reported once (`an_era_is_reported_once`); more order gives fewer races, and no
+//! order at all each race that two threads can make (`more_order_fewer_races`, `with_no_order_each_shared_write_races`). Such a function
+//! does nothing: its contract is the law. The cases in `worked_races` and `worked_reasons` are computed from the definitions alone.
 #![tactic(auto)]
 
 pub use laws::{
@@ -20,8 +22,10 @@ pub use races::{
     an_era_is_reported_once, an_ordered_list_grows_by_a_step, more_order_fewer_races,
     races_are_found, the_latest_reads_are_apart, with_no_order_each_shared_write_races,
 };
-pub use worked::worked_races;
+pub use reasons::{a_race_is_unordered_with_an_access, a_reason_is_found};
+pub use worked::{worked_races, worked_reasons};
 
 mod laws;
 mod races;
+mod reasons;
 mod worked;

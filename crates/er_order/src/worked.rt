@@ -1,9 +1,10 @@
-//! Worked cases: what happens-before answers to short lists.
-ghost use Rattle.std.specs.Prelude.{◌≡◌, [], ◌∷◌};
+//! Worked cases: what happens-before answers to short lists, and what an access is unordered with.
+ghost use Rattle.std.specs.Prelude.{◌≡◌, [], ◌∷◌, Option};
 ghost use Rattle.er_model.specs.Examples.{done, quiet, race, not_counted, refused_for};
 ghost use Rattle.er_model.specs.Answers.{answers};
 ghost use Rattle.er_order.specs.Races.{order_answers};
-ghost use Rattle.er_order.specs.Examples.{queue, no_lock, too_early, chain, readers_joined, one_reader_joined, only_read, rounds, joined_late, semaphore, awaited_early, read_locks, read_and_write_locks, double_checked, double_checked_in_order, reuse_between, refused_release, two_holders, levels, bracket, locked_later};
+ghost use Rattle.er_order.specs.Reasons.{unordered_with};
+ghost use Rattle.er_order.specs.Examples.{queue, no_lock, too_early, chain, readers_joined, one_reader_joined, only_read, rounds, joined_late, semaphore, awaited_early, read_locks, read_and_write_locks, double_checked, double_checked_in_order, reuse_between, refused_release, two_holders, levels, bracket, locked_later, other_reader_joined, two_readers};
 
 use er_event::Refusal;
 
@@ -33,4 +34,16 @@ pub fn worked_races()
     ensures two_holders { order_answers two_holders ≡ done ∷ done ∷ quiet ∷ done ∷ done ∷ done ∷ quiet ∷ [] }
     ensures levels { order_answers levels ≡ done ∷ quiet ∷ done ∷ done ∷ race ∷ [] }
     ensures bracket { order_answers bracket ≡ quiet ∷ done ∷ not_counted ∷ done ∷ quiet ∷ [] }
+{}
+
+/// What an access is unordered with: of several the last one, and none that comes before it in order.
+pub fn worked_reasons()
+    ensures no_lock { unordered_with no_lock 1 ≡ Option.Some 0 }
+    ensures queue { unordered_with queue 5 ≡ Option.None }
+    ensures chain { unordered_with chain 8 ≡ Option.Some 7 }
+    ensures one_reader_joined { unordered_with one_reader_joined 6 ≡ Option.Some 4 }
+    ensures other_reader_joined { unordered_with other_reader_joined 6 ≡ Option.Some 3 }
+    ensures two_readers { unordered_with two_readers 2 ≡ Option.Some 1 }
+    ensures double_checked { unordered_with double_checked 5 ≡ Option.Some 1 }
+    ensures reuse_between { unordered_with reuse_between 3 ≡ Option.Some 2 }
 {}

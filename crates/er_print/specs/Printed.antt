@@ -105,6 +105,7 @@ label_text names label.First = codes "first"
 label_text names label.Joined = codes "joined"
 label_text names label.Write = codes "write"
 label_text names (label.Uncovered lock) = lock_text names lock ++ codes " not covering"
+label_text names label.Unordered = codes "unordered with"
 
 -- one of a race's reasons, on a line of its own
 abbrev pub reason_text : NameTable → Because → List ℕ

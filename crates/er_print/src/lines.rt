@@ -24,6 +24,21 @@ pub fn put_line(out: &mut Vec<u8>, names: &Names, line: &Line) -> Result<(), All
     }
 }
 
+/// Puts the lines of a race's reasons, one for each.
+pub fn put_reasons(
+    out: &mut Vec<u8>,
+    names: &Names,
+    explained: &[Because],
+) -> Result<(), AllocError>
+    requires { All (HasReasonNames names.now) explained.now }
+    ensures { OnOk result (out.new.items ≡ out.old.items ++ flat_map (reason_text names.now) explained.now) }
+{
+    for because in explained {
+        put_reason(out, names, because)?;
+    }
+    Ok(())
+}
+
 // Puts what a line says of its step.
 fn put_own_line(out: &mut Vec<u8>, names: &Names, line: &Line) -> Result<(), AllocError>
     requires { HasNames names.now line.now }
@@ -77,16 +92,6 @@ fn put_own_line(out: &mut Vec<u8>, names: &Names, line: &Line) -> Result<(), All
     }
 }
 
-fn put_reasons(out: &mut Vec<u8>, names: &Names, explained: &[Because]) -> Result<(), AllocError>
-    requires { All (HasReasonNames names.now) explained.now }
-    ensures { OnOk result (out.new.items ≡ out.old.items ++ flat_map (reason_text names.now) explained.now) }
-{
-    for because in explained {
-        put_reason(out, names, because)?;
-    }
-    Ok(())
-}
-
 // Puts the line of one access that makes a race.
 fn put_reason(out: &mut Vec<u8>, names: &Names, because: &Because) -> Result<(), AllocError>
     requires { HasReasonNames names.now because.now }
@@ -113,6 +118,7 @@ fn put_label(out: &mut Vec<u8>, names: &Names, label: Label) -> Result<(), Alloc
             put_lock(out, names, lock)?;
             out.extend_from_slice(b" not covering: line ")
         }
+        Label::Unordered => out.extend_from_slice(b"  unordered with: line "),
     }
 }
 

@@ -5,4 +5,5 @@ pub mod GrowthLemmas
 pub mod LawLemmas
 pub mod NamedLemmas
 pub mod ReasonLemmas
+pub mod GivenLemmas
 pub mod PlainLemmas

@@ -63,6 +63,7 @@ HasLabelName names label.First = Unit {0}
 HasLabelName names label.Joined = Unit {0}
 HasLabelName names label.Write = Unit {0}
 HasLabelName names (label.Uncovered lock) = HasLockName names lock
+HasLabelName names label.Unordered = Unit {0}
 
 -- the thread and the lock of a reason have
 abbrev pub HasReasonNames : NameTable → Because → Type 0

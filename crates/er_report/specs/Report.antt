@@ -1,6 +1,6 @@
 -- What a report says of a recording, by the definitions of the whole list of its steps. An analysis is known by its answers alone. Behind
 -- the report of any analysis comes that of the lockset rule.
-use Rattle.std.specs.Prelude.{ℕ, zero, suc, ◌+◌, ◌==◌, Bool, true, false, cond, ◌&&◌, is_some, is_none, List, [], ◌∷◌, ◌++◌, map, length, slice_get, slice_index, Option, Some, None, Result, Ok, Err}
+use Rattle.std.specs.Prelude.{ℕ, zero, suc, ◌≡◌, ◌+◌, ◌==◌, Bool, true, false, cond, ◌&&◌, is_some, is_none, List, [], ◌∷◌, ◌++◌, map, length, slice_get, slice_index, Option, Some, None, Result, Ok, Err}
 use Rattle.std.specs.List.{range_with_len}
 use Rattle.er_trace.specs.Names.{NameTable}
 use Rattle.er_event.specs.declared.refusals.NoRoom.{NoRoom}
@@ -13,6 +13,7 @@ use Rattle.er_event.specs.declared.steps.Step.{Step}
 use Rattle.er_trace.specs.Trace.{Recording}
 use Rattle.er_explain.specs.Racing.{is_race}
 use Rattle.er_model.specs.Answers.{answer}
+use Rattle.er_model.specs.Explanations.{word_of}
 use Rattle.er_model.specs.Threads.{accepted, held}
 use Rattle.er_journal.specs.declared.answers.Stopped.{Stopped}
 pub use Rattle.er_journal.specs.Stops.{answered_steps}
@@ -142,6 +143,10 @@ report_by answers reasons r rules stop =
       suppressed = count_below (λ k. is_some (matching_rule_by answers r rules k)) n;
       refused = count_below (λ k. is_refused (answers k)) n;
     }
+
+-- each race is the answer to an access
+abbrev pub AreAccesses : Answering → List Step → Type 0
+AreAccesses answers steps = (k : ℕ) → answers k ≡ Ok Race → word_of (slice_get steps k) ≡ None → ⊥
 
 -- none for any race
 abbrev pub no_reasons : ℕ → List Because

@@ -9,14 +9,15 @@ ghost use Rattle.er_report.specs.Builder.{ArePlain, ArePlainBy, IsBuilt, IsBuilt
 ghost use Rattle.er_report.specs.Inner.Adding.{empty_report, with_answer, HasRoom};
 ghost use Rattle.er_report.specs.Kept.{Follows};
 ghost use Rattle.er_report.specs.Lines.{line_view};
-ghost use Rattle.er_report.specs.Names.{HasNames, HasSiteName, HaveStateNames};
-ghost use Rattle.er_report.specs.Report.{Answering, told, answer_line, answered_steps, no_reasons, report_by, report_of, stop_line};
+ghost use Rattle.er_report.specs.Names.{HasNames, HasReasonNames, HasSiteName, HaveStateNames};
+ghost use Rattle.er_report.specs.declared.report.Because.{Because as Reason};
+ghost use Rattle.er_report.specs.Report.{Answering, AreAccesses, told, answer_line, answered_steps, no_reasons, report_by, report_of, stop_line};
 ghost use Rattle.er_rules.specs.Rules.{Target, targets_of};
 
 use crate::explainer::Explainer;
-use crate::reasons::explain_lines;
+use crate::reasons::{explain_lines, give_reasons};
 use crate::rules::first_rule;
-use crate::{Line, Report};
+use crate::{Because, Line, Report};
 use er_event::{Event, Lockset, NoRoom, Refusal, Reply, Step};
 use er_journal::{Answer, Stopped};
 use er_rules::Suppressions;
@@ -229,6 +230,24 @@ impl<'r> ReportBuilder<'r> {
         } = self;
         report.stop = stop;
         explain_lines(explainer, &mut report.lines);
+        report
+    }
+
+    /// The report with these reasons, one list for each race that has a line, in their order. An access is the only step that is a race.
+    pub fn finish_with(self, reasons: Vec<Vec<Because>>) -> Report
+        ensures report_by { (a : Answering) (why : ℕ → List Reason) (r : Recording) → AreAccesses a r.steps → IsBuiltBy a self.entry r (length (answered_steps r.steps None)) → map (λ told. told.items) reasons.items ≡ map why self.entry.races → told result ≡ report_by a why r self.entry.rules None }
+        ensures named_by { (a : Answering) (why : ℕ → List Reason) (r : Recording) (n : ℕ) → AreAccesses a r.steps → IsBuiltBy a self.entry r n → map (λ told. told.items) reasons.items ≡ map why self.entry.races
+            → All (IsNamed r.names) r.steps → HaveStateNames r.names a → ((k : ℕ) → All (HasReasonNames r.names) (why k)) → All (HasNames r.names) result.lines.items }
+    {
+        let ReportBuilder {
+            rules: _,
+            mut report,
+            races: _,
+            explainer: _,
+            alloc: _,
+        } = self;
+        report.stop = None;
+        give_reasons(reasons, &mut report.lines);
         report
     }
 

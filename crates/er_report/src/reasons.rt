@@ -13,9 +13,16 @@ pub(crate) fn explain_lines(explainer: Option<Explainer>, lines: &mut [Line])
     ensures { map line_view lines.new ≡ lines_kept explainer (map line_view lines.old) }
 {
     match explainer {
-        Some(explainer) => put_reasons(explainer.into_told().into_iter(), lines),
+        Some(explainer) => give_reasons(explainer.into_told(), lines),
         None => {}
     }
+}
+
+/// Gives each line of a race its reasons, one after another.
+pub(crate) fn give_reasons(told: Vec<Vec<Because>>, lines: &mut [Line])
+    ensures { map line_view lines.new ≡ with_told (map (λ reasons. reasons.items) told.items) (map line_view lines.old) }
+{
+    put_reasons(told.into_iter(), lines);
 }
 
 // Gives each line of a race the next reasons.

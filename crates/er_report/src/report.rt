@@ -66,6 +66,8 @@ pub enum Label {
     Write,
     /// It was the first after the joining that was made without this lock, which covered the joining.
     Uncovered(LockId),
+    /// It was the last before the race that conflicts with it and doesn't come before it in order.
+    Unordered,
 }
 
 /// What a run of a trace came to.

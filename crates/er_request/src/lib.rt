@@ -4,6 +4,8 @@
 //! a crate of its own, below no other but the program, so that the parser is proved while the rest is.
 #![tactic(auto)]
 
-pub use request::{Analysis, Demo, Explain, Format, Replay, Request, read_request};
+pub use request::{Analysis, Demo, Explain, Format, Replay, Request};
+pub use words::read_request;
 
 mod request;
+mod words;

@@ -39,6 +39,8 @@ pub struct Replay<'a> {
     pub explain: bool,
     /// Whether a damaged trace is a fault.
     pub strict: bool,
+    /// Whether the report of a text with a fault has the steps before its first faulty line.
+    pub until_fault: bool,
     /// In how many shards the words are, from 1 to 64.
     pub shards: u32,
     /// How many workers replay them, from 1 to 16.
@@ -71,6 +73,8 @@ pub enum Analysis {
     Lockset,
     /// Two accesses were not ordered in this run.
     HappensBefore,
+    /// Each of the two, with a report of its own.
+    Both,
 }
 
 /// How a report is written.
@@ -203,7 +207,7 @@ fn analysis_option<'a>(alloc: Global) -> Arg<'a> {
         .value_parser(ANALYSES.as_slice())
         .default_value("lockset")
         .help(
-            "Report accesses that no lock protects, or accesses that were not ordered in this run",
+            "Report accesses that no lock protects, accesses that were not ordered in this run, or both",
         )
 }
 
@@ -212,6 +216,13 @@ fn strict_option<'a>(alloc: Global) -> Arg<'a> {
         .long("strict")
         .action(ArgAction::SetTrue)
         .help("End with 2 if the trace is damaged, and write no report")
+}
+
+fn until_fault_option<'a>(alloc: Global) -> Arg<'a> {
+    Arg::new(alloc, "until-fault")
+        .long("until-fault")
+        .action(ArgAction::SetTrue)
+        .help("Report the steps before the first faulty line of the trace, and then its fault")
 }
 
 // The options that say how the trace is replayed.
@@ -231,6 +242,7 @@ fn with_limits<'a>(alloc: Global, command: Command<'a>) -> Result<Command<'a>, A
         "Into how many parts several workers cut the words, 1 to 64",
     );
     let command = command.arg(strict_option(alloc))?;
+    let command = command.arg(until_fault_option(alloc))?;
     command.arg(workers)?.arg(shards)?.arg(byte_limit(alloc))
 }
 
@@ -285,7 +297,7 @@ prints
 
 The earlier accesses are those that count since the word's last reuse. Each one that changed the word's state has a line.";
 
-const ANALYSES: [&str; 2] = ["lockset", "happens-before"];
+const ANALYSES: [&str; 3] = ["lockset", "happens-before", "both"];
 
 const FORMS: [&str; 4] = ["text", "json", "sarif", "html"];
 
@@ -361,6 +373,7 @@ fn analysis_of(name: &str) -> Option<Analysis> {
     match name {
         "lockset" => Some(Analysis::Lockset),
         "happens-before" => Some(Analysis::HappensBefore),
+        "both" => Some(Analysis::Both),
         _ => None,
     }
 }
@@ -416,6 +429,7 @@ fn replay_of<'a>(found: &ArgMatches<'a>, suppressions: Vec<&'a str>) -> Option<R
         source: found.get_str("source"),
         explain: has_reasons(format) || found.get_flag("explain"),
         strict: found.get_flag("strict"),
+        until_fault: found.get_flag("until-fault"),
         shards,
         workers,
         byte_limit,
@@ -471,8 +485,30 @@ fn lacks_page(request: &Request<'_>) -> bool {
 fn lacks_form(request: &Request<'_>) -> bool {
     match request {
         Request::Replay(replay) => {
-            replay.analysis != Analysis::Lockset
-                && (replay.explain || replay.format != Format::Text || replay.strict)
+            !has_form(replay.analysis, replay.format)
+                || (replay.strict && replay.analysis != Analysis::Lockset)
+        }
+        Request::Explain(_) | Request::Demo(_) => false,
+    }
+}
+
+// Whether a replay by this analysis can write its report so.
+fn has_form(analysis: Analysis, format: Format) -> bool {
+    match analysis {
+        Analysis::Lockset => true,
+        Analysis::HappensBefore => format == Format::Text,
+        Analysis::Both => matches!(format, Format::Text | Format::BySite),
+    }
+}
+
+// Whether more than two reports is asked for of both analyses.
+fn asks_more_of_both(request: &Request<'_>) -> bool {
+    match request {
+        Request::Replay(replay) => {
+            replay.analysis == Analysis::Both
+                && (replay.write_rules.is_some()
+                    || replay.unused_rules
+                    || replay.max_races.is_some())
         }
         Request::Explain(_) | Request::Demo(_) => false,
     }
@@ -490,7 +526,7 @@ fn overwrites_rules(request: &Request<'_>) -> bool {
 }
 
 /// Reads a command line, of which the first word is the program's name.
-pub fn read_request<'a>(alloc: Global, words: &'a [String]) -> Result<Request<'a>, Error> {
+pub(crate) fn read_request<'a>(alloc: Global, words: &'a [String]) -> Result<Request<'a>, Error> {
     let mut command = eraser_command(alloc)?;
     let matches = command.try_get_matches_from_mut(words)?;
     match request_of(alloc, &matches)? {
@@ -500,7 +536,11 @@ pub fn read_request<'a>(alloc: Global, words: &'a [String]) -> Result<Request<'a
         )?),
         Some(request) if lacks_form(&request) => Err(command.error(
             ErrorKind::ArgumentConflict,
-            "--explain, --by-site, --format and --strict go with --analysis lockset alone",
+            "--format and --strict go with --analysis lockset alone, and --by-site with lockset or both",
+        )?),
+        Some(request) if asks_more_of_both(&request) => Err(command.error(
+            ErrorKind::ArgumentConflict,
+            "--write-rules, --unused-rules and --max-races do not go with --analysis both",
         )?),
         Some(request) if overwrites_rules(&request) => Err(command.error(
             ErrorKind::ArgumentConflict,

@@ -62,6 +62,7 @@ label_words names label.First = codes "first: "
 label_words names label.Joined = codes "joined: "
 label_words names label.Write = codes "write: "
 label_words names (label.Uncovered lock) = lock_words names lock ++ codes " not covering: "
+label_words names label.Unordered = codes "unordered with: "
 
 -- who did what there
 unfoldable pub access_words : NameTable → ℕ → Kind → ℕ → List ℕ

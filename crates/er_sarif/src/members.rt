@@ -224,6 +224,7 @@ fn put_label(out: &mut Vec<u8>, names: &Names, label: Label) -> Result<(), Alloc
             put_lock(out, names, lock)?;
             out.extend_from_slice(b" not covering: ")
         }
+        Label::Unordered => out.extend_from_slice(b"unordered with: "),
     }
 }
 

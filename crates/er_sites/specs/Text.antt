@@ -70,6 +70,7 @@ is_failed lock label.First = false
 is_failed lock label.Joined = true
 is_failed lock label.Write = false
 is_failed lock (label.Uncovered other) = other == lock
+is_failed lock label.Unordered = false
 
 -- the reason shows that this lock did not protect the race on that line
 abbrev pub is_without : ℕ → ℕ → Because → Bool
@@ -100,21 +101,38 @@ deed_text names thread kind = thread_text names thread ++ did_text kind
 abbrev pub unprotected_text : NameTable → ℕ → Kind → ℕ → List ℕ
 unprotected_text names thread kind lock = failed_lock_text names lock ++ deed_text names thread kind
 
+-- an access that the race doesn't come after
+abbrev pub unordered_text : NameTable → ℕ → Kind → List ℕ
+unordered_text names thread kind = codes "nothing orders this before it: " ++ deed_text names thread kind
+
 -- what an access has to do with a race
 abbrev pub story_text : NameTable → ℕ → Kind → Label → List ℕ
 story_text names thread kind label.First = thread_text names thread ++ codes " used it first: it" ++ did_text kind
 story_text names thread kind label.Joined = thread_text names thread ++ codes " was the second: it" ++ did_text kind
 story_text names thread kind label.Write = thread_text names thread ++ codes " has written it since then"
 story_text names thread kind (label.Uncovered lock) = unprotected_text names thread kind lock
+story_text names thread kind label.Unordered = unordered_text names thread kind
 
 -- one of a race's reasons
 abbrev pub reason_text : NameTable → Because → List ℕ
 reason_text names because = codes "  " ++ story_text names because.thread because.kind because.label ++ line_text because.line ++ 10 ∷ []
 
--- and what follows from them, if they are known
+-- what follows from the reasons of the lockset rule
+abbrev pub no_common_lock : List ℕ
+no_common_lock = codes "  So no lock protected all accesses from the second thread's first one on" ++ 10 ∷ []
+
+-- what follows from reasons of which the first has this label: of an unordered access nothing more
+abbrev pub so_by : Label → List ℕ
+so_by label.First = no_common_lock
+so_by label.Joined = no_common_lock
+so_by label.Write = no_common_lock
+so_by (label.Uncovered lock) = no_common_lock
+so_by label.Unordered = []
+
+-- and of all reasons, if they are known
 abbrev pub so_text : List Because → List ℕ
 so_text [] = []
-so_text (because ∷ more) = codes "  So no lock protected all accesses from the second thread's first one on" ++ 10 ∷ []
+so_text (because ∷ more) = so_by because.label
 
 -- the site of a race, behind an empty line
 abbrev pub title_text : NameTable → ℕ → List ℕ

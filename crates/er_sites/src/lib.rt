@@ -9,11 +9,13 @@
 //! is defined line by line in `specs/Text`, and the table in `specs/Table`.
 #![tactic(auto)]
 
+pub use both::put_sites_of_both;
 pub use counts::{Counts, count_at, count_line, count_races};
 pub use row::SiteRow;
 pub use sites::write_sites;
 pub use table::site_rows;
 
+mod both;
 mod counts;
 mod distinct;
 mod names;

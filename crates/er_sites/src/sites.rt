@@ -64,8 +64,8 @@ fn sites_text(
     Ok(text)
 }
 
-// Puts the table, and an example of each of its rows.
-fn put_rows(
+/// Puts the table, and an example of each of its rows.
+pub(crate) fn put_rows(
     out: &mut Vec<u8>,
     names: &Names,
     lines: &[Line],
@@ -165,8 +165,8 @@ fn put_example_at(
     }
 }
 
-// The first refused step's line.
-fn first_refused(lines: &[Line]) -> Option<&Line>
+/// The first refused step's line.
+pub(crate) fn first_refused(lines: &[Line]) -> Option<&Line>
     ensures { option_copied result ≡ find is_refused lines.now }
 {
     lines
@@ -174,8 +174,8 @@ fn first_refused(lines: &[Line]) -> Option<&Line>
         .find(|line| matches!(line, Line::Refused { .. }))
 }
 
-// Puts the line of the first refused step, if there is one, and why it was refused.
-fn put_refused(out: &mut Vec<u8>, found: Option<&Line>) -> Result<(), AllocError>
+/// Puts the line of the first refused step, if there is one, and why it was refused.
+pub(crate) fn put_refused(out: &mut Vec<u8>, found: Option<&Line>) -> Result<(), AllocError>
     ensures { OnOk result (out.new.items ≡ out.old.items ++ refused_text (option_copied found.entry)) }
 {
     match found {

@@ -3,7 +3,7 @@ ghost use Rattle.std.specs.Prelude.{◌≡◌, ◌++◌, ◌<◌, ◌≤◌, All
 ghost use Rattle.std.specs.List.{list_any};
 ghost use Rattle.er_report.specs.Lines.{line_view};
 ghost use Rattle.er_report.specs.Names.{HasLabelName, HasLockName, HasLockNames, HasNames, HasReasonNames};
-ghost use Rattle.er_sites.specs.Text.{deed_text, example_text, failed_lock_text, head_text, held_text, holds_text, title_text, mode_text, reason_text, so_text, story_text, unprotected_text, is_without};
+ghost use Rattle.er_sites.specs.Text.{deed_text, example_text, failed_lock_text, head_text, held_text, holds_text, title_text, mode_text, reason_text, so_by, so_text, story_text, unordered_text, unprotected_text, is_without};
 
 use crate::names::{put_access, put_did, put_line, put_lock, put_site, put_thread};
 use er_event::{Kind, LockId, Site, ThreadId, Word};
@@ -193,7 +193,22 @@ fn put_story(
             out.extend_from_slice(b" has written it since then")
         }
         Label::Uncovered(lock) => put_unprotected(out, names, thread, kind, lock),
+        Label::Unordered => put_unordered(out, names, thread, kind),
     }
+}
+
+// Puts an access that the race doesn't come after.
+fn put_unordered(
+    out: &mut Vec<u8>,
+    names: &Names,
+    thread: ThreadId,
+    kind: Kind,
+) -> Result<(), AllocError>
+    requires { thread < length names.now.threads }
+    ensures { OnOk result (out.new.items ≡ out.old.items ++ unordered_text names.now thread kind) }
+{
+    out.extend_from_slice(b"nothing orders this before it: ")?;
+    put_deed(out, names, thread, kind)
 }
 
 // Puts that a lock didn't protect an access.
@@ -238,7 +253,17 @@ fn put_deed(
 fn put_so(out: &mut Vec<u8>, explained: &[Because]) -> Result<(), AllocError>
     ensures { OnOk result (out.new.items ≡ out.old.items ++ so_text explained.now) }
 {
-    if explained.is_empty() {
+    match explained.first() {
+        Some(because) => put_so_by(out, because.label),
+        None => Ok(()),
+    }
+}
+
+// Puts what follows from reasons of which the first has this label.
+fn put_so_by(out: &mut Vec<u8>, label: Label) -> Result<(), AllocError>
+    ensures { OnOk result (out.new.items ≡ out.old.items ++ so_by label) }
+{
+    if let Label::Unordered = label {
         return Ok(());
     }
     out.extend_from_slice(

@@ -19,8 +19,10 @@ use Rattle.er_model.specs.Holdings.{Holdings, changed_unless, refused_by, holdin
 use Rattle.er_model.specs.Threads.{accepted, held, refusal}
 use Rattle.er_order.proofs.Following.{answer-access, answer-other}
 use Rattle.er_order.proofs.Growing.{kept-front}
+use Rattle.er_order.proofs.ReasonsGrow.{unordered-stays}
 use Rattle.er_order.proofs.StepLemmas.{clocks-front, held-front, some-at}
 use Rattle.er_order.specs.Races.{order_answer, order_answer_to, order_reply}
+use Rattle.er_order.specs.Reasons.{unordered_with}
 use Rattle.er_report.specs.Names.{HaveStateNames}
 use Rattle.er_run.proofs.StepLemmas.{past-next}
 use Rattle.er_trace.specs.Names.{NameTable}
@@ -109,18 +111,26 @@ module _ (steps : List Step) (k : ℕ) (step : Step) (here : slice_get steps k �
   within : k < length steps
   within = slice_get_within steps k step here
 
-  long : length past ≡ k
+  pub long : length past ≡ k
   long = length-take-le k steps (omega (arith, within))
 
   next-long : length (take (k + 1) steps) ≡ k + 1
   next-long = length-take-le (k + 1) steps (omega (arith, within))
 
-  order-here : order_answer (past ++ step ∷ []) (length past) ≡ order_answer steps k
+  pub order-here : order_answer (past ++ step ∷ []) (length past) ≡ order_answer steps k
   order-here =
       ap (order_answer (past ++ step ∷ [])) long
       ∙ ap (λ (front : List Step). order_answer front k) (past-next steps k step here)
       ∙ sym (order-front (take (k + 1) steps) (drop (k + 1) steps) k (omega (arith, next-long)))
       ∙ ap (λ (all : List Step). order_answer all k) (take-append-drop (k + 1) steps)
+
+  -- and the access that it is unordered with is the same
+  pub with-here : unordered_with (past ++ step ∷ []) (length past) ≡ unordered_with steps k
+  with-here =
+      ap (unordered_with (past ++ step ∷ [])) long
+      ∙ ap (λ (front : List Step). unordered_with front k) (past-next steps k step here)
+      ∙ sym (unordered-stays (take (k + 1) steps) (drop (k + 1) steps) k (omega (arith, next-long)))
+      ∙ ap (λ (all : List Step). unordered_with all k) (take-append-drop (k + 1) steps)
 
   said-by : (given : Result Reply Refusal) (b : Bool) → is_show step.event ≡ b → (b ≡ true → given ≡ Ok Done) → (b ≡ false → given ≡ order_answer (past ++ step ∷ []) (length past))
       → given ≡ cond b (Ok Done) (order_answer steps k)

@@ -1,3 +1,6 @@
 pub mod AnswerLemmas
+pub mod BothLemmas
 pub mod PassLemmas
+pub mod ReasonLemmas
+pub mod ReplayLemmas
 pub mod TextLemmas

@@ -1,9 +1,15 @@
 -- A replay that forgets its steps is one over all of them: a batch goes on behind what was answered, and the names may have grown.
-use Rattle.std.proofs.Common.{◌≡◌, ◌+◌, ◌∙◌, ℕ, true, false, List, [], ◌∷◌, ◌++◌, length, length-append, take, slice_get, slice_index, Option, Some, None, IfSome, Result, refl, sym, ap, subst, arith}
+use Rattle.std.proofs.Common.{◌≡◌, ◌+◌, ◌∙◌, ℕ, suc, add-one, nat_lt, Bool, true, false, cond, List, [], ◌∷◌, ◌++◌, length, length-append, take, slice_get, slice_index, Option, Some, None, IfSome, Result, refl, sym, ap, ap₂, subst, arith}
 use Rattle.std.specs.List.{All}
+use Rattle.std.proofs.lemmas.Bool.Decides.{nat_tests}
 use Rattle.std.proofs.Math.Seq.{take-append_seam, take-length}
 use Rattle.std.proofs.lemmas.List.Elements.{All-append, All-nil}
-use Rattle.er_before.specs.Standing.{Ordered, Stands, answered_by, is_show}
+use Rattle.er_before.specs.Standing.{Ordered, Stands, answered_by, clock_of, is_show}
+use Rattle.er_clocks.specs.Counts.{count_by}
+use Rattle.er_latest.specs.Standing.{IsClockAfter}
+use Rattle.er_order.specs.Clocks.{OfThread}
+use Rattle.er_report.specs.Report.{Answering, Summary, count_below, is_printed_by}
+use Rattle.er_rules.specs.Rules.{Target}
 use Rattle.er_event.specs.declared.refusals.Refusal.{Refusal}
 use Rattle.er_event.specs.declared.steps.Reply.{Reply}
 use Rattle.er_event.specs.declared.steps.Step.{Step}
@@ -11,7 +17,7 @@ use Rattle.er_report.proofs.GrowthLemmas.{goes-on-by}
 use Rattle.er_explain.proofs.RaceLemmas.{race-is}
 use Rattle.er_model.specs.Holdings.{holdings_end}
 use Rattle.er_order.specs.Races.{order_answer}
-use Rattle.er_report.specs.Builder.{ArePlainBy, Built, IsBuiltBy, IsStepBy, GoesOn, is_plain}
+use Rattle.er_report.specs.Builder.{ArePlainBy, Built, IsBuiltBy, IsStepBy, GoesOn, is_plain, report_below_by}
 use Rattle.er_run.proofs.PassLemmas.{all-named}
 use Rattle.er_text.specs.Batches.{joined, HasRead}
 use Rattle.er_text.specs.Places.{Reached}
@@ -21,7 +27,9 @@ use Rattle.er_trace.specs.Trace.{Recording, IsNamed, no_steps}
 use Rattle.er_run.proofs.StepLemmas.{past-next}
 use Rattle.er_unordered.proofs.AnswerLemmas.{answer-here, locks-here, race-accesses, show-done, unordered-front}
 use Rattle.er_unordered.specs.Answers.{unordered_answer}
-use Rattle.er_unordered.specs.Inner.Passes.{HasAnswered, HasCome, HasComeTo, recorded}
+use Rattle.er_unordered.proofs.ReasonLemmas.{kept-there}
+use Rattle.er_unordered.specs.Inner.Passes.{HasAnswered, HasCome, HasComeTo, HasExplained, HasExplainedTo, IsReasoned, OrderBuilt, recorded}
+use Rattle.er_unordered.specs.Inner.Reasons.{HasReasons, Reasoned}
 
 -- a batch of steps behind those that are past
 module _ (past : List Step) (lines : List ℕ) (names : NameTable) (trace : Recording) (kept : KeepsNames names trace.names)
@@ -54,10 +62,24 @@ module _ (past : List Step) (lines : List ℕ) (names : NameTable) (trace : Reco
         long = (let a : length lines ≡ length past = run.long in omega (arith, length-append lines trace.lines, length-append past trace.steps, even));
       }
 
+  -- what is kept for reasons stays too
+  pub start-explained : (reasoned : Reasoned) → HasReasons reasoned (recorded past lines names) oldest.rules (length past) → HasExplainedTo old oldest reasoned after (length past)
+  start-explained reasoned explained = record {
+    come = start;
+    explained = kept-there (recorded past lines names) after on reasoned oldest.rules (sym run.built.races ∙ start.built.races) explained;
+  }
+
+  pub whole-explained : (machine : Ordered) (builder : Built) (reasoned : Reasoned) → HasExplainedTo machine builder reasoned after (length past + length trace.steps)
+      → HasExplained machine builder reasoned after
+  whole-explained machine builder reasoned come = record {
+    answered = whole machine builder come.come;
+    explained = subst (λ (n : ℕ). HasReasons reasoned after builder.rules n) (sym (length-append past trace.steps)) come.explained;
+  }
+
 -- before the first batch
-pub begun : (reader : Reached) (trace : Recording) (machine : Ordered) (builder : Built) → trace ≡ no_steps → ((text : List ℕ) → HasRead text [] [] reader (Some text) no_steps)
-    → Stands machine [] → IsBuiltBy (unordered_answer []) builder (recorded [] [] no_names) 0 → (told : Option (List ℕ)) → HasCome told told reader trace machine builder
-begun reader trace machine builder empty starts stands built told =
+pub begun : (reader : Reached) (trace : Recording) (machine : Ordered) (builder : OrderBuilt) → trace ≡ no_steps → ((text : List ℕ) → HasRead text [] [] reader (Some text) no_steps)
+    → Stands machine [] → IsBuiltBy (unordered_answer []) builder.built (recorded [] [] no_names) 0 → IsReasoned builder (recorded [] [] no_names) 0 → (told : Option (List ℕ)) → HasCome told told reader trace machine builder
+begun reader trace machine builder empty starts stands built reasoned told =
     subst (λ (t : Recording). HasCome told told reader t machine builder) (sym empty) (record {
       past = [];
       lines = [];
@@ -65,10 +87,13 @@ begun reader trace machine builder empty starts stands built told =
       no_steps = refl;
       no_lines = refl;
       run = record {
-        stands = stands;
-        built = built;
-        named = All-nil (IsNamed no_names);
-        long = refl;
+        answered = record {
+          stands = stands;
+          built = built;
+          named = All-nil (IsNamed no_names);
+          long = refl;
+        };
+        reasoned = reasoned;
       };
     })
   where
@@ -106,5 +131,33 @@ module _ (machine next : Ordered) (builder : Built) (r : Recording) (n : ℕ) (s
             ∙ locks-here r.steps n step here (race-accesses machine step.thread step.event (sym answered ∙ race-is given race)) step.thread;
       }
 
+  -- the answer is that of the definitions
+  pub known-here : given ≡ unordered_answer r.steps n
+  known-here = known
+
   pub come-to : (new : Built) → IsBuiltBy (unordered_answer r.steps) new r (n + 1) → HasComeTo next new r (n + 1)
   come-to new built = record { stands = stands; built = built }
+
+-- a race is printed exactly if there is one printed race more
+count-more : (b : Bool) (n : ℕ) → nat_lt n (n + cond b 1 0) ≡ b
+count-more true n = grind (arith, nat_tests)
+count-more false n = grind (arith, nat_tests)
+
+races-of : (a : Answering) (builder : Built) (r : Recording) (n : ℕ) → IsBuiltBy a builder r n → builder.report.races ≡ count_below (is_printed_by a r builder.rules) n
+unfolding report_below_by
+races-of a builder r n built = ap (λ (s : Summary). s.races) built.report
+
+next-count : (test : ℕ → Bool) (k : ℕ) → nat_lt (count_below test k) (count_below test (suc k)) ≡ test k
+unfolding count_below
+next-count test k = count-more (test k) (count_below test k)
+
+pub printed-here : (a : Answering) (before after : Built) (r : Recording) (k : ℕ) → IsBuiltBy a before r k → IsBuiltBy a after r (k + 1) → after.rules ≡ before.rules
+    → nat_lt before.report.races after.report.races ≡ is_printed_by a r before.rules k
+printed-here a before after r k built next rules =
+    ap₂ nat_lt (races-of a before r k built) (races-of a after r (k + 1) next ∙ ap₂ (λ (l : List Target) (n : ℕ). count_below (is_printed_by a r l) n) rules (add-one k))
+    ∙ next-count (is_printed_by a r before.rules) k
+
+-- the clock that a machine lends is that of its thread
+pub clock-lent : (machine : Ordered) (steps : List Step) (t : ℕ) (clock : ℕ × List ℕ) → Stands machine steps → clock.0 ≡ t → ((u : ℕ) → count_by clock u ≡ clock_of machine t u)
+    → IsClockAfter steps t clock
+clock-lent machine steps t clock stands thread counts = record { thread = thread; counts = λ u. counts u ∙ stands.clocks (OfThread t) u }

@@ -1,2 +1,5 @@
--- How far a replay has come.
+-- How far a replay has come, and what it leaves in the writer.
+pub mod Both
 pub mod Passes
+pub mod Reasons
+pub mod Written

@@ -1,5 +1,7 @@
 pub mod Answers
 pub mod Faults
 pub mod Inner
+pub mod Reasons
+pub mod Replays
 pub mod Reports
 pub mod Text

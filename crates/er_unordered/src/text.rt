@@ -11,8 +11,8 @@ ghost use Rattle.er_unordered.specs.Text.{access_text, unordered_line, unordered
 use er_device::Device;
 use er_event::{Kind, Lockset, Site, ThreadId, Word};
 use er_print::{
-    WriteFault, put_address, put_kind, put_line, put_locks, put_number, put_place, put_rule_counts,
-    put_site, put_thread, report_text,
+    WriteFault, put_address, put_kind, put_line, put_locks, put_number, put_place, put_reasons,
+    put_rule_counts, put_site, put_thread, report_text,
 };
 use er_report::{Line, Report};
 use er_trace::Names;
@@ -95,11 +95,12 @@ fn put_unordered_line(out: &mut Vec<u8>, names: &Names, line: &Line) -> Result<(
             word,
             site,
             held,
-            explained: _,
+            explained,
         } => {
             put_place(out, *line)?;
             out.extend_from_slice(b"unordered: ")?;
-            put_access(out, names, *thread, *kind, *word, *site, held)
+            put_access(out, names, *thread, *kind, *word, *site, held)?;
+            put_reasons(out, names, explained)
         }
         Line::Refused { .. } | Line::Shown { .. } => put_line(out, names, line),
     }
@@ -132,8 +133,8 @@ fn put_access(
     out.extend_from_slice(b"\n")
 }
 
-// Puts the line of totals.
-fn put_unordered_totals(out: &mut Vec<u8>, report: &Report) -> Result<(), AllocError>
+/// Puts the line of totals of a report of unordered accesses.
+pub fn put_unordered_totals(out: &mut Vec<u8>, report: &Report) -> Result<(), AllocError>
     ensures { OnOk result (out.new.items ≡ out.old.items ++ unordered_totals (told report.now)) }
 {
     out.extend_from_slice(b"steps ")?;

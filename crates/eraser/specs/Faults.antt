@@ -21,8 +21,11 @@ replay_fault (running.Replay replaying.WorkerLost) = WorkerLost
 replay_fault running.Memory = Memory
 replay_fault (running.Damaged damage) = Damaged damage
 
--- a fault of a replay by happens-before
+-- a fault of a replay by happens-before, alone or beside the lockset rule
 abbrev pub order_fault : OrderFault → Fault
 order_fault (ordering.Read fault) = trace_fault fault
+order_fault (ordering.Write writing.Memory) = Memory
+order_fault (ordering.Write writing.Write) = Write
+order_fault ordering.TableFull = TableFull
 order_fault ordering.CountFull = CountFull
 order_fault ordering.Memory = Memory

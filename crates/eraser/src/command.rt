@@ -5,23 +5,26 @@ ghost use Rattle.er_device.specs.Device.{inner_of, has_failed};
 ghost use Rattle.er_rules.specs.Rules.{targets_of};
 ghost use Rattle.er_exit.specs.Writes.{LeavesOutput};
 ghost use Rattle.er_request.specs.declared.request.Format.TheVariants.{Text};
+ghost use Rattle.er_request.specs.Words.{asks_until_fault, names_until_fault};
 ghost use Rattle.er_run.specs.Replays.{IsReplayed};
 ghost use Rattle.er_triage.specs.Notes.{AreNotes};
 ghost use Rattle.eraser.specs.Notes.{AsksNoNotes, GetsNotes};
-ghost use Rattle.eraser.specs.Replays.{EndsAs, IsPlain, ReplaysTo};
+ghost use Rattle.er_unordered.specs.declared.replay.Analysis.{Analysis as Order};
+ghost use Rattle.eraser.specs.Replays.{EndsAs, EndsBy, IsPlain, IsPlainBy, ReplaysTo};
 
 use crate::advice::report_replay_fault;
+use crate::analyses::{order_of, replay_by_order};
 use crate::faults::fault_of;
 use crate::rules::suppressions_of;
 use crate::sorting::{Ended, asks_more, replay_and_sort, status_of};
 use crate::stories::explain_step;
-use crate::unordered::replay_unordered;
+use crate::until::end_until_fault;
 use clap::error::ErrorKind;
 use er_device::Device;
 use er_exit::{Fault, put, report_fault, run_demo};
 use er_formats::{Form, replay_as};
 use er_load::Workload;
-use er_request::{Analysis, Demo, Explain, Format, Replay, Request, read_request};
+use er_request::{Demo, Explain, Format, Replay, Request, read_request};
 use er_rules::Suppressions;
 use er_run::{Options, Verdict, replay_text};
 use std::alloc::Global;
@@ -53,9 +56,9 @@ where
     ensures status { result ≤ 4 }
 
     // With a result nothing goes to the errors but the notes that were asked for, and with wrong arguments or a faulty text nothing to
-    // the output.
+    // the output, unless a word asks for the steps before the fault.
     ensures quiet { result ≤ 1 → GetsNotes (E.contents (inner_of errors.old)) (E.contents (inner_of errors.new)) (has_failed errors.new) }
-    ensures refused { result ≡ 2 → Keeps (O.contents (inner_of output.old)) (O.contents (inner_of output.new)) }
+    ensures refused { names_until_fault words.now ≡ false → result ≡ 2 → Keeps (O.contents (inner_of output.old)) (O.contents (inner_of output.new)) }
 {
     match read_request(rt.alloc(), words) {
         Ok(request) => run_request(rt, request, input, output, errors, for_people),
@@ -82,9 +85,12 @@ where
     ensures status { result ≤ 4 }
     ensures quiet { result ≤ 1 → GetsNotes (E.contents (inner_of errors.old)) (E.contents (inner_of errors.new)) (has_failed errors.new) }
     ensures silent { AsksNoNotes request.entry → result ≤ 1 → Keeps (E.contents (inner_of errors.old)) (E.contents (inner_of errors.new)) }
-    ensures refused { result ≡ 2 → Keeps (O.contents (inner_of output.old)) (O.contents (inner_of output.new)) }
+    ensures refused { asks_until_fault request.entry ≡ false → result ≡ 2 → Keeps (O.contents (inner_of output.old)) (O.contents (inner_of output.new)) }
 {
     match request {
+        Request::Replay(replay) if replay.until_fault => {
+            end_until_fault(rt, &replay, input, output, errors, for_people)
+        }
         Request::Replay(replay) => end_replay(rt, &replay, input, output, errors, for_people),
         Request::Explain(asked) => end_story(rt, &asked, input, output, errors),
         Request::Demo(demo) => end_demo(rt, demo, output, errors),
@@ -165,8 +171,8 @@ where
     }
 }
 
-// Writes the notes, and returns the status.
-fn note<E: Write>(ended: Ended, errors: &mut Device<E>) -> u8
+/// Writes the notes, and returns the status.
+pub(crate) fn note<E: Write>(ended: Ended, errors: &mut Device<E>) -> u8
     requires errors { has_failed errors.old ≡ false }
     requires notes { AreNotes ended.notes.items }
     ensures status { result ≡ ended.status }
@@ -196,8 +202,8 @@ where
     }
 }
 
-// How the trace is to be replayed.
-fn options_of(replay: &Replay<'_>) -> Options
+/// How the trace is to be replayed.
+pub(crate) fn options_of(replay: &Replay<'_>) -> Options
     ensures explain { result.explain ≡ replay.now.explain }
     ensures bytes { result.byte_limit ≡ replay.now.byte_limit }
     ensures strict { result.strict ≡ replay.now.strict }
@@ -225,6 +231,7 @@ where
     ensures notes { IfOk result (λ ended. AreNotes ended.notes.items) }
     ensures silent { replay.now.unused_rules ≡ false → replay.now.max_races ≡ None → IfOk result (λ ended. ended.notes.items ≡ []) }
     ensures report { IsPlain replay.now → replay.now.suppressions.items ≡ [] → replay.now.trace.now ≡ codes "-" → IfOk result (λ ended. IfSome (I.remaining (inner_of input.old)) (λ text. ReplaysTo text replay.now.byte_limit replay.now.explain (O.contents (inner_of output.old)) (O.contents (inner_of output.new)) ended.status)) }
+    ensures report_by { (analysis : Order) → IsPlainBy analysis replay.now → replay.now.suppressions.items ≡ [] → replay.now.trace.now ≡ codes "-" → IfOk result (λ ended. IfSome (I.remaining (inner_of input.old)) (λ text. EndsBy analysis text replay.now.byte_limit [] replay.now.explain (O.contents (inner_of output.old)) (O.contents (inner_of output.new)) ended.status)) }
     ensures nothing { IfErr result (LeavesOutput (O.contents (inner_of output.old)) (O.contents (inner_of output.new))) }
 {
     let options = options_of(replay);
@@ -250,6 +257,7 @@ where
     ensures notes { IfOk result (λ ended. AreNotes ended.notes.items) }
     ensures silent { replay.now.unused_rules ≡ false → replay.now.max_races ≡ None → IfOk result (λ ended. ended.notes.items ≡ []) }
     ensures report { IsPlain replay.now → replay.now.trace.now ≡ codes "-" → IfOk result (λ ended. IfSome (I.remaining (inner_of input.old)) (λ text. EndsAs text options.now.byte_limit (targets_of suppressions.now) options.now.explain (O.contents (inner_of output.old)) (O.contents (inner_of output.new)) ended.status)) }
+    ensures report_by { (analysis : Order) → IsPlainBy analysis replay.now → replay.now.trace.now ≡ codes "-" → IfOk result (λ ended. IfSome (I.remaining (inner_of input.old)) (λ text. EndsBy analysis text options.now.byte_limit (targets_of suppressions.now) options.now.explain (O.contents (inner_of output.old)) (O.contents (inner_of output.new)) ended.status)) }
     ensures nothing { IfErr result (LeavesOutput (O.contents (inner_of output.old)) (O.contents (inner_of output.new))) }
 {
     if replay.trace == "-" {
@@ -262,8 +270,8 @@ where
     replay_from(rt, replay, &mut source, output, suppressions, options)
 }
 
-// Replays what the reader gives, and writes what was asked for.
-fn replay_from<R, D, O>(
+/// Replays what the reader gives, and writes what was asked for.
+pub(crate) fn replay_from<R, D, O>(
     rt: &R,
     replay: &Replay<'_>,
     source: &mut Device<D>,
@@ -281,10 +289,11 @@ where
     ensures notes { IfOk result (λ ended. AreNotes ended.notes.items) }
     ensures silent { replay.now.unused_rules ≡ false → replay.now.max_races ≡ None → IfOk result (λ ended. ended.notes.items ≡ []) }
     ensures report { IsPlain replay.now → IfOk result (λ ended. IfSome (D.remaining (inner_of source.old)) (λ text. EndsAs text options.now.byte_limit (targets_of suppressions.now) options.now.explain (O.contents (inner_of output.old)) (O.contents (inner_of output.new)) ended.status)) }
+    ensures report_by { (analysis : Order) → IsPlainBy analysis replay.now → IfOk result (λ ended. IfSome (D.remaining (inner_of source.old)) (λ text. EndsBy analysis text options.now.byte_limit (targets_of suppressions.now) options.now.explain (O.contents (inner_of output.old)) (O.contents (inner_of output.new)) ended.status)) }
     ensures nothing { IfErr result (LeavesOutput (O.contents (inner_of output.old)) (O.contents (inner_of output.new))) }
 {
-    if replay.analysis == Analysis::HappensBefore {
-        return replay_unordered(rt, replay, source, output, suppressions, options.byte_limit);
+    if let Some(analysis) = order_of(replay.analysis) {
+        return replay_by_order(rt, replay, analysis, source, output, suppressions, options);
     }
     if asks_more(replay) || shows_sources(replay) {
         return replay_and_sort(rt, replay, source, output, suppressions, options);

@@ -25,13 +25,15 @@ pub fn fault_of(fault: RunFault) -> Fault
     }
 }
 
-/// What stands for a fault of a replay by happens-before.
+/// What stands for a fault of a replay by happens-before, alone or beside the lockset rule.
 pub(crate) fn order_fault_of(fault: OrderFault) -> Fault
     ensures { result ≡ order_fault fault }
 {
     match fault {
         OrderFault::Read(fault) => Fault::of_trace(fault),
+        OrderFault::Write(WriteFault::Memory) | OrderFault::Memory => Fault::Memory,
+        OrderFault::Write(WriteFault::Write) => Fault::Write,
+        OrderFault::TableFull => Fault::TableFull,
         OrderFault::CountFull => Fault::CountFull,
-        OrderFault::Memory => Fault::Memory,
     }
 }

@@ -5,13 +5,14 @@
 #![tactic(auto)]
 
 mod advice;
+mod analyses;
 mod command;
 mod faults;
 mod rules;
 mod sorting;
 mod sources;
 mod stories;
-mod unordered;
+mod until;
 
 pub use command::command;
 use er_device::Device;

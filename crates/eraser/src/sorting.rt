@@ -5,7 +5,8 @@ ghost use Rattle.er_exit.specs.declared.faults.Fault.TheVariants.{Memory, WriteR
 ghost use Rattle.er_exit.specs.Writes.{LeavesOutput};
 ghost use Rattle.er_report.specs.Names.{HasNames};
 ghost use Rattle.er_triage.specs.Notes.{AreNotes};
-ghost use Rattle.eraser.specs.Replays.{IsPlain, verdict_status};
+ghost use Rattle.er_unordered.specs.declared.replay.Analysis.{Analysis as Order};
+ghost use Rattle.eraser.specs.Replays.{IsPlain, IsPlainBy, verdict_status};
 
 use crate::faults::fault_of;
 use crate::rules::write_rules;
@@ -51,7 +52,8 @@ pub(crate) fn status_of(verdict: Verdict) -> u8
 
 /// Whether more is asked of a report than its text.
 pub(crate) fn asks_more(replay: &Replay<'_>) -> bool
-    ensures { IsPlain replay.now → result ≡ false }
+    ensures plain { IsPlain replay.now → result ≡ false }
+    ensures plain_by { (analysis : Order) → IsPlainBy analysis replay.now → result ≡ false }
 {
     replay.write_rules.is_some() || replay.unused_rules || replay.max_races.is_some()
 }

@@ -132,8 +132,8 @@ fn place_of(site: &str) -> Option<(&str, u64)> {
     Some((file, line))
 }
 
-// Whether it is an ordinary file: a FIFO could wait for ever.
-fn is_ordinary<R: Files>(rt: &R, path: &str) -> bool {
+/// Whether it is an ordinary file: a FIFO could wait for ever.
+pub(crate) fn is_ordinary<R: Files>(rt: &R, path: &str) -> bool {
     match fs::metadata(rt, path) {
         Ok(found) => found.is_file(),
         Err(_) => false,

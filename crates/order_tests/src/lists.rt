@@ -11,7 +11,7 @@ fn word(digit: u8) -> Word {
     Word::new(1024 + u64::from(digit))
 }
 
-fn event(verb: u8, digit: u8) -> Event {
+pub(crate) fn event(verb: u8, digit: u8) -> Event {
     let number = u32::from(digit);
     let lock = LockId::new(number);
     match verb {

@@ -60,15 +60,27 @@ fn gather_from<R: Read>(
     most: u32,
     gathered: &mut Gathered,
 ) -> Result<(), ReadFault> {
-    let mut batch = Batch::More;
     for _ in 0..1 << 20 {
-        if reader.failed() || batch == Batch::End {
+        if gather_batch(reader, batches, most, gathered)? == Batch::End {
             return Ok(());
         }
-        batch = batches.next_batch(reader, &mut gathered.trace, most)?;
-        gathered.keep()?;
     }
     Ok(())
+}
+
+// Reads one batch. It stands apart from the loop, in which all that a batch promises would be carried from turn to turn.
+fn gather_batch<R: Read>(
+    reader: &mut Device<R>,
+    batches: &mut TraceReader,
+    most: u32,
+    gathered: &mut Gathered,
+) -> Result<Batch, ReadFault> {
+    if reader.failed() {
+        return Ok(Batch::End);
+    }
+    let batch = batches.next_batch(reader, &mut gathered.trace, most)?;
+    gathered.keep()?;
+    Ok(batch)
 }
 
 const NAMES: [&str; 8] = [

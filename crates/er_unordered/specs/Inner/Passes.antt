@@ -9,8 +9,9 @@ use Rattle.er_text.specs.Trace.{IsTrace}
 use Rattle.er_trace.specs.Names.{NameTable}
 use Rattle.er_trace.specs.Trace.{Recording, IsNamed}
 use Rattle.er_unordered.specs.Answers.{unordered_answer}
+use Rattle.er_unordered.specs.Inner.Reasons.{HasReasons, Reasoned}
 use Rattle.er_unordered.specs.declared.fault.OrderFault.{OrderFault}
-use Rattle.er_unordered.specs.declared.fault.OrderFault.TheVariants.{Read, CountFull, Memory}
+use Rattle.er_unordered.specs.declared.fault.OrderFault.TheVariants.{Read, Write, TableFull, CountFull, Memory}
 
 -- these steps and their lines, under these names
 abbrev pub recorded : List Step → List ℕ → NameTable → Recording
@@ -28,25 +29,52 @@ pub record HasAnswered (machine : Ordered) (builder : Built) (r : Recording) : T
   pub named : All (IsNamed r.names) r.steps
   pub long : length r.lines ≡ length r.steps
 
+-- what is built for a report: the report without reasons, and what is kept for reasons, if they are wanted
+pub record OrderBuilt : Type 0 where
+  pub built : Built
+  pub reasons : Option Reasoned
+
+-- what is kept for reasons is that of the recording's first n steps
+abbrev pub IsReasoned : OrderBuilt → Recording → ℕ → Type 0
+IsReasoned builder r n = IfSome builder.reasons (λ kept. HasReasons kept r builder.built.rules n)
+
+-- the recording's first n steps were answered, and what is kept for reasons is theirs
+pub record HasExplainedTo (machine : Ordered) (builder : Built) (kept : Reasoned) (r : Recording) (n : ℕ) : Type 0 where
+  pub come : HasComeTo machine builder r n
+  pub explained : HasReasons kept r builder.rules n
+
+-- the same of all of its steps
+pub record HasExplained (machine : Ordered) (builder : Built) (kept : Reasoned) (r : Recording) : Type 0 where
+  pub answered : HasAnswered machine builder r
+  pub explained : HasReasons kept r builder.rules (length r.steps)
+
+-- all of the recording's steps were answered, with reasons or without
+pub record HasGathered (machine : Ordered) (builder : OrderBuilt) (r : Recording) : Type 0 where
+  pub answered : HasAnswered machine builder.built r
+  pub reasoned : IsReasoned builder r (length r.steps)
+
 -- between two batches: some steps were read and answered, and nobody keeps them
-pub record HasCome (told known : Option (List ℕ)) (reader : Reached) (trace : Recording) (machine : Ordered) (builder : Built) : Type 0 where
+pub record HasCome (told known : Option (List ℕ)) (reader : Reached) (trace : Recording) (machine : Ordered) (builder : OrderBuilt) : Type 0 where
   pub past : List Step
   pub lines : List ℕ
   pub read : IfSome told (λ text. HasRead text past lines reader known trace)
   pub no_steps : trace.steps ≡ []
   pub no_lines : trace.lines ≡ []
-  pub run : HasAnswered machine builder (recorded past lines trace.names)
+  pub run : HasGathered machine builder (recorded past lines trace.names)
 
 -- behind the last batch: the steps that were read are those of the text
-pub record HasEnded (told : Option (List ℕ)) (limit : ℕ) (trace : Recording) (builder : Built) : Type 0 where
+pub record HasEnded (told : Option (List ℕ)) (limit : ℕ) (trace : Recording) (builder : OrderBuilt) : Type 0 where
   pub recording : Recording
   pub read : IfSome told (λ text. IsTrace text limit recording)
   pub names : trace.names ≡ recording.names
-  pub built : IsBuiltBy (unordered_answer recording.steps) builder recording (length recording.steps)
+  pub built : IsBuiltBy (unordered_answer recording.steps) builder.built recording (length recording.steps)
+  pub reasoned : IsReasoned builder recording (length recording.steps)
   pub named : All (IsNamed recording.names) recording.steps
 
 -- the steps weren't answered: not a fault of the text
 abbrev pub IsOrderFault : OrderFault → Type 0
 IsOrderFault (Read fault) = ⊥
+IsOrderFault (Write fault) = ⊥
+IsOrderFault TableFull = ⊥
 IsOrderFault CountFull = Unit {0}
 IsOrderFault Memory = Unit {0}

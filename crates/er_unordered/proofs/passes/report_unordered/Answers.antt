@@ -1,5 +1,5 @@
 -- The report of the batches is that of the text.
-use Rattle.std.proofs.Common.{◌∙◌, ℕ, List, IfSome, Option, subst}
+use Rattle.std.proofs.Common.{◌∙◌, ℕ, Bool, List, IfSome, is_some, Option, subst}
 use Rattle.er_device.specs.Device.{inner_of}
 use Rattle.er_rules.specs.Rules.{Target, targets_of}
 use Rattle.er_unordered.specs.Faults.{IsFaultOfText}
@@ -10,9 +10,11 @@ pub returns-in-Ok-clause-report : goal.returns-in-Ok-clause-report
 returns-in-Ok-clause-report g c =
     let told : Option (List ℕ) = g.D.Read.remaining (inner_of c.args.reader.now) in
     let ended = c.in-Ok.ensures.ended told (c.in_ok-pass.ensures.come told) in
-    subst (λ (n : ℕ). IfSome told (λ text. IsReportOfText text n (targets_of c.args.suppressions.now) c.finish.result.trace.names c.finish.result.report)) c.in_ok-pass.ensures.limit
-    (subst (λ (rules : List Target). IfSome told (λ text. IsReportOfText text c.in_ok-pass.pass.lines.place.limit rules c.finish.result.trace.names c.finish.result.report))
-    (c.in-Ok.ensures.rules ∙ c.in_ok-pass.ensures.rules) (c.finish.ensures.report told c.in_ok-pass.pass.lines.place.limit ended))
+    subst (λ (n : ℕ). IfSome told (λ text. IsReportOfText text n (targets_of c.args.suppressions.now) c.args.explain c.finish.result.trace.names c.finish.result.report)) c.in_ok-pass.ensures.limit
+    (subst (λ (explain : Bool). IfSome told (λ text. IsReportOfText text c.in_ok-pass.pass.lines.place.limit (targets_of c.args.suppressions.now) explain c.finish.result.trace.names c.finish.result.report))
+    (c.in-Ok.ensures.explains ∙ c.in_ok-pass.ensures.explains)
+    (subst (λ (rules : List Target). IfSome told (λ text. IsReportOfText text c.in_ok-pass.pass.lines.place.limit rules (is_some c.run.new.self.builder.reasons) c.finish.result.trace.names c.finish.result.report))
+    (c.in-Ok.ensures.rules ∙ c.in_ok-pass.ensures.rules) (c.finish.ensures.report told c.in_ok-pass.pass.lines.place.limit ended)))
 
 pub returns-in-Ok-clause-named : goal.returns-in-Ok-clause-named
 returns-in-Ok-clause-named g c =

@@ -1,5 +1,5 @@
-use Rattle.er_epochs.proofs.KeptLemmas.{kept_empty}
+use Rattle.er_epochs.proofs.Blocks.{no_blocks}
 use Rattle.er_epochs.proofs.words.OrderWords.new.Goals as goal
 
 pub returns : goal.returns
-returns c w = kept_empty c.new.result.entries w c.new.ensures.empty
+returns c = no_blocks c.new.result.entries c.new.ensures.empty

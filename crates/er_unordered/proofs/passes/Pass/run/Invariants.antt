@@ -1,4 +1,4 @@
-use Rattle.std.proofs.Common.{◌≡◌, ◌+◌, ◌-◌, ◌≤◌, ℕ, List, Option, false}
+use Rattle.std.proofs.Common.{◌≡◌, ◌+◌, ◌-◌, ◌≤◌, ℕ, List, Option, is_some, false}
 use Rattle.er_device.specs.Device.{inner_of, has_failed, taken_of}
 use Rattle.er_text.specs.Inner.Lending.{taken_by}
 use Rattle.er_unordered.specs.Inner.Passes.{HasCome}
@@ -9,7 +9,8 @@ abbrev pub invariant-loop : goal.invariant-loop
 invariant-loop g l = record {
   unfailed : has_failed l.reader ≡ false;
   limit : l.self.lines.place.limit ≡ l.fn.self.lines.place.limit;
-  rules : l.self.builder.rules ≡ l.fn.self.builder.rules;
+  rules : l.self.builder.built.rules ≡ l.fn.self.builder.built.rules;
+  explains : is_some l.self.builder.reasons ≡ is_some l.fn.self.builder.reasons;
   taken : taken_of l.reader + taken_by l.fn.self.lines.place ≤ taken_of l.fn.reader + taken_by l.self.lines.place;
   come : (told : Option (List ℕ)) → HasCome told (g.D.Read.remaining (inner_of l.fn.reader)) l.fn.self.lines l.fn.self.trace l.fn.self.machine l.fn.self.builder
       → HasCome told (g.D.Read.remaining (inner_of l.reader)) l.self.lines l.self.trace l.self.machine l.self.builder;

@@ -4,29 +4,30 @@ use Rattle.er_device.specs.Device.{inner_of}
 use Rattle.er_run.proofs.PassLemmas.{read-whole, read-part}
 use Rattle.er_text.specs.Batches.{joined}
 use Rattle.er_trace.specs.Trace.{Recording}
-use Rattle.er_unordered.specs.Inner.Passes.{HasAnswered, HasCome}
+use Rattle.er_unordered.specs.Inner.Passes.{HasGathered, HasCome}
 use Rattle.er_unordered.proofs.passes.Pass.turn.Goals as goal
 
 pub returns-in-End-clause-ended : goal.returns-in-End-clause-ended
 returns-in-End-clause-ended g c = λ told come last.
-    let run : HasAnswered c.answer_steps.new.machine c.answer_steps.new.builder (joined come.past come.lines c.next_batch.new.trace) =
-    c.in_ok-answer_steps.ensures.run come.past come.lines c.args.self.now.trace.names c.in_ok-batch.ensures.grows.names come.run in
+    let run : HasGathered c.answer.new.machine c.answer.new.self (joined come.past come.lines c.next_batch.new.trace) =
+    c.in_ok-answer.ensures.run come.past come.lines c.args.self.now.trace.names c.in_ok-batch.ensures.grows.names come.run in
     record {
       recording = joined come.past come.lines c.next_batch.new.trace;
       read = read-whole told come.past come.lines _ _ _ _ c.args.self.now.trace c.next_batch.new.trace c.in_ok-batch.batch c.in-End.is c.in_ok-batch.ensures.limit c.in_ok-batch.ensures.told come.read;
       names = refl;
-      built = run.built;
-      named = run.named;
+      built = run.answered.built;
+      reasoned = run.reasoned;
+      named = run.answered.named;
     }
 
 pub returns-in-More-clause-come : goal.returns-in-More-clause-come
 returns-in-More-clause-come g c = λ told come more.
     let trace : Recording = c.next_batch.new.trace in
-    subst (λ (t : Recording). HasCome told (g.D.Read.remaining (inner_of c.next_batch.new.reader)) c.next_batch.new.self t c.answer_steps.new.machine c.answer_steps.new.builder) (sym c.clear.ensures) (record {
+    subst (λ (t : Recording). HasCome told (g.D.Read.remaining (inner_of c.next_batch.new.reader)) c.next_batch.new.self t c.answer.new.machine c.answer.new.self) (sym c.clear.ensures) (record {
       past = come.past ++ trace.steps;
       lines = come.lines ++ trace.lines;
       read = read-part told come.past come.lines _ _ _ _ c.args.self.now.trace trace c.in_ok-batch.batch c.in-More.is c.in_ok-batch.ensures.told come.read;
       no_steps = refl;
       no_lines = refl;
-      run = c.in_ok-answer_steps.ensures.run come.past come.lines c.args.self.now.trace.names c.in_ok-batch.ensures.grows.names come.run;
+      run = c.in_ok-answer.ensures.run come.past come.lines c.args.self.now.trace.names c.in_ok-batch.ensures.grows.names come.run;
     })

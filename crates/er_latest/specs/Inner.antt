@@ -1,0 +1,2 @@
+-- How what is kept goes on step by step.
+pub mod Steps

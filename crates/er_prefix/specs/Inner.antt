@@ -1,0 +1,2 @@
+-- How lines are counted while a reader goes on.
+pub mod Lines

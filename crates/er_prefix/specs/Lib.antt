@@ -1,0 +1,3 @@
+pub mod Prefix
+pub mod Keeping
+pub mod Inner

@@ -1,0 +1,16 @@
+-- What the words of a command line ask for.
+use Rattle.std.specs.Prelude.{Bool, false, List, ℕ, codes, String, string_bytes}
+use Rattle.std.specs.List.{list_any}
+use Rattle.std.specs.Str.{bytes_eq}
+use Rattle.er_request.specs.declared.request.Request.{Request}
+use Rattle.er_request.specs.declared.request.Request.TheVariants.{Replay, Explain, Demo}
+
+-- one of the words is `--until-fault`
+abbrev pub names_until_fault : {A : Type 0} → List (String A) → Bool
+names_until_fault words = list_any (λ word. bytes_eq (string_bytes word) (codes "--until-fault")) words
+
+-- the steps before a fault are to be reported
+abbrev pub asks_until_fault : Request → Bool
+asks_until_fault (Replay replay) = replay.until_fault
+asks_until_fault (Explain explain) = false
+asks_until_fault (Demo demo) = false

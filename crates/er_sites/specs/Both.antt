@@ -1,0 +1,40 @@
+-- The text for people of a trace that was analysed both ways: the sites of the accesses that are unordered in the run, and the other sites.
+use Rattle.std.specs.Prelude.{◌≡◌, ◌==◌, ◌&&◌, ℕ, Bool, true, false, cond, count_by, List, [], ◌∷◌, ◌++◌, flat_map, codes}
+use Rattle.std.specs.List.{find}
+use Rattle.er_report.specs.declared.report.Line.{Line}
+use Rattle.er_sites.specs.Table.{IsTable, reads_at, writes_at}
+use Rattle.er_sites.specs.Text.{is_refused, refused_text, rows_text}
+use Rattle.er_sites.specs.declared.row.SiteRow.{SiteRow}
+use Rattle.er_trace.specs.Names.{NameTable}
+
+-- the rows are none
+abbrev pub are_none : List SiteRow → Bool
+are_none [] = true
+are_none (row ∷ rows) = false
+
+-- a heading, and that nothing is below it
+abbrev pub title_of : List ℕ → Bool → List ℕ
+title_of title none = title ++ cond none (codes ": none" ++ 10 ∷ 10 ∷ []) (10 ∷ [])
+
+-- below it the table and the examples
+unfoldable pub part_text : List ℕ → NameTable → List Line → List SiteRow → List ℕ
+part_text title names lines rows = title_of title (are_none rows) ++ rows_text names lines rows
+
+-- the row, if its site has no race among these lines
+abbrev pub if_elsewhere : List Line → SiteRow → List SiteRow
+if_elsewhere lines row = cond (count_by (reads_at row.site) lines == 0 && count_by (writes_at row.site) lines == 0) (row ∷ []) []
+
+-- such rows
+unfoldable pub other_rows : List Line → List SiteRow → List SiteRow
+other_rows lines rows = flat_map (if_elsewhere lines) rows
+
+-- the sites of the unordered accesses, then the other sites of the lockset rule's races, then the first refused step
+unfoldable pub both_text : NameTable → List Line → List Line → List SiteRow → List SiteRow → List ℕ
+both_text names lockset unordered first all =
+    part_text (codes "races in this run") names unordered first ++ part_text (codes "no common lock") names lockset (other_rows unordered all)
+    ++ refused_text (find is_refused lockset)
+
+-- the text was put, of a table of each analysis
+abbrev pub PutsBoth : List ℕ → List ℕ → NameTable → List Line → List Line → Type 0
+PutsBoth old new names lockset unordered =
+    (first : List SiteRow) × (all : List SiteRow) × (IsTable unordered first × (IsTable lockset all × (new ≡ old ++ both_text names lockset unordered first all)))

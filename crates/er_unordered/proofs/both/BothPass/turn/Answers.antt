@@ -1,0 +1,35 @@
+-- A batch goes on behind the steps that are forgotten, and with the last one they are the text's.
+use Rattle.std.proofs.Common.{◌++◌, refl, sym, subst}
+use Rattle.er_device.specs.Device.{inner_of}
+use Rattle.er_run.proofs.PassLemmas.{read-whole, read-part}
+use Rattle.er_text.specs.Batches.{joined}
+use Rattle.er_trace.specs.Trace.{Recording}
+use Rattle.er_unordered.specs.Inner.Both.{HaveCome}
+use Rattle.er_unordered.specs.Inner.Passes.{HasGathered}
+use Rattle.er_unordered.proofs.both.BothPass.turn.Goals as goal
+
+pub returns-in-End-clause-ended : goal.returns-in-End-clause-ended
+returns-in-End-clause-ended g c = λ told come last.
+    let answered : HasGathered c.answer.new.machine c.answer.new.self (joined come.past come.lines c.next_batch.new.trace) =
+    c.in_ok-answer.ensures.run come.past come.lines c.args.self.now.trace.names c.in_ok-batch.ensures.grows.names come.answered in
+    record {
+      recording = joined come.past come.lines c.next_batch.new.trace;
+      read = read-whole told come.past come.lines _ _ _ _ c.args.self.now.trace c.next_batch.new.trace c.in_ok-batch.batch c.in-End.is c.in_ok-batch.ensures.limit c.in_ok-batch.ensures.told come.read;
+      names = refl;
+      run = c.in_ok-self.ensures.run come.past come.lines c.args.self.now.trace.names c.in_ok-batch.ensures.grows.names come.run;
+      built = answered.answered.built;
+      reasoned = answered.reasoned;
+    }
+
+pub returns-in-More-clause-come : goal.returns-in-More-clause-come
+returns-in-More-clause-come g c = λ told come more.
+    let trace : Recording = c.next_batch.new.trace in
+    subst (λ (t : Recording). HaveCome told (g.D.Read.remaining (inner_of c.next_batch.new.reader)) c.next_batch.new.self t c.answer_batch.new.machine c.answer_batch.new.builder c.in_ok-self.field-0 c.answer.new.machine c.answer.new.self) (sym c.clear.ensures) (record {
+      past = come.past ++ trace.steps;
+      lines = come.lines ++ trace.lines;
+      read = read-part told come.past come.lines _ _ _ _ c.args.self.now.trace trace c.in_ok-batch.batch c.in-More.is c.in_ok-batch.ensures.told come.read;
+      no_steps = refl;
+      no_lines = refl;
+      run = c.in_ok-self.ensures.run come.past come.lines c.args.self.now.trace.names c.in_ok-batch.ensures.grows.names come.run;
+      answered = c.in_ok-answer.ensures.run come.past come.lines c.args.self.now.trace.names c.in_ok-batch.ensures.grows.names come.answered;
+    })

@@ -1,0 +1,6 @@
+use Rattle.std.proofs.Common.{refl}
+use Rattle.er_unordered.proofs.ReasonLemmas.{none-kept}
+use Rattle.er_unordered.proofs.reasons.Reasons.new.Goals as goal
+
+pub returns : goal.returns
+returns c = none-kept _ _ c.new.ensures (rw c.new-2.ensures.items refl)

@@ -1,0 +1,17 @@
+-- What writing reports that were built leaves in the writer.
+use Rattle.std.specs.Prelude.{ℕ, List, Option, Result, Ok, Err, take}
+use Rattle.std.specs.Io.KnownBytes.{Appends, Keeps}
+use Rattle.er_print.specs.declared.fault.WriteFault.TheVariants as writing
+use Rattle.er_run.specs.declared.fault.Verdict.{Verdict}
+use Rattle.er_unordered.specs.declared.fault.OrderFault.{OrderFault}
+use Rattle.er_unordered.specs.declared.fault.OrderFault.TheVariants.{Read, Write, TableFull, CountFull, Memory}
+
+-- all of the text was written, or a beginning of it where a write failed, or nothing
+abbrev pub WritesFound : Option (List ℕ) → Option (List ℕ) → List ℕ → Result Verdict OrderFault → Type 0
+WritesFound old new text (Ok verdict) = Appends old new text
+WritesFound old new text (Err (Write writing.Memory)) = Keeps old new
+WritesFound old new text (Err (Write writing.Write)) = (n : ℕ) × Appends old new (take n text)
+WritesFound old new text (Err (Read fault)) = ⊥
+WritesFound old new text (Err TableFull) = ⊥
+WritesFound old new text (Err CountFull) = ⊥
+WritesFound old new text (Err Memory) = ⊥

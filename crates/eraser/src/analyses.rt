@@ -1,0 +1,205 @@
+//! A replay by happens-before, alone or beside the lockset rule.
+ghost use Rattle.std.specs.Prelude.{◌≡◌, ◌≢◌, ◌≤◌, [], All, false, None, Some, IfOk, IfErr, IfSome};
+ghost use Rattle.er_device.specs.Device.{inner_of, has_failed};
+ghost use Rattle.er_exit.specs.Writes.{LeavesOutput};
+ghost use Rattle.er_report.specs.Names.{HasNames};
+ghost use Rattle.er_request.specs.declared.request.Format.TheVariants.{Text};
+ghost use Rattle.er_rules.specs.Rules.{targets_of};
+ghost use Rattle.er_triage.specs.Notes.{AreNotes};
+ghost use Rattle.eraser.specs.Replays.{EndsBy, IsPlainBy, order_of};
+
+use crate::faults::order_fault_of;
+use crate::sorting::{Ended, asks_more, finish, sorted, status_of};
+use er_device::Device;
+use er_exit::Fault;
+use er_print::{WriteFault, put_rule_counts, put_totals};
+use er_report::Report;
+use er_request::{Format, Replay};
+use er_rules::Suppressions;
+use er_run::Options;
+use er_sites::put_sites_of_both;
+use er_trace::Names;
+use er_unordered::{
+    Analysis, BothReports, UnorderedReport, put_unordered_totals, replay_by, report_both,
+    report_unordered, write_unordered,
+};
+use std::alloc::{AllocError, Global};
+use std::io::{Read, Write};
+use std::rt::Files;
+use std::sync::Wait;
+
+/// The analysis that knows order, if one is asked for.
+pub(crate) fn order_of(asked: er_request::Analysis) -> Option<Analysis>
+    ensures { result ≡ order_of asked }
+{
+    match asked {
+        er_request::Analysis::Lockset => None,
+        er_request::Analysis::HappensBefore => Some(Analysis::HappensBefore),
+        er_request::Analysis::Both => Some(Analysis::Both),
+    }
+}
+
+/// Replays what the reader gives by this analysis, and writes what is asked for. Rules are made of the report by happens-before alone.
+pub(crate) fn replay_by_order<R, D, O>(
+    rt: &R,
+    replay: &Replay<'_>,
+    analysis: Analysis,
+    source: &mut Device<D>,
+    output: &mut Device<O>,
+    suppressions: &Suppressions,
+    options: &Options,
+) -> Result<Ended, Fault>
+where
+    R: Files + AllocGlobal + Wait,
+    D: Read,
+    O: Write,
+    requires source { has_failed source.old ≡ false }
+    requires output { has_failed output.old ≡ false }
+    ensures status { IfOk result (λ ended. (ended.status ≤ 4) × (ended.status ≢ 2)) }
+    ensures notes { IfOk result (λ ended. AreNotes ended.notes.items) }
+    ensures silent { replay.now.unused_rules ≡ false → replay.now.max_races ≡ None → IfOk result (λ ended. ended.notes.items ≡ []) }
+    ensures report { IsPlainBy analysis replay.now → IfOk result (λ ended. IfSome (D.remaining (inner_of source.old)) (λ text. EndsBy analysis text options.now.byte_limit (targets_of suppressions.now) options.now.explain (O.contents (inner_of output.old)) (O.contents (inner_of output.new)) ended.status)) }
+    ensures nothing { IfErr result (LeavesOutput (O.contents (inner_of output.old)) (O.contents (inner_of output.new))) }
+{
+    if asks_sites(replay) {
+        return replay_by_site(rt, source, output, suppressions, options);
+    }
+    if analysis == Analysis::HappensBefore && asks_more(replay) {
+        return sort_unordered(rt, replay, source, output, suppressions, options);
+    }
+    match replay_by(rt, source, output, suppressions, options, analysis) {
+        Ok(verdict) => Ok(Ended {
+            status: status_of(verdict),
+            notes: Vec::new(rt.alloc()),
+        }),
+        Err(why) => Err(order_fault_of(why)),
+    }
+}
+
+// Whether the report is to go by sites.
+fn asks_sites(replay: &Replay<'_>) -> bool
+    ensures { replay.now.format ≡ Text → result ≡ false }
+{
+    matches!(replay.format, Format::BySite)
+}
+
+// Replays what the reader gives by both analyses, and writes the sites of both reports.
+fn replay_by_site<R, D, O>(
+    rt: &R,
+    source: &mut Device<D>,
+    output: &mut Device<O>,
+    suppressions: &Suppressions,
+    options: &Options,
+) -> Result<Ended, Fault>
+where
+    R: AllocGlobal + Wait,
+    D: Read,
+    O: Write,
+    requires source { has_failed source.old ≡ false }
+    requires output { has_failed output.old ≡ false }
+    ensures status { IfOk result (λ ended. (ended.status ≤ 4) × (ended.status ≢ 2)) }
+    ensures notes { IfOk result (λ ended. ended.notes.items ≡ []) }
+    ensures nothing { IfErr result (LeavesOutput (O.contents (inner_of output.old)) (O.contents (inner_of output.new))) }
+{
+    let found = match report_both(rt, rt.alloc(), source, suppressions, options) {
+        Ok(found) => found,
+        Err(why) => return Err(order_fault_of(why)),
+    };
+    write_sites(rt.alloc(), output, &found)?;
+    let races = found.lockset.races > 0 || found.unordered.races > 0;
+    Ok(Ended {
+        status: u8::from(races),
+        notes: Vec::new(rt.alloc()),
+    })
+}
+
+// Writes the sites of both reports.
+fn write_sites<O: Write>(
+    alloc: Global,
+    output: &mut Device<O>,
+    found: &BothReports,
+) -> Result<(), Fault>
+    requires output { has_failed output.old ≡ false }
+    requires lockset { All (HasNames found.now.trace.names) found.now.lockset.lines.items }
+    requires unordered { All (HasNames found.now.trace.names) found.now.unordered.lines.items }
+    ensures nothing { IfErr result (LeavesOutput (O.contents (inner_of output.old)) (O.contents (inner_of output.new))) }
+{
+    let Ok(text) = sites_text(alloc, found) else {
+        return Err(Fault::Memory);
+    };
+    match output.write_all(&text) {
+        Ok(()) => Ok(()),
+        Err(_) => Err(Fault::Write),
+    }
+}
+
+// The sites of both reports, and what each report ends with.
+fn sites_text(alloc: Global, found: &BothReports) -> Result<Vec<u8>, AllocError>
+    requires lockset { All (HasNames found.now.trace.names) found.now.lockset.lines.items }
+    requires unordered { All (HasNames found.now.trace.names) found.now.unordered.lines.items }
+{
+    let BothReports {
+        lockset,
+        unordered,
+        trace,
+    } = found;
+    let mut text = Vec::new(alloc);
+    put_sites_of_both(alloc, &mut text, lockset, unordered, trace.names())?;
+    put_rule_counts(&mut text, &lockset.rule_counts)?;
+    put_totals(&mut text, lockset)?;
+    put_rule_counts(&mut text, &unordered.rule_counts)?;
+    put_unordered_totals(&mut text, unordered)?;
+    Ok(text)
+}
+
+// Replays what the reader gives by happens-before, writes the report, and then the file of rules.
+fn sort_unordered<R, D, O>(
+    rt: &R,
+    replay: &Replay<'_>,
+    source: &mut Device<D>,
+    output: &mut Device<O>,
+    suppressions: &Suppressions,
+    options: &Options,
+) -> Result<Ended, Fault>
+where
+    R: Files + AllocGlobal,
+    D: Read,
+    O: Write,
+    requires source { has_failed source.old ≡ false }
+    requires output { has_failed output.old ≡ false }
+    ensures status { IfOk result (λ ended. (ended.status ≤ 4) × (ended.status ≢ 2)) }
+    ensures notes { IfOk result (λ ended. AreNotes ended.notes.items) }
+    ensures silent { replay.now.unused_rules ≡ false → replay.now.max_races ≡ None → IfOk result (λ ended. ended.notes.items ≡ []) }
+    ensures nothing { IfErr result (LeavesOutput (O.contents (inner_of output.old)) (O.contents (inner_of output.new))) }
+{
+    let (report, trace) = match report_unordered(
+        rt.alloc(),
+        source,
+        suppressions,
+        options.byte_limit,
+        options.explain,
+    ) {
+        Ok(UnorderedReport { report, trace }) => (report, trace),
+        Err(why) => return Err(order_fault_of(why)),
+    };
+    let triaged = sorted(rt.alloc(), report, &trace, suppressions, replay)?;
+    write_sorted(rt.alloc(), &triaged.report, trace.names(), output)?;
+    finish(rt, replay.write_rules, triaged)
+}
+
+fn write_sorted<O: Write>(
+    alloc: Global,
+    report: &Report,
+    names: &Names,
+    output: &mut Device<O>,
+) -> Result<(), Fault>
+    requires output { has_failed output.old ≡ false }
+    requires named { All (HasNames names.now) report.now.lines.items }
+    ensures nothing { IfErr result (LeavesOutput (O.contents (inner_of output.old)) (O.contents (inner_of output.new))) }
+{
+    match write_unordered(alloc, output, report, names) {
+        Ok(()) => Ok(()),
+        Err(WriteFault::Memory) => Err(Fault::Memory),
+        Err(WriteFault::Write) => Err(Fault::Write),
+    }
+}

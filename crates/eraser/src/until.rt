@@ -1,0 +1,308 @@
+//! A replay of a text up to its first faulty line.
+//!
+//! It has two passes. The first replays the text as ever. If it ends in a fault of the text, the lines before that one are read again by a
+//! reader that ends there, and are replayed as any other text.
+ghost use Rattle.std.specs.Prelude.{◌≡◌, ◌≢◌, ◌≤◌, [], false, None, codes, IfOk, IfSome};
+ghost use Rattle.std.specs.Io.KnownBytes.{Keeps};
+ghost use Rattle.er_device.specs.Device.{inner_of, has_failed};
+ghost use Rattle.er_rules.specs.Rules.{targets_of};
+ghost use Rattle.er_triage.specs.Notes.{AreNotes};
+ghost use Rattle.eraser.specs.Notes.{GetsNotes};
+ghost use Rattle.eraser.specs.Replays.{EndsAs, IsPlain, ReplaysTo};
+
+use crate::advice::report_replay_fault;
+use crate::command::{note, options_of, replay_from};
+use crate::rules::suppressions_of;
+use crate::sorting::Ended;
+use crate::sources::is_ordinary;
+use er_damage::Damage;
+use er_device::Device;
+use er_exit::{Fault, put, report_fault};
+use er_prefix::{Keeping, Prefix};
+use er_request::Replay;
+use er_rules::Suppressions;
+use er_run::Options;
+use er_text::TextFault;
+use std::alloc::Global;
+use std::fs::File;
+use std::io::{Read, Write};
+use std::rt::Files;
+use std::sync::Wait;
+use std::thread::Threads;
+
+/// Where a replay was cut off.
+#[derive(Drop)]
+struct Cut {
+    /// What the report of the lines before has for standard error.
+    notes: Vec<u8>,
+    /// What is damaged in these lines, if the replay is strict. They have no report then.
+    damage: Option<Damage>,
+    /// Why it goes no further.
+    fault: Fault,
+}
+
+/// The lines of a text that can be read again.
+#[derive(Clone, Copy)]
+enum Again<'a> {
+    /// In the ordinary file of this path.
+    File(&'a str),
+    /// In memory.
+    Kept(&'a [u8]),
+}
+
+/// Runs a replay up to the first faulty line of its text, writes its notes, and then the fault, if there is one, and what helps people.
+pub(crate) fn end_until_fault<R, I, O, E>(
+    rt: &R,
+    replay: &Replay<'_>,
+    input: &mut Device<I>,
+    output: &mut Device<O>,
+    errors: &mut Device<E>,
+    for_people: bool,
+) -> u8
+where
+    R: Files + AllocGlobal + Threads + Wait + Sync,
+    I: Read,
+    O: Write,
+    E: Write,
+    requires input { has_failed input.old ≡ false }
+    requires output { has_failed output.old ≡ false }
+    requires errors { has_failed errors.old ≡ false }
+    ensures status { result ≤ 4 }
+    ensures quiet { result ≤ 1 → GetsNotes (E.contents (inner_of errors.old)) (E.contents (inner_of errors.new)) (has_failed errors.new) }
+    ensures silent { replay.now.unused_rules ≡ false → replay.now.max_races ≡ None → result ≤ 1 → Keeps (E.contents (inner_of errors.old)) (E.contents (inner_of errors.new)) }
+{
+    match run_until_fault(rt, replay, input, output) {
+        Ok(ended) => note(ended, errors),
+        Err(cut) => report_cut(rt, replay, &cut, errors, for_people),
+    }
+}
+
+// Writes the notes, then the damage, and then the fault. If a write fails, the rest is left out.
+fn report_cut<R, E>(
+    rt: &R,
+    replay: &Replay<'_>,
+    cut: &Cut,
+    errors: &mut Device<E>,
+    for_people: bool,
+) -> u8
+where
+    R: Files + AllocGlobal,
+    E: Write,
+    requires { has_failed errors.old ≡ false }
+    ensures { (2 ≤ result) × (result ≤ 4) }
+{
+    put(errors, &cut.notes);
+    if let Some(damage) = cut.damage
+        && !errors.failed()
+    {
+        report_fault(rt.alloc(), Fault::Damaged(damage), errors);
+    }
+    if errors.failed() {
+        return cut.fault.status();
+    }
+    report_replay_fault(rt, replay, cut.fault, errors, for_people)
+}
+
+// A replay that comes to no report for this reason.
+fn cut_by(alloc: Global, fault: Fault) -> Cut {
+    Cut {
+        notes: Vec::new(alloc),
+        damage: None,
+        fault,
+    }
+}
+
+// The suppressions are opened and read before the trace is opened.
+fn run_until_fault<R, I, O>(
+    rt: &R,
+    replay: &Replay<'_>,
+    input: &mut Device<I>,
+    output: &mut Device<O>,
+) -> Result<Ended, Cut>
+where
+    R: Files + AllocGlobal + Threads + Wait + Sync,
+    I: Read,
+    O: Write,
+    requires input { has_failed input.old ≡ false }
+    requires output { has_failed output.old ≡ false }
+    ensures status { IfOk result (λ ended. (ended.status ≤ 4) × (ended.status ≢ 2)) }
+    ensures notes { IfOk result (λ ended. AreNotes ended.notes.items) }
+    ensures silent { replay.now.unused_rules ≡ false → replay.now.max_races ≡ None → IfOk result (λ ended. ended.notes.items ≡ []) }
+    ensures report { IsPlain replay.now → replay.now.suppressions.items ≡ [] → replay.now.trace.now ≡ codes "-" → IfOk result (λ ended. IfSome (I.remaining (inner_of input.old)) (λ text. ReplaysTo text replay.now.byte_limit replay.now.explain (O.contents (inner_of output.old)) (O.contents (inner_of output.new)) ended.status)) }
+{
+    let options = options_of(replay);
+    match suppressions_of(rt, &replay.suppressions, options.byte_limit) {
+        Ok(suppressions) => replay_trace(rt, replay, &suppressions, &options, input, output),
+        Err(fault) => Err(cut_by(rt.alloc(), fault)),
+    }
+}
+
+// What is no ordinary file may not be there a second time, so it is kept.
+fn replay_trace<R, I, O>(
+    rt: &R,
+    replay: &Replay<'_>,
+    suppressions: &Suppressions,
+    options: &Options,
+    input: &mut Device<I>,
+    output: &mut Device<O>,
+) -> Result<Ended, Cut>
+where
+    R: Files + AllocGlobal + Threads + Wait + Sync,
+    I: Read,
+    O: Write,
+    requires input { has_failed input.old ≡ false }
+    requires output { has_failed output.old ≡ false }
+    ensures status { IfOk result (λ ended. (ended.status ≤ 4) × (ended.status ≢ 2)) }
+    ensures notes { IfOk result (λ ended. AreNotes ended.notes.items) }
+    ensures silent { replay.now.unused_rules ≡ false → replay.now.max_races ≡ None → IfOk result (λ ended. ended.notes.items ≡ []) }
+    ensures report { IsPlain replay.now → replay.now.trace.now ≡ codes "-" → IfOk result (λ ended. IfSome (I.remaining (inner_of input.old)) (λ text. EndsAs text options.now.byte_limit (targets_of suppressions.now) options.now.explain (O.contents (inner_of output.old)) (O.contents (inner_of output.new)) ended.status)) }
+{
+    if replay.trace == "-" {
+        return replay_kept(rt, replay, input, output, suppressions, options);
+    }
+    let Ok(file) = File::open(rt, replay.trace) else {
+        return Err(cut_by(rt.alloc(), Fault::OpenTrace));
+    };
+    let mut source = Device::new(file);
+    if !is_ordinary(rt, replay.trace) {
+        return replay_kept(rt, replay, &mut source, output, suppressions, options);
+    }
+    match replay_from(rt, replay, &mut source, output, suppressions, options) {
+        Ok(ended) => Ok(ended),
+        Err(fault) => {
+            let again = Again::File(replay.trace);
+            Err(replay_before(rt, replay, fault, again, output, suppressions, options))
+        }
+    }
+}
+
+// Replays what can be read only once.
+fn replay_kept<R, D, O>(
+    rt: &R,
+    replay: &Replay<'_>,
+    source: &mut Device<D>,
+    output: &mut Device<O>,
+    suppressions: &Suppressions,
+    options: &Options,
+) -> Result<Ended, Cut>
+where
+    R: Files + AllocGlobal + Threads + Wait + Sync,
+    D: Read,
+    O: Write,
+    requires source { has_failed source.old ≡ false }
+    requires output { has_failed output.old ≡ false }
+    ensures status { IfOk result (λ ended. (ended.status ≤ 4) × (ended.status ≢ 2)) }
+    ensures notes { IfOk result (λ ended. AreNotes ended.notes.items) }
+    ensures silent { replay.now.unused_rules ≡ false → replay.now.max_races ≡ None → IfOk result (λ ended. ended.notes.items ≡ []) }
+    ensures report { IsPlain replay.now → IfOk result (λ ended. IfSome (D.remaining (inner_of source.old)) (λ text. EndsAs text options.now.byte_limit (targets_of suppressions.now) options.now.explain (O.contents (inner_of output.old)) (O.contents (inner_of output.new)) ended.status)) }
+{
+    let mut keeping = Device::new(Keeping::new(rt.alloc(), source));
+    let first = replay_from(rt, replay, &mut keeping, output, suppressions, options);
+    let kept = keeping.into_inner().into_kept();
+    match (first, kept) {
+        (Ok(ended), _) => Ok(ended),
+        (Err(fault), Some(text)) => {
+            let again = Again::Kept(&text);
+            Err(replay_before(rt, replay, fault, again, output, suppressions, options))
+        }
+        (Err(Fault::Text(_)), None) => Err(cut_by(rt.alloc(), Fault::Memory)),
+        (Err(fault), None) => Err(cut_by(rt.alloc(), fault)),
+    }
+}
+
+// If the fault is one of the text, replays the lines before it. A text that ends there may lack its line `end`: that is no damage of these
+// lines, so if it is all that a strict replay finds, they have their report.
+fn replay_before<R, O>(
+    rt: &R,
+    replay: &Replay<'_>,
+    fault: Fault,
+    again: Again<'_>,
+    output: &mut Device<O>,
+    suppressions: &Suppressions,
+    options: &Options,
+) -> Cut
+where
+    R: Files + AllocGlobal + Threads + Wait + Sync,
+    O: Write,
+{
+    let Fault::Text(first) = fault else {
+        return cut_by(rt.alloc(), fault);
+    };
+    let lines = first.line.saturating_sub(1);
+    let second = replay_lines(rt, replay, lines, again, output, suppressions, options);
+    if !lacks_end_alone(&second) {
+        return cut_at(rt.alloc(), first, second);
+    }
+    let options = options.with_strict(false);
+    let third = replay_lines(rt, replay, lines, again, output, suppressions, &options);
+    cut_at(rt.alloc(), first, third)
+}
+
+// Replays the first lines of a text that is read again. A failed write is final.
+fn replay_lines<R, O>(
+    rt: &R,
+    replay: &Replay<'_>,
+    lines: u64,
+    again: Again<'_>,
+    output: &mut Device<O>,
+    suppressions: &Suppressions,
+    options: &Options,
+) -> Result<Ended, Fault>
+where
+    R: Files + AllocGlobal + Threads + Wait + Sync,
+    O: Write,
+{
+    if output.failed() {
+        return Err(Fault::Write);
+    }
+    match again {
+        Again::File(path) => {
+            let Ok(file) = File::open(rt, path) else {
+                return Err(Fault::OpenTrace);
+            };
+            let mut source = Device::new(Prefix::new(file, lines));
+            replay_from(rt, replay, &mut source, output, suppressions, options)
+        }
+        Again::Kept(text) => {
+            let mut source = Device::new(Prefix::new(text, lines));
+            replay_from(rt, replay, &mut source, output, suppressions, options)
+        }
+    }
+}
+
+// What is damaged in lines, and not in how the text ends behind them.
+fn damage_of_lines(damage: Damage) -> Damage {
+    Damage {
+        refused: damage.refused,
+        held_twice: damage.held_twice,
+        no_line_feed: None,
+        no_end: None,
+    }
+}
+
+// Whether a strict replay found nothing but that the text lacks its end.
+fn lacks_end_alone(replayed: &Result<Ended, Fault>) -> bool {
+    match replayed {
+        Err(Fault::Damaged(damage)) => !damage_of_lines(*damage).is_any(),
+        _ => false,
+    }
+}
+
+// What a replay of the lines before a fault comes to. If they have no header, they have no report, and the fault is all that there is.
+fn cut_at(alloc: Global, first: TextFault, second: Result<Ended, Fault>) -> Cut {
+    let fault = Fault::Text(first);
+    match second {
+        Ok(ended) => Cut {
+            notes: ended.notes,
+            damage: None,
+            fault,
+        },
+        Err(Fault::Damaged(damage)) => Cut {
+            notes: Vec::new(alloc),
+            damage: Some(damage_of_lines(damage)),
+            fault,
+        },
+        Err(Fault::Text(second)) if second.line == first.line => cut_by(alloc, fault),
+        Err(other) => cut_by(alloc, other),
+    }
+}
