@@ -12,13 +12,13 @@ use Rattle.er_event.specs.declared.steps.Step.{Step}
 use Rattle.er_order.specs.Clocks.{OfThread}
 use Rattle.er_order.specs.Following.{Kept, act_by, kept_at, kept_after, reports_at}
 use Rattle.er_clocks.specs.Standing.{ClockMaps, counts, SameCounts, Moves, StandsForClocksOf}
-use Rattle.er_epochs.specs.Words.{WordBlocks, kept_among}
+use Rattle.er_epochs.specs.Words.{AllWords, kept_among}
 
 -- the threads that took something, with their holdings; the clocks; and what is kept of the words
 pub record Ordered : Type 0 where
   pub holders : List (ℕ × Holdings)
   pub clocks : ClockMaps
-  pub words : WordBlocks
+  pub words : AllWords
 
 -- thread t's holdings
 abbrev pub holding : Ordered → ℕ → Holdings

@@ -1,151 +1,156 @@
 -- One word, or some that lie side by side, change in one block: what that makes of what is kept of all words.
-use Rattle.std.proofs.Common.{◌≡◌, ◌≢◌, ◌∙◌, ◌==◌, ℕ, zero, suc, ◌+◌, ◌<◌, ◌≤◌, ◌/◌, ◌%◌, ◌&&◌, nat_eq, nat_le, nat_lt, Bool, true, false, cond, List, [], ◌∷◌, length, get_or, position, slice_get, Option, Some, None, refl, sym, ap, arith}
-use Rattle.std.specs.Cmp.{nat_eq_equiv}
-use Rattle.std.specs.Map.{lookup, keys_of, values_of}
+use Rattle.std.proofs.Common.{◌≡◌, ◌≢◌, ◌∙◌, ◌==◌, ℕ, ◌+◌, ◌≤◌, ◌/◌, ◌%◌, ◌&&◌, nat_eq, nat_le, nat_lt, Bool, true, false, cond, [], Some, None, refl, sym, ap, arith}
+use Rattle.std.specs.Map.{lookup}
 use Rattle.std.proofs.lemmas.Bool.Decides.{nat_tests}
-use Rattle.std.proofs.lemmas.List.Quantifiers.{position-Some}
-use Rattle.std.proofs.lemmas.Map.Entries.{lookup_from_place}
-use Rattle.indexmap.specs.IndexMap.{IndexMap, keys, values, IsUnique, with_value_at}
-use Rattle.indexmap.proofs.CallerLemmas.{updates-with_value_at}
-use borrow.Author.Tests.{eqb-true, eqb-false, eq-eqb}
+use borrow.Author.Tests.{eqb-true, eqb-false}
 use Rattle.er_event.specs.declared.addresses.PageRange.{PageRange}
 use Rattle.er_model.specs.Words.{is_within}
 use Rattle.er_order.specs.Following.{Kept, fresh}
-use Rattle.er_epochs.specs.Words.{BlockWords, WordBlocks, kept_at_place, kept_in_block, kept_among, is_place_in}
+use Rattle.er_epochs.specs.Words.{blank, BlockWords, WordBlocks, AllWords, word_at, word_in_block, word_among, list_of, kept_in, kept_beside, kept_among, is_place_in}
+use Rattle.er_epochs.proofs.Maps.{Puts}
 
-slice_get-within : (xs : List ℕ) (i : ℕ) → i < length xs → slice_get xs i ≡ Some (get_or xs i 0)
-slice_get-within [] i short = absurd (omega (arith, short))
-slice_get-within (x ∷ xs) zero short = refl
-slice_get-within (x ∷ xs) (suc i) short = slice_get-within xs i (omega arith)
+-- the block of this number has these words; if it isn't there, they are blank
+abbrev pub HasWords : WordBlocks → ℕ → BlockWords → Type 0
+HasWords blocks number words = (i : ℕ) → word_in_block (lookup (nat_eq number) blocks) i ≡ word_at words i
 
--- the number stands where a search for it ends
-pub number_at : (ks : List ℕ) (n i : ℕ) → position (nat_eq n) ks ≡ Some i → slice_get ks i ≡ Some n
-number_at ks n i found =
-    let at = position-Some (nat_eq n) ks i 0 found in
-    slice_get-within ks i at.0 ∙ ap Some (sym (eqb-true n (get_or ks i 0) at.1))
+pub has_found : (blocks : WordBlocks) (number : ℕ) (words : BlockWords) → Some words ≡ lookup (nat_eq number) blocks → HasWords blocks number words
+has_found blocks number words found i = ap (λ o. word_in_block o i) (sym found)
 
-module _ {V : Type 0} where
-  entry_at : (es : List (ℕ × V)) (i p : ℕ) (v : V) → slice_get (keys_of es) i ≡ Some p → slice_get (values_of es) i ≡ Some v → slice_get es i ≡ Some (p, v)
-  entry_at [] i p v key value = absurd (none_is_some key)
-    where
-      none_is_some : None ≡ Some p → ⊥
-      none_is_some e = cc
-  entry_at (e ∷ es) zero p v key value =
-      let number : e.0 ≡ p = cc in
-      let block : e.1 ≡ v = cc in
-      λ k. Some (number k, block k)
-  entry_at (e ∷ es) (suc i) p v key value = entry_at es i p v key value
+pub has_none : (blocks : WordBlocks) (number : ℕ) (words : BlockWords) → lookup (nat_eq number) blocks ≡ None → ((i : ℕ) → word_at words i ≡ blank) → HasWords blocks number words
+has_none blocks number words absent empty i = ap (λ o. word_in_block o i) absent ∙ sym (empty i)
 
-  module _ {S : Type 0} (m : IndexMap ℕ V S) (i p : ℕ) (v : V) (unique : IsUnique nat_eq m) (key : slice_get (keys m) i ≡ Some p) (value : slice_get (values m) i ≡ Some v) where
-    -- the block that stands there is found by its number
-    pub block_found : Some v ≡ lookup (nat_eq p) m.entries
-    block_found = sym (lookup_from_place nat_eq_equiv m.entries i p v unique (entry_at m.entries i p v key value))
+-- a block is put where this word stands
+module _ (old new : WordBlocks) (word number place : ℕ) (was words : BlockWords) (block : number ≡ word / 128) (at : place ≡ word % 128) (has : HasWords old number was) where
+  word_was : word_at was place ≡ word_among old word
+  word_was = sym (has place) ∙ (λ k. word_in_block (lookup (nat_eq (block k)) old) (at k))
 
-    -- and a block that is put there has this number
-    pub block_put : (w : V) (q : ℕ) → lookup (nat_eq q) (with_value_at m i w).entries ≡ cond (nat_eq p q) (Some w) (lookup (nat_eq q) m.entries)
-    block_put w q = (updates-with_value_at m i w nat_eq_equiv unique p v (entry_at m.entries i p v key value)).0 q
+  other_place : (w : ℕ) → number ≡ w / 128 → nat_eq word w ≡ false → nat_eq place (w % 128) ≡ false
+  other_place w here apart = grind (arith, nat_tests)
 
-same_word : (word w number place : ℕ) → number ≡ word / 128 → place ≡ word % 128 → number ≡ w / 128 → nat_eq place (w % 128) ≡ (word == w)
-same_word word w number place block at here = grind (arith, nat_tests)
+  module _ (puts : Puts old new number words) where
+    put_among : (w : ℕ) → word_among new w ≡ word_in_block (cond (nat_eq number (w / 128)) (Some words) (lookup (nat_eq (w / 128)) old)) (w % 128)
+    put_among w = ap (λ o. word_in_block o (w % 128)) (puts (w / 128))
 
-other_word : (word w number : ℕ) → number ≡ word / 128 → number ≢ w / 128 → (word == w) ≡ false
-other_word word w number block there = grind (arith, nat_tests)
+    here : nat_eq number (word / 128) ≡ true
+    here = grind (arith, nat_tests)
 
-in_block : (number w : ℕ) (b : Bool) → number ≡ w / 128 → b ≡ (nat_eq number (w / 128) && b)
-in_block number w b here = ap (λ (same : Bool). same && b) (sym (eq-eqb number (w / 128) here))
+    word_is : word_among new word ≡ word_at words place
+    word_is =
+        put_among word ∙ (ap (λ b. word_in_block (cond b (Some words) (lookup (nat_eq (word / 128)) old)) (word % 128)) here ∙ ap (λ i. word_at words i) (sym at))
 
-outside : (number w : ℕ) (b : Bool) → number ≢ w / 128 → (nat_eq number (w / 128) && b) ≡ false
-outside number w b there = by (nat_eq number (w / 128)) refl
+    -- the other words stay
+    words_stay : ((i : ℕ) → nat_eq place i ≡ false → word_at words i ≡ word_at was i) → (w : ℕ) → nat_eq word w ≡ false → word_among new w ≡ word_among old w
+    words_stay same w apart = put_among w ∙ by (nat_eq number (w / 128)) refl
+      where
+        by : (at : Bool) → nat_eq number (w / 128) ≡ at → word_in_block (cond at (Some words) (lookup (nat_eq (w / 128)) old)) (w % 128) ≡ word_among old w
+        by true e =
+            let beside = eqb-true number (w / 128) e in
+            same (w % 128) (other_place w beside apart) ∙ (sym (has (w % 128)) ∙ ap (λ q. word_in_block (lookup (nat_eq q) old) (w % 128)) beside)
+        by false e = refl
+
+-- one word changes, with its list
+one_word : (before after : AllWords) (word : ℕ) (k : Kept)
+    → ((w : ℕ) → nat_eq word w ≡ false → word_among after.blocks w ≡ word_among before.blocks w)
+    → ((w : ℕ) → nat_eq word w ≡ false → list_of after.lists w ≡ list_of before.lists w)
+    → kept_beside after.lists word (word_among after.blocks word) ≡ k
+    → (w : ℕ) → kept_among after w ≡ cond (word == w) k (kept_among before w)
+unfolding kept_among
+one_word before after word k words lists is w = by (nat_eq word w) refl
   where
-    by : (same : Bool) → nat_eq number (w / 128) ≡ same → (same && b) ≡ false
-    by true e = absurd (there (eqb-true number (w / 128) e))
+    by : (same : Bool) → nat_eq word w ≡ same → kept_beside after.lists w (word_among after.blocks w) ≡ cond same k (kept_beside before.lists w (word_among before.blocks w))
+    by true e = ap (λ v. kept_beside after.lists v (word_among after.blocks v)) (sym (eqb-true word w e)) ∙ is
+    by false e = λ j. kept_in (words w e j) (lists w e j)
+
+-- it is as it was
+unchanged : (f g : ℕ → Kept) (word : ℕ) → ((w : ℕ) → f w ≡ cond (word == w) (g word) (g w)) → (w : ℕ) → f w ≡ g w
+unchanged f g word is w = is w ∙ by (nat_eq word w) refl
+  where
+    by : (same : Bool) → nat_eq word w ≡ same → cond same (g word) (g w) ≡ g w
+    by true e = ap g (eqb-true word w e)
     by false e = refl
 
--- the blocks with this one as block p
-abbrev pub PutsBlock : WordBlocks → WordBlocks → ℕ → BlockWords → Type 0
-PutsBlock old new p block = (q : ℕ) → lookup (nat_eq q) new ≡ cond (nat_eq p q) (Some block) (lookup (nat_eq q) old)
+-- an access of one word, whose list is found by the number n
+module _ (old : AllWords) (word n number place : ℕ) (was : BlockWords) (is : n ≡ word) (block : number ≡ word / 128) (at : place ≡ word % 128) (has : HasWords old.blocks number was) where
+  -- what is kept of it
+  pub found_word : kept_beside old.lists n (word_at was place) ≡ kept_among old word
+  unfolding kept_among
+  found_word = λ k. kept_beside old.lists (is k) (word_was old.blocks old.blocks word number place was was block at has k)
 
--- the words of block p for which `here` holds of their places are those for which `changes` holds, and they become s
-put_words : (old new : WordBlocks) (p : ℕ) (words : BlockWords) (here changes : ℕ → Bool) (s : Kept)
-    → PutsBlock old new p words
-    → ((i : ℕ) → kept_at_place words i ≡ cond (here i) s (kept_in_block (lookup (nat_eq p) old) i))
-    → ((w : ℕ) → p ≡ w / 128 → here (w % 128) ≡ changes w)
-    → ((w : ℕ) → p ≢ w / 128 → changes w ≡ false)
-    → (w : ℕ) → kept_among new w ≡ cond (changes w) s (kept_among old w)
+  module _ (new : AllWords) (words : BlockWords) (puts : Puts old.blocks new.blocks number words)
+      (places : (i : ℕ) → nat_eq place i ≡ false → word_at words i ≡ word_at was i) (lists : (w : ℕ) → nat_eq n w ≡ false → list_of new.lists w ≡ list_of old.lists w) where
+    -- the word goes on
+    pub accessed : (f : Kept → Kept) → kept_beside new.lists n (word_at words place) ≡ f (kept_beside old.lists n (word_at was place))
+        → (w : ℕ) → kept_among new w ≡ cond (word == w) (f (kept_among old word)) (kept_among old w)
+    accessed f on =
+        one_word old new word (f (kept_among old word)) (words_stay old.blocks new.blocks word number place was words block at has puts places)
+        (λ w apart. lists w (ap (λ v. nat_eq v w) is ∙ apart))
+        ((λ k. kept_beside new.lists (sym is k) (word_is old.blocks new.blocks word number place was words block at has puts k)) ∙ (on ∙ ap f found_word))
+
+    -- or says what it said
+    pub same_words : kept_beside new.lists n (word_at words place) ≡ kept_beside old.lists n (word_at was place) → (w : ℕ) → kept_among new w ≡ kept_among old w
+    same_words same = unchanged (kept_among new) (kept_among old) word (accessed (λ k. k) same)
+
+-- where there is no block, a word says nothing with any list
+pub same_absent : (old new : AllWords) (word n number : ℕ) → n ≡ word → number ≡ word / 128 → lookup (nat_eq number) old.blocks ≡ None → new.blocks ≡ old.blocks
+    → ((w : ℕ) → nat_eq n w ≡ false → list_of new.lists w ≡ list_of old.lists w) → (w : ℕ) → kept_among new w ≡ kept_among old w
 unfolding kept_among
-put_words old new p words here changes s puts written on off w =
-    ap (λ o. kept_in_block o (w % 128)) (puts (w / 128)) ∙ by (nat_eq p (w / 128)) refl
+same_absent old new word n number is block absent same others w = ap (λ (blocks : WordBlocks). kept_beside new.lists w (word_among blocks w)) same ∙ by (nat_eq n w) refl
   where
-    by : (same : Bool) → nat_eq p (w / 128) ≡ same
-        → kept_in_block (cond same (Some words) (lookup (nat_eq (w / 128)) old)) (w % 128) ≡ cond (changes w) s (kept_in_block (lookup (nat_eq (w / 128)) old) (w % 128))
-    by true e =
-        let block = eqb-true p (w / 128) e in
-        written (w % 128) ∙ (ap (λ b. cond b s (kept_in_block (lookup (nat_eq p) old) (w % 128))) (on w block)
-        ∙ ap (λ q. cond (changes w) s (kept_in_block (lookup (nat_eq q) old) (w % 128))) block)
-    by false e = ap (λ b. cond b s (kept_in_block (lookup (nat_eq (w / 128)) old) (w % 128))) (sym (off w (eqb-false p (w / 128) e)))
+    silent : n ≡ w → word_among old.blocks w ≡ blank
+    silent e = ap (λ o. word_in_block o (w % 128)) (ap (λ q. lookup (nat_eq q) old.blocks) (sym (block ∙ ap (λ v. v / 128) (sym is ∙ e))) ∙ absent)
 
--- the word that a look-up of its block finds
-pub found_word : (old : WordBlocks) (word number place : ℕ) (was : Option (BlockWords)) → number ≡ word / 128 → place ≡ word % 128 → was ≡ lookup (nat_eq number) old
-    → kept_in_block was place ≡ kept_among old word
-unfolding kept_among
-found_word old word number place was block at found =
-    ap (λ o. kept_in_block o place) found ∙ (λ k. kept_in_block (lookup (nat_eq (block k)) old) (at k))
-
--- one word goes on
-pub one_word : (old new : WordBlocks) (word number place : ℕ) (was : Option (BlockWords)) (words : BlockWords) (f : Kept → Kept)
-    → number ≡ word / 128 → place ≡ word % 128 → was ≡ lookup (nat_eq number) old → PutsBlock old new number words
-    → ((i : ℕ) → kept_at_place words i ≡ cond (nat_eq place i) (f (kept_in_block was place)) (kept_in_block was i))
-    → (w : ℕ) → kept_among new w ≡ cond (word == w) (f (kept_among old word)) (kept_among old w)
-one_word old new word number place was words f block at found puts written w =
-    put_words old new number words (λ i. nat_eq place i) (λ v. word == v) (f (kept_in_block was place)) puts
-    (λ i. written i ∙ ap (λ o. cond (nat_eq place i) (f (kept_in_block was place)) (kept_in_block o i)) found)
-    (λ v here. same_word word v number place block at here) (λ v there. other_word word v number block there) w
-    ∙ ap (λ b. cond (word == w) (f b) (kept_among old w)) (found_word old word number place was block at found)
-
--- in a block that was made for it
-pub first_word : (old new : WordBlocks) (word number place : ℕ) (blank words : BlockWords) (f : Kept → Kept)
-    → number ≡ word / 128 → place ≡ word % 128 → lookup (nat_eq number) old ≡ None → PutsBlock old new number words
-    → ((i : ℕ) → kept_at_place blank i ≡ fresh)
-    → ((i : ℕ) → kept_at_place words i ≡ cond (nat_eq place i) (f (kept_at_place blank place)) (kept_at_place blank i))
-    → (w : ℕ) → kept_among new w ≡ cond (word == w) (f (kept_among old word)) (kept_among old w)
-first_word old new word number place blank words f block at absent puts empty written =
-    one_word old new word number place None words f block at (sym absent) puts
-    (λ i. written i ∙ (λ k. cond (nat_eq place i) (f (empty place k)) (empty i k)))
+    by : (here : Bool) → nat_eq n w ≡ here → kept_beside new.lists w (word_among old.blocks w) ≡ kept_beside old.lists w (word_among old.blocks w)
+    by true e = ap (λ v. kept_beside new.lists w v) (silent (eqb-true n w e)) ∙ sym (ap (λ v. kept_beside old.lists w v) (silent (eqb-true n w e)))
+    by false e = ap (λ reads. kept_in (word_among old.blocks w) reads) (others w e)
 
 -- some words of a block are reset
-pub reset_block : (old new : WordBlocks) (number lo hi : ℕ) (was words : BlockWords)
-    → Some was ≡ lookup (nat_eq number) old → PutsBlock old new number words
-    → ((i : ℕ) → kept_at_place words i ≡ cond (nat_le lo i && nat_le i hi) fresh (kept_at_place was i))
+pub reset_block : (old new : AllWords) (number lo hi : ℕ) (was words : BlockWords)
+    → Some was ≡ lookup (nat_eq number) old.blocks → Puts old.blocks new.blocks number words
+    → ((i : ℕ) → word_at words i ≡ cond (nat_le lo i && nat_le i hi) blank (word_at was i))
+    → ((w : ℕ) → is_place_in number lo hi w ≡ false → list_of new.lists w ≡ list_of old.lists w)
     → (w : ℕ) → kept_among new w ≡ cond (is_place_in number lo hi w) fresh (kept_among old w)
-reset_block old new number lo hi was words found puts written =
-    put_words old new number words (λ i. nat_le lo i && nat_le i hi) (is_place_in number lo hi) fresh puts
-    (λ i. written i ∙ ap (λ o. cond (nat_le lo i && nat_le i hi) fresh (kept_in_block o i)) found)
-    (λ w here. in_block number w (nat_le lo (w % 128) && nat_le (w % 128) hi) here)
-    (λ w there. outside number w (nat_le lo (w % 128) && nat_le (w % 128) hi) there)
-
--- and where there is no block, they are fresh already
-pub absent_block : (blocks : WordBlocks) (number lo hi : ℕ) → lookup (nat_eq number) blocks ≡ None
-    → (w : ℕ) → kept_among blocks w ≡ cond (is_place_in number lo hi w) fresh (kept_among blocks w)
 unfolding kept_among
-absent_block blocks number lo hi absent w = by (nat_eq number (w / 128)) refl
+reset_block old new number lo hi was words found puts written lists w =
+    ap (λ v. kept_beside new.lists w v) word_is_reset ∙ after (is_place_in number lo hi w) refl
+  where
+    by : (same : Bool) → nat_eq number (w / 128) ≡ same
+        → word_in_block (cond same (Some words) (lookup (nat_eq (w / 128)) old.blocks)) (w % 128) ≡ cond (same && (nat_le lo (w % 128) && nat_le (w % 128) hi)) blank (word_among old.blocks w)
+    by true e =
+        written (w % 128) ∙ ap (λ v. cond (nat_le lo (w % 128) && nat_le (w % 128) hi) blank v)
+        (ap (λ o. word_in_block o (w % 128)) (found ∙ ap (λ q. lookup (nat_eq q) old.blocks) (eqb-true number (w / 128) e)))
+    by false e = refl
+
+    word_is_reset : word_among new.blocks w ≡ cond (is_place_in number lo hi w) blank (word_among old.blocks w)
+    word_is_reset = ap (λ o. word_in_block o (w % 128)) (puts (w / 128)) ∙ by (nat_eq number (w / 128)) refl
+
+    after : (here : Bool) → is_place_in number lo hi w ≡ here
+        → kept_beside new.lists w (cond here blank (word_among old.blocks w)) ≡ cond here fresh (kept_beside old.lists w (word_among old.blocks w))
+    after true e = refl
+    after false e = ap (λ reads. kept_in (word_among old.blocks w) reads) (lists w e)
+
+-- and where there is no block, they say nothing already
+pub absent_block : (all : AllWords) (number lo hi : ℕ) → lookup (nat_eq number) all.blocks ≡ None
+    → (w : ℕ) → kept_among all w ≡ cond (is_place_in number lo hi w) fresh (kept_among all w)
+unfolding kept_among
+absent_block all number lo hi absent w = by (nat_eq number (w / 128)) refl
   where
     stays : (b : Bool) (kept : Kept) → kept ≡ fresh → kept ≡ cond b fresh kept
     stays true kept empty = empty
     stays false kept empty = refl
 
     by : (same : Bool) → nat_eq number (w / 128) ≡ same
-        → kept_in_block (lookup (nat_eq (w / 128)) blocks) (w % 128)
-        ≡ cond (same && (nat_le lo (w % 128) && nat_le (w % 128) hi)) fresh (kept_in_block (lookup (nat_eq (w / 128)) blocks) (w % 128))
+        → kept_beside all.lists w (word_among all.blocks w)
+        ≡ cond (same && (nat_le lo (w % 128) && nat_le (w % 128) hi)) fresh (kept_beside all.lists w (word_among all.blocks w))
     by true e =
         stays (nat_le lo (w % 128) && nat_le (w % 128) hi) _
-        (ap (λ o. kept_in_block o (w % 128)) (ap (λ p. lookup (nat_eq p) blocks) (sym (eqb-true number (w / 128) e)) ∙ absent))
+        (ap (λ o. kept_beside all.lists w (word_in_block o (w % 128))) (ap (λ p. lookup (nat_eq p) all.blocks) (sym (eqb-true number (w / 128) e)) ∙ absent))
     by false e = refl
 
 -- the words of a range, block after block
-abbrev pub AreResetTo : WordBlocks → WordBlocks → PageRange → ℕ → Type 0
+abbrev pub AreResetTo : AllWords → AllWords → PageRange → ℕ → Type 0
 AreResetTo old now range number = (w : ℕ) → kept_among now w ≡ cond (is_within w range && nat_lt (w / 128) number) fresh (kept_among old w)
 
-pub reset-next : (old now new : WordBlocks) (range : PageRange) (number from to : ℕ)
+pub reset-next : (old now new : AllWords) (range : PageRange) (number from to : ℕ)
     → ((w : ℕ) → number ≡ w / 128 → nat_le from (w % 128) ≡ nat_le range.lo w)
     → ((w : ℕ) → number ≡ w / 128 → nat_le (w % 128) to ≡ nat_le w range.hi)
     → AreResetTo old now range number
@@ -176,13 +181,13 @@ reset-next old now new range number from to low high so_far emptied w =
         ∙ (both (is_within w range) (kept_among old w) ∙ (λ k. cond (is_within w range && sym (counted at) k) fresh (kept_among old w)))
     by false e = ap (λ b. cond (is_within w range && b) fresh (kept_among old w)) (same_bound (eqb-false number (w / 128) e))
 
-pub reset-start : (old : WordBlocks) (range : PageRange) (number : ℕ) → number ≡ range.lo / 128 → AreResetTo old old range number
+pub reset-start : (old : AllWords) (range : PageRange) (number : ℕ) → number ≡ range.lo / 128 → AreResetTo old old range number
 reset-start old range number is w = ap (λ b. cond b fresh (kept_among old w)) (sym none)
   where
     none : (is_within w range && nat_lt (w / 128) number) ≡ false
     none = grind (arith, nat_tests)
 
-pub reset-end : (old now : WordBlocks) (range : PageRange) (number : ℕ) → range.hi / 128 + 1 ≤ number → AreResetTo old now range number
+pub reset-end : (old now : AllWords) (range : PageRange) (number : ℕ) → range.hi / 128 + 1 ≤ number → AreResetTo old now range number
     → (w : ℕ) → kept_among now w ≡ cond (is_within w range) fresh (kept_among old w)
 reset-end old now range number past so_far w = so_far w ∙ ap (λ b. cond b fresh (kept_among old w)) all
   where
@@ -190,17 +195,6 @@ reset-end old now range number past so_far w = so_far w ∙ ap (λ b. cond b fre
     all = grind (arith, nat_tests)
 
 -- before any access
-pub no_blocks : (blocks : WordBlocks) → blocks ≡ [] → (w : ℕ) → kept_among blocks w ≡ fresh
+pub no_words : (all : AllWords) → all.blocks ≡ [] → (w : ℕ) → kept_among all w ≡ fresh
 unfolding kept_among
-no_blocks blocks none w = ap (λ (all : WordBlocks). kept_in_block (lookup (nat_eq (w / 128)) all) (w % 128)) none
-
--- nothing changes of a block's words
-pub same_words : (old new : WordBlocks) (number : ℕ) (was words : BlockWords) → Some was ≡ lookup (nat_eq number) old → PutsBlock old new number words
-    → ((i : ℕ) → kept_at_place words i ≡ kept_at_place was i) → (w : ℕ) → kept_among new w ≡ kept_among old w
-unfolding kept_among
-same_words old new number was words found puts same w = ap (λ o. kept_in_block o (w % 128)) (puts (w / 128)) ∙ by (nat_eq number (w / 128)) refl
-  where
-    by : (here : Bool) → nat_eq number (w / 128) ≡ here
-        → kept_in_block (cond here (Some words) (lookup (nat_eq (w / 128)) old)) (w % 128) ≡ kept_in_block (lookup (nat_eq (w / 128)) old) (w % 128)
-    by true e = same (w % 128) ∙ ap (λ o. kept_in_block o (w % 128)) (found ∙ ap (λ q. lookup (nat_eq q) old) (eqb-true number (w / 128) e))
-    by false e = refl
+no_words all none w = ap (λ (blocks : WordBlocks). kept_beside all.lists w (word_among blocks w)) none

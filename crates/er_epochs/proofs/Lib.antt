@@ -1,3 +1,5 @@
 pub mod Blocks
 pub mod Epochs
+pub mod Listed
+pub mod Maps
 pub mod Places

@@ -1,7 +1,8 @@
--- What is kept of all words, in blocks of 128 words.
+-- What is kept of all words: the words in blocks of 128, and lists of reads beside some of them.
 use Rattle.std.specs.Prelude.{ℕ, ◌+◌, ◌^◌, ◌/◌, ◌%◌, ◌&&◌, nat_eq, nat_le, Bool, cond, List, [], slice_index_or, Option, Some, None}
 use Rattle.std.specs.Map.{lookup}
-use Rattle.er_order.specs.Following.{Kept, Seen, Reported, fresh}
+use Rattle.std.specs.Option.{unwrap_or}
+use Rattle.er_order.specs.Following.{Kept, Seen, Reported}
 use Rattle.er_epochs.specs.declared.word.OrderWord.{OrderWord}
 use Rattle.er_epochs.specs.Epochs.{EpochList, epoch_in, reads_in}
 
@@ -17,34 +18,47 @@ kept_in word listed = kept_with word (reads_in word.reader word.read_count liste
 abbrev pub blank : OrderWord
 blank = record { writer = 2 ^ 30; write_count = 0; reader = 2 ^ 30; read_count = 0 }
 
--- the words of a block, and the lists beside them
-pub record BlockWords : Type 0 where
-  pub words : List OrderWord
-  pub lists : List EpochList
+-- lists by the numbers of their words
+abbrev pub WordLists : Type 0
+WordLists = List (ℕ × EpochList)
 
--- the word at a place, and the list beside it
-abbrev pub word_at : List OrderWord → ℕ → OrderWord
+-- the list beside the word of this number
+abbrev pub list_of : WordLists → ℕ → EpochList
+list_of lists w = unwrap_or (lookup (nat_eq w) lists) []
+
+-- what the word of this number says with these lists
+abbrev pub kept_beside : WordLists → ℕ → OrderWord → Kept
+kept_beside lists w word = kept_in word (list_of lists w)
+
+-- the words of a block
+abbrev pub BlockWords : Type 0
+BlockWords = List OrderWord
+
+-- the word at a place
+abbrev pub word_at : BlockWords → ℕ → OrderWord
 word_at words place = slice_index_or words place blank
 
-abbrev pub list_at : List EpochList → ℕ → EpochList
-list_at lists place = slice_index_or lists place []
-
--- what is kept of the word at a place
-abbrev pub kept_at_place : BlockWords → ℕ → Kept
-kept_at_place block place = kept_in (word_at block.words place) (list_at block.lists place)
-
--- where there is no block, the word has no access in its era
-abbrev pub kept_in_block : Option BlockWords → ℕ → Kept
-kept_in_block None place = fresh
-kept_in_block (Some block) place = kept_at_place block place
+-- where there is no block, words say nothing
+abbrev pub word_in_block : Option BlockWords → ℕ → OrderWord
+word_in_block None place = blank
+word_in_block (Some words) place = word_at words place
 
 -- the blocks that are there, by number
 abbrev pub WordBlocks : Type 0
 WordBlocks = List (ℕ × BlockWords)
 
+-- the word of this number
+abbrev pub word_among : WordBlocks → ℕ → OrderWord
+word_among blocks w = word_in_block (lookup (nat_eq (w / 128)) blocks) (w % 128)
+
+-- the blocks and the lists that are there
+pub record AllWords : Type 0 where
+  pub blocks : WordBlocks
+  pub lists : WordLists
+
 -- what is kept of the word
-unfoldable pub kept_among : WordBlocks → ℕ → Kept
-kept_among blocks w = kept_in_block (lookup (nat_eq (w / 128)) blocks) (w % 128)
+unfoldable pub kept_among : AllWords → ℕ → Kept
+kept_among all w = kept_beside all.lists w (word_among all.blocks w)
 
 -- the word stands in the block of this number, at one of these places
 abbrev pub is_place_in : ℕ → ℕ → ℕ → ℕ → Bool

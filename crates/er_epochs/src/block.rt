@@ -1,10 +1,10 @@
-//! What is kept of words that lie side by side.
-ghost use Rattle.std.specs.Prelude.{◌≡◌, ◌<◌, ◌≤◌, ◌&&◌, ℕ, nat_eq, nat_le, nat_lt, cond, length, IfOk, OnOk, OnErr};
-ghost use Rattle.er_order.specs.Following.{fresh, kept_by, reports_at};
+//! Words that lie side by side.
+ghost use Rattle.std.specs.Prelude.{◌≡◌, ◌<◌, ◌≤◌, ◌^◌, ◌&&◌, ℕ, nat_eq, nat_le, nat_lt, cond, false, IfOk, OnOk, OnErr};
+ghost use Rattle.er_order.specs.Following.{kept_by, reports_at};
 ghost use Rattle.er_clocks.specs.Counts.{count_by};
-ghost use Rattle.er_epochs.specs.Words.{blank, word_at, list_at, kept_at_place};
+ghost use Rattle.er_epochs.specs.Words.{blank, word_at, list_of, kept_beside, is_place_in};
 
-use crate::reads::Reads;
+use crate::lists::ReadLists;
 use crate::word::OrderWord;
 use er_clocks::ThreadClock;
 use er_event::Kind;
@@ -14,12 +14,10 @@ use std::marker::Model;
 /// How many words a block has.
 pub(crate) const WORDS: usize = 128;
 
-/// What is kept of words that lie side by side.
+/// Words that lie side by side. The lists of those that have one stand elsewhere.
 #[derive(Drop)]
 pub(crate) struct Block {
     words: Box<[OrderWord; WORDS]>,
-    // Each at its word's place, from the first word on that had several reads.
-    lists: Vec<Reads>,
 }
 
 impl Model for Block {
@@ -27,79 +25,93 @@ impl Model for Block {
 
     ghost Value = { BlockWords };
 
-    ghost view = { λ b. record { words = b.words.value; lists = b.lists.items } };
+    ghost view = { λ b. b.words.value };
 }
 
 impl Block {
     /// No word was accessed in its era.
     pub(crate) fn new(alloc: Global) -> Result<Block, AllocError>
-        ensures { IfOk result (λ block. (i : ℕ) → kept_at_place block i ≡ fresh) }
+        ensures { IfOk result (λ block. (i : ℕ) → word_at block i ≡ blank) }
     {
         Ok(Block {
             words: Box::new(alloc, [OrderWord::new(); WORDS])?,
-            lists: Vec::new(alloc),
         })
     }
 
-    /// One counted access of the word at a place by the thread whose clock this is. Returns whether it is reported as a race.
-    /// `AllocError`: memory was refused, and what is kept is as it was.
+    /// One counted access of the word of this number, at this place, by the thread whose clock this is. Returns whether it is reported as a
+    /// race. `AllocError`: memory was refused, and the word says what it said.
     #[inline]
     pub(crate) fn access(
         &mut self,
-        alloc: Global,
+        lists: &mut ReadLists,
+        number: u64,
         place: usize,
         clock: &ThreadClock<'_>,
         kind: Kind,
     ) -> Result<bool, AllocError>
         requires { place < 128 }
-        ensures ok { OnOk result ((i : ℕ) → kept_at_place self.new i ≡ cond (nat_eq place i) (kept_by (count_by clock.now) (kept_at_place self.old place) clock.now.0 kind) (kept_at_place self.old i)) }
-        ensures reported { IfOk result (λ reported. reported ≡ reports_at (count_by clock.now) (kept_at_place self.old place) kind) }
-        ensures err { OnErr result ((i : ℕ) → kept_at_place self.new i ≡ kept_at_place self.old i) }
+        ensures ok { OnOk result (kept_beside lists.new number (word_at self.new place) ≡ kept_by (count_by clock.now) (kept_beside lists.old number (word_at self.old place)) clock.now.0 kind) }
+        ensures reported { IfOk result (λ reported. reported ≡ reports_at (count_by clock.now) (kept_beside lists.old number (word_at self.old place)) kind) }
+        ensures err { OnErr result (kept_beside lists.new number (word_at self.new place) ≡ kept_beside lists.old number (word_at self.old place)) }
+        ensures places { (i : ℕ) → nat_eq place i ≡ false → word_at self.new i ≡ word_at self.old i }
+        ensures lists { (w : ℕ) → nat_eq number w ≡ false → list_of lists.new w ≡ list_of lists.old w }
     {
         let word = get(&self.words, place);
         if word.is_settled(clock, kind) {
             return Ok(false);
         }
-        match word.access(clock, kind) {
-            Some((next, reported)) => {
-                put(&mut self.words, place, next);
-                Ok(reported)
-            }
-            None => self.access_listed(alloc, place, clock, kind),
-        }
-    }
-
-    // The same with the list beside the word.
-    fn access_listed(
-        &mut self,
-        alloc: Global,
-        place: usize,
-        clock: &ThreadClock<'_>,
-        kind: Kind,
-    ) -> Result<bool, AllocError>
-        requires { place < 128 }
-        ensures ok { OnOk result ((i : ℕ) → kept_at_place self.new i ≡ cond (nat_eq place i) (kept_by (count_by clock.now) (kept_at_place self.old place) clock.now.0 kind) (kept_at_place self.old i)) }
-        ensures reported { IfOk result (λ reported. reported ≡ reports_at (count_by clock.now) (kept_at_place self.old place) kind) }
-        ensures err { OnErr result ((i : ℕ) → kept_at_place self.new i ≡ kept_at_place self.old i) }
-    {
-        let word = get(&self.words, place);
-        reach(alloc, &mut self.lists, place)?;
-        let (next, reported) = word.access_listed(&mut self.lists[place], clock, kind)?;
+        let (next, reported) = advance(lists, number, word, clock, kind)?;
         put(&mut self.words, place, next);
         Ok(reported)
     }
 
-    /// Ends the era of the words from `lo` to `hi`, both included. If these are all words, their lists go.
+    /// Ends the era of the words from `lo` to `hi`, both included.
     pub(crate) fn reset(&mut self, lo: usize, hi: usize)
         requires { hi < 128 }
-        ensures { (i : ℕ) → kept_at_place self.new i ≡ cond (nat_le lo i && nat_le i hi) fresh (kept_at_place self.old i) }
+        ensures { (i : ℕ) → word_at self.new i ≡ cond (nat_le lo i && nat_le i hi) blank (word_at self.old i) }
     {
         if lo == 0 && hi == WORDS - 1 {
-            self.lists.clear();
             empty_all(&mut self.words);
             return;
         }
         empty(&mut self.words, start_of(lo, hi + 1), hi + 1);
+    }
+
+    /// Lets go of the lists of the words from `lo` to `hi`, both included, where this is the block of this number.
+    pub(crate) fn forget_lists(&self, lists: &mut ReadLists, number: u64, lo: usize, hi: usize)
+        requires hi { hi < 128 }
+        requires number { number < 2 ^ 46 }
+        ensures { (w : ℕ) → is_place_in number lo hi w ≡ false → list_of lists.new w ≡ list_of lists.old w }
+    {
+        if lists.is_empty() {
+            return;
+        }
+        for place in lo..hi + 1 {
+            let word = get(&self.words, place);
+            if word.has_list() {
+                lists.forget(word.hint(), number * 128 + place as u64);
+            }
+        }
+    }
+}
+
+// One counted access of the word of this number. Returns the word after it, and whether it is reported as a race.
+#[inline]
+fn advance(
+    lists: &mut ReadLists,
+    number: u64,
+    word: OrderWord,
+    clock: &ThreadClock<'_>,
+    kind: Kind,
+) -> Result<(OrderWord, bool), AllocError>
+    ensures kept { IfOk result (λ r. kept_beside lists.new number r.0 ≡ kept_by (count_by clock.now) (kept_beside lists.old number word) clock.now.0 kind) }
+    ensures reported { IfOk result (λ r. r.1 ≡ reports_at (count_by clock.now) (kept_beside lists.old number word) kind) }
+    ensures err { OnErr result (kept_beside lists.new number word ≡ kept_beside lists.old number word) }
+    ensures others { (w : ℕ) → nat_eq number w ≡ false → list_of lists.new w ≡ list_of lists.old w }
+{
+    match word.access(clock, kind) {
+        Some(after) => Ok(after),
+        None => lists.access(number, word, clock, kind),
     }
 }
 
@@ -116,21 +128,10 @@ fn get(words: &[OrderWord; WORDS], place: usize) -> OrderWord
 #[inline]
 fn put(words: &mut [OrderWord; WORDS], place: usize, word: OrderWord)
     requires { place < 128 }
-    ensures { (i : ℕ) → word_at words.new i ≡ cond (nat_eq place i) word (word_at words.old i) }
+    ensures here { word_at words.new place ≡ word }
+    ensures others { (i : ℕ) → nat_eq place i ≡ false → word_at words.new i ≡ word_at words.old i }
 {
     words[place] = word;
-}
-
-// Makes a list at this place, and before it.
-fn reach(alloc: Global, lists: &mut Vec<Reads>, place: usize) -> Result<(), AllocError>
-    requires { place < 128 }
-    ensures place { OnOk result (place < length lists.new.items) }
-    ensures same { (i : ℕ) → list_at lists.new.items i ≡ list_at lists.old.items i }
-{
-    while lists.len() <= place {
-        lists.push(Reads::new(alloc))?;
-    }
-    Ok(())
 }
 
 // Ends the era of all words.

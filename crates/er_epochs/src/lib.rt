@@ -10,6 +10,8 @@
 pub use words::OrderWords;
 
 mod block;
+mod hints;
+mod lists;
 mod reads;
 mod word;
 mod words;

@@ -1,9 +1,9 @@
 //! The latest reads of a word, where they are several.
-ghost use Rattle.std.specs.Prelude.{◌≡◌, ℕ, [], ◌∷◌, filter, OnOk, OnErr};
-ghost use Rattle.std.specs.List.{list_any};
+ghost use Rattle.std.specs.Prelude.{◌≡◌, ℕ, [], ◌∷◌, filter, IsTrue, OnOk, OnErr};
+ghost use Rattle.std.specs.List.{list_all, list_any};
 ghost use Rattle.er_order.specs.Following.{is_unordered};
 ghost use Rattle.er_clocks.specs.Counts.{count_by};
-ghost use Rattle.er_epochs.specs.Epochs.{reads_of, reads_in};
+ghost use Rattle.er_epochs.specs.Epochs.{pair_of, reads_of, reads_in};
 
 use crate::word::{NONE, SEVERAL};
 use er_clock::Epoch;
@@ -91,9 +91,37 @@ fn note_read(reads: &mut Vec<Epoch>, clock: &ThreadClock<'_>) -> Result<(), Allo
     ensures ok { OnOk result (reads_of reads.new.items ≡ (clock.now.0, count_by clock.now clock.now.0) ∷ filter (is_unordered (count_by clock.now)) (reads_of reads.old.items)) }
     ensures err { OnErr result (reads.new.items ≡ reads.old.items) }
 {
+    if is_noted(reads, clock) {
+        return Ok(());
+    }
     reads.reserve(1)?;
     reads.retain(|epoch| !clock.covers(*epoch));
     let noted: Result<_, _> = reads.insert(0, clock.epoch());
     noted.unwrap();
     Ok(())
+}
+
+// Whether the clock's epoch stands first, and the clock covers no other read: to note it again changes nothing.
+fn is_noted(reads: &Vec<Epoch>, clock: &ThreadClock<'_>) -> bool
+    ensures { IsTrue result → (clock.now.0, count_by clock.now clock.now.0) ∷ filter (is_unordered (count_by clock.now)) (reads_of reads.now.items) ≡ reads_of reads.now.items }
+{
+    match reads.as_slice().split_first() {
+        Some((first, others)) => is_own(first, clock) && are_unordered(others, clock),
+        None => false,
+    }
+}
+
+// Whether it is the clock's epoch.
+fn is_own(epoch: &Epoch, clock: &ThreadClock<'_>) -> bool
+    ensures { IsTrue result → pair_of epoch.now ≡ (clock.now.0, count_by clock.now clock.now.0) }
+{
+    let Epoch { thread, count } = clock.epoch();
+    epoch.thread == thread && epoch.count == count
+}
+
+// Whether the clock covers none of them.
+fn are_unordered(reads: &[Epoch], clock: &ThreadClock<'_>) -> bool
+    ensures { result ≡ list_all (is_unordered (count_by clock.now)) (reads_of reads.now) }
+{
+    reads.iter().all(|epoch| !clock.covers(*epoch))
 }

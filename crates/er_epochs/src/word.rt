@@ -14,7 +14,7 @@ use std::alloc::AllocError;
 /// In the place of a thread's number, which is less: there is none.
 pub(crate) const NONE: u32 = 1 << 30;
 
-/// In the reader's place: the list has the reads.
+/// In the reader's place: a list has the reads.
 pub(crate) const SEVERAL: u32 = (1 << 30) + 1;
 
 /// In the writer's place: a race was reported.
@@ -27,6 +27,7 @@ pub(crate) struct OrderWord {
     writer: u32,
     write_count: u32,
     reader: u32,
+    // If a list has the reads, the place where it stood when it was noted: a hint.
     read_count: u32,
 }
 
@@ -42,6 +43,20 @@ impl OrderWord {
             reader: NONE,
             read_count: 0,
         }
+    }
+
+    /// Whether a list has its reads. If not, it says the same whatever list is beside it.
+    #[inline]
+    pub(crate) fn has_list(self) -> bool
+        ensures { result ≡ false → (a b : EpochList) → kept_in self a ≡ kept_in self b }
+    {
+        self.reader == SEVERAL
+    }
+
+    /// Where its list stands, as a rule. Another word's list may stand there now, so whoever asks must check what it gets.
+    #[inline]
+    pub(crate) fn hint(self) -> usize {
+        self.read_count as usize
     }
 
     /// Whether the epoch of this access is the word's last one, by the same kind of access. It is then no race, and leaves the word as it
@@ -65,14 +80,14 @@ impl OrderWord {
         ensures kept { IfSome result (λ r. (listed : EpochList) → kept_in r.0 listed ≡ kept_by (count_by clock.now) (kept_in self listed) clock.now.0 kind) }
         ensures reported { IfSome result (λ r. (listed : EpochList) → r.1 ≡ reports_at (count_by clock.now) (kept_in self listed) kind) }
     {
+        if self.reader == SEVERAL {
+            return None;
+        }
         if self.writer == TOLD {
             return Some((self, false));
         }
         if !is_ordered(self.writer, self.write_count, clock) {
             return Some((told(), true));
-        }
-        if self.reader == SEVERAL {
-            return None;
         }
         let is_alone = is_ordered(self.reader, self.read_count, clock);
         match kind {
@@ -93,10 +108,12 @@ impl OrderWord {
         }
     }
 
-    /// The same with the list of reads, which may change. `AllocError`: memory was refused, and of the list the word says what it said.
+    /// The same with the list of reads, which may change and stands at this place. `AllocError`: memory was refused, and with the list the word
+    /// says what it said.
     pub(crate) fn access_listed(
         self,
         reads: &mut Reads,
+        index: usize,
         clock: &ThreadClock<'_>,
         kind: Kind,
     ) -> Result<(OrderWord, bool), AllocError>
@@ -114,7 +131,7 @@ impl OrderWord {
         match kind {
             Kind::Read => {
                 reads.note(clock)?;
-                Ok((self.listed(), false))
+                Ok((self.listed(index), false))
             }
             Kind::Write => {
                 if reads.has_unordered(clock) {
@@ -140,16 +157,16 @@ impl OrderWord {
         }
     }
 
-    // The word, with the reads of the list.
+    // The word, with the reads of the list that stands at this place. The place is noted by its lowest bits: it is a hint.
     #[inline]
-    fn listed(self) -> OrderWord
+    fn listed(self, index: usize) -> OrderWord
         ensures { (listed : EpochList) → kept_in result listed ≡ kept_with self listed }
     {
         OrderWord {
             writer: self.writer,
             write_count: self.write_count,
             reader: SEVERAL,
-            read_count: 0,
+            read_count: (index % (1 << 32)) as u32,
         }
     }
 

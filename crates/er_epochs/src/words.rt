@@ -1,12 +1,13 @@
 //! What is kept of each word.
-ghost use Rattle.std.specs.Prelude.{◌≡◌, ◌<◌, ◌≤◌, ◌/◌, ◌%◌, ℕ, ◌==◌, nat_eq, nat_le, cond, slice_get, Some, None, IfSome, IfNone, OnOk, OnErr, IfOk};
-ghost use Rattle.indexmap.specs.IndexMap.{get, keys, index_map_len, IsUnique};
+ghost use Rattle.std.specs.Prelude.{◌≡◌, ◌<◌, ◌≤◌, ◌/◌, ◌%◌, ◌^◌, ℕ, ◌==◌, nat_le, cond, OnOk, OnErr, IfOk};
 ghost use Rattle.er_model.specs.Words.{is_within};
 ghost use Rattle.er_order.specs.Following.{fresh, kept_by, reports_at};
 ghost use Rattle.er_clocks.specs.Counts.{count_by};
 ghost use Rattle.er_epochs.specs.Words.{kept_among, is_place_in};
 
 use crate::block::Block;
+use crate::hints::index_of;
+use crate::lists::ReadLists;
 use er_clocks::ThreadClock;
 use er_event::{Kind, PageRange, Word};
 use indexmap::IndexMap;
@@ -23,22 +24,23 @@ const HINTS: u64 = 4096;
 /// `kept_among`.
 ///
 /// An access takes one look at its word. Only a word that several threads have read, where neither read happens before the other, has a list
-/// besides. A reset takes one look at each block of its range.
+/// besides, until it is written or reset. A reset takes one look at each block of its range.
 #[derive(Drop)]
 pub struct OrderWords {
     blocks: IndexMap<u64, Block>,
     // Where the block of a number stood when it was accessed, by the lowest bits of the number. Another block may have the same bits, so
     // whoever asks must check what it gets.
     hints: Vec<usize>,
+    lists: ReadLists,
     alloc: Global,
 }
 
 impl Model for OrderWords {
-    ghost use Rattle.er_epochs.specs.Words.{WordBlocks};
+    ghost use Rattle.er_epochs.specs.Words.{AllWords};
 
-    ghost Value = { WordBlocks };
+    ghost Value = { AllWords };
 
-    ghost view = { λ w. w.blocks.entries };
+    ghost view = { λ w. record { blocks = w.blocks.entries; lists = w.lists } };
 }
 
 impl OrderWords {
@@ -49,6 +51,7 @@ impl OrderWords {
         OrderWords {
             blocks: IndexMap::new(alloc),
             hints: Vec::new(alloc),
+            lists: ReadLists::new(alloc),
             alloc,
         }
     }
@@ -67,15 +70,15 @@ impl OrderWords {
     {
         let number = block_of(word);
         let place = place_of(word);
-        match index_of_block(&self.blocks, hint(&self.hints, number), number) {
+        match index_of(&self.blocks, hint(&self.hints, number), number) {
             Some(index) => {
                 note(&mut self.hints, number, index);
                 let block = &mut self.blocks[index];
-                block.access(self.alloc, place, clock, kind)
+                block.access(&mut self.lists, word.number(), place, clock, kind)
             }
             None => {
                 let mut block = Block::new(self.alloc)?;
-                let reported = block.access(self.alloc, place, clock, kind)?;
+                let reported = block.access(&mut self.lists, word.number(), place, clock, kind)?;
                 make_room(self.alloc, &mut self.hints)?;
                 note(&mut self.hints, number, self.blocks.len());
                 self.blocks.insert(number, block)?;
@@ -98,11 +101,14 @@ impl OrderWords {
 
     // Ends the era of words of a block, both ends included.
     fn empty(&mut self, number: u64, from: usize, to: usize)
-        requires { to < 128 }
+        requires to { to < 128 }
+        requires number { number < 2 ^ 46 }
         ensures { (w : ℕ) → kept_among self.new w ≡ cond (is_place_in number from to w) fresh (kept_among self.old w) }
     {
-        if let Some(index) = index_of_block(&self.blocks, hint(&self.hints, number), number) {
-            self.blocks[index].reset(from, to);
+        if let Some(index) = index_of(&self.blocks, hint(&self.hints, number), number) {
+            let block = &mut self.blocks[index];
+            block.forget_lists(&mut self.lists, number, from, to);
+            block.reset(from, to);
         }
     }
 }
@@ -132,24 +138,11 @@ fn note(hints: &mut [usize], number: u64, index: usize) {
     }
 }
 
-// Where the block of this number stands. It looks at the one at `hint` first, and needs no hash if that is the one.
-#[inline]
-fn index_of_block(blocks: &IndexMap<u64, Block>, hint: usize, number: u64) -> Option<usize>
-    ensures key { IfSome result (λ index. slice_get (keys blocks.now) index ≡ Some number) }
-    ensures within { IfSome result (λ index. index < index_map_len blocks.now) }
-    ensures none { IfNone result (get nat_eq blocks.now number ≡ None) }
-    ensures unique { IsUnique nat_eq blocks.now }
-{
-    match blocks.as_slice().get_index(hint) {
-        Some((key, _)) if *key == number => Some(hint),
-        _ => blocks.get_index_of(&number),
-    }
-}
-
 // The number of a word's block.
 #[inline]
 fn block_of(word: Word) -> u64
-    ensures { result ≡ word / 128 }
+    ensures value { result ≡ word / 128 }
+    ensures within { result < 2 ^ 46 }
 {
     word.number() / WORDS
 }

@@ -1,53 +1,89 @@
--- The word's block was found, or made for it: in each case one word of one block goes on.
-use Rattle.std.proofs.Common.{◌≡◌, ◌==◌, ◌∙◌, ℕ, cond, Some, None, IfOk, sym, ap, subst}
-use Rattle.er_event.proofs.Results.{on_ok, on_err}
-use Rattle.er_order.specs.Following.{Kept, fresh, kept_by, reports_at}
+-- The word's block was found, or made for it: in each case one word of one block goes on, with its list.
+use Rattle.std.proofs.Common.{◌≡◌, ◌==◌, ◌∙◌, ℕ, cond, refl, ap, subst}
+use Rattle.er_event.proofs.Results.{on_ok, on_err, on_err_of}
+use Rattle.er_order.specs.Following.{kept_by, reports_at}
 use Rattle.er_clocks.specs.Counts.{count_by}
-use Rattle.er_epochs.specs.Words.{WordBlocks, kept_among}
+use Rattle.er_epochs.specs.Words.{AllWords, kept_among}
 use Rattle.indexmap.specs.IndexMap.{with_value_at}
-use Rattle.er_epochs.proofs.Blocks.{block_found, block_put, one_word, first_word, same_words, found_word}
+use Rattle.er_epochs.proofs.Maps.{entry_found, entry_put}
+use Rattle.er_epochs.proofs.Listed.{if_ok}
+use Rattle.er_epochs.proofs.Blocks.{has_found, has_none, found_word, accessed, same_words, same_absent}
 use Rattle.er_epochs.proofs.words.OrderWords.access.Goals as goal
 
 pub returns-in-Some-clause-ok : goal.returns-in-Some-clause-ok
 returns-in-Some-clause-ok c =
-    on_ok c.access.result _ _ c.access.ensures.ok (λ goes.
-    subst (λ (old : WordBlocks). (w : ℕ) → kept_among (with_value_at c.self.inside.blocks c.in-Some.index c.access.new.self).entries w
-    ≡ cond (c.args.word == w) (kept_by (count_by c.args.clock.now) (kept_among old c.args.word) c.args.clock.now.0 c.args.kind) (kept_among old w)) c.self.view_is
-    (one_word c.self.inside.blocks.entries (with_value_at c.self.inside.blocks c.in-Some.index c.access.new.self).entries c.args.word c.block_of-number.result c.place_of-place.result (Some c.index_mut-block.result.now) c.access.new.self
-    (λ k. kept_by (count_by c.args.clock.now) k c.args.clock.now.0 c.args.kind)
-    c.block_of-number.ensures c.place_of-place.ensures.value
-    (block_found c.self.inside.blocks c.in-Some.index c.block_of-number.result c.index_mut-block.result.now c.in-Some.ensures.unique c.in-Some.ensures.key c.index_mut-block.ensures.value)
-    (block_put c.self.inside.blocks c.in-Some.index c.block_of-number.result c.index_mut-block.result.now c.in-Some.ensures.unique c.in-Some.ensures.key c.index_mut-block.ensures.value c.access.new.self)
-    goes))
+    let old : AllWords = record { blocks = c.self.inside.blocks.entries; lists = c.self.inside.lists } in
+    let new : AllWords = record { blocks = (with_value_at c.self.inside.blocks c.in-Some.index c.access.new.self).entries; lists = c.access.new.lists } in
+    on_ok c.access.result _ _ c.access.ensures.ok (λ on.
+    subst (λ (before : AllWords). (w : ℕ) → kept_among new w ≡ cond (c.args.word == w) (kept_by (count_by c.args.clock.now) (kept_among before c.args.word) c.args.clock.now.0 c.args.kind) (kept_among before w)) c.self.view_is
+    (accessed old c.args.word c.number.result c.block_of-number.result c.place_of-place.result c.index_mut-block.result.now c.number.ensures.value c.block_of-number.ensures.value c.place_of-place.ensures.value
+    (has_found c.self.inside.blocks.entries c.block_of-number.result c.index_mut-block.result.now
+    (entry_found c.self.inside.blocks c.in-Some.index c.block_of-number.result c.index_mut-block.result.now c.in-Some.ensures.unique c.in-Some.ensures.key c.index_mut-block.ensures.value))
+    new c.access.new.self
+    (entry_put c.self.inside.blocks c.in-Some.index c.block_of-number.result c.index_mut-block.result.now c.in-Some.ensures.unique c.in-Some.ensures.key c.index_mut-block.ensures.value c.access.new.self)
+    c.access.ensures.places c.access.ensures.lists (λ k. kept_by (count_by c.args.clock.now) k c.args.clock.now.0 c.args.kind) on))
 
 pub returns-in-Some-clause-reported : goal.returns-in-Some-clause-reported
 returns-in-Some-clause-reported c =
-    subst (λ (k : Kept). IfOk c.access.result (λ reported. reported ≡ reports_at (count_by c.args.clock.now) k c.args.kind))
-    (found_word c.self.inside.blocks.entries c.args.word c.block_of-number.result c.place_of-place.result (Some c.index_mut-block.result.now) c.block_of-number.ensures c.place_of-place.ensures.value
-    (block_found c.self.inside.blocks c.in-Some.index c.block_of-number.result c.index_mut-block.result.now c.in-Some.ensures.unique c.in-Some.ensures.key c.index_mut-block.ensures.value)
-    ∙ ap (λ (v : WordBlocks). kept_among v c.args.word) c.self.view_is)
-    c.access.ensures.reported
+    let old : AllWords = record { blocks = c.self.inside.blocks.entries; lists = c.self.inside.lists } in
+    if_ok c.access.result _ _ c.access.ensures.reported (λ r reported.
+    reported ∙ ap (λ k. reports_at (count_by c.args.clock.now) k c.args.kind)
+    (found_word old c.args.word c.number.result c.block_of-number.result c.place_of-place.result c.index_mut-block.result.now c.number.ensures.value c.block_of-number.ensures.value c.place_of-place.ensures.value
+    (has_found c.self.inside.blocks.entries c.block_of-number.result c.index_mut-block.result.now
+    (entry_found c.self.inside.blocks c.in-Some.index c.block_of-number.result c.index_mut-block.result.now c.in-Some.ensures.unique c.in-Some.ensures.key c.index_mut-block.ensures.value))
+    ∙ ap (λ (before : AllWords). kept_among before c.args.word) c.self.view_is))
 
 pub returns-in-Some-clause-err : goal.returns-in-Some-clause-err
 returns-in-Some-clause-err c =
+    let old : AllWords = record { blocks = c.self.inside.blocks.entries; lists = c.self.inside.lists } in
+    let new : AllWords = record { blocks = (with_value_at c.self.inside.blocks c.in-Some.index c.access.new.self).entries; lists = c.access.new.lists } in
     on_err c.access.result _ _ c.access.ensures.err (λ same.
-    subst (λ (old : WordBlocks). (w : ℕ) → kept_among (with_value_at c.self.inside.blocks c.in-Some.index c.access.new.self).entries w ≡ kept_among old w) c.self.view_is
-    (same_words c.self.inside.blocks.entries (with_value_at c.self.inside.blocks c.in-Some.index c.access.new.self).entries c.block_of-number.result c.index_mut-block.result.now c.access.new.self
-    (block_found c.self.inside.blocks c.in-Some.index c.block_of-number.result c.index_mut-block.result.now c.in-Some.ensures.unique c.in-Some.ensures.key c.index_mut-block.ensures.value)
-    (block_put c.self.inside.blocks c.in-Some.index c.block_of-number.result c.index_mut-block.result.now c.in-Some.ensures.unique c.in-Some.ensures.key c.index_mut-block.ensures.value c.access.new.self)
-    same))
+    subst (λ (before : AllWords). (w : ℕ) → kept_among new w ≡ kept_among before w) c.self.view_is
+    (same_words old c.args.word c.number.result c.block_of-number.result c.place_of-place.result c.index_mut-block.result.now c.number.ensures.value c.block_of-number.ensures.value c.place_of-place.ensures.value
+    (has_found c.self.inside.blocks.entries c.block_of-number.result c.index_mut-block.result.now
+    (entry_found c.self.inside.blocks c.in-Some.index c.block_of-number.result c.index_mut-block.result.now c.in-Some.ensures.unique c.in-Some.ensures.key c.index_mut-block.ensures.value))
+    new c.access.new.self
+    (entry_put c.self.inside.blocks c.in-Some.index c.block_of-number.result c.index_mut-block.result.now c.in-Some.ensures.unique c.in-Some.ensures.key c.index_mut-block.ensures.value c.access.new.self)
+    c.access.ensures.places c.access.ensures.lists same))
 
 pub returns-in_ok-insert-in-None-clause-ok : goal.returns-in_ok-insert-in-None-clause-ok
 returns-in_ok-insert-in-None-clause-ok c =
-    subst (λ (old : WordBlocks). (w : ℕ) → kept_among c.insert.new.self.entries w
-    ≡ cond (c.args.word == w) (kept_by (count_by c.args.clock.now) (kept_among old c.args.word) c.args.clock.now.0 c.args.kind) (kept_among old w)) c.self.view_is
-    (first_word c.self.inside.blocks.entries c.insert.new.self.entries c.args.word c.block_of-number.result c.place_of-place.result c.in_ok-block-in-None.block c.access-in-None.new.self
-    (λ k. kept_by (count_by c.args.clock.now) k c.args.clock.now.0 c.args.kind)
-    c.block_of-number.ensures c.place_of-place.ensures.value c.in-None.ensures.none c.in_ok-insert-in-None.ensures.updates.0 c.in_ok-block-in-None.ensures c.in_ok-reported-in-None.ensures.ok)
+    let old : AllWords = record { blocks = c.self.inside.blocks.entries; lists = c.self.inside.lists } in
+    let new : AllWords = record { blocks = c.insert.new.self.entries; lists = c.access-in-None.new.lists } in
+    subst (λ (before : AllWords). (w : ℕ) → kept_among new w ≡ cond (c.args.word == w) (kept_by (count_by c.args.clock.now) (kept_among before c.args.word) c.args.clock.now.0 c.args.kind) (kept_among before w)) c.self.view_is
+    (accessed old c.args.word c.number-in-None.result c.block_of-number.result c.place_of-place.result c.in_ok-block-in-None.block c.number-in-None.ensures.value c.block_of-number.ensures.value c.place_of-place.ensures.value
+    (has_none c.self.inside.blocks.entries c.block_of-number.result c.in_ok-block-in-None.block c.in-None.ensures.none c.in_ok-block-in-None.ensures)
+    new c.access-in-None.new.self c.in_ok-insert-in-None.ensures.updates.0
+    c.access-in-None.ensures.places c.access-in-None.ensures.lists (λ k. kept_by (count_by c.args.clock.now) k c.args.clock.now.0 c.args.kind) c.in_ok-reported-in-None.ensures.ok)
 
 pub returns-in_ok-insert-in-None-clause-reported : goal.returns-in_ok-insert-in-None-clause-reported
 returns-in_ok-insert-in-None-clause-reported c =
-    let none : fresh ≡ kept_among c.args.self.now c.args.word =
-    found_word c.self.inside.blocks.entries c.args.word c.block_of-number.result c.place_of-place.result None c.block_of-number.ensures c.place_of-place.ensures.value (sym c.in-None.ensures.none)
-    ∙ ap (λ (v : WordBlocks). kept_among v c.args.word) c.self.view_is in
-    c.in_ok-reported-in-None.ensures.reported ∙ ap (λ k. reports_at (count_by c.args.clock.now) k c.args.kind) (c.in_ok-block-in-None.ensures c.place_of-place.result ∙ none)
+    let old : AllWords = record { blocks = c.self.inside.blocks.entries; lists = c.self.inside.lists } in
+    c.in_ok-reported-in-None.ensures.reported ∙ ap (λ k. reports_at (count_by c.args.clock.now) k c.args.kind)
+    (found_word old c.args.word c.number-in-None.result c.block_of-number.result c.place_of-place.result c.in_ok-block-in-None.block c.number-in-None.ensures.value c.block_of-number.ensures.value c.place_of-place.ensures.value
+    (has_none c.self.inside.blocks.entries c.block_of-number.result c.in_ok-block-in-None.block c.in-None.ensures.none c.in_ok-block-in-None.ensures)
+    ∙ ap (λ (before : AllWords). kept_among before c.args.word) c.self.view_is)
+
+pub returns-in_err-reported-in-None-clause-err : goal.returns-in_err-reported-in-None-clause-err
+returns-in_err-reported-in-None-clause-err c =
+    let old : AllWords = record { blocks = c.self.inside.blocks.entries; lists = c.self.inside.lists } in
+    let new : AllWords = record { blocks = c.self.inside.blocks.entries; lists = c.access-in-None.new.lists } in
+    on_err_of _ _
+    (subst (λ (before : AllWords). (w : ℕ) → kept_among new w ≡ kept_among before w) c.self.view_is
+    (same_absent old new c.args.word c.number-in-None.result c.block_of-number.result c.number-in-None.ensures.value c.block_of-number.ensures.value c.in-None.ensures.none refl c.access-in-None.ensures.lists))
+
+pub returns-in_err-make_room-in-None-clause-err : goal.returns-in_err-make_room-in-None-clause-err
+returns-in_err-make_room-in-None-clause-err c =
+    let old : AllWords = record { blocks = c.self.inside.blocks.entries; lists = c.self.inside.lists } in
+    let new : AllWords = record { blocks = c.self.inside.blocks.entries; lists = c.access-in-None.new.lists } in
+    on_err_of _ _
+    (subst (λ (before : AllWords). (w : ℕ) → kept_among new w ≡ kept_among before w) c.self.view_is
+    (same_absent old new c.args.word c.number-in-None.result c.block_of-number.result c.number-in-None.ensures.value c.block_of-number.ensures.value c.in-None.ensures.none refl c.access-in-None.ensures.lists))
+
+pub returns-in_err-insert-in-None-clause-err : goal.returns-in_err-insert-in-None-clause-err
+returns-in_err-insert-in-None-clause-err c =
+    let old : AllWords = record { blocks = c.self.inside.blocks.entries; lists = c.self.inside.lists } in
+    let new : AllWords = record { blocks = c.insert.new.self.entries; lists = c.access-in-None.new.lists } in
+    on_err_of _ _
+    (subst (λ (before : AllWords). (w : ℕ) → kept_among new w ≡ kept_among before w) c.self.view_is
+    (same_absent old new c.args.word c.number-in-None.result c.block_of-number.result c.number-in-None.ensures.value c.block_of-number.ensures.value c.in-None.ensures.none c.in_err-insert-in-None.ensures.err c.access-in-None.ensures.lists))

@@ -1,5 +1,5 @@
-use Rattle.er_epochs.proofs.Blocks.{no_blocks}
+use Rattle.er_epochs.proofs.Blocks.{no_words}
 use Rattle.er_epochs.proofs.words.OrderWords.new.Goals as goal
 
 pub returns : goal.returns
-returns c = no_blocks c.new.result.entries c.new.ensures.empty
+returns c = no_words _ c.new.ensures.empty

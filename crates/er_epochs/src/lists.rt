@@ -1,0 +1,120 @@
+//! The lists of reads of the words that have several.
+ghost use Rattle.std.specs.Prelude.{◌≡◌, ◌<◌, ℕ, nat_eq, slice_get, false, Some, [], IsTrue, IfOk, OnErr};
+ghost use Rattle.indexmap.specs.IndexMap.{keys, index_map_len, IsUnique};
+ghost use Rattle.er_order.specs.Following.{kept_by, reports_at};
+ghost use Rattle.er_clocks.specs.Counts.{count_by};
+ghost use Rattle.er_epochs.specs.Words.{list_of, kept_beside};
+
+use crate::hints::index_of;
+use crate::reads::Reads;
+use crate::word::OrderWord;
+use er_clocks::ThreadClock;
+use er_event::Kind;
+use indexmap::IndexMap;
+use std::alloc::{AllocError, Global};
+use std::marker::Model;
+
+/// The lists of the words that have several reads in no order, by the words' numbers. A word that no longer has such reads gives its list
+/// up, so memory goes by the words that have them now. Contracts see the lists by `list_of`.
+#[derive(Drop)]
+pub(crate) struct ReadLists {
+    lists: IndexMap<u64, Reads>,
+    alloc: Global,
+}
+
+impl Model for ReadLists {
+    ghost use Rattle.er_epochs.specs.Words.{WordLists};
+
+    ghost Value = { WordLists };
+
+    ghost view = { λ l. l.lists.entries };
+}
+
+impl ReadLists {
+    /// No word has a list.
+    pub(crate) fn new(alloc: Global) -> Self
+        ensures { result ≡ [] }
+    {
+        ReadLists {
+            lists: IndexMap::new(alloc),
+            alloc,
+        }
+    }
+
+    /// Whether no word has a list.
+    pub(crate) fn is_empty(&self) -> bool
+        ensures { IsTrue result → self.now ≡ [] }
+    {
+        self.lists.is_empty()
+    }
+
+    /// One counted access, by the thread whose clock this is, of a word that has a list or gets one. Returns the word after it, and whether it
+    /// is reported as a race. `AllocError`: memory was refused, and the word says what it said.
+    pub(crate) fn access(
+        &mut self,
+        number: u64,
+        word: OrderWord,
+        clock: &ThreadClock<'_>,
+        kind: Kind,
+    ) -> Result<(OrderWord, bool), AllocError>
+        ensures kept { IfOk result (λ r. kept_beside self.new number r.0 ≡ kept_by (count_by clock.now) (kept_beside self.old number word) clock.now.0 kind) }
+        ensures reported { IfOk result (λ r. r.1 ≡ reports_at (count_by clock.now) (kept_beside self.old number word) kind) }
+        ensures err { OnErr result (kept_beside self.new number word ≡ kept_beside self.old number word) }
+        ensures others { (w : ℕ) → nat_eq number w ≡ false → list_of self.new w ≡ list_of self.old w }
+    {
+        let (next, reported) = self.advance(number, word, clock, kind)?;
+        if !next.has_list() {
+            self.forget(word.hint(), number);
+        }
+        Ok((next, reported))
+    }
+
+    // The same, where the list stays even if the word has no use for it any more.
+    fn advance(
+        &mut self,
+        number: u64,
+        word: OrderWord,
+        clock: &ThreadClock<'_>,
+        kind: Kind,
+    ) -> Result<(OrderWord, bool), AllocError>
+        ensures kept { IfOk result (λ r. kept_beside self.new number r.0 ≡ kept_by (count_by clock.now) (kept_beside self.old number word) clock.now.0 kind) }
+        ensures reported { IfOk result (λ r. r.1 ≡ reports_at (count_by clock.now) (kept_beside self.old number word) kind) }
+        ensures err { OnErr result (kept_beside self.new number word ≡ kept_beside self.old number word) }
+        ensures others { (w : ℕ) → nat_eq number w ≡ false → list_of self.new w ≡ list_of self.old w }
+    {
+        let index = reach(self.alloc, &mut self.lists, word.hint(), number)?;
+        let reads = &mut self.lists[index];
+        word.access_listed(reads, index, clock, kind)
+    }
+
+    /// Lets go of the list of the word of this number, if there is one.
+    pub(crate) fn forget(&mut self, hint: usize, number: u64)
+        ensures { (w : ℕ) → nat_eq number w ≡ false → list_of self.new w ≡ list_of self.old w }
+    {
+        if let Some(index) = index_of(&self.lists, hint, number) {
+            self.lists.swap_remove_index(index);
+        }
+    }
+}
+
+// Where the list of the word of this number stands. If there was none, it is made.
+fn reach(
+    alloc: Global,
+    lists: &mut IndexMap<u64, Reads>,
+    hint: usize,
+    number: u64,
+) -> Result<usize, AllocError>
+    ensures key { IfOk result (λ index. slice_get (keys lists.new) index ≡ Some number) }
+    ensures within { IfOk result (λ index. index < index_map_len lists.new) }
+    ensures unique { IsUnique nat_eq lists.new }
+    ensures same { (w : ℕ) → list_of lists.new.entries w ≡ list_of lists.old.entries w }
+{
+    match index_of(lists, hint, number) {
+        Some(index) => Ok(index),
+        None => {
+            let index = lists.len();
+            lists.insert(number, Reads::new(alloc))?;
+            Ok(index)
+        }
+    }
+}
