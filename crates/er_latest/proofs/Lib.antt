@@ -1,6 +1,8 @@
+pub mod AmongLemmas
+pub mod BlockLemmas
 pub mod FoundLemmas
-pub mod MapLemmas
 pub mod Retained
+pub mod SlotLemmas
 pub mod StepLemmas
 pub mod FollowLemmas
 pub mod ReasonLemmas

@@ -1,6 +1,6 @@
 -- What `retain` keeps, where its test stays as it is from call to call.
-use Rattle.std.proofs.Common.{◌≡◌, Bool, true, false, cond, List, [], ◌∷◌, filter, if◌then◌else◌, length, refl, ap, ap₂, subst, ◌∙◌, arith}
-use Rattle.std.specs.List.{insert, items_where_true}
+use Rattle.std.proofs.Common.{◌≡◌, Bool, true, false, cond, List, [], ◌∷◌, filter, length, refl, ap₂, subst, ◌∙◌, arith}
+use Rattle.std.specs.List.{items_where_true}
 use Rattle.std.specs.List.Retain.{IsFiltered, ReturnsInTurn}
 
 first_where : {X : Type 0} (b : Bool) (bs : List Bool) (x : X) (xs : List X) →
@@ -19,9 +19,3 @@ module _ {X P : Type 0} (R : P → X → Bool → P → Type 0) (test : X → Bo
 
   pub retained : (xs ys : List X) → IsFiltered R f xs ys → ys ≡ filter test xs
   retained xs ys s = s.4 ∙ kept_where f s.1 refl s.0 xs s.2 s.3
-
--- the access comes in front of what is kept
-pub put_first : {X : Type 0} (test : X → Bool) (access : X) (b : Bool) (old reserved kept new : List X) → new ≡ if◌then◌else◌ b (insert kept 0 access) kept → b ≡ true →
-    kept ≡ filter test reserved → reserved ≡ old → new ≡ access ∷ filter test old
-put_first test access b old reserved kept new is room left same =
-    is ∙ ap (λ c. if◌then◌else◌ c (insert kept 0 access) kept) room ∙ ap (λ items. access ∷ items) (left ∙ ap (filter test) same)

@@ -21,5 +21,7 @@
 pub use word::Tagged;
 pub use words::LatestWords;
 
+mod block;
+mod blocks;
 mod word;
 mod words;

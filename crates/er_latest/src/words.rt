@@ -10,27 +10,26 @@ ghost use Rattle.er_latest.specs.Inner.Steps.{latest_by, latest_moved, marked_if
 ghost use Rattle.er_latest.specs.Latest.{tagged, untouched};
 ghost use Rattle.er_latest.specs.Standing.{latest_among, Follows, IsClockAfter, is_counted};
 
-use crate::word::LatestWord;
+use crate::blocks::WordBlocks;
 use er_clocks::ThreadClock;
 use er_event::{Event, Kind, PageRange, Refusal, Reply, Step, Word};
 use std::alloc::{AllocError, Global};
-use std::collections::HashMap;
 use std::marker::Model;
 
 /// The last write and the latest reads of the words that were accessed in their era, by word. Contracts see it by `latest_among`.
 #[derive(Drop)]
 pub struct LatestWords<A> {
-    words: HashMap<u64, LatestWord<A>>,
-    alloc: Global,
+    blocks: WordBlocks<A>,
 }
 
 impl<A> Model for LatestWords<A> {
     ghost use Rattle.std.specs.Prelude.{List, ℕ};
+    ghost use Rattle.er_latest.specs.Inner.Blocks.{all_words};
     ghost use Rattle.er_latest.specs.Latest.{Latest};
 
     ghost Value = { List (ℕ × Latest A) };
 
-    ghost view = { λ w. w.words.entries };
+    ghost view = { λ w. all_words w.blocks };
 }
 
 impl<A: Copy> LatestWords<A> {
@@ -39,8 +38,7 @@ impl<A: Copy> LatestWords<A> {
         ensures { (tags : ℕ → A) → Follows tags result [] }
     {
         LatestWords {
-            words: HashMap::new(alloc),
-            alloc,
+            blocks: WordBlocks::new(alloc),
         }
     }
 
@@ -111,36 +109,21 @@ impl<A: Copy> LatestWords<A> {
         ensures ok { OnOk result ((w : ℕ) → latest_among self.new w ≡ cond (word == w) (latest_by (count_by clock.now) (latest_among self.old word) (tagged clock.now.0 (count_by clock.now clock.now.0) tag) kind) (latest_among self.old w)) }
         ensures err { OnErr result ((w : ℕ) → latest_among self.new w ≡ latest_among self.old w) }
     {
-        let number = word.number();
-        match self.words.get_mut(&number) {
-            Some(kept) => kept.access(clock, kind, tag),
-            None => {
-                let mut kept = LatestWord::new(self.alloc);
-                kept.access(clock, kind, tag)?;
-                self.words.insert(number, kept)?;
-                Ok(())
-            }
-        }
+        self.blocks.access(word, clock, kind, tag)
     }
 
     // Ends the era of the words of a range. It takes no memory.
     fn reset(&mut self, range: PageRange)
         ensures { (w : ℕ) → latest_among self.new w ≡ cond (is_within w range) untouched (latest_among self.old w) }
     {
-        let PageRange { lo, hi } = range;
-        for number in lo.number()..hi.number() + 1 {
-            let _ = self.words.remove(&number);
-        }
+        self.blocks.reset(range);
     }
 
     // The tag of the last access of the word that one of this kind conflicts with and that the clock doesn't cover.
     fn find_on(&self, word: Word, clock: &ThreadClock<'_>, kind: Kind) -> Option<A>
         ensures { result ≡ tag_found (count_by clock.now) (latest_among self.now word) kind }
     {
-        match self.words.get(&word.number()) {
-            Some(kept) => kept.find(clock, kind),
-            None => None,
-        }
+        self.blocks.find(word, clock, kind)
     }
 }
 
