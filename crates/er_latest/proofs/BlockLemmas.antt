@@ -205,3 +205,25 @@ module _ {A : Type 0} where
           → word_in_block (cond here (Some words) (lookup (nat_eq (w / 128)) old)) (w % 128) ≡ word_in_block (lookup (nat_eq (w / 128)) old) (w % 128)
       by true e = same (w % 128) ∙ ap (λ o. word_in_block o (w % 128)) (found ∙ ap (λ q. lookup (nat_eq q) old) (eqb-true number (w / 128) e))
       by false e = refl
+
+  -- nor if a block goes of whose words nothing is kept
+  gone_block : (old new : Blocks A) (number : ℕ) (words : List (Latest A)) → lookup (nat_eq number) old ≡ Some words → ((i : ℕ) → word_at_place words i ≡ untouched)
+      → ((q : ℕ) → lookup (nat_eq q) new ≡ cond (nat_eq number q) None (lookup (nat_eq q) old)) → (w : ℕ) → word_in new w ≡ word_in old w
+  unfolding word_in
+  gone_block old new number words found none gone w = ap (λ o. word_in_block o (w % 128)) (gone (w / 128)) ∙ by (nat_eq number (w / 128)) refl
+    where
+      by : (here : Bool) → nat_eq number (w / 128) ≡ here
+          → word_in_block (cond here None (lookup (nat_eq (w / 128)) old)) (w % 128) ≡ word_in_block (lookup (nat_eq (w / 128)) old) (w % 128)
+      by true e = sym (ap (λ o. word_in_block o (w % 128)) (ap (λ q. lookup (nat_eq q) old) (sym (eqb-true number (w / 128) e)) ∙ found) ∙ none (w % 128))
+      by false e = refl
+
+  -- some words of a block are emptied, and the block goes
+  pub emptied_away : (old mid new : Blocks A) (number lo hi : ℕ) (was words : List (Latest A))
+      → Some was ≡ lookup (nat_eq number) old → PutsBlock old mid number words
+      → ((i : ℕ) → word_at_place words i ≡ cond (nat_le lo i && nat_le i hi) untouched (word_at_place was i))
+      → ((i : ℕ) → word_at_place words i ≡ untouched)
+      → ((q : ℕ) → lookup (nat_eq q) new ≡ cond (nat_eq number q) None (lookup (nat_eq q) mid))
+      → (w : ℕ) → word_in new w ≡ cond (is_place_in number lo hi w) untouched (word_in old w)
+  emptied_away old mid new number lo hi was words found puts written none gone w =
+      gone_block mid new number words (puts number ∙ ap (λ b. cond b (Some words) (lookup (nat_eq number) old)) (eq-eqb number number refl)) none gone w
+      ∙ emptied_block old mid number lo hi was words found puts written w

@@ -4,7 +4,7 @@ use Rattle.std.proofs.lemmas.Bool.Decides.{nat_tests}
 use Rattle.std.proofs.lemmas.List.{get_or-set_same, get_or-set_other}
 use borrow.Author.Tests.{eqb-true, eqb-false, eq-eqb, lt-ltb}
 use Rattle.er_latest.specs.Inner.Blocks.{word_at_place}
-use Rattle.er_latest.specs.Inner.Slots.{listed, slot_at, emptied, slot_word, kept_words, slot_number, AreApart}
+use Rattle.er_latest.specs.Inner.Slots.{listed, slot_at, emptied, is_kept, slot_word, kept_words, slot_number, AreApart}
 use Rattle.er_latest.specs.Latest.{Latest, untouched}
 use Rattle.er_latest.specs.declared.block.Slot.{Slot}
 use Rattle.er_latest.specs.declared.block.Slot.TheVariants.{Free, Emptied, Kept}
@@ -227,6 +227,17 @@ module _ {A : Type 0} where
   unfolding kept_words
   nothing_kept slots words none i =
       no_words (λ k. slot_word (λ n. slice_index_or words n untouched) (slot_at slots k)) (λ k. ap (λ s. slot_word (λ n. slice_index_or words n untouched) s) (all_free slots none k)) i
+
+  -- or of one where no slot counts
+  pub nothing_counts : (slots : List Slot) (words : List (Latest A)) → ((i : ℕ) → is_kept (slot_at slots i) ≡ false) → (i : ℕ) → word_at_place (kept_words slots words) i ≡ untouched
+  unfolding kept_words
+  nothing_counts slots words none i =
+      no_words (λ k. slot_word (λ n. slice_index_or words n untouched) (slot_at slots k)) (λ k. by (slot_at slots k) (none k)) i
+    where
+      by : (slot : Slot) → is_kept slot ≡ false → slot_word (λ n. slice_index_or words n untouched) slot ≡ untouched
+      by Free never = refl
+      by (Emptied n) never = refl
+      by (Kept n) never = cc
 
   -- some words don't count any more
   pub emptied_words : (slots left : List Slot) (words now : List (Latest A)) (test : ℕ → Bool) → kept_words slots words ≡ now

@@ -1,8 +1,8 @@
 //! What is kept of words that lie side by side.
-ghost use Rattle.std.specs.Prelude.{◌≡◌, ◌<◌, ◌≤◌, ◌&&◌, ℕ, nat_eq, nat_le, nat_lt, cond, OnOk, OnErr};
+ghost use Rattle.std.specs.Prelude.{◌≡◌, ◌<◌, ◌≤◌, ◌&&◌, ℕ, nat_eq, nat_le, nat_lt, cond, false, IsTrue, OnOk, OnErr};
 ghost use Rattle.er_clocks.specs.Counts.{count_by};
 ghost use Rattle.er_latest.specs.Inner.Blocks.{word_at_place};
-ghost use Rattle.er_latest.specs.Inner.Slots.{emptied, slot_at};
+ghost use Rattle.er_latest.specs.Inner.Slots.{emptied, is_kept, slot_at};
 ghost use Rattle.er_latest.specs.Inner.Steps.{latest_by, tag_found};
 ghost use Rattle.er_latest.specs.Latest.{tagged, untouched};
 
@@ -95,12 +95,22 @@ impl<A: Copy> Block<A> {
         }
     }
 
-    /// Ends the era of the words from `lo` to `hi`, both included. It looks at no word.
-    pub(crate) fn reset(&mut self, lo: usize, hi: usize)
+    /// Ends the era of the words from `lo` to `hi`, both included. It looks at no word. Returns whether nothing is kept of any word.
+    pub(crate) fn reset(&mut self, lo: usize, hi: usize) -> bool
         requires { hi < 128 }
-        ensures { (i : ℕ) → word_at_place self.new i ≡ cond (nat_le lo i && nat_le i hi) untouched (word_at_place self.old i) }
+        ensures reset { (i : ℕ) → word_at_place self.new i ≡ cond (nat_le lo i && nat_le i hi) untouched (word_at_place self.old i) }
+        ensures empty { IsTrue result → (i : ℕ) → word_at_place self.new i ≡ untouched }
     {
         empty_slots(&mut self.slots, start_of(lo, hi + 1), hi + 1);
+        keep_nothing(&self.slots)
+    }
+
+    /// Ends the era of all words, and keeps the memory for others.
+    pub(crate) fn clear(&mut self)
+        ensures { (i : ℕ) → word_at_place self.new i ≡ untouched }
+    {
+        self.words.clear();
+        self.slots = [Slot::Free; 128];
     }
 
     /// The tag of the last access of the word at a place that one of this kind conflicts with and that the clock doesn't cover.
@@ -133,6 +143,18 @@ fn empty_slots(slots: &mut [Slot; 128], start: usize, end: usize)
     for place in start..end {
         slots[place] = emptied(slots[place]);
     }
+}
+
+// Whether no slot counts.
+fn keep_nothing(slots: &[Slot; 128]) -> bool
+    ensures { IsTrue result → (i : ℕ) → is_kept (slot_at slots.now i) ≡ false }
+{
+    for slot in slots {
+        if let Slot::Kept(_) = slot {
+            return false;
+        }
+    }
+    true
 }
 
 // The slot once its word's era has ended.

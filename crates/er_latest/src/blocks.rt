@@ -1,9 +1,10 @@
 //! What is kept of all words, in blocks.
 ghost use Rattle.std.specs.Prelude.{◌≡◌, ◌==◌, ◌<◌, ◌≤◌, ◌/◌, ◌%◌, ℕ, nat_eq, nat_le, cond, slice_get, Some, None, IfSome, IfNone, OnOk, OnErr};
+ghost use Rattle.std.specs.Map.{lookup};
 ghost use Rattle.indexmap.specs.IndexMap.{get, keys, index_map_len, IsUnique};
 ghost use Rattle.er_model.specs.Words.{is_within};
 ghost use Rattle.er_clocks.specs.Counts.{count_by};
-ghost use Rattle.er_latest.specs.Inner.Blocks.{word_in, is_place_in};
+ghost use Rattle.er_latest.specs.Inner.Blocks.{word_at_place, word_in, is_place_in};
 ghost use Rattle.er_latest.specs.Inner.Steps.{latest_by, tag_found};
 ghost use Rattle.er_latest.specs.Latest.{tagged, untouched};
 
@@ -30,6 +31,8 @@ pub(crate) struct WordBlocks<A> {
     // Where the block of a number stood when it was accessed, by the lowest bits of the number. Another block may have the same bits, so
     // whoever asks must check what it gets.
     hints: Vec<usize>,
+    // Blocks that keep nothing, for words that are accessed later. So memory that is given back and taken again needs no new ones.
+    spare: Vec<Block<A>>,
     alloc: Global,
 }
 
@@ -49,6 +52,7 @@ impl<A: Copy> WordBlocks<A> {
         WordBlocks {
             blocks: IndexMap::new(alloc),
             hints: Vec::new(alloc),
+            spare: Vec::new(alloc),
             alloc,
         }
     }
@@ -73,7 +77,7 @@ impl<A: Copy> WordBlocks<A> {
                 block.access(self.alloc, place, clock, kind, tag)
             }
             None => {
-                let mut block = Block::new(self.alloc);
+                let mut block = take_block(self.alloc, &mut self.spare);
                 block.access(self.alloc, place, clock, kind, tag)?;
                 make_room(self.alloc, &mut self.hints)?;
                 note(&mut self.hints, number, self.blocks.len());
@@ -101,7 +105,9 @@ impl<A: Copy> WordBlocks<A> {
         ensures { (w : ℕ) → word_in self.new w ≡ cond (is_place_in number from to w) untouched (word_in self.old w) }
     {
         if let Some(index) = index_of_block(&self.blocks, hint(&self.hints, number), number) {
-            self.blocks[index].reset(from, to);
+            if self.blocks[index].reset(from, to) {
+                let_go(&mut self.blocks, &mut self.spare, number);
+            }
         }
     }
 
@@ -114,6 +120,29 @@ impl<A: Copy> WordBlocks<A> {
             Some(index) => self.blocks[index].find(place_of(word), clock, kind),
             None => None,
         }
+    }
+}
+
+// A block of whose words nothing is kept.
+fn take_block<A: Copy>(alloc: Global, spare: &mut Vec<Block<A>>) -> Block<A>
+    ensures { (i : ℕ) → word_at_place result i ≡ untouched }
+{
+    match spare.pop() {
+        Some(mut block) => {
+            block.clear();
+            block
+        }
+        None => Block::new(alloc),
+    }
+}
+
+// Takes the block of this number away, and keeps it for other words.
+fn let_go<A: Copy>(blocks: &mut IndexMap<u64, Block<A>>, spare: &mut Vec<Block<A>>, number: u64)
+    ensures { (q : ℕ) → lookup (nat_eq q) blocks.new.entries ≡ cond (nat_eq number q) None (lookup (nat_eq q) blocks.old.entries) }
+{
+    if let Some(block) = blocks.swap_remove(&number) {
+        // Without memory for it, it is dropped.
+        let _ = spare.push(block);
     }
 }
 

@@ -1,5 +1,5 @@
 -- Where a block keeps what is kept of its words.
-use Rattle.std.specs.Prelude.{◌≡◌, ℕ, zero, suc, ◌<◌, List, [], ◌∷◌, slice_index_or, Option, Some, None}
+use Rattle.std.specs.Prelude.{◌≡◌, ℕ, zero, suc, ◌<◌, Bool, true, false, List, [], ◌∷◌, slice_index_or, Option, Some, None}
 use Rattle.er_latest.specs.declared.block.Slot.{Slot}
 use Rattle.er_latest.specs.declared.block.Slot.TheVariants.{Free, Emptied, Kept}
 use Rattle.er_latest.specs.Latest.{Latest, untouched}
@@ -18,6 +18,11 @@ abbrev pub emptied : Slot → Slot
 emptied Free = Free
 emptied (Emptied number) = Emptied number
 emptied (Kept number) = Emptied number
+
+-- the slot's word counts
+abbrev pub is_kept : Slot → Bool
+is_kept (Kept number) = true
+is_kept _ = false
 
 -- what is kept in a slot, by the numbers of what is kept
 abbrev pub slot_word : {A : Type 0} → (ℕ → Latest A) → Slot → Latest A

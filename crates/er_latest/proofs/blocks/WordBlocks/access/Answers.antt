@@ -34,6 +34,6 @@ pub returns-in_ok-insert-in-None-clause-ok : goal.returns-in_ok-insert-in-None-c
 returns-in_ok-insert-in-None-clause-ok g c =
     subst (λ (old : Blocks g.row.A.Denot). (w : ℕ) → word_in c.insert.new.self.entries w
     ≡ cond (c.args.word == w) (latest_by (count_by c.args.clock.now) (word_in old c.args.word) (tagged c.args.clock.now.0 (count_by c.args.clock.now c.args.clock.now.0) c.args.tag) c.args.kind) (word_in old w)) c.self.view_is
-    (first_word c.self.inside.blocks.entries c.insert.new.self.entries c.args.word c.block_of-number.result c.place_of-place.result c.new-block.result c.access-in-None.new.self
+    (first_word c.self.inside.blocks.entries c.insert.new.self.entries c.args.word c.block_of-number.result c.place_of-place.result c.take_block-block.result c.access-in-None.new.self
     (λ kept. latest_by (count_by c.args.clock.now) kept (tagged c.args.clock.now.0 (count_by c.args.clock.now c.args.clock.now.0) c.args.tag) c.args.kind)
-    c.block_of-number.ensures c.place_of-place.ensures.value c.in-None.ensures.none c.in_ok-insert-in-None.ensures.updates.0 c.new-block.ensures c.in_ok-access-in-None.ensures.ok)
+    c.block_of-number.ensures c.place_of-place.ensures.value c.in-None.ensures.none c.in_ok-insert-in-None.ensures.updates.0 c.take_block-block.ensures c.in_ok-access-in-None.ensures.ok)
