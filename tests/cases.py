@@ -56,6 +56,7 @@ RACE = "race: t2 write x at -, holds none"
 DEEP = "; ".join(["t1 ignore-on"] * 256)
 LOCKS = "; ".join(f"t1 lock l{n}" for n in range(1, 66))
 ORDERED = "eraser trace 3"
+WIDE = "std::vector<int>::push_back(int&&)@a+b.cpp:3"
 PAGES = range(0, 32768, 4096)
 EIGHT = "; ".join(f"{thread} write {page}" for thread in ("t1", "t2") for page in PAGES)
 SHRINK = (
@@ -70,6 +71,11 @@ REPLAYED = [
     told("two_writers", "t1 write x; t2 write x", f"line 3: {RACE}", (2, 1, 0, 0), 1),
     told("one_lock_protects", "t1 lock m; t1 write x; t1 unlock m; t2 lock m; t2 write x; t2 unlock m; t1 show x",
          "line 8: state x: shared-modified, candidates m", (7, 0, 0, 0)),
+    told("wide_site", f"t1 write x !; t2 write x {WIDE}", f"line 3: race: t2 write x at {WIDE}, holds none", (2, 1, 0, 0), 1, header=ORDERED),
+    told("site_of_the_first_byte", "t1 write x ~; t2 write x !", "line 3: race: t2 write x at !, holds none", (2, 1, 0, 0), 1, header=ORDERED),
+    told("site_of_the_last_byte", "t1 write x !; t2 write x ~", "line 3: race: t2 write x at ~, holds none", (2, 1, 0, 0), 1, header=ORDERED),
+    told("site_of_128_wide_bytes", f"t1 write x; t2 write  x {'+' * 128}", f"line 3: race: t2 write x at {'+' * 128}, holds none", (2, 1, 0, 0), 1, header=ORDERED),
+    told("wide_site_like_the_missing_one", "t1 write x -; t2 write x --", "line 3: race: t2 write x at --, holds none", (2, 1, 0, 0), 1, header=ORDERED),
     told("read_sharing", "t1 write x; t2 read x; t3 read x; t1 write x", "line 5: race: t1 write x at -, holds none", (4, 1, 0, 0), 1),
     told("read_sharing_alone", "t1 write x; t2 read x; t3 read x", "", (3, 0, 0, 0)),
     told("read_mode_lock", "t1 lock m; t1 write x; t1 unlock m; t2 rlock m; t2 write x", "line 6: race: t2 write x at -, holds m", (5, 1, 0, 0), 1),
@@ -130,6 +136,13 @@ FAULTY = [
     faulty("extra_operand", text_of("t1 unlock m n"), 2, "extra operand"),
     faulty("bad_thread_name", text_of("t! lock m"), 2, "bad name"),
     faulty("bad_lock_name", text_of("t1 lock none"), 2, "bad name"),
+    *(faulty(f"wide_site_in_text_{word}", text_of(f"t1 write x S; t1 write x {site}", f"eraser trace {number}"), 3, "bad name")
+      for site in ("a+b.cpp:3", "!", "~", WIDE) for word, number in (("one", 1), ("two", 2))),
+    *(faulty(f"site_{byte}_in_text_three", text_of(f"t1 write x a{byte}", ORDERED), 2, "bad name") for byte in ("\x1f", "\x7f", "\r")),
+    faulty("site_of_two_words_in_text_three", text_of("t1 write x a\tb", ORDERED), 2, "extra operand"),
+    faulty("site_of_129_wide_bytes", text_of(f"t1 write x {'+' * 129}", ORDERED), 2, "bad name"),
+    faulty("wide_thread_in_text_three", text_of("t+ write x S", ORDERED), 2, "bad name"),
+    faulty("wide_lock_in_text_three", text_of("t1 lock a+", ORDERED), 2, "bad name"),
     faulty("bad_digit", text_of("t1 read 0xg"), 2, "bad number"),
     faulty("number_too_great", text_of("t1 read 18446744073709551616"), 2, "bad number"),
     faulty("header_of_no_version", b"eraser trace 4\n", 1, "no header"),
@@ -235,6 +248,11 @@ SUPPRESSED = [
     told("suppressions_of_another_site", "t1 write x S; t2 write x T", "suppression 1: 0; suppression 2: 1", (2, 0, 1, 0), rules=RULES),
     told("suppressions_that_take_nothing", "t1 write x S; t2 write x", "line 3: race: t2 write x at -, holds none; suppression 1: 0; suppression 2: 0",
          (2, 1, 0, 0), 1, rules="site S; words x 0"),
+    told("suppression_of_a_wide_site", f"t1 write x {WIDE}; t2 write x {WIDE}", "suppression 1: 0; suppression 2: 1", (2, 0, 1, 0), header=ORDERED,
+         rules=f"site #x; site {WIDE}"),
+    told("suppression_of_a_number_sign", "t1 write x #x; t2 write x #x", "suppression 1: 1", (2, 0, 1, 0), header=ORDERED, rules="site #x"),
+    told("suppression_of_a_wide_site_in_text_one", "t1 write x a__b; t2 write x a__b", "line 3: race: t2 write x at a__b, holds none; suppression 1: 0",
+         (2, 1, 0, 0), 1, rules="site a++b"),
     told("suppression_of_the_missing_site", "t1 write x S; t2 write x", "suppression 1: 1", (2, 0, 1, 0), rules="site -"),
     told("no_suppressions", "t1 write x; t2 write x", f"line 3: {RACE}", (2, 1, 0, 0), 1, rules=""),
     told("every_rule", "; ".join(f"t1 write {word}; t2 write {word}" for word in (
@@ -300,7 +318,8 @@ FAULTY_RULES = [
     faulty_rules("words_without_size", b"words 0x1000\n", 1, "missing operand"),
     faulty_rules("rule_of_two_sites", b"site a b\n", 1, "extra operand"),
     faulty_rules("words_with_a_site", b"words 0x1000 4 a\n", 1, "extra operand"),
-    faulty_rules("bad_site_name", b"site a!\n", 1, "bad name"),
+    faulty_rules("bad_site_name", b"site a\x7f\n", 1, "bad name"),
+    faulty_rules("long_site_name", b"site " + b"!" * 129 + b"\n", 1, "bad name"),
     faulty_rules("bad_rule_address", b"words 0xg 4\n", 1, "bad number"),
     faulty_rules("bad_rule_size", b"words 0x1000 four\n", 1, "bad number"),
     faulty_rules("rule_out_of_range", b"words 0xffffffffffff 2\n", 1, "address out of range"),
@@ -320,7 +339,7 @@ RULE_FAULTS = [
     (b"words 0xg", "missing operand"),
     (b"site ! T", "extra operand"),
     (b"words 0xg 4 4", "extra operand"),
-    (b"site !", "bad name"),
+    (b"site \x1f", "bad name"),
     (b"site S\r", "bad name"),
     (b"words 0x1000000000000 4x", "bad number"),
     (b"words 0 18446744073709551616", "bad number"),

@@ -27,6 +27,8 @@ TOP = pathlib.Path(__file__).resolve().parent.parent
 PROGRAM = TOP / "crates/eraser/out/eraser"
 VERBS = "verbs are lock, unlock, rlock, runlock, read, write, reuse, ignore-on, ignore-off, show"
 NAMES = "a name has 1 to 128 letters, digits and _ . : / - and no lock is named none"
+SITES = "a name has 1 to 128 letters, digits and _ . : / - and a site of a trace 3 has any printable bytes"
+RULE_SITES = "a site has 1 to 128 printable bytes"
 HEADER = b"eraser trace 1\n"
 
 # The file's bytes, the fault's line, the line as it is shown and how many columns stand before the mark in it (None: no line is shown), the hint.
@@ -48,7 +50,10 @@ TRACES = {
     "a verb of text 2": (HEADER + b"t1 level 3\n", "line 2: bad verb", ("t1 level 3", 3), "the verb level needs the header eraser trace 2"),
     "an unknown verb": (HEADER + b"t1  wirte 0x1000\n", "line 2: bad verb", ("t1  wirte 0x1000", 4), VERBS),
     "a plus in a thread": (HEADER + b"t+1 lock m\n", "line 2: bad name", ("t+1 lock m", 1), NAMES),
-    "a plus in a site": (HEADER + b"t1 write 0x1000 f+3\n", "line 2: bad name", ("t1 write 0x1000 f+3", 17), NAMES),
+    "a plus in a site": (HEADER + b"t1 write 0x1000 f+3\n", "line 2: bad name", ("t1 write 0x1000 f+3", 17), SITES),
+    "a thread of an access": (b"eraser trace 3\nt+1 write 0x1000 f+3\n", "line 2: bad name", ("t+1 write 0x1000 f+3", 1), SITES),
+    "a control byte in a site": (b"eraser trace 3\nt1 write 0x1000 f+\x7f\n", "line 2: bad name", (r"t1 write 0x1000 f+\x7f", 18), SITES),
+    "a long site": (b"eraser trace 3\nt1 write 4 " + b"+" * 129 + b"\n", "line 2: bad name", ("t1 write 4 " + "+" * 89 + "..", 11), SITES),
     "a lock named none": (HEADER + b"t1 lock none\n", "line 2: bad name", ("t1 lock none", 0), NAMES),
     "a command to the terminal": (HEADER + b"t1 lock \x1b[2J\n", "line 2: bad name", (r"t1 lock \x1b[2J", 8), NAMES),
     "a tab": (HEADER + b"t1\tlock a+\n", "line 2: bad name", (r"t1\tlock a+", 10), NAMES),
@@ -68,13 +73,14 @@ TRACES = {
     "a high level": (b"eraser trace 2\nt1 level 32\n", "line 2: level too high", ("t1 level 32", 9), "levels are 0 to 31"),
     "a long line": (HEADER + b"a" * 1100 + b"\n", "line 2: line too long", ("a" * 100 + "..", 0), "a line has at most 1024 bytes; is this a text?"),
     "a very long line": (HEADER + b"\0" * 300000, "line 2: line too long", (r"\x00" * 25 + "..", 0), "a line has at most 1024 bytes; is this a text?"),
-    "a place far to the right": (HEADER + b"t1 write 0x1000 " + b"a" * 100 + b"+\n", "line 2: bad name", (".." + "a" * 20 + "+", 22), NAMES),
+    "a place far to the right": (HEADER + b"t1 write 0x1000 " + b"a" * 100 + b"+\n", "line 2: bad name", (".." + "a" * 20 + "+", 22), SITES),
     "the last line": (HEADER + b"t1 read 4\n" * 5000 + b"t1 hop", "line 5002: bad verb", ("t1 hop", 3), VERBS),
 }
 
 RULES = {
     "an unknown rule": (b"# known\nsites a.c:1\n", "suppressions line 2: bad verb", ("sites a.c:1", 0), "a rule is: site SITE, or: words ADDRESS BYTES"),
     "an address of a rule": (b"words 0x1000000000000 4\n", "suppressions line 1: address out of range", ("words 0x1000000000000 4", 6), "addresses are below 2^48"),
+    "a control byte in a rule": (b"site a+\x7f\n", "suppressions line 1: bad name", (r"site a+\x7f", 7), RULE_SITES),
     "rules with CR LF": (b"site a.c:1\r\n", "suppressions line 1: bad name", (r"site a.c:1\r", 10), r"the line ends with CR LF; take the CRs away: tr -d '\r' < FILE"),
 }
 

@@ -13,6 +13,7 @@ import re
 import sys
 
 NAME = re.compile(rb"[A-Za-z0-9_.:/-]{1,128}\Z")
+WIDE_SITE = re.compile(rb"[!-~]{1,128}\Z")
 NUMBER = re.compile(rb"([0-9]+|0x[0-9a-fA-F]+)\Z")
 VERBS = {
     b"lock": (1, 1), b"unlock": (1, 1), b"rlock": (1, 1), b"runlock": (1, 1), b"read": (1, 2), b"write": (1, 2),
@@ -40,7 +41,12 @@ def is_name(word, of_lock=False):
     return bool(NAME.match(word)) and not (of_lock and word == b"none")
 
 
-def operands_fault(verb, words):
+def is_site(word, version):
+    """A suppression has no version: its sites are those of text 3."""
+    return bool((WIDE_SITE if version == b"3" else NAME).match(word))
+
+
+def operands_fault(verb, words, version):
     """The kind of the leftmost operand that isn't what its place asks."""
     for place, word in enumerate(words):
         if verb in (b"lock", b"unlock", b"rlock", b"runlock", b"signal", b"await"):
@@ -50,7 +56,7 @@ def operands_fault(verb, words):
             if not is_name(word):
                 return "bad name"
         elif verb in (b"read", b"write") and place == 1:
-            if not is_name(word):
+            if not is_site(word, version):
                 return "bad name"
         elif number(word) is None:
             return "bad number"
@@ -71,7 +77,7 @@ def event_of(line, words, version):
         raise Fault(line, "missing operand")
     if len(operands) > most:
         raise Fault(line, "extra operand")
-    kind = operands_fault(words[1], operands)
+    kind = operands_fault(words[1], operands, version)
     if kind:
         raise Fault(line, kind)
     if words[1] == b"reuse":
@@ -140,7 +146,7 @@ def rule_of(line, words):
     if len(operands) != wanted:
         raise Fault(line, "missing operand" if len(operands) < wanted else "extra operand")
     if words[0] == b"site":
-        if not is_name(operands[0]):
+        if not is_site(operands[0], b"3"):
             raise Fault(line, "bad name")
         return operands[0]
     address, size = number(operands[0]), number(operands[1])
@@ -314,6 +320,10 @@ def replay(text, rules=b"", explain=False):
     return "".join(line + "\n" for line in run.lines), "", 1 if run.races else 0
 
 
+# Sites that only a text 3 may have, with bytes that mean something in JSON, URIs, HTML, regular expressions and shells.
+WIDE_SITES = ["std::vector<int>::push_back(int&&)@a+b.cpp:3", "\"q\\u'%41#$`;|.c++:12", "&lt;{x}[y]~^!*,=?:7"]
+
+
 def random_line(dice, version, acting):
     """A line of a text of this version, behind lines in which these threads act."""
     thread = f"t{dice.randrange(4)}"
@@ -329,7 +339,7 @@ def random_line(dice, version, acting):
         others = [f"t{n}" for n in range(6) if f"t{n}" != thread and (verb == "join" or f"t{n}" not in acting)]
         return f"{thread} {verb} {dice.choice(others) if dice.randrange(40) else f't{dice.randrange(4)}'}"
     if verb in ("read", "write"):
-        return f"{thread} {verb} {address}" + dice.choice(["", " a.c:7", "\tb/c.rs:12"])
+        return f"{thread} {verb} {address}" + dice.choice(["", " a.c:7", "\tb/c.rs:12"] + ([f" {site}" for site in WIDE_SITES] if version > "2" else []))
     if verb == "reuse":
         return f"{thread} reuse {dice.choice(['0x1000', '0x1003', '0x1ffc'])} {dice.choice([0, 1, 8, 4096, 9000])}"
     if verb == "level":
@@ -351,7 +361,7 @@ def random_trace(seed):
     text = "\n".join(lines).encode() + dice.choice([b"", b"\n"])
     if dice.randrange(4) == 0:
         at = dice.randrange(len(text) + 1)
-        text = text[:at] + dice.choice([b" ", b"\n", b"0", b"x", b"!", b"\x80", b"-", b"a" * 1100, b" none ", b"\r"]) + text[at + dice.randrange(3):]
+        text = text[:at] + dice.choice([b" ", b"\n", b"0", b"x", b"!", b"\x80", b"-", b"a" * 1100, b" none ", b"\r", b"+", b"\x7f"]) + text[at + dice.randrange(3):]
     return text
 
 
@@ -360,11 +370,11 @@ def random_rules(seed):
     lines = []
     for _ in range(dice.randrange(6)):
         address, size = dice.choice(["0x1000", "4100", "0x2000", "0xffffffffffff", "0"]), dice.choice(["0", "1", "4", "4097", "0x10000", "99999999"])
-        lines.append(dice.choice([f"site {dice.choice(['a.c:7', 'b/c.rs:12', '-', 'other'])}", f"words {address} {size}", "", "# a comment"]))
+        lines.append(dice.choice([f"site {dice.choice(['a.c:7', 'b/c.rs:12', '-', 'other', *WIDE_SITES])}", f"words {address} {size}", "", "# a comment"]))
     text = "\n".join(lines).encode() + dice.choice([b"", b"\n"])
     if dice.randrange(5) == 0:
         at = dice.randrange(len(text) + 1)
-        text = text[:at] + dice.choice([b" ", b"\n", b"0", b"x", b"!", b"\x80", b"a" * 1100, b" none ", b"\r"]) + text[at + dice.randrange(3):]
+        text = text[:at] + dice.choice([b" ", b"\n", b"0", b"x", b"!", b"\x80", b"a" * 1100, b" none ", b"\r", b"+", b"\x7f"]) + text[at + dice.randrange(3):]
     return text
 
 

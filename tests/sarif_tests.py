@@ -10,6 +10,7 @@ import re
 import subprocess
 import sys
 import tempfile
+import urllib.parse
 
 sys.path.insert(0, str(pathlib.Path(__file__).parent))
 sys.dont_write_bytecode = True
@@ -24,7 +25,11 @@ RULES.append({"id": "race/suppressed", "shortDescription": {"text": "Races that 
 # Sites, with the file and the line that they name.
 PLACES = {
     "pool.c:8": ("pool.c", 8),
-    "src/a:b.c:123456789": ("src/a:b.c", 123456789),
+    "src/a:b.c:123456789": ("src/a%3Ab.c", 123456789),
+    "c++/a+b.cpp:3": ("c++/a+b.cpp", 3),
+    "!$&'()*+,;=@~:1": ("!$&'()*+,;=@~", 1),
+    "\"#%<>?[\\]^`{|}:2": ("%22%23%25%3C%3E%3F%5B%5C%5D%5E%60%7B%7C%7D", 2),
+    "f<int>(g&&)": None,
     "a:1": ("a", 1),
     "pool.c": None,
     "pool.c:": None,
@@ -45,7 +50,8 @@ def location(site):
     place = re.fullmatch(r"(.+):([1-9]\d{0,8})", site)
     if not place:
         return {"logicalLocations": [{"fullyQualifiedName": site}]}
-    return {"physicalLocation": {"artifactLocation": {"uri": place[1]}, "region": {"startLine": int(place[2])}}}
+    uri = urllib.parse.quote(place[1], safe="/!$&'()*+,;=@")
+    return {"physicalLocation": {"artifactLocation": {"uri": uri}, "region": {"startLine": int(place[2])}}}
 
 
 def reason(found):
@@ -160,7 +166,7 @@ def log_tests(record):
             races, suppressed = (int(count) for count in re.search(rb"races (\d+), suppressed (\d+)", run_with(rules, text)[0]).groups())
             record(f"{name} as SARIF has each race once", (sum(shown), sum(hidden)) == (races, suppressed), f"{shown}, {hidden}")
     record("logs have results, results that stand for several races, and suppressed ones", results > 100 and doubles > 20 and taken > 20, f"{results}, {doubles}, {taken}")
-    lines = ["eraser trace 1"] + [f"t{who} write {4 * k} {site}" for who in (1, 2) for k, site in enumerate(PLACES)]
+    lines = ["eraser trace 3"] + [f"t{who} write {4 * k} {site}" for who in (1, 2) for k, site in enumerate(PLACES)]
     log = json.loads(run(["replay", "--format", "sarif", "-"], "\n".join(lines).encode())[0])
     found = [result["locations"][0] for result in log["runs"][0]["results"]]
     for (site, place), one in zip(PLACES.items(), found, strict=True):

@@ -258,7 +258,7 @@ const struct site *site_of(uint64_t place)
         char text[8192], name[NAME_BYTES + 2];
         describe(place, text, sizeof text);
         name[0] = ' ';
-        size_t bytes = 1 + legal_name(name + 1, text);
+        size_t bytes = 1 + legal_site(name + 1, text);
         *site = (struct site){place, keep_text(name, bytes), (uint32_t)bytes};
         table_count++;
     }

@@ -6,7 +6,7 @@
 #include <stddef.h>
 #include <stdint.h>
 
-/* A site as it ends a line: a space and a legal name. */
+/* A site as it ends a line: a space and the site. */
 struct site {
     uint64_t place;
     const char *text;

@@ -38,20 +38,37 @@ void *get_memory(void *old, size_t bytes)
     return got;
 }
 
-size_t legal_name(char *to, const char *text)
+static bool is_name_byte(char c)
+{
+    return (c >= 'a' && c <= 'z') || (c >= 'A' && c <= 'Z') || (c >= '0' && c <= '9') || (c && strchr("_.:/-", c));
+}
+
+static bool is_site_byte(char c)
+{
+    return c >= '!' && c <= '~';
+}
+
+static size_t put_legal(char *to, const char *text, bool (*is_legal)(char))
 {
     size_t length = strlen(text);
     if (length > NAME_BYTES) {
         text += length - NAME_BYTES;
         length = NAME_BYTES;
     }
-    for (size_t i = 0; i < length; i++) {
-        char c = text[i];
-        bool is_legal = (c >= 'a' && c <= 'z') || (c >= 'A' && c <= 'Z') || (c >= '0' && c <= '9') || (c && strchr("_.:/-", c));
-        to[i] = is_legal ? c : '_';
-    }
+    for (size_t i = 0; i < length; i++)
+        to[i] = is_legal(text[i]) ? text[i] : '_';
     to[length] = 0;
     return length;
+}
+
+size_t legal_name(char *to, const char *text)
+{
+    return put_legal(to, text, is_name_byte);
+}
+
+size_t legal_site(char *to, const char *text)
+{
+    return put_legal(to, text, trace_orders ? is_site_byte : is_name_byte);
 }
 
 /* ---- Where the text goes ---- */

@@ -52,5 +52,7 @@ void trace_thread_name(struct thread *thread, const char *name);
 void *get_memory(void *old, size_t bytes);
 /* Copies text into a legal name, whose end is kept if it is too long. Returns its length. */
 size_t legal_name(char *to, const char *text);
+/* The same for a site, which may have any printable byte in the third form. */
+size_t legal_site(char *to, const char *text);
 
 #endif

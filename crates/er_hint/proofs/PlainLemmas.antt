@@ -9,7 +9,7 @@ use Rattle.er_hint.specs.Written.{AddsPlain, hint_line, line_text, path_text, re
 use Rattle.er_device.specs.Device.{WritesPrefix}
 use Rattle.er_hint.specs.Hints.{hint_text}
 use Rattle.er_hint.specs.declared.hints.Hint.{Hint}
-use Rattle.er_hint.specs.declared.hints.Hint.TheVariants.{Nothing, Gzip, Zstd, Xz, Zip, ByteOrderMark, WideText, CarriageReturn, NoHeader, UnknownVersion, LaterVerb, Verbs, Rules, Names, Numbers, Ascii, Comment, CutOff, LongLine, LongText, Addresses, Sizes, Levels, OrderVerb, OwnThread, Running, AfterEnd}
+use Rattle.er_hint.specs.declared.hints.Hint.TheVariants.{Nothing, Gzip, Zstd, Xz, Zip, ByteOrderMark, WideText, CarriageReturn, NoHeader, UnknownVersion, LaterVerb, Verbs, Rules, Names, Sites, RuleSites, Numbers, Ascii, Comment, CutOff, LongLine, LongText, Addresses, Sizes, Levels, OrderVerb, OwnThread, Running, AfterEnd}
 
 pub plain_append : (front back : List ℕ) → is_plain front ≡ true → is_plain back ≡ true → is_plain (front ++ back) ≡ true
 plain_append front back first second = list_all-append is_plain_byte front back ∙ ap (λ (b : Bool). b && is_plain back) first ∙ second
@@ -109,6 +109,8 @@ plain_hint_text LaterVerb = refl
 plain_hint_text Verbs = refl
 plain_hint_text Rules = refl
 plain_hint_text Names = refl
+plain_hint_text Sites = refl
+plain_hint_text RuleSites = refl
 plain_hint_text Numbers = refl
 plain_hint_text Ascii = refl
 plain_hint_text Comment = refl

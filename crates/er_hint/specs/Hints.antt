@@ -6,7 +6,7 @@ use Rattle.er_text.specs.declared.faults.TextKind.TheVariants.{LineTooLong, Text
 use Rattle.er_text.specs.declared.faults.TextKind.TheVariants as kind
 use Rattle.er_hint.specs.Places.{word_start}
 use Rattle.er_hint.specs.declared.hints.Hint.{Hint}
-use Rattle.er_hint.specs.declared.hints.Hint.TheVariants.{Nothing, Gzip, Zstd, Xz, Zip, ByteOrderMark, WideText, CarriageReturn, NoHeader, UnknownVersion, LaterVerb, Verbs, Rules, Names, Numbers, Ascii, Comment, CutOff, LongLine, LongText, Addresses, Sizes, Levels, OrderVerb, OwnThread, Running, AfterEnd}
+use Rattle.er_hint.specs.declared.hints.Hint.TheVariants.{Nothing, Gzip, Zstd, Xz, Zip, ByteOrderMark, WideText, CarriageReturn, NoHeader, UnknownVersion, LaterVerb, Verbs, Rules, Names, Sites, RuleSites, Numbers, Ascii, Comment, CutOff, LongLine, LongText, Addresses, Sizes, Levels, OrderVerb, OwnThread, Running, AfterEnd}
 
 -- the hint in words
 abbrev pub hint_text : Hint → List ℕ
@@ -24,6 +24,8 @@ hint_text LaterVerb = codes "the verb level needs the header eraser trace 2"
 hint_text Verbs = codes "verbs are lock, unlock, rlock, runlock, read, write, reuse, ignore-on, ignore-off, show"
 hint_text Rules = codes "a rule is: site SITE, or: words ADDRESS BYTES"
 hint_text Names = codes "a name has 1 to 128 letters, digits and _ . : / - and no lock is named none"
+hint_text Sites = codes "a name has 1 to 128 letters, digits and _ . : / - and a site of a trace 3 has any printable bytes"
+hint_text RuleSites = codes "a site has 1 to 128 printable bytes"
 hint_text Numbers = codes "a number has decimal digits, or 0x and hexadecimal digits, and is below 2^64"
 hint_text Ascii = codes "a text has bytes of ASCII alone"
 hint_text Comment = codes "a comment needs a line of its own"
@@ -66,6 +68,15 @@ verb_hint true line = Rules
 verb_hint false line =
     cond (begins (drop (word_start 1 line) line) (codes "level")) LaterVerb (cond (begins_order (drop (word_start 1 line) line)) OrderVerb Verbs)
 
+-- the verb of an access stands in front
+abbrev pub begins_access : List ℕ → Bool
+begins_access bytes = begins bytes (codes "read") || begins bytes (codes "write")
+
+-- the line may have a site: it is a rule, or an access
+abbrev pub name_hint : Bool → List ℕ → Hint
+name_hint true line = RuleSites
+name_hint false line = cond (begins_access (drop (word_start 1 line) line)) Sites Names
+
 -- a comment behind a step
 abbrev pub extra_hint : List ℕ → Hint
 extra_hint line = cond (list_any (λ byte. byte == 35) line) Comment Nothing
@@ -80,7 +91,7 @@ kind_hint LineTooLong of_rules line = LongLine
 kind_hint TextTooLong of_rules line = LongText
 kind_hint NotAscii of_rules line = Ascii
 kind_hint kind.NoHeader of_rules line = header_hint line
-kind_hint BadName of_rules line = Names
+kind_hint BadName of_rules line = name_hint of_rules line
 kind_hint MissingOperand of_rules line = CutOff
 kind_hint BadVerb of_rules line = verb_hint of_rules line
 kind_hint ExtraOperand of_rules line = extra_hint line

@@ -1,6 +1,6 @@
 //! What to do about a fault.
 ghost use Rattle.std.specs.Prelude.{◌≡◌};
-ghost use Rattle.er_hint.specs.Hints.{begins, begins_order, ends_with_return, extra_hint, file_hint, header_hint, hint_of, hint_text, kind_hint, line_hint, verb_hint};
+ghost use Rattle.er_hint.specs.Hints.{begins, begins_access, begins_order, ends_with_return, extra_hint, file_hint, header_hint, hint_of, hint_text, kind_hint, line_hint, name_hint, verb_hint};
 
 use crate::places::word_start;
 use er_text::TextKind;
@@ -36,6 +36,10 @@ pub enum Hint {
     Rules,
     /// A name isn't one.
     Names,
+    /// The thread or the site of an access isn't one.
+    Sites,
+    /// The site of a rule isn't one.
+    RuleSites,
     /// A number isn't one.
     Numbers,
     /// A byte isn't ASCII.
@@ -88,6 +92,9 @@ impl Hint {
             Hint::Rules => "a rule is: site SITE, or: words ADDRESS BYTES",
             Hint::Names =>
                 "a name has 1 to 128 letters, digits and _ . : / - and no lock is named none",
+            Hint::Sites =>
+                "a name has 1 to 128 letters, digits and _ . : / - and a site of a trace 3 has any printable bytes",
+            Hint::RuleSites => "a site has 1 to 128 printable bytes",
             Hint::Numbers =>
                 "a number has decimal digits, or 0x and hexadecimal digits, and is below 2^64",
             Hint::Ascii => "a text has bytes of ASCII alone",
@@ -168,6 +175,26 @@ fn verb_hint(of_rules: bool, line: &[u8]) -> Hint
     }
 }
 
+// By whether the line may have a site.
+fn name_hint(of_rules: bool, line: &[u8]) -> Hint
+    ensures { result ≡ name_hint of_rules line.now }
+{
+    if of_rules {
+        Hint::RuleSites
+    } else if begins_access(&line[word_start(line, 1)..]) {
+        Hint::Sites
+    } else {
+        Hint::Names
+    }
+}
+
+// Whether the verb of an access stands in front.
+fn begins_access(bytes: &[u8]) -> bool
+    ensures { result ≡ begins_access bytes.now }
+{
+    begins(bytes, b"read") || begins(bytes, b"write")
+}
+
 // Whether a verb of text 3 stands in front.
 fn begins_order(bytes: &[u8]) -> bool
     ensures { result ≡ begins_order bytes.now }
@@ -202,7 +229,7 @@ fn kind_hint(kind: TextKind, of_rules: bool, line: &[u8]) -> Hint
         TextKind::TextTooLong => Hint::LongText,
         TextKind::NotAscii => Hint::Ascii,
         TextKind::NoHeader => header_hint(line),
-        TextKind::BadName => Hint::Names,
+        TextKind::BadName => name_hint(of_rules, line),
         TextKind::MissingOperand => Hint::CutOff,
         TextKind::BadVerb => verb_hint(of_rules, line),
         TextKind::ExtraOperand => extra_hint(line),

@@ -1,5 +1,5 @@
 //! Where in a line its fault stands.
-ghost use Rattle.std.specs.Prelude.{◌≡◌, ◌≤◌, not, length, position};
+ghost use Rattle.std.specs.Prelude.{◌≡◌, ◌≤◌, not, length, position, IfSome};
 ghost use Rattle.er_hint.specs.Places.{after_word, gap_len, is_gap, word_len, word_start};
 
 use er_text::TextKind;
@@ -15,7 +15,7 @@ pub(crate) fn place_of(kind: TextKind, of_rules: bool, line: &[u8]) -> usize
     let verb = if of_rules { 0 } else { 1 };
     match kind {
         TextKind::NotAscii => first_at(line, |byte| byte >= 128),
-        TextKind::BadName => first_at(line, is_foreign),
+        TextKind::BadName => name_at(line),
         TextKind::BadVerb => word_start(line, verb),
         TextKind::AddressOutOfRange
         | TextKind::LevelTooHigh
@@ -26,6 +26,39 @@ pub(crate) fn place_of(kind: TextKind, of_rules: bool, line: &[u8]) -> usize
         TextKind::ExtraOperand => extra_at(line),
         _ => 0,
     }
+}
+
+// Where a word is too long, or else has a byte that stands in no site, or else one that stands in no name.
+fn name_at(line: &[u8]) -> usize
+    ensures { result ≤ length line.now }
+{
+    if let Some(start) = long_word(line) {
+        return start;
+    }
+    if let Some(place) = line.iter().position(|byte| is_hidden(*byte)) {
+        return place;
+    }
+    first_at(line, is_foreign)
+}
+
+// Where the first word of more than 128 bytes begins.
+fn long_word(line: &[u8]) -> Option<usize>
+    ensures { IfSome result (λ start. start ≤ length line.now) }
+{
+    let mut start = 0;
+    for at in 0..line.len() {
+        if line[at] == b' ' || line[at] == b'\t' {
+            start = at + 1;
+        } else if at - start >= 128 {
+            return Some(start);
+        }
+    }
+    None
+}
+
+// Whether the byte isn't printable, and parts no words.
+fn is_hidden(byte: u8) -> bool {
+    byte != b'\t' && (byte < b' ' || byte > b'~')
 }
 
 // Whether the byte stands in no name, and parts no words.

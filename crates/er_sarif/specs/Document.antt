@@ -12,6 +12,7 @@ use Rattle.er_report.specs.declared.report.Line.{Line}
 use Rattle.er_report.specs.declared.report.Line.TheVariants.{Race, Refused, Shown}
 use Rattle.er_rules.specs.Rules.{Target, AtSite, AtWords}
 use Rattle.er_sarif.specs.Places.{file_end}
+use Rattle.er_sarif.specs.Uris.{uri_text}
 use Rattle.er_sites.specs.Table.{reads_at, writes_at}
 use Rattle.er_trace.specs.Names.{NameTable}
 use Rattle.er_triage.specs.Texts.{target_text}
@@ -46,7 +47,7 @@ name_member site = codes ",\"locations\":[{\"logicalLocations\":[{\"fullyQualifi
 -- and of another the file ends at the colon
 unfoldable pub file_member : List ℕ → ℕ → List ℕ
 file_member site n =
-    codes ",\"locations\":[{\"physicalLocation\":{\"artifactLocation\":{\"uri\":" ++ string_text (take n site) ++ codes "},\"region\":{\"startLine\":" ++ drop (n + 1) site
+    codes ",\"locations\":[{\"physicalLocation\":{\"artifactLocation\":{\"uri\":" ++ uri_text (take n site) ++ codes "},\"region\":{\"startLine\":" ++ drop (n + 1) site
     ++ codes "}}}]"
 
 abbrev pub location_by : List ℕ → Option ℕ → List ℕ

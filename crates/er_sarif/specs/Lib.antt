@@ -1,3 +1,4 @@
 pub mod Document
 pub mod Inner
 pub mod Places
+pub mod Uris

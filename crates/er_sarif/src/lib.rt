@@ -7,7 +7,7 @@
 //! What it promises, by the names of clauses: what it writes is the document of the report's races and of the rules' counts and nothing else, or nothing at all for
 //! want of memory, or a prefix of the document if the writer failed (`bytes`). It reports a fault of the writer exactly if the writer
 //! failed (`failed`). `specs/Document` defines the document member by member, and whole as `sarif_text`; `specs/Places` says which sites
-//! name a file and a line.
+//! name a file and a line, and `specs/Uris` how a file is written as a URI.
 //!
 //! Counts go by site, so memory goes by the number of sites and results, and time by the number of races.
 #![tactic(auto)]
@@ -19,3 +19,4 @@ mod members;
 mod places;
 mod results;
 mod suppressed;
+mod uris;

@@ -5,6 +5,7 @@ ghost use Rattle.er_report.specs.Names.{HasLabelName, HasLockName, HasLockNames,
 ghost use Rattle.er_sarif.specs.Document.{access_words, count_member, deed_words, file_member, fingerprint_member, label_words, location_member, lock_words, message_member, name_member, properties_member, reason_text, related_member, rule_member, thread_words};
 
 use crate::places::file_end;
+use crate::uris::put_uri;
 use er_event::{Kind, LockId, ThreadId, Word};
 use er_json::{put_escaped, put_locks, put_string};
 use er_print::{put_address, put_number};
@@ -119,7 +120,7 @@ fn put_file(out: &mut Vec<u8>, site: &[u8], place: usize) -> Result<(), AllocErr
     out.extend_from_slice(
         b",\"locations\":[{\"physicalLocation\":{\"artifactLocation\":{\"uri\":",
     )?;
-    put_string(out, &site[..place])?;
+    put_uri(out, &site[..place])?;
     out.extend_from_slice(b"},\"region\":{\"startLine\":")?;
     out.extend_from_slice(&site[place + 1..])?;
     out.extend_from_slice(b"}}}]")?;

@@ -9,7 +9,7 @@ use Rattle.std.proofs.lemmas.List.Sums.{position_or_len_is, AllPass-from_list_al
 use Rattle.std.proofs.lemmas.Bool.Decides.{nat_tests}
 use Rattle.memchr.specs.Find.{IsFirstByte, is_byte}
 use Rattle.er_text.specs.Lines.{is_end, is_ascii}
-use Rattle.er_text.specs.Naming.{is_name_byte}
+use Rattle.er_text.specs.Naming.{is_name_byte, is_site_byte}
 
 not_true : (b : Bool) → ¬ (b ≡ true) → b ≡ false
 not_true true denied = absurd (denied refl)
@@ -45,3 +45,17 @@ byte_ascii b e = grind (arith, nat_tests, e)
 -- the bytes of a name are ASCII
 pub name_ascii : (xs : List ℕ) → list_all is_name_byte xs ≡ true → list_all is_ascii xs ≡ true
 name_ascii xs e = list_all-from_AllPass is_ascii xs (λ i d h. byte_ascii (get_or xs i d) (AllPass-from_list_all is_name_byte xs e i d h))
+
+byte_printed : (b : ℕ) → is_name_byte b ≡ true → is_site_byte b ≡ true
+byte_printed b e = grind (arith, nat_tests, e)
+
+-- the bytes of a name may stand in a site
+pub name_printed : (xs : List ℕ) → list_all is_name_byte xs ≡ true → list_all is_site_byte xs ≡ true
+name_printed xs e = list_all-from_AllPass is_site_byte xs (λ i d h. byte_printed (get_or xs i d) (AllPass-from_list_all is_name_byte xs e i d h))
+
+printed_ascii : (b : ℕ) → is_site_byte b ≡ true → is_ascii b ≡ true
+printed_ascii b e = grind (arith, nat_tests, e)
+
+-- the bytes of a site are ASCII
+pub site_ascii : (xs : List ℕ) → list_all is_site_byte xs ≡ true → list_all is_ascii xs ≡ true
+site_ascii xs e = list_all-from_AllPass is_ascii xs (λ i d h. printed_ascii (get_or xs i d) (AllPass-from_list_all is_site_byte xs e i d h))

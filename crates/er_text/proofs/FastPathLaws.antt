@@ -16,7 +16,7 @@ use Rattle.er_event.specs.declared.steps.Mode.{Mode}
 use Rattle.er_text.specs.declared.verbs.Version.{Version}
 use Rattle.er_text.specs.Lines.{is_gap, is_ascii, is_comment, has_bytes, words, word_at}
 use Rattle.er_text.specs.Number.{number_of}
-use Rattle.er_text.specs.Naming.{is_name_byte, is_name, is_lock_name}
+use Rattle.er_text.specs.Naming.{is_name_byte, is_name, is_lock_name, is_site_byte, is_site_word}
 use Rattle.er_text.specs.Events.{Operation, Acquires, Releases, Accesses, EventLine, with_operation, with_line}
 use Rattle.er_text.specs.declared.stages.Stage.{Stage}
 use Rattle.er_text.specs.declared.stages.Stage.TheVariants.{Events}
@@ -27,7 +27,8 @@ use Rattle.er_text.specs.Inner.Parsing.{parsed_of}
 use Rattle.er_text.specs.Inner.Idle.{last_actor, without_idle, order_fault, waits_for, is_known_name}
 use Rattle.er_text.specs.Inner.Traces.{Progress, past_event, add_event, add_parsed, closed, read_words, plain_at}
 use Rattle.er_text.specs.Inner.FastPath.{IsLeadingName, AreLeadingDigits, IsLeadingWord, IsFastAccess, IsFastOperation, IsFastLine}
-use Rattle.er_text.proofs.ByteLemmas.{name_ascii}
+use Rattle.er_text.proofs.ByteLemmas.{name_ascii, site_ascii}
+use Rattle.er_text.proofs.SiteLemmas.{site_parts}
 use Rattle.er_text.proofs.ParsingAgain.{says_parsed}
 use Rattle.er_text.proofs.IdleLemmas.{no_fault, last_added}
 use Rattle.er_text.proofs.EventWords.{not_end}
@@ -62,6 +63,12 @@ name_parts w name =
     let p = and_parts (has_bytes w && nat_le (length w) 128) (list_all is_name_byte w) name in
     let q = and_parts (has_bytes w) (nat_le (length w) 128) p.0 in
     record { some = q.0; named = p.1; gapless = λ i d h. name_gap (get_or w i d) (AllPass-from_list_all is_name_byte w p.1 i d h) }
+
+site_gap : (b : ℕ) → is_site_byte b ≡ true → is_gap b ≡ false
+site_gap b e = grind (arith, nat_tests, e)
+
+site_gapless : (w : List ℕ) → list_all is_site_byte w ≡ true → IsGapless w
+site_gapless w printed i d h = site_gap (get_or w i d) (AllPass-from_list_all is_site_byte w printed i d h)
 
 hex_ascii : (b : ℕ) → is_digit b 16 ≡ true → is_ascii b ≡ true
 hex_ascii b e = grind (arith, nat_tests, e)
@@ -100,12 +107,12 @@ addressed bytes digits tail len is rest =
     is ∙ ap (λ (d : List ℕ). 48 ∷ 120 ∷ d) (sym (take-append-drop len digits) ∙ ap (λ (d : List ℕ). take len digits ++ d) rest)
 
 -- a word that names a site, or none
-abbrev IsSiteWord : List ℕ → Option (List ℕ) → Type 0
-IsSiteWord site s = (is_name site ≡ true) × (s ≡ cond (bytes_eq site (codes "-")) None (Some site))
+abbrev IsSiteWord : Version → List ℕ → Option (List ℕ) → Type 0
+IsSiteWord v site s = (is_site_word v site ≡ true) × (s ≡ cond (bytes_eq site (codes "-")) None (Some site))
 
 -- an address and no site
-pub access_alone : (k : Kind) (bytes : List ℕ) (word : ℕ) (rest : List ℕ) (operation : Operation) → IsLeadingWord bytes word rest → rest ≡ [] → operation ≡ Accesses k word None → IsFastAccess k bytes operation
-access_alone k bytes word rest operation led none told =
+pub access_alone : (v : Version) (k : Kind) (bytes : List ℕ) (word : ℕ) (rest : List ℕ) (operation : Operation) → IsLeadingWord bytes word rest → rest ≡ [] → operation ≡ Accesses k word None → IsFastAccess v k bytes operation
+access_alone v k bytes word rest operation led none told =
     let hex = hex_word led.digits led.value led.len led.front led.some in
     let address = 48 ∷ 120 ∷ take led.len led.digits in
     let whole = addressed bytes led.digits [] led.len led.is (led.behind ∙ none) ∙ append-nil address in
@@ -123,20 +130,20 @@ access_alone k bytes word rest operation led none told =
     }
 
 -- an address and the name of a site
-pub access_site : (k : Kind) (bytes : List ℕ) (word : ℕ) (rest site : List ℕ) (s : Option (List ℕ)) (operation : Operation) → IsLeadingWord bytes word rest → rest ≡ 32 ∷ site
-    → IsSiteWord site s → operation ≡ Accesses k word s → IsFastAccess k bytes operation
-access_site k bytes word rest site s operation led spaced named told =
+pub access_site : (v : Version) (k : Kind) (bytes : List ℕ) (word : ℕ) (rest site : List ℕ) (s : Option (List ℕ)) (operation : Operation) → IsLeadingWord bytes word rest → rest ≡ 32 ∷ site
+    → IsSiteWord v site s → operation ≡ Accesses k word s → IsFastAccess v k bytes operation
+access_site v k bytes word rest site s operation led spaced named told =
     let hex = hex_word led.digits led.value led.len led.front led.some in
     let address = 48 ∷ 120 ∷ take led.len led.digits in
     let whole = addressed bytes led.digits (32 ∷ site) led.len led.is (led.behind ∙ spaced) in
-    let parts = name_parts site named.0 in
+    let parts = site_parts v site named.0 in
     record {
-      ascii = ap (list_all is_ascii) whole ∙ ascii_then address site hex.ascii (name_ascii site parts.named);
+      ascii = ap (list_all is_ascii) whole ∙ ascii_then address site hex.ascii (site_ascii site parts.printed);
       address = address;
       n = led.value;
       behind = site ∷ [];
       site = s;
-      words_are = ap words whole ∙ word_then address site hex.gapless refl ∙ ap (λ (ws : List (List ℕ)). address ∷ ws) (word_alone site parts.gapless parts.some);
+      words_are = ap words whole ∙ word_then address site hex.gapless refl ∙ ap (λ (ws : List (List ℕ)). address ∷ ws) (word_alone site (site_gapless site parts.printed) parts.some);
       number = hex.number;
       small = led.front.small;
       names = named;
@@ -150,12 +157,12 @@ access_one : (line thread w : ℕ) (k : Kind) (site : Option (List ℕ)) (r : Re
 access_one line thread w k None r = last_added r.steps _
 access_one line thread w k (Some site) r = last_added r.steps _
 
-pub access_tells : (k : Kind) (bytes rest : List ℕ) (operation : Operation) → list_all is_ascii bytes ≡ list_all is_ascii rest → words bytes ≡ kind_word k ∷ words rest
-    → IsFastAccess k rest operation → IsFastOperation bytes operation
-access_tells k bytes rest operation ascii whole a =
-    subst (IsFastOperation bytes) (sym a.is) (record {
+pub access_tells : (v : Version) (k : Kind) (bytes rest : List ℕ) (operation : Operation) → list_all is_ascii bytes ≡ list_all is_ascii rest → words bytes ≡ kind_word k ∷ words rest
+    → IsFastAccess v k rest operation → IsFastOperation v bytes operation
+access_tells v k bytes rest operation ascii whole a =
+    subst (IsFastOperation v bytes) (sym a.is) (record {
       ascii = ascii ∙ a.ascii;
-      says = λ v thread. (
+      says = λ thread. (
         a.address,
         a.n,
         a.behind,
@@ -169,13 +176,13 @@ access_tells k bytes rest operation ascii whole a =
       one = λ line thread r. access_one line thread (a.n / 4) k a.site r;
     })
 
-pub lock_tells : (m : Mode) (bytes rest : List ℕ) (operation : Operation) → list_all is_ascii bytes ≡ list_all is_ascii rest → words bytes ≡ acquire_word m ∷ words rest
-    → is_lock_name rest ≡ true → operation ≡ Acquires rest m → IsFastOperation bytes operation
-lock_tells m bytes rest operation ascii whole named told =
+pub lock_tells : (v : Version) (m : Mode) (bytes rest : List ℕ) (operation : Operation) → list_all is_ascii bytes ≡ list_all is_ascii rest → words bytes ≡ acquire_word m ∷ words rest
+    → is_lock_name rest ≡ true → operation ≡ Acquires rest m → IsFastOperation v bytes operation
+lock_tells v m bytes rest operation ascii whole named told =
     let parts = name_parts rest (lock_is_name rest named) in
-    subst (IsFastOperation bytes) (sym told) (record {
+    subst (IsFastOperation v bytes) (sym told) (record {
       ascii = ascii ∙ name_ascii rest parts.named;
-      says = λ v thread. (
+      says = λ thread. (
         ap (λ (w : List (List ℕ)). thread ∷ w) (whole ∙ ap (λ (w : List (List ℕ)). acquire_word m ∷ w) (word_alone rest parts.gapless parts.some)),
         named,
       );
@@ -183,13 +190,13 @@ lock_tells m bytes rest operation ascii whole named told =
       one = λ line thread r. last_added r.steps _;
     })
 
-pub unlock_tells : (m : Mode) (bytes rest : List ℕ) (operation : Operation) → list_all is_ascii bytes ≡ list_all is_ascii rest → words bytes ≡ release_word m ∷ words rest
-    → is_lock_name rest ≡ true → operation ≡ Releases rest m → IsFastOperation bytes operation
-unlock_tells m bytes rest operation ascii whole named told =
+pub unlock_tells : (v : Version) (m : Mode) (bytes rest : List ℕ) (operation : Operation) → list_all is_ascii bytes ≡ list_all is_ascii rest → words bytes ≡ release_word m ∷ words rest
+    → is_lock_name rest ≡ true → operation ≡ Releases rest m → IsFastOperation v bytes operation
+unlock_tells v m bytes rest operation ascii whole named told =
     let parts = name_parts rest (lock_is_name rest named) in
-    subst (IsFastOperation bytes) (sym told) (record {
+    subst (IsFastOperation v bytes) (sym told) (record {
       ascii = ascii ∙ name_ascii rest parts.named;
-      says = λ v thread. (
+      says = λ thread. (
         ap (λ (w : List (List ℕ)). thread ∷ w) (whole ∙ ap (λ (w : List (List ℕ)). release_word m ∷ w) (word_alone rest parts.gapless parts.some)),
         named,
       );
@@ -197,13 +204,13 @@ unlock_tells m bytes rest operation ascii whole named told =
       one = λ line thread r. last_added r.steps _;
     })
 
-pub missing_site : (site dash : List ℕ) → is_name site ≡ true → true ≡ bytes_eq site dash → dash ≡ codes "-" → IsSiteWord site None
-missing_site site dash named same is =
+pub missing_site : (v : Version) (site dash : List ℕ) → is_site_word v site ≡ true → true ≡ bytes_eq site dash → dash ≡ codes "-" → IsSiteWord v site None
+missing_site v site dash named same is =
     let test : bytes_eq site (codes "-") ≡ true = ap (λ (w : List ℕ). bytes_eq site w) (sym is) ∙ sym same in
     (named, rw test refl)
 
-pub named_site : (site dash : List ℕ) → is_name site ≡ true → false ≡ bytes_eq site dash → dash ≡ codes "-" → IsSiteWord site (Some site)
-named_site site dash named other is =
+pub named_site : (v : Version) (site dash : List ℕ) → is_site_word v site ≡ true → false ≡ bytes_eq site dash → dash ≡ codes "-" → IsSiteWord v site (Some site)
+named_site v site dash named other is =
     let test : bytes_eq site (codes "-") ≡ false = ap (λ (w : List ℕ). bytes_eq site w) (sym is) ∙ sym other in
     (named, rw test refl)
 
@@ -226,24 +233,24 @@ no_comment [] rest some all = absurd (cc)
 no_comment (x ∷ xs) rest some all = no_mark x (and_parts (is_name_byte x) (list_all is_name_byte xs) all).0
 
 -- a thread, a space, and what it does
-pub line_says : (line name rest : List ℕ) (operation : Operation) → IsLeadingName line name rest → IsFastOperation rest operation → IsFastLine line (record { thread = name; operation = operation })
-line_says line name rest operation front tells =
+pub line_says : (v : Version) (line name rest : List ℕ) (operation : Operation) → IsLeadingName line name rest → IsFastOperation v rest operation → IsFastLine v line (record { thread = name; operation = operation })
+line_says v line name rest operation front tells =
     let parts = name_parts name front.1 in
     let ws : words line ≡ name ∷ words rest = ap words front.0 ∙ word_then name rest parts.gapless parts.some in
     record {
       ascii = ap (list_all is_ascii) front.0 ∙ ascii_then name rest (name_ascii name parts.named) tells.ascii;
       some = ap (λ (w : List (List ℕ)). has_bytes (word_at 0 w)) ws ∙ parts.some;
       no_comment = ap is_comment front.0 ∙ no_comment name rest parts.some parts.named;
-      says = λ v. (front.1, rw ws (tells.says v name));
+      says = (front.1, rw ws (tells.says name));
       alone = tells.alone;
       one = λ number r. tells.one number (place_of r.names.threads name) (with_thread_name r name);
     }
 
 -- a line in its usual form, behind the header, is read as what it says
-pub usual_reads : (p : Progress) (line : ℕ) (bytes : List ℕ) (s : EventLine) (v : Version) → p.stage ≡ Events v → IsFastLine bytes s
+pub usual_reads : (p : Progress) (line : ℕ) (bytes : List ℕ) (s : EventLine) (v : Version) → p.stage ≡ Events v → IsFastLine v bytes s
     → plain_at p line bytes ≡ Ok (record p { number = p.number + 1; idle = without_idle p.idle (place_of p.told.names.threads s.thread); told = with_line line s p.told })
 usual_reads p line bytes s v is says =
-    let told = says.says v in
+    let told = says.says in
     let fault : order_fault p.told.names.threads p.idle s ≡ None = no_fault p.told.names.threads p.idle s.thread s.operation says.alone in
     let past : past_event line p s ≡ record p { number = p.number + 1; idle = without_idle p.idle (place_of p.told.names.threads s.thread); told = with_line line s p.told } =
     ap (λ (o : Option (List ℕ)). record p {

@@ -1,5 +1,5 @@
 -- The first fault in the table of an event line is the one that its reading tells.
-use Rattle.std.proofs.Common.{◌≡◌, ℕ, suc, ◌+◌, ◌/◌, ◌^◌, ◌≤◌, ◌⊎◌, inl, inr, Bool, true, false, not, ◌&&◌, ◌||◌, cond, List, [], ◌∷◌, Option, Some, None, Result, Ok, Err, length, nat_lt, nat_le, unwrap_or, codes, refl, sym, ap, ◌∙◌, arith}
+use Rattle.std.proofs.Common.{◌≡◌, ℕ, suc, ◌+◌, ◌/◌, ◌^◌, ◌≤◌, ◌⊎◌, inl, inr, Bool, true, false, not, ◌&&◌, ◌||◌, cond, List, [], ◌∷◌, Option, Some, None, Result, Ok, Err, length, nat_lt, nat_le, unwrap_or, codes, refl, sym, ◌∙◌, arith}
 use Rattle.std.specs.Option.{is_some}
 use Rattle.std.specs.Str.{bytes_eq}
 use Rattle.std.proofs.lemmas.Bool.Decides.{nat_tests}
@@ -14,13 +14,14 @@ use Rattle.er_text.specs.declared.verbs.Verb.TheVariants as verb
 use Rattle.er_text.specs.declared.verbs.Version.{Version}
 use Rattle.er_text.specs.Lines.{has_bytes, word_at}
 use Rattle.er_text.specs.Number.{number_of}
-use Rattle.er_text.specs.Naming.{is_name, is_lock_name}
+use Rattle.er_text.specs.Naming.{is_name, is_lock_name, is_site_word}
 use Rattle.er_text.specs.Verbs.{verb_of, least_of, most_of}
 use Rattle.er_text.specs.Events.{Operation, Acquires, Releases, Accesses, Reuses, Shows, Levels, Starts, Joins, Signals, Awaits, EventLine, run_of}
 use Rattle.er_text.specs.Inner.Parsing.{and_then, map_ok, or_fault, number_in, name_in, lock_in, site_in, word_in, level_in, is_outside, run_in, access_in, reuse_in, operands_in, count_of, operation_in, parsed_of}
 use Rattle.er_text.specs.FirstFault.{first_kind}
 use Rattle.er_text.specs.Trace.{operand_kinds, verb_kinds, event_kinds}
-use Rattle.er_text.proofs.SpellingLaws.{equal, AreWhole}
+use Rattle.er_text.proofs.SpellingLaws.{AreWhole}
+use Rattle.er_text.proofs.SiteLemmas.{dash_named}
 
 abbrev pub fault_of : {X : Type 0} → Result X TextKind → Option TextKind
 fault_of (Ok x) = None
@@ -58,23 +59,20 @@ site_word true false site rows f is more = more (Some site)
 site_word false true site rows f is more = absurd (let e = is refl in cc)
 site_word false false site rows f is more = refl
 
-pub dash_named : (w : List ℕ) → bytes_eq w (codes "-") ≡ true → is_name w ≡ true
-dash_named w e = ap is_name (equal w (codes "-") e)
-
 -- what follows a site
-site_faults : {X : Type 0} (site : List ℕ) (rows : List (Bool × TextKind)) (f : Option (List ℕ) → Result X TextKind)
+site_faults : {X : Type 0} (v : Version) (site : List ℕ) (rows : List (Bool × TextKind)) (f : Option (List ℕ) → Result X TextKind)
     → ((s : Option (List ℕ)) → first_kind rows ≡ fault_of (f s))
-    → first_kind ((has_bytes site && not (is_name site), BadName) ∷ rows) ≡ fault_of (and_then (site_in site) f)
-site_faults [] rows f more = more None
-site_faults (x ∷ xs) rows f more = site_word (is_name (x ∷ xs)) (bytes_eq (x ∷ xs) (codes "-")) (x ∷ xs) rows f (dash_named (x ∷ xs)) more
+    → first_kind ((has_bytes site && not (is_site_word v site), BadName) ∷ rows) ≡ fault_of (and_then (site_in v site) f)
+site_faults v [] rows f more = more None
+site_faults v (x ∷ xs) rows f more = site_word (is_site_word v (x ∷ xs)) (bytes_eq (x ∷ xs) (codes "-")) (x ∷ xs) rows f (dash_named v (x ∷ xs)) more
 
-access_faults : (k : Kind) (a b : List ℕ)
-    → first_kind ((not (is_some (number_of a)), BadNumber) ∷ (has_bytes b && not (is_name b), BadName) ∷ (nat_le (2 ^ 48) (unwrap_or (number_of a) 0), AddressOutOfRange) ∷ [])
-    ≡ fault_of (access_in k a b)
-access_faults k a b =
-    number_faults (number_of a) (λ n. (has_bytes b && not (is_name b), BadName) ∷ (nat_le (2 ^ 48) n, AddressOutOfRange) ∷ [])
-    (λ n. and_then (site_in b) (λ s. map_ok (λ w. Accesses k w s) (word_in n)))
-    (λ n. site_faults b ((nat_le (2 ^ 48) n, AddressOutOfRange) ∷ []) (λ s. map_ok (λ w. Accesses k w s) (word_in n)) (λ s. word_faults (nat_le (2 ^ 48) n) n (λ w. Accesses k w s)))
+access_faults : (v : Version) (k : Kind) (a b : List ℕ)
+    → first_kind ((not (is_some (number_of a)), BadNumber) ∷ (has_bytes b && not (is_site_word v b), BadName) ∷ (nat_le (2 ^ 48) (unwrap_or (number_of a) 0), AddressOutOfRange) ∷ [])
+    ≡ fault_of (access_in v k a b)
+access_faults v k a b =
+    number_faults (number_of a) (λ n. (has_bytes b && not (is_site_word v b), BadName) ∷ (nat_le (2 ^ 48) n, AddressOutOfRange) ∷ [])
+    (λ n. and_then (site_in v b) (λ s. map_ok (λ w. Accesses k w s) (word_in n)))
+    (λ n. site_faults v b ((nat_le (2 ^ 48) n, AddressOutOfRange) ∷ []) (λ s. map_ok (λ w. Accesses k w s) (word_in n)) (λ s. word_faults (nat_le (2 ^ 48) n) n (λ w. Accesses k w s)))
 
 run_faults : (large outside : Bool) (run : Option Span)
     → first_kind ((large, SizeTooLarge) ∷ (outside, AddressOutOfRange) ∷ []) ≡ fault_of (map_ok Reuses (cond large (Err SizeTooLarge) (cond outside (Err AddressOutOfRange) (Ok run))))
@@ -97,24 +95,24 @@ level_faults : (b : Bool) (n : ℕ) → cond b (Some LevelTooHigh) None ≡ faul
 level_faults true n = refl
 level_faults false n = refl
 
-operand_faults : (v : Verb) (ops : List (List ℕ)) → first_kind (operand_kinds v ops) ≡ fault_of (operands_in v (word_at 0 ops) (word_at 1 ops))
-operand_faults verb.Lock ops = lock_faults (λ l. Acquires l mode.Write) (word_at 0 ops)
-operand_faults verb.Unlock ops = lock_faults (λ l. Releases l mode.Write) (word_at 0 ops)
-operand_faults verb.ReadLock ops = lock_faults (λ l. Acquires l mode.Read) (word_at 0 ops)
-operand_faults verb.ReadUnlock ops = lock_faults (λ l. Releases l mode.Read) (word_at 0 ops)
-operand_faults verb.Read ops = access_faults kind.Read (word_at 0 ops) (word_at 1 ops)
-operand_faults verb.Write ops = access_faults kind.Write (word_at 0 ops) (word_at 1 ops)
-operand_faults verb.Reuse ops = reuse_faults (word_at 0 ops) (word_at 1 ops)
-operand_faults verb.IgnoreOn ops = refl
-operand_faults verb.IgnoreOff ops = refl
-operand_faults verb.Show ops =
+operand_faults : (version : Version) (v : Verb) (ops : List (List ℕ)) → first_kind (operand_kinds version v ops) ≡ fault_of (operands_in version v (word_at 0 ops) (word_at 1 ops))
+operand_faults version verb.Lock ops = lock_faults (λ l. Acquires l mode.Write) (word_at 0 ops)
+operand_faults version verb.Unlock ops = lock_faults (λ l. Releases l mode.Write) (word_at 0 ops)
+operand_faults version verb.ReadLock ops = lock_faults (λ l. Acquires l mode.Read) (word_at 0 ops)
+operand_faults version verb.ReadUnlock ops = lock_faults (λ l. Releases l mode.Read) (word_at 0 ops)
+operand_faults version verb.Read ops = access_faults version kind.Read (word_at 0 ops) (word_at 1 ops)
+operand_faults version verb.Write ops = access_faults version kind.Write (word_at 0 ops) (word_at 1 ops)
+operand_faults version verb.Reuse ops = reuse_faults (word_at 0 ops) (word_at 1 ops)
+operand_faults version verb.IgnoreOn ops = refl
+operand_faults version verb.IgnoreOff ops = refl
+operand_faults version verb.Show ops =
     number_faults (number_of (word_at 0 ops)) (λ n. (nat_le (2 ^ 48) n, AddressOutOfRange) ∷ []) (λ n. map_ok Shows (word_in n)) (λ n. word_faults (nat_le (2 ^ 48) n) n Shows)
-operand_faults verb.Level ops =
+operand_faults version verb.Level ops =
     number_faults (number_of (word_at 0 ops)) (λ n. (nat_lt 31 n, LevelTooHigh) ∷ []) (λ n. map_ok Levels (level_in n)) (λ n. level_faults (nat_lt 31 n) n)
-operand_faults verb.Start ops = name_faults Starts (word_at 0 ops)
-operand_faults verb.Join ops = name_faults Joins (word_at 0 ops)
-operand_faults verb.Signal ops = lock_faults Signals (word_at 0 ops)
-operand_faults verb.Await ops = lock_faults Awaits (word_at 0 ops)
+operand_faults version verb.Start ops = name_faults Starts (word_at 0 ops)
+operand_faults version verb.Join ops = name_faults Joins (word_at 0 ops)
+operand_faults version verb.Signal ops = lock_faults Signals (word_at 0 ops)
+operand_faults version verb.Await ops = lock_faults Awaits (word_at 0 ops)
 
 abbrev pub count : List (List ℕ) → ℕ
 count ops = count_of (word_at 0 ops) (word_at 1 ops) (word_at 2 ops)
@@ -183,12 +181,12 @@ count_chain true many rows r e = refl
 count_chain false true rows r e = refl
 count_chain false false rows r e = e
 
-verb_faults : (v : Option Verb) (ops : List (List ℕ)) → AreWhole ops → first_kind (verb_kinds v ops) ≡ fault_of (operation_in v (word_at 0 ops) (word_at 1 ops) (word_at 2 ops))
-verb_faults None ops whole = refl
-verb_faults (Some v) ops whole =
+verb_faults : (version : Version) (v : Option Verb) (ops : List (List ℕ)) → AreWhole ops → first_kind (verb_kinds version v ops) ≡ fault_of (operation_in version v (word_at 0 ops) (word_at 1 ops) (word_at 2 ops))
+verb_faults version None ops whole = refl
+verb_faults version (Some v) ops whole =
     let same = agree (length ops) (count ops) (least_of v) (most_of v) (least_small v) (most_small v) (count_is ops whole) in
     rw (same.0, same.1)
-    (count_chain (nat_lt (count ops) (least_of v)) (nat_lt (most_of v) (count ops)) (operand_kinds v ops) (operands_in v (word_at 0 ops) (word_at 1 ops)) (operand_faults v ops))
+    (count_chain (nat_lt (count ops) (least_of v)) (nat_lt (most_of v) (count ops)) (operand_kinds version v ops) (operands_in version v (word_at 0 ops) (word_at 1 ops)) (operand_faults version v ops))
 
 thread_chain : (b : Bool) (thread : List ℕ) (rows : List (Bool × TextKind)) (f : List ℕ → Result EventLine TextKind) → first_kind rows ≡ fault_of (f thread)
     → first_kind ((not b, BadName) ∷ rows) ≡ fault_of (and_then (or_fault BadName (cond b (Some thread) None)) f)
@@ -198,15 +196,15 @@ thread_chain false thread rows f more = refl
 -- the first fault of the table is the one that is told, and none is told where no row applies
 pub event_faults : (version : Version) (ws : List (List ℕ)) → AreWhole ws → first_kind (event_kinds version ws) ≡ fault_of (parsed_of version ws)
 event_faults version [] whole = refl
-event_faults version (t ∷ []) whole = thread_chain (is_name t) t ((true, MissingOperand) ∷ verb_kinds (verb_of version []) []) (λ w. Err MissingOperand) refl
+event_faults version (t ∷ []) whole = thread_chain (is_name t) t ((true, MissingOperand) ∷ verb_kinds version (verb_of version []) []) (λ w. Err MissingOperand) refl
 event_faults version ([] ∷ v ∷ ops) whole = absurd (cc)
 event_faults version ((x ∷ xs) ∷ [] ∷ ops) whole = absurd (cc)
 event_faults version ((x ∷ xs) ∷ (y ∷ ys) ∷ ops) whole =
     let t = x ∷ xs in
     let v = y ∷ ys in
     let some : nat_lt (suc (suc (length ops))) 2 ≡ false = grind (arith, nat_tests) in
-    let operation = operation_in (verb_of version v) (word_at 0 ops) (word_at 1 ops) (word_at 2 ops) in
-    let inner : first_kind ((nat_lt (suc (suc (length ops))) 2, MissingOperand) ∷ verb_kinds (verb_of version v) ops)
+    let operation = operation_in version (verb_of version v) (word_at 0 ops) (word_at 1 ops) (word_at 2 ops) in
+    let inner : first_kind ((nat_lt (suc (suc (length ops))) 2, MissingOperand) ∷ verb_kinds version (verb_of version v) ops)
     ≡ fault_of (map_ok (λ d. record { thread = t; operation = d }) operation) =
-    rw some (verb_faults (verb_of version v) ops whole ∙ sym (fault_of-map (λ d. record { thread = t; operation = d }) operation)) in
-    thread_chain (is_name t) t ((nat_lt (suc (suc (length ops))) 2, MissingOperand) ∷ verb_kinds (verb_of version v) ops) (λ w. map_ok (λ d. record { thread = w; operation = d }) operation) inner
+    rw some (verb_faults version (verb_of version v) ops whole ∙ sym (fault_of-map (λ d. record { thread = t; operation = d }) operation)) in
+    thread_chain (is_name t) t ((nat_lt (suc (suc (length ops))) 2, MissingOperand) ∷ verb_kinds version (verb_of version v) ops) (λ w. map_ok (λ d. record { thread = w; operation = d }) operation) inner

@@ -11,6 +11,7 @@ pub mod FastPathLemmas
 pub mod FastPathLaws
 pub mod UsualLemmas
 pub mod SpellingLaws
+pub mod SiteLemmas
 pub mod FaultTables
 pub mod ParsingLaws
 pub mod ParsingAgain

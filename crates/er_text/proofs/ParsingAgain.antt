@@ -11,12 +11,13 @@ use Rattle.er_text.specs.declared.verbs.Verb.TheVariants as verb
 use Rattle.er_text.specs.declared.verbs.Version.{Version}
 use Rattle.er_text.specs.Lines.{has_bytes}
 use Rattle.er_text.specs.Number.{number_of}
-use Rattle.er_text.specs.Naming.{is_name, is_lock_name}
+use Rattle.er_text.specs.Naming.{is_name, is_lock_name, is_site_word}
 use Rattle.er_text.specs.Verbs.{verb_of}
 use Rattle.er_text.specs.Events.{Operation, Acquires, Releases, Accesses, Reuses, IgnoresOn, IgnoresOff, Shows, Levels, Starts, Joins, Signals, Awaits, EventLine, run_of}
 use Rattle.er_text.specs.Inner.Parsing.{name_in, lock_in, site_in, word_in, level_in, run_in, parsed_of}
 use Rattle.er_text.specs.Trace.{acquire_word, release_word, kind_word, IsSite, IsOperation, Says}
 use Rattle.er_text.proofs.SpellingLaws.{spelled_verb}
+use Rattle.er_text.proofs.SiteLemmas.{site_parts}
 
 pub some_name : (word : List ℕ) → is_name word ≡ true → has_bytes word ≡ true
 some_name [] name = absurd (cc)
@@ -64,21 +65,21 @@ plain_access : (version : Version) (t a : List ℕ) (k : Kind) (n : ℕ) → is_
 plain_access version t a kind.Read n name number small = rw (name, some_number a n number, number, word_again n small) refl
 plain_access version t a kind.Write n name number small = rw (name, some_number a n number, number, word_again n small) refl
 
-pub site_again : (dash : Bool) (w : List ℕ) → bytes_eq w (codes "-") ≡ dash → is_name w ≡ true → site_in w ≡ Ok (cond dash None (Some w))
-site_again true w is name = rw (is, some_name w name) refl
-site_again false w is name = rw (is, name, some_name w name) refl
+pub site_again : (v : Version) (dash : Bool) (w : List ℕ) → bytes_eq w (codes "-") ≡ dash → is_site_word v w ≡ true → site_in v w ≡ Ok (cond dash None (Some w))
+site_again v true w is site = rw (is, (site_parts v w site).some) refl
+site_again v false w is site = rw (is, site, (site_parts v w site).some) refl
 
 site_access : (version : Version) (t a w : List ℕ) (k : Kind) (n : ℕ) (site : Option (List ℕ)) → is_name t ≡ true → number_of a ≡ Some n → n < 2 ^ 48 → has_bytes w ≡ true
-    → site_in w ≡ Ok site → parsed_of version (t ∷ kind_word k ∷ a ∷ w ∷ []) ≡ Ok (record { thread = t; operation = Accesses k (n / 4) site })
+    → site_in version w ≡ Ok site → parsed_of version (t ∷ kind_word k ∷ a ∷ w ∷ []) ≡ Ok (record { thread = t; operation = Accesses k (n / 4) site })
 site_access version t a w kind.Read n site name number small some is = rw (name, some_number a n number, number, is, some, word_again n small) refl
 site_access version t a w kind.Write n site name number small some is = rw (name, some_number a n number, number, is, some, word_again n small) refl
 
 accessed : (version : Version) (t a : List ℕ) (k : Kind) (n : ℕ) (behind : List (List ℕ)) (site : Option (List ℕ)) → is_name t ≡ true → number_of a ≡ Some n → n < 2 ^ 48
-    → IsSite behind site → parsed_of version (t ∷ kind_word k ∷ a ∷ behind) ≡ Ok (record { thread = t; operation = Accesses k (n / 4) site })
+    → IsSite version behind site → parsed_of version (t ∷ kind_word k ∷ a ∷ behind) ≡ Ok (record { thread = t; operation = Accesses k (n / 4) site })
 accessed version t a k n [] site name number small is =
     plain_access version t a k n name number small ∙ ap (λ (s : Option (List ℕ)). Ok (record { thread = t; operation = Accesses k (n / 4) s })) (sym is)
 accessed version t a k n (w ∷ []) site name number small is =
-    site_access version t a w k n site name number small (some_name w is.0) (site_again (bytes_eq w (codes "-")) w refl is.0 ∙ ap Ok (sym is.1))
+    site_access version t a w k n site name number small (site_parts version w is.0).some (site_again version (bytes_eq w (codes "-")) w refl is.0 ∙ ap Ok (sym is.1))
 accessed version t a k n (w ∷ x ∷ ws) site name number small is = absurd is
 
 reused : (version : Version) (t a b : List ℕ) (m n : ℕ) → is_name t ≡ true → number_of a ≡ Some m → number_of b ≡ Some n → n ≤ 4194304 → m < 2 ^ 48 → m + n ≤ 2 ^ 48

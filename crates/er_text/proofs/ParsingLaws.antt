@@ -14,12 +14,13 @@ use Rattle.er_text.specs.declared.verbs.Verb.TheVariants as verb
 use Rattle.er_text.specs.declared.verbs.Version.{Version}
 use Rattle.er_text.specs.Lines.{word_at}
 use Rattle.er_text.specs.Number.{number_of}
-use Rattle.er_text.specs.Naming.{is_name, is_lock_name}
+use Rattle.er_text.specs.Naming.{is_name, is_lock_name, is_site_word}
 use Rattle.er_text.specs.Verbs.{verb_of}
 use Rattle.er_text.specs.Events.{Operation, Acquires, Releases, Accesses, Reuses, IgnoresOn, IgnoresOff, Shows, Levels, Starts, Joins, Signals, Awaits, EventLine, run_of}
 use Rattle.er_text.specs.Inner.Parsing.{and_then, map_ok, or_fault, number_in, name_in, lock_in, site_in, word_in, level_in, run_in, access_in, reuse_in, operands_in, counted_in, operation_in, parsed_of}
 use Rattle.er_text.specs.Trace.{acquire_word, release_word, kind_word, IsSite, IsOperation, Says}
-use Rattle.er_text.proofs.SpellingLaws.{equal, AreWhole, spelling, IsKnown, verb_spelled}
+use Rattle.er_text.proofs.SpellingLaws.{AreWhole, spelling, IsKnown, verb_spelled}
+use Rattle.er_text.proofs.SiteLemmas.{dash_named}
 use Rattle.er_text.proofs.FaultTables.{count}
 
 pub mapped : {X Y : Type 0} (f : X → Y) (r : Result X TextKind) (y : Y) → map_ok f r ≡ Ok y → (x : X) × (r ≡ Ok x) × (f x ≡ y)
@@ -73,16 +74,16 @@ abbrev pub some_word : List ℕ → List (List ℕ)
 some_word [] = []
 some_word (x ∷ xs) = (x ∷ xs) ∷ []
 
-site_tested : (dash named : Bool) (w : List ℕ) (s : Option (List ℕ)) → bytes_eq w (codes "-") ≡ dash → is_name w ≡ named
+site_tested : (v : Version) (dash named : Bool) (w : List ℕ) (s : Option (List ℕ)) → bytes_eq w (codes "-") ≡ dash → is_site_word v w ≡ named
     → cond dash (Ok None) (map_ok Some (or_fault BadName (cond named (Some w) None))) ≡ Ok s → (named ≡ true) × (s ≡ cond dash None (Some w))
-site_tested true true w s d n e = (refl, cc)
-site_tested true false w s d n e = let e = sym n ∙ ap is_name (equal w (codes "-") d) in absurd (cc)
-site_tested false true w s d n e = (refl, cc)
-site_tested false false w s d n e = absurd (cc)
+site_tested v true true w s d n e = (refl, cc)
+site_tested v true false w s d n e = let e = sym n ∙ dash_named v w d in absurd (cc)
+site_tested v false true w s d n e = (refl, cc)
+site_tested v false false w s d n e = absurd (cc)
 
-pub site_found : (w : List ℕ) (s : Option (List ℕ)) → site_in w ≡ Ok s → IsSite (some_word w) s
-site_found [] s e = cc
-site_found (x ∷ xs) s e = let w = x ∷ xs in site_tested (bytes_eq w (codes "-")) (is_name w) w s refl refl e
+pub site_found : (v : Version) (w : List ℕ) (s : Option (List ℕ)) → site_in v w ≡ Ok s → IsSite v (some_word w) s
+site_found v [] s e = cc
+site_found v (x ∷ xs) s e = let w = x ∷ xs in site_tested v (bytes_eq w (codes "-")) (is_site_word v w) w s refl refl e
 
 no_operand : (ops : List (List ℕ)) → AreWhole ops → nat_lt 0 (count ops) ≡ false → ops ≡ []
 no_operand [] whole e = refl
@@ -143,14 +144,14 @@ released version t w a ops m d word one e =
     let l = lock_found a f.0 f.1 in
     rw (← f.2) (spelled t w (release_word m) ops (f.0 ∷ []) word (one ∙ ap (λ (x : List ℕ). x ∷ []) l.0), l.1)
 
-accessed : (version : Version) (t w a b : List ℕ) (ops : List (List ℕ)) (k : Kind) (d : Operation) → w ≡ kind_word k → ops ≡ a ∷ some_word b → access_in k a b ≡ Ok d
+accessed : (version : Version) (t w a b : List ℕ) (ops : List (List ℕ)) (k : Kind) (d : Operation) → w ≡ kind_word k → ops ≡ a ∷ some_word b → access_in version k a b ≡ Ok d
     → IsOperation version (t ∷ w ∷ ops) t d
 accessed version t w a b ops k d word one e =
-    let n = bound (λ n. and_then (site_in b) (λ s. map_ok (λ w. Accesses k w s) (word_in n))) (number_in a) d e in
-    let s = bound (λ s. map_ok (λ w. Accesses k w s) (word_in n.0)) (site_in b) d n.2 in
+    let n = bound (λ n. and_then (site_in version b) (λ s. map_ok (λ w. Accesses k w s) (word_in n))) (number_in a) d e in
+    let s = bound (λ s. map_ok (λ w. Accesses k w s) (word_in n.0)) (site_in version b) d n.2 in
     let f = mapped (λ w. Accesses k w s.0) (word_in n.0) d s.2 in
     let at = word_found n.0 f.0 f.1 in
-    rw (← f.2) (a, n.0, some_word b, spelled t w (kind_word k) ops (a ∷ some_word b) word one, number_found (number_of a) n.0 n.1, at.0, at.1, site_found b s.0 s.1)
+    rw (← f.2) (a, n.0, some_word b, spelled t w (kind_word k) ops (a ∷ some_word b) word one, number_found (number_of a) n.0 n.1, at.0, at.1, site_found version b s.0 s.1)
 
 reused : (version : Version) (t w a b : List ℕ) (ops : List (List ℕ)) (d : Operation) → w ≡ codes "reuse" → ops ≡ a ∷ b ∷ [] → reuse_in a b ≡ Ok d
     → IsOperation version (t ∷ w ∷ ops) t d
@@ -217,57 +218,57 @@ object_named f version t w a v ops d says known word one e =
     subst (IsOperation version (t ∷ w ∷ ops) t) m.2 told
 
 operation_says : (version : Version) (t w : List ℕ) (v : Verb) (ops : List (List ℕ)) (d : Operation) → w ≡ spelling v → IsKnown version v → AreWhole ops
-    → counted_in v (count ops) (word_at 0 ops) (word_at 1 ops) ≡ Ok d → IsOperation version (t ∷ w ∷ ops) t d
+    → counted_in version v (count ops) (word_at 0 ops) (word_at 1 ops) ≡ Ok d → IsOperation version (t ∷ w ∷ ops) t d
 operation_says version t w verb.Lock ops d word known whole e =
-    let c = counted (nat_lt (count ops) 1) (nat_lt 1 (count ops)) (operands_in verb.Lock (word_at 0 ops) (word_at 1 ops)) d e in
+    let c = counted (nat_lt (count ops) 1) (nat_lt 1 (count ops)) (operands_in version verb.Lock (word_at 0 ops) (word_at 1 ops)) d e in
     acquired version t w (word_at 0 ops) ops mode.Write d word (one_operand ops whole c.0 c.1) c.2
 operation_says version t w verb.Unlock ops d word known whole e =
-    let c = counted (nat_lt (count ops) 1) (nat_lt 1 (count ops)) (operands_in verb.Unlock (word_at 0 ops) (word_at 1 ops)) d e in
+    let c = counted (nat_lt (count ops) 1) (nat_lt 1 (count ops)) (operands_in version verb.Unlock (word_at 0 ops) (word_at 1 ops)) d e in
     released version t w (word_at 0 ops) ops mode.Write d word (one_operand ops whole c.0 c.1) c.2
 operation_says version t w verb.ReadLock ops d word known whole e =
-    let c = counted (nat_lt (count ops) 1) (nat_lt 1 (count ops)) (operands_in verb.ReadLock (word_at 0 ops) (word_at 1 ops)) d e in
+    let c = counted (nat_lt (count ops) 1) (nat_lt 1 (count ops)) (operands_in version verb.ReadLock (word_at 0 ops) (word_at 1 ops)) d e in
     acquired version t w (word_at 0 ops) ops mode.Read d word (one_operand ops whole c.0 c.1) c.2
 operation_says version t w verb.ReadUnlock ops d word known whole e =
-    let c = counted (nat_lt (count ops) 1) (nat_lt 1 (count ops)) (operands_in verb.ReadUnlock (word_at 0 ops) (word_at 1 ops)) d e in
+    let c = counted (nat_lt (count ops) 1) (nat_lt 1 (count ops)) (operands_in version verb.ReadUnlock (word_at 0 ops) (word_at 1 ops)) d e in
     released version t w (word_at 0 ops) ops mode.Read d word (one_operand ops whole c.0 c.1) c.2
 operation_says version t w verb.Read ops d word known whole e =
-    let c = counted (nat_lt (count ops) 1) (nat_lt 2 (count ops)) (operands_in verb.Read (word_at 0 ops) (word_at 1 ops)) d e in
+    let c = counted (nat_lt (count ops) 1) (nat_lt 2 (count ops)) (operands_in version verb.Read (word_at 0 ops) (word_at 1 ops)) d e in
     accessed version t w (word_at 0 ops) (word_at 1 ops) ops kind.Read d word (one_or_two ops whole c.0 c.1) c.2
 operation_says version t w verb.Write ops d word known whole e =
-    let c = counted (nat_lt (count ops) 1) (nat_lt 2 (count ops)) (operands_in verb.Write (word_at 0 ops) (word_at 1 ops)) d e in
+    let c = counted (nat_lt (count ops) 1) (nat_lt 2 (count ops)) (operands_in version verb.Write (word_at 0 ops) (word_at 1 ops)) d e in
     accessed version t w (word_at 0 ops) (word_at 1 ops) ops kind.Write d word (one_or_two ops whole c.0 c.1) c.2
 operation_says version t w verb.Reuse ops d word known whole e =
-    let c = counted (nat_lt (count ops) 2) (nat_lt 2 (count ops)) (operands_in verb.Reuse (word_at 0 ops) (word_at 1 ops)) d e in
+    let c = counted (nat_lt (count ops) 2) (nat_lt 2 (count ops)) (operands_in version verb.Reuse (word_at 0 ops) (word_at 1 ops)) d e in
     reused version t w (word_at 0 ops) (word_at 1 ops) ops d word (two_operands ops whole c.0 c.1) c.2
 operation_says version t w verb.IgnoreOn ops d word known whole e =
-    let c = counted (nat_lt (count ops) 0) (nat_lt 0 (count ops)) (operands_in verb.IgnoreOn (word_at 0 ops) (word_at 1 ops)) d e in
+    let c = counted (nat_lt (count ops) 0) (nat_lt 0 (count ops)) (operands_in version verb.IgnoreOn (word_at 0 ops) (word_at 1 ops)) d e in
     let same : IgnoresOn ≡ d = let r = c.2 in cc in
     rw (← same) (spelled t w (codes "ignore-on") ops [] word (no_operand ops whole c.1))
 operation_says version t w verb.IgnoreOff ops d word known whole e =
-    let c = counted (nat_lt (count ops) 0) (nat_lt 0 (count ops)) (operands_in verb.IgnoreOff (word_at 0 ops) (word_at 1 ops)) d e in
+    let c = counted (nat_lt (count ops) 0) (nat_lt 0 (count ops)) (operands_in version verb.IgnoreOff (word_at 0 ops) (word_at 1 ops)) d e in
     let same : IgnoresOff ≡ d = let r = c.2 in cc in
     rw (← same) (spelled t w (codes "ignore-off") ops [] word (no_operand ops whole c.1))
 operation_says version t w verb.Show ops d word known whole e =
-    let c = counted (nat_lt (count ops) 1) (nat_lt 1 (count ops)) (operands_in verb.Show (word_at 0 ops) (word_at 1 ops)) d e in
+    let c = counted (nat_lt (count ops) 1) (nat_lt 1 (count ops)) (operands_in version verb.Show (word_at 0 ops) (word_at 1 ops)) d e in
     showed version t w (word_at 0 ops) ops d word (one_operand ops whole c.0 c.1) c.2
 operation_says version t w verb.Level ops d word known whole e =
-    let c = counted (nat_lt (count ops) 1) (nat_lt 1 (count ops)) (operands_in verb.Level (word_at 0 ops) (word_at 1 ops)) d e in
+    let c = counted (nat_lt (count ops) 1) (nat_lt 1 (count ops)) (operands_in version verb.Level (word_at 0 ops) (word_at 1 ops)) d e in
     leveled version t w (word_at 0 ops) ops d known word (one_operand ops whole c.0 c.1) c.2
 operation_says version t w verb.Start ops d word known whole e =
-    let c = counted (nat_lt (count ops) 1) (nat_lt 1 (count ops)) (operands_in verb.Start (word_at 0 ops) (word_at 1 ops)) d e in
+    let c = counted (nat_lt (count ops) 1) (nat_lt 1 (count ops)) (operands_in version verb.Start (word_at 0 ops) (word_at 1 ops)) d e in
     thread_named Starts version t w (word_at 0 ops) verb.Start ops d (λ other name third. (refl, name, third)) known word (one_operand ops whole c.0 c.1) c.2
 operation_says version t w verb.Join ops d word known whole e =
-    let c = counted (nat_lt (count ops) 1) (nat_lt 1 (count ops)) (operands_in verb.Join (word_at 0 ops) (word_at 1 ops)) d e in
+    let c = counted (nat_lt (count ops) 1) (nat_lt 1 (count ops)) (operands_in version verb.Join (word_at 0 ops) (word_at 1 ops)) d e in
     thread_named Joins version t w (word_at 0 ops) verb.Join ops d (λ other name third. (refl, name, third)) known word (one_operand ops whole c.0 c.1) c.2
 operation_says version t w verb.Signal ops d word known whole e =
-    let c = counted (nat_lt (count ops) 1) (nat_lt 1 (count ops)) (operands_in verb.Signal (word_at 0 ops) (word_at 1 ops)) d e in
+    let c = counted (nat_lt (count ops) 1) (nat_lt 1 (count ops)) (operands_in version verb.Signal (word_at 0 ops) (word_at 1 ops)) d e in
     object_named Signals version t w (word_at 0 ops) verb.Signal ops d (λ object name third. (refl, name, third)) known word (one_operand ops whole c.0 c.1) c.2
 operation_says version t w verb.Await ops d word known whole e =
-    let c = counted (nat_lt (count ops) 1) (nat_lt 1 (count ops)) (operands_in verb.Await (word_at 0 ops) (word_at 1 ops)) d e in
+    let c = counted (nat_lt (count ops) 1) (nat_lt 1 (count ops)) (operands_in version verb.Await (word_at 0 ops) (word_at 1 ops)) d e in
     object_named Awaits version t w (word_at 0 ops) verb.Await ops d (λ object name third. (refl, name, third)) known word (one_operand ops whole c.0 c.1) c.2
 
 verb_says : (version : Version) (t w : List ℕ) (v : Option Verb) (ops : List (List ℕ)) (d : Operation) → verb_of version w ≡ v → AreWhole ops
-    → operation_in v (word_at 0 ops) (word_at 1 ops) (word_at 2 ops) ≡ Ok d → IsOperation version (t ∷ w ∷ ops) t d
+    → operation_in version v (word_at 0 ops) (word_at 1 ops) (word_at 2 ops) ≡ Ok d → IsOperation version (t ∷ w ∷ ops) t d
 verb_says version t w None ops d is whole e = absurd (cc)
 verb_says version t w (Some v) ops d is whole e =
     let s = verb_spelled version w v is in
@@ -280,7 +281,7 @@ parsed_says version ([] ∷ ws) s whole e = absurd (cc)
 parsed_says version ((x ∷ xs) ∷ []) s whole e = let n = bound (λ t. Err MissingOperand) (name_in (x ∷ xs)) s e in absurd (let h = n.2 in cc)
 parsed_says version ((x ∷ xs) ∷ [] ∷ ops) s whole e = absurd (cc)
 parsed_says version ((x ∷ xs) ∷ (y ∷ ys) ∷ ops) s whole e =
-    let operation = operation_in (verb_of version (y ∷ ys)) (word_at 0 ops) (word_at 1 ops) (word_at 2 ops) in
+    let operation = operation_in version (verb_of version (y ∷ ys)) (word_at 0 ops) (word_at 1 ops) (word_at 2 ops) in
     let n = bound (λ t. map_ok (λ d. record { thread = t; operation = d }) operation) (name_in (x ∷ xs)) s e in
     let t = name_found (x ∷ xs) n.0 n.1 in
     let m = mapped (λ d. record { thread = n.0; operation = d }) operation s n.2 in

@@ -9,7 +9,8 @@ use Rattle.er_text.specs.declared.faults.TextKind.{TextKind}
 use Rattle.er_text.specs.declared.faults.TextKind.TheVariants.{BadName, BadVerb, BadNumber, AddressOutOfRange}
 use Rattle.er_text.specs.Lines.{word_at}
 use Rattle.er_text.specs.Number.{number_of}
-use Rattle.er_text.specs.Naming.{is_name}
+use Rattle.er_text.specs.declared.verbs.Version.TheVariants.{Three}
+use Rattle.er_text.specs.Naming.{is_site_name}
 use Rattle.er_text.specs.Events.{run_of}
 use Rattle.er_text.specs.Inner.Parsing.{and_then, map_ok, or_fault, number_in, site_in, is_outside}
 use Rattle.er_text.specs.FirstFault.{first_kind}
@@ -17,9 +18,10 @@ use Rattle.er_text.specs.Trace.{IsSite}
 use Rattle.er_text.specs.Rules.{IsRule, site_kinds, run_kinds, rule_kinds}
 use Rattle.er_text.specs.Inner.RuleLines.{site_rule_in, long_run_in, run_rule_in, rule_of}
 use Rattle.er_text.proofs.SpellingLaws.{equal, AreWhole}
-use Rattle.er_text.proofs.FaultTables.{fault_of, number_faults, dash_named}
+use Rattle.er_text.proofs.SiteLemmas.{dash_named, site_parts}
+use Rattle.er_text.proofs.FaultTables.{fault_of, number_faults}
 use Rattle.er_text.proofs.ParsingLaws.{mapped, bound, number_found, site_found}
-use Rattle.er_text.proofs.ParsingAgain.{some_name, some_number, site_again}
+use Rattle.er_text.proofs.ParsingAgain.{some_number, site_again}
 
 site_named : (b dash : Bool) (w : List ℕ) → (dash ≡ true → b ≡ true)
     → cond (not b) (Some BadName) None ≡ fault_of (map_ok AtSite (cond dash (Ok None) (map_ok Some (or_fault BadName (cond b (Some w) None)))))
@@ -31,7 +33,7 @@ site_named false false w is = refl
 site_faults : (ops : List (List ℕ)) → AreWhole ops → first_kind (site_kinds ops) ≡ fault_of (site_rule_in (word_at 0 ops) (word_at 1 ops))
 site_faults [] whole = refl
 site_faults ([] ∷ ops) whole = absurd (cc)
-site_faults ((x ∷ xs) ∷ []) whole = let w = x ∷ xs in site_named (is_name w) (bytes_eq w (codes "-")) w (dash_named w)
+site_faults ((x ∷ xs) ∷ []) whole = let w = x ∷ xs in site_named (is_site_name w) (bytes_eq w (codes "-")) w (dash_named Three w)
 site_faults ((x ∷ xs) ∷ [] ∷ ops) whole = absurd (cc)
 site_faults ((x ∷ xs) ∷ (y ∷ ys) ∷ ops) whole =
     let few : nat_lt (suc (suc (length ops))) 1 ≡ false = grind (arith, nat_tests) in
@@ -86,8 +88,8 @@ site_says [] t whole e = absurd (cc)
 site_says ([] ∷ ops) t whole e = absurd (cc)
 site_says ((x ∷ xs) ∷ []) t whole e =
     let w = x ∷ xs in
-    let m = mapped AtSite (site_in w) t e in
-    let says : IsRule (codes "site" ∷ w ∷ []) (AtSite m.0) = (w, refl, site_found w m.0 m.1) in
+    let m = mapped AtSite (site_in Three w) t e in
+    let says : IsRule (codes "site" ∷ w ∷ []) (AtSite m.0) = (w, refl, site_found Three w m.0 m.1) in
     subst (IsRule (codes "site" ∷ w ∷ [])) m.2 says
 site_says ((x ∷ xs) ∷ [] ∷ ops) t whole e = absurd (cc)
 site_says ((x ∷ xs) ∷ (y ∷ ys) ∷ ops) t whole e = absurd (cc)
@@ -139,10 +141,10 @@ long_run_again a n low within =
     let y : nat_lt (2 ^ 48) (a + n) ≡ false = grind (arith, nat_tests, within) in
     rw (x, y) refl
 
-site_rule_again : (w : List ℕ) (site : Option (List ℕ)) → IsSite (w ∷ []) site → rule_of (codes "site" ∷ w ∷ []) ≡ Ok (AtSite site)
+site_rule_again : (w : List ℕ) (site : Option (List ℕ)) → IsSite Three (w ∷ []) site → rule_of (codes "site" ∷ w ∷ []) ≡ Ok (AtSite site)
 site_rule_again w site is =
-    let parsed_line : site_in w ≡ Ok site = site_again (bytes_eq w (codes "-")) w refl is.0 ∙ ap Ok (sym is.1) in
-    rw (parsed_line, some_name w is.0) refl
+    let parsed_line : site_in Three w ≡ Ok site = site_again Three (bytes_eq w (codes "-")) w refl is.0 ∙ ap Ok (sym is.1) in
+    rw (parsed_line, (site_parts Three w is.0).some) refl
 
 run_rule_again : (a b : List ℕ) (m n : ℕ) → number_of a ≡ Some m → number_of b ≡ Some n → m < 2 ^ 48 → m + n ≤ 2 ^ 48
     → rule_of (codes "words" ∷ a ∷ b ∷ []) ≡ Ok (AtWords (run_of m n))

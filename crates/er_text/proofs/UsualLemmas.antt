@@ -17,15 +17,15 @@ adds_as Is Other line thread old new (Ok true) means adds = (adds.0, means adds.
 adds_as Is Other line thread old new (Ok false) means adds = adds
 adds_as Is Other line thread old new (Err e) means adds = tt
 
-pub adds_line : {E : Type 0} (line : ℕ) (bytes name rest : List ℕ) (old new : Recording) (result : Result Bool E) → IsLeadingName bytes name rest
-    → AddsOperation (IsFastOperation rest) line name old new result → AddsLine (IsFastLine bytes) line old new result
-adds_line line bytes name rest old new (Ok true) front adds = (record { thread = name; operation = adds.0 }, line_says bytes name rest adds.0 front adds.1, adds.2)
-adds_line line bytes name rest old new (Ok false) front adds = adds
-adds_line line bytes name rest old new (Err e) front adds = tt
+pub adds_line : {E : Type 0} (v : Version) (line : ℕ) (bytes name rest : List ℕ) (old new : Recording) (result : Result Bool E) → IsLeadingName bytes name rest
+    → AddsOperation (IsFastOperation v rest) line name old new result → AddsLine (IsFastLine v bytes) line old new result
+adds_line v line bytes name rest old new (Ok true) front adds = (record { thread = name; operation = adds.0 }, line_says v bytes name rest adds.0 front adds.1, adds.2)
+adds_line v line bytes name rest old new (Ok false) front adds = adds
+adds_line v line bytes name rest old new (Err e) front adds = tt
 
 -- a line in its usual form, after which the thread of the last step acts
 pub usual_line_read : (line : ℕ) (stage : Stage) (v : Version) (bytes : List ℕ) (idle after : List Bool) (old new : Recording) → stage ≡ Events v
-    → ((s : EventLine) × IsFastLine bytes s × (new ≡ with_line line s old)) → ((thread : ℕ) → last_actor new.steps ≡ Some thread → after ≡ without_idle idle thread)
+    → ((s : EventLine) × IsFastLine v bytes s × (new ≡ with_line line s old)) → ((thread : ℕ) → last_actor new.steps ≡ Some thread → after ≡ without_idle idle thread)
     → plain_at (at_line line stage idle old) line bytes ≡ Ok (at_line (line + 1) stage after new)
 usual_line_read line stage v bytes idle after old new is adds acts =
     let last = ap (λ (r : Recording). last_actor r.steps) adds.2 ∙ adds.1.one line old in

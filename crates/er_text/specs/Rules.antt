@@ -12,13 +12,14 @@ use Rattle.er_text.specs.declared.faults.ReadFault.TheVariants as fault
 use Rattle.er_text.specs.Lines.{Placed, placed, has_content, words, word_at}
 use Rattle.er_text.specs.FirstFault.{IsPlain, IsFirstFaulty}
 use Rattle.er_text.specs.Number.{number_of}
-use Rattle.er_text.specs.Naming.{is_name}
+use Rattle.er_text.specs.declared.verbs.Version.TheVariants.{Three}
+use Rattle.er_text.specs.Naming.{is_site_name}
 use Rattle.er_text.specs.Events.{run_of}
 use Rattle.er_text.specs.Trace.{IsSite, number_at, is_number_at}
 
--- the words that write a rule: a site, of which `-` is the missing one, or an address and a size in bytes
+-- the words that write a rule: a site as in a trace text 3, which has the sites of the others too, or an address and a size in bytes
 abbrev pub IsRule : List (List ℕ) → Target → Type 0
-IsRule words (AtSite site) = (name : List ℕ) × (words ≡ codes "site" ∷ name ∷ []) × IsSite (name ∷ []) site
+IsRule words (AtSite site) = (name : List ℕ) × (words ≡ codes "site" ∷ name ∷ []) × IsSite Three (name ∷ []) site
 IsRule words (AtWords run) =
     (address size : List ℕ) × (a n : ℕ) × (words ≡ codes "words" ∷ address ∷ size ∷ [])
     × (number_of address ≡ Some a) × (number_of size ≡ Some n) × (a < 2 ^ 48) × (a + n ≤ 2 ^ 48) × (run ≡ run_of a n)
@@ -32,7 +33,7 @@ AllRule (p ∷ ps) [] = ⊥
 
 abbrev pub site_kinds : List (List ℕ) → List (Bool × TextKind)
 site_kinds operands =
-    (nat_lt (length operands) 1, MissingOperand) ∷ (nat_lt 1 (length operands), ExtraOperand) ∷ (not (is_name (word_at 0 operands)), BadName) ∷ []
+    (nat_lt (length operands) 1, MissingOperand) ∷ (nat_lt 1 (length operands), ExtraOperand) ∷ (not (is_site_name (word_at 0 operands)), BadName) ∷ []
 
 abbrev pub run_kinds : List (List ℕ) → List (Bool × TextKind)
 run_kinds operands =

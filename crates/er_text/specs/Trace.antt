@@ -22,7 +22,7 @@ use Rattle.er_text.specs.declared.stages.Stage.TheVariants.{Front, Events, Ended
 use Rattle.er_text.specs.Lines.{Placed, placed, has_content, has_bytes, words, word_at}
 use Rattle.er_text.specs.FirstFault.{IsPlain, known_after, HasNone, IsFirstFaulty}
 use Rattle.er_text.specs.Number.{number_of}
-use Rattle.er_text.specs.Naming.{is_name, is_lock_name}
+use Rattle.er_text.specs.Naming.{is_name, is_lock_name, is_site_word}
 use Rattle.er_text.specs.Verbs.{version_word, has_levels, is_third, verb_of, version_of, least_of, most_of}
 use Rattle.er_text.specs.Events.{EventLine, Operation, Acquires, Releases, Accesses, Reuses, IgnoresOn, IgnoresOff, Shows, Levels, Starts, Joins, Signals, Awaits, run_of, with_line}
 
@@ -38,11 +38,11 @@ abbrev pub kind_word : Kind → List ℕ
 kind_word kind.Read = codes "read"
 kind_word kind.Write = codes "write"
 
--- the words behind an address name this site, or none: no word does, and `-`
-abbrev pub IsSite : List (List ℕ) → Option (List ℕ) → Type 0
-IsSite [] site = site ≡ None
-IsSite (word ∷ []) site = (is_name word ≡ true) × (site ≡ (if bytes_eq word (codes "-") then None else Some word))
-IsSite (word ∷ more ∷ words) site = ⊥
+-- the words behind an address name this site, or none, in a text of this version: no word does, and `-`
+abbrev pub IsSite : Version → List (List ℕ) → Option (List ℕ) → Type 0
+IsSite v [] site = site ≡ None
+IsSite v (word ∷ []) site = (is_site_word v word ≡ true) × (site ≡ (if bytes_eq word (codes "-") then None else Some word))
+IsSite v (word ∷ more ∷ words) site = ⊥
 
 -- the words with which a thread does this, in a text of this version
 abbrev pub IsOperation : Version → List (List ℕ) → List ℕ → Operation → Type 0
@@ -50,7 +50,7 @@ IsOperation v words thread (Acquires lock m) = (words ≡ thread ∷ acquire_wor
 IsOperation v words thread (Releases lock m) = (words ≡ thread ∷ release_word m ∷ lock ∷ []) × (is_lock_name lock ≡ true)
 IsOperation v words thread (Accesses k w site) =
     (address : List ℕ) × (n : ℕ) × (behind : List (List ℕ)) × (words ≡ thread ∷ kind_word k ∷ address ∷ behind)
-    × (number_of address ≡ Some n) × (n < 2 ^ 48) × (w ≡ n / 4) × IsSite behind site
+    × (number_of address ≡ Some n) × (n < 2 ^ 48) × (w ≡ n / 4) × IsSite v behind site
 IsOperation v words thread (Reuses run) =
     (address size : List ℕ) × (a n : ℕ) × (words ≡ thread ∷ codes "reuse" ∷ address ∷ size ∷ [])
     × (number_of address ≡ Some a) × (number_of size ≡ Some n) × (n ≤ most_bytes) × (a < 2 ^ 48) × (a + n ≤ 2 ^ 48) × (run ≡ run_of a n)
@@ -116,10 +116,10 @@ is_number_at i operands = is_some (number_of (word_at i operands))
 abbrev pub lock_kinds : List (List ℕ) → List (Bool × TextKind)
 lock_kinds operands = (not (is_lock_name (word_at 0 operands)), BadName) ∷ []
 
-abbrev pub access_kinds : List (List ℕ) → List (Bool × TextKind)
-access_kinds operands =
+abbrev pub access_kinds : Version → List (List ℕ) → List (Bool × TextKind)
+access_kinds version operands =
     (not (is_number_at 0 operands), BadNumber)
-    ∷ (has_bytes (word_at 1 operands) && not (is_name (word_at 1 operands)), BadName)
+    ∷ (has_bytes (word_at 1 operands) && not (is_site_word version (word_at 1 operands)), BadName)
     ∷ (nat_le (2 ^ 48) (number_at 0 operands), AddressOutOfRange) ∷ []
 
 abbrev pub reuse_kinds : List (List ℕ) → List (Bool × TextKind)
@@ -137,33 +137,33 @@ level_kinds operands = (not (is_number_at 0 operands), BadNumber) ∷ (nat_lt 31
 abbrev pub thread_kinds : List (List ℕ) → List (Bool × TextKind)
 thread_kinds operands = (not (is_name (word_at 0 operands)), BadName) ∷ []
 
-abbrev pub operand_kinds : Verb → List (List ℕ) → List (Bool × TextKind)
-operand_kinds verb.Lock operands = lock_kinds operands
-operand_kinds verb.Unlock operands = lock_kinds operands
-operand_kinds verb.ReadLock operands = lock_kinds operands
-operand_kinds verb.ReadUnlock operands = lock_kinds operands
-operand_kinds verb.Read operands = access_kinds operands
-operand_kinds verb.Write operands = access_kinds operands
-operand_kinds verb.Reuse operands = reuse_kinds operands
-operand_kinds verb.IgnoreOn operands = []
-operand_kinds verb.IgnoreOff operands = []
-operand_kinds verb.Show operands = show_kinds operands
-operand_kinds verb.Level operands = level_kinds operands
-operand_kinds verb.Start operands = thread_kinds operands
-operand_kinds verb.Join operands = thread_kinds operands
-operand_kinds verb.Signal operands = lock_kinds operands
-operand_kinds verb.Await operands = lock_kinds operands
+abbrev pub operand_kinds : Version → Verb → List (List ℕ) → List (Bool × TextKind)
+operand_kinds version verb.Lock operands = lock_kinds operands
+operand_kinds version verb.Unlock operands = lock_kinds operands
+operand_kinds version verb.ReadLock operands = lock_kinds operands
+operand_kinds version verb.ReadUnlock operands = lock_kinds operands
+operand_kinds version verb.Read operands = access_kinds version operands
+operand_kinds version verb.Write operands = access_kinds version operands
+operand_kinds version verb.Reuse operands = reuse_kinds operands
+operand_kinds version verb.IgnoreOn operands = []
+operand_kinds version verb.IgnoreOff operands = []
+operand_kinds version verb.Show operands = show_kinds operands
+operand_kinds version verb.Level operands = level_kinds operands
+operand_kinds version verb.Start operands = thread_kinds operands
+operand_kinds version verb.Join operands = thread_kinds operands
+operand_kinds version verb.Signal operands = lock_kinds operands
+operand_kinds version verb.Await operands = lock_kinds operands
 
-abbrev pub verb_kinds : Option Verb → List (List ℕ) → List (Bool × TextKind)
-verb_kinds None operands = (true, BadVerb) ∷ []
-verb_kinds (Some v) operands =
-    (nat_lt (length operands) (least_of v), MissingOperand) ∷ (nat_lt (most_of v) (length operands), ExtraOperand) ∷ operand_kinds v operands
+abbrev pub verb_kinds : Version → Option Verb → List (List ℕ) → List (Bool × TextKind)
+verb_kinds version None operands = (true, BadVerb) ∷ []
+verb_kinds version (Some v) operands =
+    (nat_lt (length operands) (least_of v), MissingOperand) ∷ (nat_lt (most_of v) (length operands), ExtraOperand) ∷ operand_kinds version v operands
 
 -- the faults of an event line, in their order
 abbrev pub event_kinds : Version → List (List ℕ) → List (Bool × TextKind)
 event_kinds v words =
     (not (is_name (word_at 0 words)), BadName) ∷ (nat_lt (length words) 2, MissingOperand)
-    ∷ verb_kinds (verb_of v (word_at 1 words)) (drop 2 words)
+    ∷ verb_kinds v (verb_of v (word_at 1 words)) (drop 2 words)
 
 -- the version that the words of a header tell, and none where they aren't a header
 abbrev pub version_in : List (List ℕ) → Option Version

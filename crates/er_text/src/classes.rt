@@ -2,7 +2,7 @@
 ghost use Rattle.std.specs.Prelude.{◌≡◌, ◌+◌, ◌<◌, ◌≤◌, nat_le, length, IsTrue, true};
 ghost use Rattle.std.specs.List.{list_all};
 ghost use Rattle.std.specs.Char.{digit_value};
-ghost use Rattle.er_text.specs.Naming.{is_name_byte};
+ghost use Rattle.er_text.specs.Naming.{is_name_byte, is_site_byte};
 ghost use Rattle.er_text.specs.Inner.Blocks.{AreNameBytes};
 
 use std::simd::prelude::*;
@@ -38,6 +38,14 @@ pub(crate) fn is_name_byte(byte: u8) -> bool
     ensures { result ≡ is_name_byte byte }
 {
     class_of(byte) <= 16
+}
+
+/// A printable byte that is no space.
+#[inline(always)]
+pub(crate) fn is_site_byte(byte: u8) -> bool
+    ensures { result ≡ is_site_byte byte }
+{
+    byte >= b'!' && byte <= b'~'
 }
 
 /// Whether the 16 bytes from a place on are bytes of names.

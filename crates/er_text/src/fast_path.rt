@@ -1,6 +1,6 @@
 //! Event lines in their usual form, read in one pass over their bytes: a name, `read` or `write`, an address of at most 12
 //! hexadecimal digits and perhaps a site, or a name, `lock`, `unlock`, `rlock` or `runlock`, and a lock, with one space between any
-//! two of them.
+//! two of them. What a site may be depends on the version of the text.
 //!
 //! The steps are those of `parsing` and `adding`, in less than half the time. A line of any other form is left to `parsing`.
 ghost use Rattle.std.specs.Prelude.{◌≡◌, ◌+◌, ◌<◌, ◌≤◌, ◌∷◌, ◌++◌, not, position, length, codes, ℕ, List, IfSome};
@@ -11,7 +11,8 @@ ghost use Rattle.er_text.specs.Inner.FastPath.{IsLeadingName, HexSoFar, AreLeadi
 
 use crate::adding::{add_access, add_acquire, add_lone_access, add_release};
 use crate::classes::{class_of, is_name_byte};
-use crate::naming::{is_lock_name, is_name, text};
+use crate::naming::{is_lock_name, is_site_word, site_text, text};
+use crate::verbs::Version;
 use er_event::{Kind, Mode, Word};
 use er_trace::Trace;
 use std::alloc::AllocError;
@@ -210,13 +211,14 @@ fn leading_word(bytes: &[u8]) -> Option<(Word, &[u8])>
 #[inline(always)]
 fn add_word_access(
     trace: &mut Trace,
+    version: Version,
     line: u64,
     thread: &str,
     kind: Kind,
     word: Word,
     rest: &[u8],
 ) -> Result<bool, AllocError>
-    ensures { (bytes : List ℕ) → IsLeadingWord bytes word rest.now → AddsOperation (IsFastAccess kind bytes) line thread.now trace.old trace.new result }
+    ensures { (bytes : List ℕ) → IsLeadingWord bytes word rest.now → AddsOperation (IsFastAccess version kind bytes) line thread.now trace.old trace.new result }
 {
     if rest.is_empty() {
         add_lone_access(trace, line, thread, kind, word)?;
@@ -225,14 +227,14 @@ fn add_word_access(
     let Some(site) = after_space(rest) else {
         return Ok(false);
     };
-    if !is_name(site) {
+    if !is_site_word(version, site) {
         return Ok(false);
     }
     if site == b"-".as_slice() {
         add_lone_access(trace, line, thread, kind, word)?;
         return Ok(true);
     }
-    add_access(trace, line, thread, kind, word, text(site))?;
+    add_access(trace, line, thread, kind, word, site_text(site))?;
     Ok(true)
 }
 
@@ -240,15 +242,16 @@ fn add_word_access(
 #[inline(always)]
 fn add_usual_access(
     trace: &mut Trace,
+    version: Version,
     line: u64,
     thread: &str,
     kind: Kind,
     bytes: &[u8],
 ) -> Result<bool, AllocError>
-    ensures { AddsOperation (IsFastAccess kind bytes.now) line thread.now trace.old trace.new result }
+    ensures { AddsOperation (IsFastAccess version kind bytes.now) line thread.now trace.old trace.new result }
 {
     match leading_word(bytes) {
-        Some((word, rest)) => add_word_access(trace, line, thread, kind, word, rest),
+        Some((word, rest)) => add_word_access(trace, version, line, thread, kind, word, rest),
         None => Ok(false),
     }
 }
@@ -293,17 +296,18 @@ fn add_usual_release(
 #[inline(always)]
 fn add_usual_operation(
     trace: &mut Trace,
+    version: Version,
     line: u64,
     thread: &str,
     bytes: &[u8],
 ) -> Result<bool, AllocError>
-    ensures { AddsOperation (IsFastOperation bytes.now) line thread.now trace.old trace.new result }
+    ensures { AddsOperation (IsFastOperation version bytes.now) line thread.now trace.old trace.new result }
 {
     if let Some(rest) = after_read(bytes) {
-        return add_usual_access(trace, line, thread, Kind::Read, rest);
+        return add_usual_access(trace, version, line, thread, Kind::Read, rest);
     }
     if let Some(rest) = after_write(bytes) {
-        return add_usual_access(trace, line, thread, Kind::Write, rest);
+        return add_usual_access(trace, version, line, thread, Kind::Write, rest);
     }
     if let Some(rest) = after_lock(bytes) {
         return add_usual_acquire(trace, line, thread, Mode::Write, rest);
@@ -322,7 +326,7 @@ fn add_usual_read_lock(
     thread: &str,
     bytes: &[u8],
 ) -> Result<bool, AllocError>
-    ensures { AddsOperation (IsFastOperation bytes.now) line thread.now trace.old trace.new result }
+    ensures { (version : Version) → AddsOperation (IsFastOperation version bytes.now) line thread.now trace.old trace.new result }
 {
     if let Some(rest) = after_rlock(bytes) {
         return add_usual_acquire(trace, line, thread, Mode::Read, rest);
@@ -338,11 +342,16 @@ fn add_usual_read_lock(
 /// It makes no value of an enum with names in it: such a value is copied in pieces that are wider than its parts, and each copy
 /// waits until the parts are written.
 #[inline(always)]
-pub(crate) fn add_usual(trace: &mut Trace, line: u64, bytes: &[u8]) -> Result<bool, AllocError>
-    ensures { AddsLine (IsFastLine bytes.now) line trace.old trace.new result }
+pub(crate) fn add_usual(
+    trace: &mut Trace,
+    version: Version,
+    line: u64,
+    bytes: &[u8],
+) -> Result<bool, AllocError>
+    ensures { AddsLine (IsFastLine version bytes.now) line trace.old trace.new result }
 {
     match leading_name(bytes) {
-        Some((thread, rest)) => add_usual_operation(trace, line, thread, rest),
+        Some((thread, rest)) => add_usual_operation(trace, version, line, thread, rest),
         None => Ok(false),
     }
 }

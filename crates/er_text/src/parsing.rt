@@ -8,7 +8,7 @@ ghost use Rattle.er_text.specs.Inner.Parsing.{AreWords, GivesName, GivesSite, Gi
 
 use crate::bytes::next_word;
 use crate::faults::TextKind;
-use crate::naming::{lock_name_of, name_of};
+use crate::naming::{lock_name_of, name_of, site_name_of};
 use crate::numbers::number_of;
 use crate::verbs::{Verb, Version, header_version, verb_of};
 use er_event::{Kind, Level, Mode, Refusal, Word, WordRange};
@@ -130,7 +130,7 @@ impl<'a> Words<'a> {
     }
 
     fn action(&self, version: Version) -> Result<Action<'a>, TextKind>
-        ensures { GivesOperation result (operation_in (verb_of version self.now.second.now) self.now.third.now self.now.fourth.now self.now.fifth.now) }
+        ensures { GivesOperation result (operation_in version (verb_of version self.now.second.now) self.now.third.now self.now.fourth.now self.now.fifth.now) }
     {
         let Some(verb) = verb_of(version, self.second) else {
             return Err(TextKind::BadVerb);
@@ -142,20 +142,25 @@ impl<'a> Words<'a> {
         if count > verb.most() {
             return Err(TextKind::ExtraOperand);
         }
-        operands(verb, self.third, self.fourth)
+        operands(version, verb, self.third, self.fourth)
     }
 }
 
-fn operands<'a>(verb: Verb, first: &'a [u8], second: &'a [u8]) -> Result<Action<'a>, TextKind>
-    ensures { GivesOperation result (operands_in verb first.now second.now) }
+fn operands<'a>(
+    version: Version,
+    verb: Verb,
+    first: &'a [u8],
+    second: &'a [u8],
+) -> Result<Action<'a>, TextKind>
+    ensures { GivesOperation result (operands_in version verb first.now second.now) }
 {
     match verb {
         Verb::Lock => Ok(Action::Acquire(lock(first)?, Mode::Write)),
         Verb::Unlock => Ok(Action::Release(lock(first)?, Mode::Write)),
         Verb::ReadLock => Ok(Action::Acquire(lock(first)?, Mode::Read)),
         Verb::ReadUnlock => Ok(Action::Release(lock(first)?, Mode::Read)),
-        Verb::Read => access(Kind::Read, first, second),
-        Verb::Write => access(Kind::Write, first, second),
+        Verb::Read => access(version, Kind::Read, first, second),
+        Verb::Write => access(version, Kind::Write, first, second),
         Verb::Reuse => reuse(first, second),
         Verb::IgnoreOn => Ok(Action::IgnoreOn),
         Verb::IgnoreOff => Ok(Action::IgnoreOff),
@@ -168,11 +173,16 @@ fn operands<'a>(verb: Verb, first: &'a [u8], second: &'a [u8]) -> Result<Action<
     }
 }
 
-fn access<'a>(kind: Kind, address: &'a [u8], site: &'a [u8]) -> Result<Action<'a>, TextKind>
-    ensures { GivesOperation result (access_in kind address.now site.now) }
+fn access<'a>(
+    version: Version,
+    kind: Kind,
+    address: &'a [u8],
+    site: &'a [u8],
+) -> Result<Action<'a>, TextKind>
+    ensures { GivesOperation result (access_in version kind address.now site.now) }
 {
     let address = number(address)?;
-    let site = site_of(site)?;
+    let site = site_of(version, site)?;
     Ok(Action::Access(kind, word_at(address)?, site))
 }
 
@@ -202,14 +212,14 @@ fn lock(word: &[u8]) -> Result<&str, TextKind>
     lock_name_of(word).ok_or(TextKind::BadName)
 }
 
-/// The site that a word names. A missing word and `-` name none.
-pub(crate) fn site_of(word: &[u8]) -> Result<Option<&str>, TextKind>
-    ensures { GivesSite result (site_in word.now) }
+/// The site that a word names in a text of this version. A missing word and `-` name none.
+pub(crate) fn site_of(version: Version, word: &[u8]) -> Result<Option<&str>, TextKind>
+    ensures { GivesSite result (site_in version word.now) }
 {
     if word.is_empty() || word == b"-".as_slice() {
         return Ok(None);
     }
-    match name_of(word) {
+    match site_name_of(version, word) {
         Some(name) => Ok(Some(name)),
         None => Err(TextKind::BadName),
     }

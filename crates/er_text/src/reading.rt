@@ -103,10 +103,10 @@ impl Header {
         ensures stage { self.new.stage ≡ self.old.stage }
         ensures read { ReadsUsual line self.old.stage bytes.now self.old.idle self.new.idle trace.old trace.new result }
     {
-        let Stage::Events(_) = self.stage else {
+        let Stage::Events(version) = self.stage else {
             return Ok(false);
         };
-        if !add_usual(trace, line, bytes)? {
+        if !add_usual(trace, version, line, bytes)? {
             return Ok(false);
         }
         self.idle.remove_last(trace.steps());

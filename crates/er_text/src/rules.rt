@@ -4,6 +4,7 @@ ghost use Rattle.er_text.specs.Inner.RuleLines.{GivesRun, GivesRule, site_rule_i
 
 use crate::faults::TextKind;
 use crate::parsing::{Words, number, site_of};
+use crate::verbs::Version;
 use er_event::Word;
 use er_rules::WordSpan;
 
@@ -23,7 +24,8 @@ fn site_rule<'a>(first: &'a [u8], second: &[u8]) -> Result<LineRule<'a>, TextKin
     if !second.is_empty() {
         return Err(TextKind::ExtraOperand);
     }
-    Ok(LineRule::Site(site_of(first)?))
+    // A rule has no version, and so its site may be one of any trace.
+    Ok(LineRule::Site(site_of(Version::Three, first)?))
 }
 
 /// The words that some bytes of memory touch, of which there may be none.

@@ -46,8 +46,8 @@ pub record IsLeadingWord (bytes : List ℕ) (word : ℕ) (rest : List ℕ) : Typ
   pub behind : drop len digits ≡ rest
   pub word_is : word ≡ value / 4
 
--- behind the verb of an access
-pub record IsFastAccess (k : Kind) (bytes : List ℕ) (operation : Operation) : Type 0 where
+-- behind the verb of an access, in a text of this version
+pub record IsFastAccess (v : Version) (k : Kind) (bytes : List ℕ) (operation : Operation) : Type 0 where
   pub ascii : list_all is_ascii bytes ≡ true
   pub address : List ℕ
   pub n : ℕ
@@ -56,7 +56,7 @@ pub record IsFastAccess (k : Kind) (bytes : List ℕ) (operation : Operation) : 
   pub words_are : words bytes ≡ address ∷ behind
   pub number : number_of address ≡ Some n
   pub small : n < 2 ^ 48
-  pub names : IsSite behind site
+  pub names : IsSite v behind site
   pub is : operation ≡ Accesses k (n / 4) site
 
 -- behind the verb of an acquire in this mode
@@ -68,18 +68,18 @@ abbrev pub IsFastRelease : Mode → List ℕ → Operation → Type 0
 IsFastRelease m bytes operation = (is_lock_name bytes ≡ true) × (operation ≡ Releases bytes m)
 
 -- behind a thread
-pub record IsFastOperation (bytes : List ℕ) (operation : Operation) : Type 0 where
+pub record IsFastOperation (v : Version) (bytes : List ℕ) (operation : Operation) : Type 0 where
   pub ascii : list_all is_ascii bytes ≡ true
-  pub says : (v : Version) (thread : List ℕ) → IsOperation v (thread ∷ words bytes) thread operation
+  pub says : (thread : List ℕ) → IsOperation v (thread ∷ words bytes) thread operation
   pub alone : other_thread operation ≡ None
   pub one : (line thread : ℕ) (r : Recording) → last_actor (with_operation line thread operation r).steps ≡ Some thread
 
 -- a whole line
-pub record IsFastLine (line : List ℕ) (s : EventLine) : Type 0 where
+pub record IsFastLine (v : Version) (line : List ℕ) (s : EventLine) : Type 0 where
   pub ascii : list_all is_ascii line ≡ true
   pub some : has_bytes (word_at 0 (words line)) ≡ true
   pub no_comment : is_comment line ≡ false
-  pub says : (v : Version) → Says v (words line) s
+  pub says : Says v (words line) s
   pub alone : other_thread s.operation ≡ None
   pub one : (number : ℕ) (r : Recording) → last_actor (with_line number s r).steps ≡ Some (place_of r.names.threads s.thread)
 

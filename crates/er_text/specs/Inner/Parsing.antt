@@ -17,7 +17,7 @@ use Rattle.er_text.specs.declared.parsing.ParsedLine.{ParsedLine}
 use Rattle.er_text.specs.declared.parsing.Words.{Words}
 use Rattle.er_text.specs.Lines.{has_bytes, word_at}
 use Rattle.er_text.specs.Number.{number_of}
-use Rattle.er_text.specs.Naming.{name_of, lock_name_of}
+use Rattle.er_text.specs.Naming.{name_of, lock_name_of, site_name_of}
 use Rattle.er_text.specs.Verbs.{verb_of, least_of, most_of}
 use Rattle.er_text.specs.Events.{Operation, Acquires, Releases, Accesses, Reuses, IgnoresOn, IgnoresOff, Shows, Levels, Starts, Joins, Signals, Awaits, EventLine, run_of}
 
@@ -43,8 +43,9 @@ abbrev pub lock_in : List ℕ → Result (List ℕ) TextKind
 lock_in word = or_fault BadName (lock_name_of word)
 
 -- a missing word and `-` name no site
-abbrev pub site_in : List ℕ → Result (Option (List ℕ)) TextKind
-site_in word = if not (has_bytes word) || bytes_eq word (codes "-") then Ok None else map_ok Some (name_in word)
+abbrev pub site_in : Version → List ℕ → Result (Option (List ℕ)) TextKind
+site_in version word =
+    if not (has_bytes word) || bytes_eq word (codes "-") then Ok None else map_ok Some (or_fault BadName (site_name_of version word))
 
 abbrev pub word_in : ℕ → Result ℕ TextKind
 word_in address = if nat_le (2 ^ 48) address then Err AddressOutOfRange else Ok (address / 4)
@@ -59,46 +60,46 @@ abbrev pub run_in : ℕ → ℕ → Result (Option Span) TextKind
 run_in address size =
     if nat_lt 4194304 size then Err SizeTooLarge else if is_outside address size then Err AddressOutOfRange else Ok (run_of address size)
 
-abbrev pub access_in : Kind → List ℕ → List ℕ → Result Operation TextKind
-access_in k address site = and_then (number_in address) (λ n. and_then (site_in site) (λ s. map_ok (λ w. Accesses k w s) (word_in n)))
+abbrev pub access_in : Version → Kind → List ℕ → List ℕ → Result Operation TextKind
+access_in version k address site = and_then (number_in address) (λ n. and_then (site_in version site) (λ s. map_ok (λ w. Accesses k w s) (word_in n)))
 
 abbrev pub reuse_in : List ℕ → List ℕ → Result Operation TextKind
 reuse_in address size = and_then (number_in address) (λ a. and_then (number_in size) (λ n. map_ok Reuses (run_in a n)))
 
-abbrev pub operands_in : Verb → List ℕ → List ℕ → Result Operation TextKind
-operands_in verb.Lock first second = map_ok (λ l. Acquires l mode.Write) (lock_in first)
-operands_in verb.Unlock first second = map_ok (λ l. Releases l mode.Write) (lock_in first)
-operands_in verb.ReadLock first second = map_ok (λ l. Acquires l mode.Read) (lock_in first)
-operands_in verb.ReadUnlock first second = map_ok (λ l. Releases l mode.Read) (lock_in first)
-operands_in verb.Read first second = access_in kind.Read first second
-operands_in verb.Write first second = access_in kind.Write first second
-operands_in verb.Reuse first second = reuse_in first second
-operands_in verb.IgnoreOn first second = Ok IgnoresOn
-operands_in verb.IgnoreOff first second = Ok IgnoresOff
-operands_in verb.Show first second = and_then (number_in first) (λ n. map_ok Shows (word_in n))
-operands_in verb.Level first second = and_then (number_in first) (λ n. map_ok Levels (level_in n))
-operands_in verb.Start first second = map_ok Starts (name_in first)
-operands_in verb.Join first second = map_ok Joins (name_in first)
-operands_in verb.Signal first second = map_ok Signals (lock_in first)
-operands_in verb.Await first second = map_ok Awaits (lock_in first)
+abbrev pub operands_in : Version → Verb → List ℕ → List ℕ → Result Operation TextKind
+operands_in version verb.Lock first second = map_ok (λ l. Acquires l mode.Write) (lock_in first)
+operands_in version verb.Unlock first second = map_ok (λ l. Releases l mode.Write) (lock_in first)
+operands_in version verb.ReadLock first second = map_ok (λ l. Acquires l mode.Read) (lock_in first)
+operands_in version verb.ReadUnlock first second = map_ok (λ l. Releases l mode.Read) (lock_in first)
+operands_in version verb.Read first second = access_in version kind.Read first second
+operands_in version verb.Write first second = access_in version kind.Write first second
+operands_in version verb.Reuse first second = reuse_in first second
+operands_in version verb.IgnoreOn first second = Ok IgnoresOn
+operands_in version verb.IgnoreOff first second = Ok IgnoresOff
+operands_in version verb.Show first second = and_then (number_in first) (λ n. map_ok Shows (word_in n))
+operands_in version verb.Level first second = and_then (number_in first) (λ n. map_ok Levels (level_in n))
+operands_in version verb.Start first second = map_ok Starts (name_in first)
+operands_in version verb.Join first second = map_ok Joins (name_in first)
+operands_in version verb.Signal first second = map_ok Signals (lock_in first)
+operands_in version verb.Await first second = map_ok Awaits (lock_in first)
 
 -- how many of three operands there are, of which those that are missing are empty
 abbrev pub count_of : List ℕ → List ℕ → List ℕ → ℕ
 count_of first second third = if not (has_bytes first) then 0 else if not (has_bytes second) then 1 else if not (has_bytes third) then 2 else 3
 
-abbrev pub counted_in : Verb → ℕ → List ℕ → List ℕ → Result Operation TextKind
-counted_in v count first second =
-    if nat_lt count (least_of v) then Err MissingOperand else if nat_lt (most_of v) count then Err ExtraOperand else operands_in v first second
+abbrev pub counted_in : Version → Verb → ℕ → List ℕ → List ℕ → Result Operation TextKind
+counted_in version v count first second =
+    if nat_lt count (least_of v) then Err MissingOperand else if nat_lt (most_of v) count then Err ExtraOperand else operands_in version v first second
 
-abbrev pub operation_in : Option Verb → List ℕ → List ℕ → List ℕ → Result Operation TextKind
-operation_in None first second third = Err BadVerb
-operation_in (Some v) first second third = counted_in v (count_of first second third) first second
+abbrev pub operation_in : Version → Option Verb → List ℕ → List ℕ → List ℕ → Result Operation TextKind
+operation_in version None first second third = Err BadVerb
+operation_in version (Some v) first second third = counted_in version v (count_of first second third) first second
 
 -- what five words say, of which those that are missing are empty
 abbrev pub parsed_in : Version → List ℕ → List ℕ → List ℕ → List ℕ → List ℕ → Result EventLine TextKind
 parsed_in version thread verb first second third =
     and_then (name_in thread) (λ t. if not (has_bytes verb) then Err MissingOperand
-    else map_ok (λ operation. record { thread = t; operation = operation }) (operation_in (verb_of version verb) first second third))
+    else map_ok (λ operation. record { thread = t; operation = operation }) (operation_in version (verb_of version verb) first second third))
 
 -- what the words of a line say, or the first fault among them
 abbrev pub parsed_of : Version → List (List ℕ) → Result EventLine TextKind

@@ -11,6 +11,7 @@ use Rattle.er_text.specs.declared.faults.TextKind.TheVariants.{NotAscii, Missing
 use Rattle.er_text.specs.declared.faults.TextFault.{TextFault}
 use Rattle.er_text.specs.declared.faults.ReadFault.{ReadFault}
 use Rattle.er_text.specs.declared.faults.ReadFault.TheVariants as fault
+use Rattle.er_text.specs.declared.verbs.Version.TheVariants.{Three}
 use Rattle.er_text.specs.declared.rules.LineRule.{LineRule}
 use Rattle.er_text.specs.declared.rules.LineRule.TheVariants.{Site, Words}
 use Rattle.er_text.specs.Lines.{Placed, placed, says_something, has_bytes, words, word_at, is_ascii}
@@ -20,7 +21,7 @@ use Rattle.er_text.specs.Inner.Reading.{read_lines}
 
 abbrev pub site_rule_in : List ℕ → List ℕ → Result Target TextKind
 site_rule_in first second =
-    if not (has_bytes first) then Err MissingOperand else if has_bytes second then Err ExtraOperand else map_ok AtSite (site_in first)
+    if not (has_bytes first) then Err MissingOperand else if has_bytes second then Err ExtraOperand else map_ok AtSite (site_in Three first)
 
 -- a run of bytes of any size within memory
 abbrev pub long_run_in : ℕ → ℕ → Result (Option Span) TextKind

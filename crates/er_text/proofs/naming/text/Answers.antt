@@ -1,6 +1,6 @@
--- Name bytes are ASCII, and so a text.
-use Rattle.er_text.proofs.ByteLemmas.{ascii_text, name_ascii}
+-- Name bytes are bytes of sites too.
+use Rattle.er_text.proofs.ByteLemmas.{name_printed}
 use Rattle.er_text.proofs.naming.text.Goals as goal
 
-pub from_utf8_unchecked-requires : goal.from_utf8_unchecked-requires
-from_utf8_unchecked-requires c = ascii_text c.args.word.now (name_ascii c.args.word.now c.requires)
+pub site_text-requires : goal.site_text-requires
+site_text-requires c = name_printed c.args.word.now c.requires

@@ -7,5 +7,5 @@ use Rattle.er_text.proofs.reading.Header.read_usual.Goals as goal
 pub returns-clause-read : goal.returns-clause-read
 returns-clause-read c =
     let adds = rw c.if-not-branch.false at c.in_ok-add_usual.ensures in
-    usual_line_read c.args.line c.args.self.now.stage c.in-Events.field-0 c.args.bytes.now c.args.self.now.idle c.remove_last.new.self c.args.trace.now c.add_usual.new.trace c.in-Events.is adds
+    usual_line_read c.args.line c.args.self.now.stage c.in-Events.version c.args.bytes.now c.args.self.now.idle c.remove_last.new.self c.args.trace.now c.add_usual.new.trace c.in-Events.is adds
     (λ thread last. c.remove_last.ensures thread (ap last_actor c.steps.ensures.value ∙ last))
