@@ -16,7 +16,7 @@ use er_json::write_json;
 use er_print::WriteFault;
 use er_report::Report;
 use er_rules::Suppressions;
-use er_run::{Options, ReplayedTrace, RunFault, Verdict, replay_report, verdict_of};
+use er_run::{Options, ReplayedTrace, RunFault, Verdict, Watch, replay_report, verdict_of};
 use er_sarif::write_sarif;
 use er_sites::write_sites;
 use er_trace::Names;
@@ -39,19 +39,21 @@ pub enum Form {
 }
 
 /// Reads a trace text, replays it, and writes its report in a form, without the races that the rules take. It reads, replays and ends
-/// as `replay_text` does.
-pub fn replay_as<R, D, W>(
+/// as `replay_text_watched` does.
+pub fn replay_as<R, D, W, V>(
     rt: &R,
     reader: &mut Device<D>,
     writer: &mut Device<W>,
     suppressions: &Suppressions,
     options: &Options,
     form: Form,
+    watcher: &mut V,
 ) -> Result<Verdict, RunFault>
 where
     R: AllocGlobal + Threads + Wait + Sync,
     D: Read,
     W: Write,
+    V: Watch,
     requires reader { has_failed reader.old ≡ false }
     requires writer { has_failed writer.old ≡ false }
     ensures form { IfOk result (λ verdict. IfSome (D.remaining (inner_of reader.old)) (λ text. IsReplayedAs form text options.now.byte_limit (targets_of suppressions.now) options.now.explain (W.contents (inner_of writer.old)) (W.contents (inner_of writer.new)) verdict)) }
@@ -63,7 +65,7 @@ where
     ensures taken { taken_of reader.new ≤ taken_of reader.old + options.now.byte_limit + bytes_past_limit }
     ensures whole { 1 < options.now.workers → IfOk result (λ verdict. IsFalse (is_stopped verdict)) }
 {
-    match replay_report(rt, rt.alloc(), reader, suppressions, options) {
+    match replay_report(rt, rt.alloc(), reader, suppressions, options, watcher) {
         Ok(found) => write_found(rt.alloc(), writer, &found, suppressions, form),
         Err(why) => Err(why),
     }

@@ -11,7 +11,7 @@
 //! form.
 //!
 //! ```text
-//! let verdict = replay_as(&rt, &mut source, &mut sink, &rules, &Options::usual(), Form::Json)?;
+//! let verdict = replay_as(&rt, &mut source, &mut sink, &rules, &Options::usual(), Form::Json, &mut Unwatched)?;
 //! ```
 #![tactic(auto)]
 

@@ -14,3 +14,13 @@ abbrev pub asks_until_fault : Request → Bool
 asks_until_fault (Replay replay) = replay.until_fault
 asks_until_fault (Explain explain) = false
 asks_until_fault (Demo demo) = false
+
+-- one of the words is `--progress`
+abbrev pub names_progress : {A : Type 0} → List (String A) → Bool
+names_progress words = list_any (λ word. bytes_eq (string_bytes word) (codes "--progress")) words
+
+-- how far the replay has come is to be shown
+abbrev pub asks_progress : Request → Bool
+asks_progress (Replay replay) = replay.progress
+asks_progress (Explain explain) = false
+asks_progress (Demo demo) = false

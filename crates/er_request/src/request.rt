@@ -41,6 +41,8 @@ pub struct Replay<'a> {
     pub strict: bool,
     /// Whether the report of a text with a fault has the steps before its first faulty line.
     pub until_fault: bool,
+    /// Whether standard error shows how far the replay has come.
+    pub progress: bool,
     /// In how many shards the words are, from 1 to 64.
     pub shards: u32,
     /// How many workers replay them, from 1 to 16.
@@ -225,6 +227,13 @@ fn until_fault_option<'a>(alloc: Global) -> Arg<'a> {
         .help("Report the steps before the first faulty line of the trace, and then its fault")
 }
 
+fn progress_option<'a>(alloc: Global) -> Arg<'a> {
+    Arg::new(alloc, "progress")
+        .long("progress")
+        .action(ArgAction::SetTrue)
+        .help("Show on standard error, about twice a second, how far the replay has come")
+}
+
 // The options that say how the trace is replayed.
 fn with_limits<'a>(alloc: Global, command: Command<'a>) -> Result<Command<'a>, AllocError> {
     let workers = count(
@@ -243,6 +252,7 @@ fn with_limits<'a>(alloc: Global, command: Command<'a>) -> Result<Command<'a>, A
     );
     let command = command.arg(strict_option(alloc))?;
     let command = command.arg(until_fault_option(alloc))?;
+    let command = command.arg(progress_option(alloc))?;
     command.arg(workers)?.arg(shards)?.arg(byte_limit(alloc))
 }
 
@@ -430,6 +440,7 @@ fn replay_of<'a>(found: &ArgMatches<'a>, suppressions: Vec<&'a str>) -> Option<R
         explain: has_reasons(format) || found.get_flag("explain"),
         strict: found.get_flag("strict"),
         until_fault: found.get_flag("until-fault"),
+        progress: found.get_flag("progress"),
         shards,
         workers,
         byte_limit,

@@ -25,7 +25,8 @@
 pub use fault::{RunFault, Verdict};
 pub use options::Options;
 pub use passes::answer_batch;
-pub use replay::{ReplayedTrace, replay_report, replay_text, verdict_of};
+pub use replay::{ReplayedTrace, replay_report, replay_text, replay_text_watched, verdict_of};
+pub use watching::{Progress, Unwatched, Watch};
 
 mod adding;
 mod fault;
@@ -35,3 +36,4 @@ mod passes;
 mod replay;
 mod rest;
 mod several;
+mod watching;

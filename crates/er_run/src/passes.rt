@@ -19,7 +19,8 @@ ghost use Rattle.er_trace.specs.Names.{NameTable};
 ghost use Rattle.er_trace.specs.Trace.{Recording};
 
 use crate::inspecting::{damage_of, inspect, start};
-use crate::{Options, RunFault};
+use crate::watching::progress_of;
+use crate::{Options, RunFault, Watch};
 use er_damage::{Damage, Inspector};
 use er_device::Device;
 use er_event::{Event, Lockset, NoRoom, Refusal, Reply, Step};
@@ -126,8 +127,13 @@ impl<'t, 'r> Pass<'t, 'r> {
         }
     }
 
-    /// Reads and runs all batches.
-    fn run<R: Wait, D: Read>(&mut self, rt: &R, reader: &mut Device<D>) -> Result<(), RunFault>
+    /// Reads and runs all batches, and says behind each how far it has come.
+    fn run<R: Wait, D: Read, V: Watch>(
+        &mut self,
+        rt: &R,
+        reader: &mut Device<D>,
+        watcher: &mut V,
+    ) -> Result<(), RunFault>
         requires open { has_failed reader.old ≡ false }
         ensures ended { (told : Option (List ℕ)) → HasCome told (D.remaining (inner_of reader.old)) self.old.lines self.old.trace self.old.machine self.old.builder self.old.stop
             → OnOk result (HasEnded told self.old.lines.place.limit self.new.trace self.new.machine self.new.builder self.new.stop) }
@@ -142,7 +148,10 @@ impl<'t, 'r> Pass<'t, 'r> {
         ensures failed { FailsBy (has_failed reader.new) false result }
         ensures taken { taken_of reader.new + taken_by self.old.lines.place ≤ taken_of reader.old + self.old.lines.place.limit + bytes_past_limit }
     {
-        while self.turn(rt, reader)? {}
+        while self.turn(rt, reader)? {
+            watcher.come_to(progress_of(reader, &self.builder));
+        }
+        watcher.come_to(progress_of(reader, &self.builder));
         Ok(())
     }
 
@@ -201,12 +210,13 @@ impl<'t, 'r> Pass<'t, 'r> {
 fn close(_lines: TraceReader, _machine: Machine<'_>, _inspector: Option<Inspector>) {}
 
 /// The report of a replay by one worker that forgets the steps, with reasons if they are asked for.
-pub(crate) fn report_in_batches<R: Wait, D: Read>(
+pub(crate) fn report_in_batches<R: Wait, D: Read, V: Watch>(
     rt: &R,
     alloc: Global,
     reader: &mut Device<D>,
     suppressions: &Suppressions,
     options: &Options,
+    watcher: &mut V,
 ) -> Result<Reported, RunFault>
     requires reader { has_failed reader.old ≡ false }
     ensures report { IfOk result (λ found. IfSome (D.remaining (inner_of reader.old)) (λ text. IsReportOfText text options.now.byte_limit (targets_of suppressions.now) options.now.explain found.trace.names found.report)) }
@@ -219,7 +229,7 @@ pub(crate) fn report_in_batches<R: Wait, D: Read>(
 {
     let table = LocksetTable::new(alloc, options.max_sets)?;
     let mut pass = Pass::new(alloc, &table, suppressions, options)?;
-    match pass.run(rt, reader) {
+    match pass.run(rt, reader, watcher) {
         Ok(()) => pass.end(),
         Err(why) => Err(why),
     }

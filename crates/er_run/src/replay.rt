@@ -13,7 +13,7 @@ ghost use Rattle.er_run.specs.Reports.{IsReportOfText, IsFaultOfText};
 
 use crate::passes::{Reported, report_in_batches};
 use crate::several::report_by_crew;
-use crate::{Options, RunFault, Verdict};
+use crate::{Options, RunFault, Unwatched, Verdict, Watch};
 use er_device::Device;
 use er_print::write_report;
 use er_report::Report;
@@ -63,7 +63,38 @@ where
     ensures taken { taken_of reader.new ≤ taken_of reader.old + options.now.byte_limit + bytes_past_limit }
     ensures whole { 1 < options.now.workers → IfOk result (λ verdict. IsFalse (is_stopped verdict)) }
 {
-    match report_on(rt, rt.alloc(), reader, suppressions, options) {
+    replay_text_watched(rt, reader, writer, suppressions, options, &mut Unwatched)
+}
+
+/// The same, seen by a watcher: it is told behind each batch how far the replay has come, and called once more before the report is
+/// written. What it does changes nothing of what is written and returned.
+pub fn replay_text_watched<R, D, W, V>(
+    rt: &R,
+    reader: &mut Device<D>,
+    writer: &mut Device<W>,
+    suppressions: &Suppressions,
+    options: &Options,
+    watcher: &mut V,
+) -> Result<Verdict, RunFault>
+where
+    R: AllocGlobal + Threads + Wait + Sync,
+    D: Read,
+    W: Write,
+    V: Watch,
+    requires reader { has_failed reader.old ≡ false }
+    requires writer { has_failed writer.old ≡ false }
+    ensures report { IfOk result (λ verdict. IfSome (D.remaining (inner_of reader.old)) (λ text. IsReplayed text options.now.byte_limit (targets_of suppressions.now) options.now.explain (W.contents (inner_of writer.old)) (W.contents (inner_of writer.new)) verdict)) }
+    ensures fault { IsFailed (D.remaining (inner_of reader.old)) options.now.byte_limit (targets_of suppressions.now) options.now.explain (W.contents (inner_of writer.old)) (W.contents (inner_of writer.new)) result }
+    ensures undamaged { IsTrue options.now.strict → OnOk result (IfSome (D.remaining (inner_of reader.old)) (λ text. IsDamageOf text options.now.byte_limit no_damage)) }
+    ensures lenient { IsFalse options.now.strict → IfErr result IsNoDamage }
+    ensures nothing { IfErr result (λ why. WritesNothing (W.contents (inner_of writer.old)) (W.contents (inner_of writer.new)) why) }
+    ensures failed { FailsBy (has_failed reader.new) (has_failed writer.new) result }
+    ensures taken { taken_of reader.new ≤ taken_of reader.old + options.now.byte_limit + bytes_past_limit }
+    ensures whole { 1 < options.now.workers → IfOk result (λ verdict. IsFalse (is_stopped verdict)) }
+{
+    let found = report_on(rt, rt.alloc(), reader, suppressions, options, watcher);
+    watcher.end();
+    match found {
         Ok(found) => write_found(rt.alloc(), writer, &found),
         Err(why) => Err(why),
     }
@@ -87,17 +118,19 @@ fn write_found<W: Write>(
     }
 }
 
-/// Reads a trace text and replays it as `replay_text` does, and writes nothing: the report in any other form starts here.
-pub fn replay_report<R, D>(
+/// Reads a trace text and replays it as `replay_text_watched` does, and writes nothing: the report in any other form starts here.
+pub fn replay_report<R, D, V>(
     rt: &R,
     alloc: Global,
     reader: &mut Device<D>,
     suppressions: &Suppressions,
     options: &Options,
+    watcher: &mut V,
 ) -> Result<ReplayedTrace, RunFault>
 where
     R: Threads + Wait + Sync,
     D: Read,
+    V: Watch,
     requires reader { has_failed reader.old ≡ false }
     ensures report { IfOk result (λ found. IfSome (D.remaining (inner_of reader.old)) (λ text. IsReportOfText text options.now.byte_limit (targets_of suppressions.now) options.now.explain found.trace.names found.report)) }
     ensures named { IfOk result (λ found. All (HasNames found.trace.names) found.report.lines.items) }
@@ -108,7 +141,9 @@ where
     ensures taken { taken_of reader.new ≤ taken_of reader.old + options.now.byte_limit + bytes_past_limit }
     ensures whole { 1 < options.now.workers → IfOk result (λ found. found.report.stop ≡ None) }
 {
-    let Reported { report, trace } = match report_on(rt, alloc, reader, suppressions, options) {
+    let found = report_on(rt, alloc, reader, suppressions, options, watcher);
+    watcher.end();
+    let Reported { report, trace } = match found {
         Ok(found) => found,
         Err(why) => return Err(why),
     };
@@ -116,16 +151,18 @@ where
 }
 
 // Reads and replays a text, by one worker or by several.
-fn report_on<R, D>(
+fn report_on<R, D, V>(
     rt: &R,
     alloc: Global,
     reader: &mut Device<D>,
     suppressions: &Suppressions,
     options: &Options,
+    watcher: &mut V,
 ) -> Result<Reported, RunFault>
 where
     R: Threads + Wait + Sync,
     D: Read,
+    V: Watch,
     requires reader { has_failed reader.old ≡ false }
     ensures report { IfOk result (λ found. IfSome (D.remaining (inner_of reader.old)) (λ text. IsReportOfText text options.now.byte_limit (targets_of suppressions.now) options.now.explain found.trace.names found.report)) }
     ensures named { IfOk result (λ found. All (HasNames found.trace.names) found.report.lines.items) }
@@ -137,9 +174,9 @@ where
     ensures whole { 1 < options.now.workers → IfOk result (λ found. found.report.stop ≡ None) }
 {
     if options.workers > 1 {
-        return report_by_crew(rt, alloc, reader, suppressions, options);
+        return report_by_crew(rt, alloc, reader, suppressions, options, watcher);
     }
-    report_in_batches(rt, alloc, reader, suppressions, options)
+    report_in_batches(rt, alloc, reader, suppressions, options, watcher)
 }
 
 /// What a report comes to: a stop, or else whether it has a race.

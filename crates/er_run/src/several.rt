@@ -25,7 +25,8 @@ use crate::adding::add_batch;
 use crate::inspecting::{damage_of, inspect, start};
 use crate::passes::Reported;
 use crate::rest::fault_behind;
-use crate::{Options, RunFault};
+use crate::watching::progress_of;
+use crate::{Options, RunFault, Watch};
 use er_damage::{Damage, Inspector};
 use er_device::Device;
 use er_event::Step;
@@ -266,11 +267,12 @@ impl<'t, 'r> Shared<'t, 'r> {
         Ok(())
     }
 
-    /// Reads and answers all batches.
-    fn run<R: Threads + Wait + Sync, D: Read>(
+    /// Reads and answers all batches, and says behind each how far it has come.
+    fn run<R: Threads + Wait + Sync, D: Read, V: Watch>(
         &mut self,
         rt: &R,
         reader: &mut Device<D>,
+        watcher: &mut V,
     ) -> Result<(), RunFault>
         requires open { has_failed reader.old ≡ false }
         requires level { length self.old.numbers.items ≡ length self.old.steps.items }
@@ -288,8 +290,12 @@ impl<'t, 'r> Shared<'t, 'r> {
         ensures failed { FailsBy (has_failed reader.new) false result }
         ensures taken { taken_of reader.new + taken_by self.old.lines.place ≤ taken_of reader.old + self.old.lines.place.limit + bytes_past_limit }
     {
-        while self.turn(rt, reader)? {}
-        self.last(rt)
+        while self.turn(rt, reader)? {
+            watcher.come_to(progress_of(reader, &self.builder));
+        }
+        self.last(rt)?;
+        watcher.come_to(progress_of(reader, &self.builder));
+        Ok(())
     }
 
     /// The damage of the text that was read, if the replay is strict and there is any.
@@ -360,16 +366,18 @@ fn close(
 ) {}
 
 /// The report of a replay by several workers, who answer one batch of lines while the next is read.
-pub(crate) fn report_by_crew<R, D>(
+pub(crate) fn report_by_crew<R, D, V>(
     rt: &R,
     alloc: Global,
     reader: &mut Device<D>,
     suppressions: &Suppressions,
     options: &Options,
+    watcher: &mut V,
 ) -> Result<Reported, RunFault>
 where
     R: Threads + Wait + Sync,
     D: Read,
+    V: Watch,
     requires reader { has_failed reader.old ≡ false }
     ensures report { IfOk result (λ found. IfSome (D.remaining (inner_of reader.old)) (λ text. IsReportOfText text options.now.byte_limit (targets_of suppressions.now) options.now.explain found.trace.names found.report)) }
     ensures named { IfOk result (λ found. All (HasNames found.trace.names) found.report.lines.items) }
@@ -385,7 +393,7 @@ where
         Ok(shared) => shared,
         Err(why) => return Err(why),
     };
-    match shared.run(rt, reader) {
+    match shared.run(rt, reader, watcher) {
         Ok(()) => shared.end(),
         Err(why) => Err(why),
     }

@@ -20,7 +20,7 @@ use er_event::NoRoom;
 use er_replay::Machine;
 use er_report::{Report, ReportBuilder};
 use er_rules::Suppressions;
-use er_run::{Options, answer_batch};
+use er_run::{Options, Progress, Watch, answer_batch};
 use er_table::LocksetTable;
 use er_text::{Batch, TraceReader};
 use er_trace::Trace;
@@ -122,8 +122,27 @@ impl<'t, 'r> BothPass<'t, 'r> {
         }
     }
 
-    /// Reads and answers all batches.
-    fn run<R: Wait, D: Read>(&mut self, rt: &R, reader: &mut Device<D>) -> Result<(), OrderFault>
+    /// How far it has come. The races are those of both reports.
+    fn progress<D>(&self, reader: &Device<D>) -> Progress
+        ensures bytes { result.bytes ≡ taken_of reader.now }
+        ensures steps { result.steps ≡ self.now.unordered.built.report.steps }
+        ensures races { self.now.builder.report.races + self.now.unordered.built.report.races < 2 ^ 64 → result.races ≡ self.now.builder.report.races + self.now.unordered.built.report.races }
+    {
+        let races = self.unordered.races();
+        Progress {
+            bytes: reader.taken(),
+            steps: self.unordered.steps(),
+            races: races.saturating_add(self.builder.races()),
+        }
+    }
+
+    /// Reads and answers all batches, and says behind each how far it has come.
+    fn run<R: Wait, D: Read, V: Watch>(
+        &mut self,
+        rt: &R,
+        reader: &mut Device<D>,
+        watcher: &mut V,
+    ) -> Result<(), OrderFault>
         requires open { has_failed reader.old ≡ false }
         ensures ended { (told : Option (List ℕ)) → HaveCome told (D.remaining (inner_of reader.old)) self.old.lines self.old.trace self.old.machine self.old.builder self.old.stop self.old.ordering self.old.unordered
             → OnOk result (HaveEnded told self.old.lines.place.limit self.new.trace self.new.machine self.new.builder self.new.stop self.new.unordered) }
@@ -136,7 +155,10 @@ impl<'t, 'r> BothPass<'t, 'r> {
         ensures failed { FailsBy (has_failed reader.new) false result }
         ensures taken { taken_of reader.new + taken_by self.old.lines.place ≤ taken_of reader.old + self.old.lines.place.limit + bytes_past_limit }
     {
-        while self.turn(rt, reader)? {}
+        while self.turn(rt, reader)? {
+            watcher.come_to(self.progress(reader));
+        }
+        watcher.come_to(self.progress(reader));
         Ok(())
     }
 
@@ -186,17 +208,19 @@ fn abandon(_trace: Trace, _builder: ReportBuilder<'_>, _unordered: OrderBuilder<
 /// Reads a trace text and reports its races by the lockset rule and its unordered accesses, without those that the rules take. Of the
 /// options it takes how many sets and bytes may be, and whether races and unordered accesses are explained.
 ///
-/// The text is read once. If the lockset rule finds no room for a step, there is no report.
+/// The text is read once. If the lockset rule finds no room for a step, there is no report. The watcher is told how far it has come, as by
+/// `replay_text_watched`, with the races of both reports.
 ///
 /// # Errors
 /// `Read`: the text has a fault, a read failed, or memory was refused to the reader. `TableFull`: a step of the text wants one set of locks
 /// more than may be kept. `CountFull`: a thread releases, starts or signals more than 2^32 - 1 times. `Memory`: memory was refused.
-pub fn report_both<R: Wait, D: Read>(
+pub fn report_both<R: Wait, D: Read, V: Watch>(
     rt: &R,
     alloc: Global,
     reader: &mut Device<D>,
     suppressions: &Suppressions,
     options: &Options,
+    watcher: &mut V,
 ) -> Result<BothReports, OrderFault>
     requires { has_failed reader.old ≡ false }
     ensures reports { IfOk result (λ found. IfSome (D.remaining (inner_of reader.old)) (λ text. AreReportsOfText text options.now.byte_limit (targets_of suppressions.now) options.now.explain found.trace.names found.lockset found.unordered)) }
@@ -214,7 +238,9 @@ pub fn report_both<R: Wait, D: Read>(
         options.byte_limit,
         options.explain,
     )?;
-    match pass.run(rt, reader) {
+    let ran = pass.run(rt, reader, watcher);
+    watcher.end();
+    match ran {
         Ok(()) => pass.finish(),
         Err(why) => Err(why),
     }

@@ -58,6 +58,20 @@ impl<'r> OrderBuilder<'r> {
         })
     }
 
+    /// How many steps were added.
+    pub(crate) fn steps(&self) -> u64
+        ensures { result ≡ self.now.built.report.steps }
+    {
+        self.report.steps()
+    }
+
+    /// How many of them are unordered accesses that have a line.
+    pub(crate) fn races(&self) -> u64
+        ensures { result ≡ self.now.built.report.races }
+    {
+        self.report.races()
+    }
+
     /// Answers each step of a batch by happens-before, and adds it to the report.
     pub(crate) fn answer(
         &mut self,

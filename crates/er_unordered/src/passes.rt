@@ -15,6 +15,7 @@ use er_before::OrderMachine;
 use er_device::Device;
 use er_report::Report;
 use er_rules::Suppressions;
+use er_run::{Progress, Watch};
 use er_text::{Batch, TraceReader};
 use er_trace::Trace;
 use std::alloc::{AllocError, Global};
@@ -94,8 +95,25 @@ impl<'r> Pass<'r> {
         }
     }
 
-    /// Reads and answers all batches.
-    fn run<D: Read>(&mut self, reader: &mut Device<D>) -> Result<(), OrderFault>
+    /// How far it has come.
+    fn progress<D>(&self, reader: &Device<D>) -> Progress
+        ensures bytes { result.bytes ≡ taken_of reader.now }
+        ensures steps { result.steps ≡ self.now.builder.built.report.steps }
+        ensures races { result.races ≡ self.now.builder.built.report.races }
+    {
+        Progress {
+            bytes: reader.taken(),
+            steps: self.builder.steps(),
+            races: self.builder.races(),
+        }
+    }
+
+    /// Reads and answers all batches, and says behind each how far it has come.
+    fn run<D: Read, V: Watch>(
+        &mut self,
+        reader: &mut Device<D>,
+        watcher: &mut V,
+    ) -> Result<(), OrderFault>
         requires open { has_failed reader.old ≡ false }
         ensures ended { (told : Option (List ℕ)) → HasCome told (D.remaining (inner_of reader.old)) self.old.lines self.old.trace self.old.machine self.old.builder
             → OnOk result (HasEnded told self.old.lines.place.limit self.new.trace self.new.builder) }
@@ -106,7 +124,10 @@ impl<'r> Pass<'r> {
         ensures failed { FailsBy (has_failed reader.new) false result }
         ensures taken { taken_of reader.new + taken_by self.old.lines.place ≤ taken_of reader.old + self.old.lines.place.limit + bytes_past_limit }
     {
-        while self.turn(reader)? {}
+        while self.turn(reader)? {
+            watcher.come_to(self.progress(reader));
+        }
+        watcher.come_to(self.progress(reader));
         Ok(())
     }
 
@@ -135,17 +156,18 @@ impl<'r> Pass<'r> {
 fn close(_lines: TraceReader, _machine: OrderMachine) {}
 
 /// Reads a trace text of at most so many bytes, and reports its unordered accesses, without those that the rules take. If `explain` is
-/// set, each has the earlier access that it is unordered with.
+/// set, each has the earlier access that it is unordered with. The watcher is told how far it has come, as by `replay_text_watched`.
 ///
 /// # Errors
 /// `Read`: the text has a fault, a read failed, or memory was refused to the reader. `CountFull`: a thread releases, starts or signals
 /// more than 2^32 - 1 times. `Memory`: memory was refused.
-pub fn report_unordered<D: Read>(
+pub fn report_unordered<D: Read, V: Watch>(
     alloc: Global,
     reader: &mut Device<D>,
     suppressions: &Suppressions,
     byte_limit: u64,
     explain: bool,
+    watcher: &mut V,
 ) -> Result<UnorderedReport, OrderFault>
     requires reader { has_failed reader.old ≡ false }
     requires limit { byte_limit ≤ 2 ^ 62 }
@@ -156,7 +178,9 @@ pub fn report_unordered<D: Read>(
     ensures taken { taken_of reader.new ≤ taken_of reader.old + byte_limit + bytes_past_limit }
 {
     let mut pass = Pass::new(alloc, suppressions, byte_limit, explain)?;
-    match pass.run(reader) {
+    let ran = pass.run(reader, watcher);
+    watcher.end();
+    match ran {
         Ok(()) => Ok(pass.finish()),
         Err(why) => Err(why),
     }

@@ -18,7 +18,7 @@ use crate::passes::{UnorderedReport, report_unordered};
 use crate::text::{write_both, write_unordered};
 use er_device::Device;
 use er_rules::Suppressions;
-use er_run::{Options, Verdict};
+use er_run::{Options, Verdict, Watch};
 use std::alloc::Global;
 use std::io::{Read, Write};
 use std::sync::Wait;
@@ -37,24 +37,26 @@ pub enum Analysis {
 /// explained, and for the lockset rule how many sets may be.
 ///
 /// The text is read to its end and the reports built whole before the first byte is written. The verdict is `Races` exactly if a race of
-/// some report is printed, and never `Stopped`.
+/// some report is printed, and never `Stopped`. The watcher is told how far the replay has come, as by `replay_text_watched`.
 ///
 /// # Errors
 /// `Read`: the text has a fault, a read failed, or memory was refused to the reader. `Write`: a write failed, or memory was refused to the
 /// text. `TableFull`: a step of the lockset rule wants one set of locks more than may be kept. `CountFull`: a thread releases, starts or
 /// signals more than 2^32 - 1 times. `Memory`: memory was refused.
-pub fn replay_by<R, D, W>(
+pub fn replay_by<R, D, W, V>(
     rt: &R,
     reader: &mut Device<D>,
     writer: &mut Device<W>,
     suppressions: &Suppressions,
     options: &Options,
     analysis: Analysis,
+    watcher: &mut V,
 ) -> Result<Verdict, OrderFault>
 where
     R: AllocGlobal + Wait,
     D: Read,
     W: Write,
+    V: Watch,
     requires reader { has_failed reader.old ≡ false }
     requires writer { has_failed writer.old ≡ false }
     ensures report { IfOk result (λ verdict. IfSome (D.remaining (inner_of reader.old)) (λ text. IsReplayedBy analysis text options.now.byte_limit (targets_of suppressions.now) options.now.explain (W.contents (inner_of writer.old)) (W.contents (inner_of writer.new)) verdict)) }
@@ -65,19 +67,20 @@ where
 {
     match analysis {
         Analysis::HappensBefore => {
-            replay_unordered(rt.alloc(), reader, writer, suppressions, options)
+            replay_unordered(rt.alloc(), reader, writer, suppressions, options, watcher)
         }
-        Analysis::Both => replay_both(rt, reader, writer, suppressions, options),
+        Analysis::Both => replay_both(rt, reader, writer, suppressions, options, watcher),
     }
 }
 
 // The same by happens-before alone.
-fn replay_unordered<D: Read, W: Write>(
+fn replay_unordered<D: Read, W: Write, V: Watch>(
     alloc: Global,
     reader: &mut Device<D>,
     writer: &mut Device<W>,
     suppressions: &Suppressions,
     options: &Options,
+    watcher: &mut V,
 ) -> Result<Verdict, OrderFault>
     requires reader { has_failed reader.old ≡ false }
     requires writer { has_failed writer.old ≡ false }
@@ -93,6 +96,7 @@ fn replay_unordered<D: Read, W: Write>(
         suppressions,
         options.byte_limit,
         options.explain,
+        watcher,
     ) {
         Ok(found) => write_found(alloc, writer, &found),
         Err(why) => Err(why),
@@ -100,17 +104,19 @@ fn replay_unordered<D: Read, W: Write>(
 }
 
 // The same by both analyses.
-fn replay_both<R, D, W>(
+fn replay_both<R, D, W, V>(
     rt: &R,
     reader: &mut Device<D>,
     writer: &mut Device<W>,
     suppressions: &Suppressions,
     options: &Options,
+    watcher: &mut V,
 ) -> Result<Verdict, OrderFault>
 where
     R: AllocGlobal + Wait,
     D: Read,
     W: Write,
+    V: Watch,
     requires reader { has_failed reader.old ≡ false }
     requires writer { has_failed writer.old ≡ false }
     ensures report { IfOk result (λ verdict. IfSome (D.remaining (inner_of reader.old)) (λ text. IsReplayedBy Both text options.now.byte_limit (targets_of suppressions.now) options.now.explain (W.contents (inner_of writer.old)) (W.contents (inner_of writer.new)) verdict)) }
@@ -119,7 +125,7 @@ where
     ensures failed { FailsBy (has_failed reader.new) (has_failed writer.new) result }
     ensures taken { taken_of reader.new ≤ taken_of reader.old + options.now.byte_limit + bytes_past_limit }
 {
-    match report_both(rt, rt.alloc(), reader, suppressions, options) {
+    match report_both(rt, rt.alloc(), reader, suppressions, options, watcher) {
         Ok(found) => write_both_found(rt.alloc(), writer, &found),
         Err(why) => Err(why),
     }

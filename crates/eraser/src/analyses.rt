@@ -16,7 +16,7 @@ use er_print::{WriteFault, put_rule_counts, put_totals};
 use er_report::Report;
 use er_request::{Format, Replay};
 use er_rules::Suppressions;
-use er_run::Options;
+use er_run::{Options, Watch};
 use er_sites::put_sites_of_both;
 use er_trace::Names;
 use er_unordered::{
@@ -40,7 +40,7 @@ pub(crate) fn order_of(asked: er_request::Analysis) -> Option<Analysis>
 }
 
 /// Replays what the reader gives by this analysis, and writes what is asked for. Rules are made of the report by happens-before alone.
-pub(crate) fn replay_by_order<R, D, O>(
+pub(crate) fn replay_by_order<R, D, O, V>(
     rt: &R,
     replay: &Replay<'_>,
     analysis: Analysis,
@@ -48,11 +48,13 @@ pub(crate) fn replay_by_order<R, D, O>(
     output: &mut Device<O>,
     suppressions: &Suppressions,
     options: &Options,
+    watcher: &mut V,
 ) -> Result<Ended, Fault>
 where
     R: Files + AllocGlobal + Wait,
     D: Read,
     O: Write,
+    V: Watch,
     requires source { has_failed source.old ≡ false }
     requires output { has_failed output.old ≡ false }
     ensures status { IfOk result (λ ended. (ended.status ≤ 4) × (ended.status ≢ 2)) }
@@ -62,12 +64,12 @@ where
     ensures nothing { IfErr result (LeavesOutput (O.contents (inner_of output.old)) (O.contents (inner_of output.new))) }
 {
     if asks_sites(replay) {
-        return replay_by_site(rt, source, output, suppressions, options);
+        return replay_by_site(rt, source, output, suppressions, options, watcher);
     }
     if analysis == Analysis::HappensBefore && asks_more(replay) {
-        return sort_unordered(rt, replay, source, output, suppressions, options);
+        return sort_unordered(rt, replay, source, output, suppressions, options, watcher);
     }
-    match replay_by(rt, source, output, suppressions, options, analysis) {
+    match replay_by(rt, source, output, suppressions, options, analysis, watcher) {
         Ok(verdict) => Ok(Ended {
             status: status_of(verdict),
             notes: Vec::new(rt.alloc()),
@@ -84,24 +86,26 @@ fn asks_sites(replay: &Replay<'_>) -> bool
 }
 
 // Replays what the reader gives by both analyses, and writes the sites of both reports.
-fn replay_by_site<R, D, O>(
+fn replay_by_site<R, D, O, V>(
     rt: &R,
     source: &mut Device<D>,
     output: &mut Device<O>,
     suppressions: &Suppressions,
     options: &Options,
+    watcher: &mut V,
 ) -> Result<Ended, Fault>
 where
     R: AllocGlobal + Wait,
     D: Read,
     O: Write,
+    V: Watch,
     requires source { has_failed source.old ≡ false }
     requires output { has_failed output.old ≡ false }
     ensures status { IfOk result (λ ended. (ended.status ≤ 4) × (ended.status ≢ 2)) }
     ensures notes { IfOk result (λ ended. ended.notes.items ≡ []) }
     ensures nothing { IfErr result (LeavesOutput (O.contents (inner_of output.old)) (O.contents (inner_of output.new))) }
 {
-    let found = match report_both(rt, rt.alloc(), source, suppressions, options) {
+    let found = match report_both(rt, rt.alloc(), source, suppressions, options, watcher) {
         Ok(found) => found,
         Err(why) => return Err(order_fault_of(why)),
     };
@@ -153,18 +157,20 @@ fn sites_text(alloc: Global, found: &BothReports) -> Result<Vec<u8>, AllocError>
 }
 
 // Replays what the reader gives by happens-before, writes the report, and then the file of rules.
-fn sort_unordered<R, D, O>(
+fn sort_unordered<R, D, O, V>(
     rt: &R,
     replay: &Replay<'_>,
     source: &mut Device<D>,
     output: &mut Device<O>,
     suppressions: &Suppressions,
     options: &Options,
+    watcher: &mut V,
 ) -> Result<Ended, Fault>
 where
     R: Files + AllocGlobal,
     D: Read,
     O: Write,
+    V: Watch,
     requires source { has_failed source.old ≡ false }
     requires output { has_failed output.old ≡ false }
     ensures status { IfOk result (λ ended. (ended.status ≤ 4) × (ended.status ≢ 2)) }
@@ -178,6 +184,7 @@ where
         suppressions,
         options.byte_limit,
         options.explain,
+        watcher,
     ) {
         Ok(UnorderedReport { report, trace }) => (report, trace),
         Err(why) => return Err(order_fault_of(why)),

@@ -1,11 +1,11 @@
-//! One command line, run over a reader and two writers.
+//! One command line, run over a reader and its writers.
 ghost use Rattle.std.specs.Prelude.{◌≡◌, ◌≢◌, ◌≤◌, [], false, None, codes, IfOk, IfErr, IfSome};
 ghost use Rattle.std.specs.Io.KnownBytes.{Keeps};
 ghost use Rattle.er_device.specs.Device.{inner_of, has_failed};
 ghost use Rattle.er_rules.specs.Rules.{targets_of};
 ghost use Rattle.er_exit.specs.Writes.{LeavesOutput};
 ghost use Rattle.er_request.specs.declared.request.Format.TheVariants.{Text};
-ghost use Rattle.er_request.specs.Words.{asks_until_fault, names_until_fault};
+ghost use Rattle.er_request.specs.Words.{asks_progress, asks_until_fault, names_progress, names_until_fault};
 ghost use Rattle.er_run.specs.Replays.{IsReplayed};
 ghost use Rattle.er_triage.specs.Notes.{AreNotes};
 ghost use Rattle.eraser.specs.Notes.{AsksNoNotes, GetsNotes};
@@ -15,6 +15,7 @@ ghost use Rattle.eraser.specs.Replays.{EndsAs, EndsBy, IsPlain, IsPlainBy, Repla
 use crate::advice::report_replay_fault;
 use crate::analyses::{order_of, replay_by_order};
 use crate::faults::fault_of;
+use crate::meter::Meter;
 use crate::rules::suppressions_of;
 use crate::sorting::{Ended, asks_more, replay_and_sort, status_of};
 use crate::stories::explain_step;
@@ -26,30 +27,33 @@ use er_formats::{Form, replay_as};
 use er_load::Workload;
 use er_request::{Demo, Explain, Format, Replay, Request, read_request};
 use er_rules::Suppressions;
-use er_run::{Options, Verdict, replay_text};
+use er_run::{Options, Verdict, Watch, replay_text_watched};
 use std::alloc::Global;
 use std::fs::File;
 use std::io::{Read, Write};
-use std::rt::Files;
+use std::rt::{Clock, Files};
 use std::sync::Wait;
 use std::thread::Threads;
 
 /// Runs one command line, whose first word is the program's name, and returns the exit status: 0 if no race was printed,
 /// 1 if some race was, 2 for wrong arguments or a text with a fault, 3 for want of room, 4 for a file that can't be
-/// opened, read or written. If the errors are read by people, the line of a replay's fault is followed by what helps them.
-pub fn command<R, I, O, E>(
+/// opened, read or written. If the errors are read by people, the line of a replay's fault is followed by what helps them. `progress`
+/// writes to the same place as the errors, and gets how far a replay has come and nothing else.
+pub fn command<R, I, O, E, P>(
     rt: &R,
     words: &[String],
     input: &mut Device<I>,
     output: &mut Device<O>,
     errors: &mut Device<E>,
+    progress: &mut Device<P>,
     for_people: bool,
 ) -> u8
 where
-    R: Files + AllocGlobal + Threads + Wait + Sync,
+    R: Files + Clock + AllocGlobal + Threads + Wait + Sync,
     I: Read,
     O: Write,
     E: Write,
+    P: Write,
     requires input { has_failed input.old ≡ false }
     requires output { has_failed output.old ≡ false }
     requires errors { has_failed errors.old ≡ false }
@@ -59,26 +63,31 @@ where
     // the output, unless a word asks for the steps before the fault.
     ensures quiet { result ≤ 1 → GetsNotes (E.contents (inner_of errors.old)) (E.contents (inner_of errors.new)) (has_failed errors.new) }
     ensures refused { names_until_fault words.now ≡ false → result ≡ 2 → Keeps (O.contents (inner_of output.old)) (O.contents (inner_of output.new)) }
+
+    // Unless a word asks how far a replay has come, nothing is written of it.
+    ensures unwatched { names_progress words.now ≡ false → Keeps (P.contents (inner_of progress.old)) (P.contents (inner_of progress.new)) }
 {
     match read_request(rt.alloc(), words) {
-        Ok(request) => run_request(rt, request, input, output, errors, for_people),
+        Ok(request) => run_request(rt, request, input, output, errors, progress, for_people),
         Err(error) => refused(rt.alloc(), &error, output, errors),
     }
 }
 
-fn run_request<R, I, O, E>(
+fn run_request<R, I, O, E, P>(
     rt: &R,
     request: Request<'_>,
     input: &mut Device<I>,
     output: &mut Device<O>,
     errors: &mut Device<E>,
+    progress: &mut Device<P>,
     for_people: bool,
 ) -> u8
 where
-    R: Files + AllocGlobal + Threads + Wait + Sync,
+    R: Files + Clock + AllocGlobal + Threads + Wait + Sync,
     I: Read,
     O: Write,
     E: Write,
+    P: Write,
     requires input { has_failed input.old ≡ false }
     requires output { has_failed output.old ≡ false }
     requires errors { has_failed errors.old ≡ false }
@@ -86,31 +95,36 @@ where
     ensures quiet { result ≤ 1 → GetsNotes (E.contents (inner_of errors.old)) (E.contents (inner_of errors.new)) (has_failed errors.new) }
     ensures silent { AsksNoNotes request.entry → result ≤ 1 → Keeps (E.contents (inner_of errors.old)) (E.contents (inner_of errors.new)) }
     ensures refused { asks_until_fault request.entry ≡ false → result ≡ 2 → Keeps (O.contents (inner_of output.old)) (O.contents (inner_of output.new)) }
+    ensures unwatched { asks_progress request.entry ≡ false → Keeps (P.contents (inner_of progress.old)) (P.contents (inner_of progress.new)) }
 {
     match request {
         Request::Replay(replay) if replay.until_fault => {
-            end_until_fault(rt, &replay, input, output, errors, for_people)
+            end_until_fault(rt, &replay, input, output, errors, progress, for_people)
         }
-        Request::Replay(replay) => end_replay(rt, &replay, input, output, errors, for_people),
+        Request::Replay(replay) => {
+            end_replay(rt, &replay, input, output, errors, progress, for_people)
+        }
         Request::Explain(asked) => end_story(rt, &asked, input, output, errors),
         Request::Demo(demo) => end_demo(rt, demo, output, errors),
     }
 }
 
 // Runs a replay, and writes its notes, or its fault and what helps people.
-fn end_replay<R, I, O, E>(
+fn end_replay<R, I, O, E, P>(
     rt: &R,
     replay: &Replay<'_>,
     input: &mut Device<I>,
     output: &mut Device<O>,
     errors: &mut Device<E>,
+    progress: &mut Device<P>,
     for_people: bool,
 ) -> u8
 where
-    R: Files + AllocGlobal + Threads + Wait + Sync,
+    R: Files + Clock + AllocGlobal + Threads + Wait + Sync,
     I: Read,
     O: Write,
     E: Write,
+    P: Write,
     requires input { has_failed input.old ≡ false }
     requires output { has_failed output.old ≡ false }
     requires errors { has_failed errors.old ≡ false }
@@ -118,11 +132,42 @@ where
     ensures quiet { result ≤ 1 → GetsNotes (E.contents (inner_of errors.old)) (E.contents (inner_of errors.new)) (has_failed errors.new) }
     ensures silent { replay.now.unused_rules ≡ false → replay.now.max_races ≡ None → result ≤ 1 → Keeps (E.contents (inner_of errors.old)) (E.contents (inner_of errors.new)) }
     ensures refused { result ≡ 2 → Keeps (O.contents (inner_of output.old)) (O.contents (inner_of output.new)) }
+    ensures unwatched { replay.now.progress ≡ false → Keeps (P.contents (inner_of progress.old)) (P.contents (inner_of progress.new)) }
 {
-    match run_replay(rt, replay, input, output) {
+    match run_shown(rt, replay, input, output, progress, for_people) {
         Ok(ended) => note(ended, errors),
         Err(fault) => report_replay_fault(rt, replay, fault, errors, for_people),
     }
+}
+
+// Runs a replay, and shows how far it has come if that is asked for.
+fn run_shown<R, I, O, P>(
+    rt: &R,
+    replay: &Replay<'_>,
+    input: &mut Device<I>,
+    output: &mut Device<O>,
+    progress: &mut Device<P>,
+    for_people: bool,
+) -> Result<Ended, Fault>
+where
+    R: Files + Clock + AllocGlobal + Threads + Wait + Sync,
+    I: Read,
+    O: Write,
+    P: Write,
+    requires input { has_failed input.old ≡ false }
+    requires output { has_failed output.old ≡ false }
+    ensures status { IfOk result (λ ended. (ended.status ≤ 4) × (ended.status ≢ 2)) }
+    ensures notes { IfOk result (λ ended. AreNotes ended.notes.items) }
+    ensures silent { replay.now.unused_rules ≡ false → replay.now.max_races ≡ None → IfOk result (λ ended. ended.notes.items ≡ []) }
+    ensures nothing { IfErr result (LeavesOutput (O.contents (inner_of output.old)) (O.contents (inner_of output.new))) }
+    ensures unwatched { replay.now.progress ≡ false → Keeps (P.contents (inner_of progress.old)) (P.contents (inner_of progress.new)) }
+{
+    if replay.progress {
+        let mut meter = Meter::new(rt, progress, for_people);
+        return run_replay(rt, replay, input, output, &mut meter);
+    }
+    let mut meter: Meter<'_, R, P> = Meter::off(rt);
+    run_replay(rt, replay, input, output, &mut meter)
 }
 
 // Writes the story of a step, or why there is none.
@@ -215,16 +260,18 @@ pub(crate) fn options_of(replay: &Replay<'_>) -> Options
 }
 
 // The suppressions are opened and read before the trace is opened.
-fn run_replay<R, I, O>(
+fn run_replay<R, I, O, V>(
     rt: &R,
     replay: &Replay<'_>,
     input: &mut Device<I>,
     output: &mut Device<O>,
+    watcher: &mut V,
 ) -> Result<Ended, Fault>
 where
     R: Files + AllocGlobal + Threads + Wait + Sync,
     I: Read,
     O: Write,
+    V: Watch,
     requires input { has_failed input.old ≡ false }
     requires output { has_failed output.old ≡ false }
     ensures status { IfOk result (λ ended. (ended.status ≤ 4) × (ended.status ≢ 2)) }
@@ -236,21 +283,23 @@ where
 {
     let options = options_of(replay);
     let suppressions = suppressions_of(rt, &replay.suppressions, options.byte_limit)?;
-    replay_trace(rt, replay, &suppressions, &options, input, output)
+    replay_trace(rt, replay, &suppressions, &options, input, output, watcher)
 }
 
-fn replay_trace<R, I, O>(
+fn replay_trace<R, I, O, V>(
     rt: &R,
     replay: &Replay<'_>,
     suppressions: &Suppressions,
     options: &Options,
     input: &mut Device<I>,
     output: &mut Device<O>,
+    watcher: &mut V,
 ) -> Result<Ended, Fault>
 where
     R: Files + AllocGlobal + Threads + Wait + Sync,
     I: Read,
     O: Write,
+    V: Watch,
     requires input { has_failed input.old ≡ false }
     requires output { has_failed output.old ≡ false }
     ensures status { IfOk result (λ ended. (ended.status ≤ 4) × (ended.status ≢ 2)) }
@@ -261,28 +310,38 @@ where
     ensures nothing { IfErr result (LeavesOutput (O.contents (inner_of output.old)) (O.contents (inner_of output.new))) }
 {
     if replay.trace == "-" {
-        return replay_from(rt, replay, input, output, suppressions, options);
+        return replay_from(rt, replay, input, output, suppressions, options, watcher);
     }
     let Ok(file) = File::open(rt, replay.trace) else {
         return Err(Fault::OpenTrace);
     };
     let mut source = Device::new(file);
-    replay_from(rt, replay, &mut source, output, suppressions, options)
+    replay_from(
+        rt,
+        replay,
+        &mut source,
+        output,
+        suppressions,
+        options,
+        watcher,
+    )
 }
 
 /// Replays what the reader gives, and writes what was asked for.
-pub(crate) fn replay_from<R, D, O>(
+pub(crate) fn replay_from<R, D, O, V>(
     rt: &R,
     replay: &Replay<'_>,
     source: &mut Device<D>,
     output: &mut Device<O>,
     suppressions: &Suppressions,
     options: &Options,
+    watcher: &mut V,
 ) -> Result<Ended, Fault>
 where
     R: Files + AllocGlobal + Threads + Wait + Sync,
     D: Read,
     O: Write,
+    V: Watch,
     requires source { has_failed source.old ≡ false }
     requires output { has_failed output.old ≡ false }
     ensures status { IfOk result (λ ended. (ended.status ≤ 4) × (ended.status ≢ 2)) }
@@ -293,12 +352,29 @@ where
     ensures nothing { IfErr result (LeavesOutput (O.contents (inner_of output.old)) (O.contents (inner_of output.new))) }
 {
     if let Some(analysis) = order_of(replay.analysis) {
-        return replay_by_order(rt, replay, analysis, source, output, suppressions, options);
+        return replay_by_order(
+            rt,
+            replay,
+            analysis,
+            source,
+            output,
+            suppressions,
+            options,
+            watcher,
+        );
     }
     if asks_more(replay) || shows_sources(replay) {
-        return replay_and_sort(rt, replay, source, output, suppressions, options);
+        return replay_and_sort(rt, replay, source, output, suppressions, options, watcher);
     }
-    match replay_in(rt, replay.format, source, output, suppressions, options) {
+    match replay_in(
+        rt,
+        replay.format,
+        source,
+        output,
+        suppressions,
+        options,
+        watcher,
+    ) {
         Ok(verdict) => Ok(Ended {
             status: status_of(verdict),
             notes: Vec::new(rt.alloc()),
@@ -315,29 +391,65 @@ fn shows_sources(replay: &Replay<'_>) -> bool
 }
 
 // Replays what the reader gives, and writes the report in the format that was asked for.
-fn replay_in<R, D, O>(
+fn replay_in<R, D, O, V>(
     rt: &R,
     format: Format,
     source: &mut Device<D>,
     output: &mut Device<O>,
     suppressions: &Suppressions,
     options: &Options,
+    watcher: &mut V,
 ) -> Result<Verdict, Fault>
 where
     R: AllocGlobal + Threads + Wait + Sync,
     D: Read,
     O: Write,
+    V: Watch,
     requires source { has_failed source.old ≡ false }
     requires output { has_failed output.old ≡ false }
     ensures report { format ≡ Text → IfOk result (λ verdict. IfSome (D.remaining (inner_of source.old)) (λ text. IsReplayed text options.now.byte_limit (targets_of suppressions.now) options.now.explain (O.contents (inner_of output.old)) (O.contents (inner_of output.new)) verdict)) }
     ensures nothing { IfErr result (LeavesOutput (O.contents (inner_of output.old)) (O.contents (inner_of output.new))) }
 {
     let replayed = match format {
-        Format::Text => replay_text(rt, source, output, suppressions, options),
-        Format::BySite => replay_as(rt, source, output, suppressions, options, Form::BySite),
-        Format::Json => replay_as(rt, source, output, suppressions, options, Form::Json),
-        Format::Sarif => replay_as(rt, source, output, suppressions, options, Form::Sarif),
-        Format::Html => replay_as(rt, source, output, suppressions, options, Form::Html),
+        Format::Text => replay_text_watched(rt, source, output, suppressions, options, watcher),
+        Format::BySite => {
+            replay_as(
+                rt,
+                source,
+                output,
+                suppressions,
+                options,
+                Form::BySite,
+                watcher,
+            )
+        }
+        Format::Json => replay_as(
+            rt,
+            source,
+            output,
+            suppressions,
+            options,
+            Form::Json,
+            watcher,
+        ),
+        Format::Sarif => replay_as(
+            rt,
+            source,
+            output,
+            suppressions,
+            options,
+            Form::Sarif,
+            watcher,
+        ),
+        Format::Html => replay_as(
+            rt,
+            source,
+            output,
+            suppressions,
+            options,
+            Form::Html,
+            watcher,
+        ),
     };
     match replayed {
         Ok(verdict) => Ok(verdict),

@@ -8,6 +8,7 @@ mod advice;
 mod analyses;
 mod command;
 mod faults;
+mod meter;
 mod rules;
 mod sorting;
 mod sources;
@@ -43,6 +44,7 @@ fn main(rt: HostRuntime) -> ExitCode {
             &mut Device::new(rt.stdin()),
             &mut Device::new(rt.stdout()),
             &mut errors,
+            &mut Device::new(rt.stderr()),
             for_people,
         ),
         Err(fault) => report_fault(rt.alloc(), fault, &mut errors),

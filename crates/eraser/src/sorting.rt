@@ -19,7 +19,7 @@ use er_print::{WriteFault, write_report};
 use er_report::Report;
 use er_request::{Format, Replay};
 use er_rules::Suppressions;
-use er_run::{Options, ReplayedTrace, Verdict, replay_report, verdict_of};
+use er_run::{Options, ReplayedTrace, Verdict, Watch, replay_report, verdict_of};
 use er_sarif::write_sarif;
 use er_sites::write_sites;
 use er_trace::{Names, Trace};
@@ -59,18 +59,20 @@ pub(crate) fn asks_more(replay: &Replay<'_>) -> bool
 }
 
 /// Replays what the reader gives, writes the report as it is asked for, and then the file of rules, unless the replay stopped.
-pub(crate) fn replay_and_sort<R, D, O>(
+pub(crate) fn replay_and_sort<R, D, O, V>(
     rt: &R,
     replay: &Replay<'_>,
     source: &mut Device<D>,
     output: &mut Device<O>,
     suppressions: &Suppressions,
     options: &Options,
+    watcher: &mut V,
 ) -> Result<Ended, Fault>
 where
     R: Files + AllocGlobal + Threads + Wait + Sync,
     D: Read,
     O: Write,
+    V: Watch,
     requires source { has_failed source.old ≡ false }
     requires output { has_failed output.old ≡ false }
     ensures status { IfOk result (λ ended. (ended.status ≤ 4) × (ended.status ≢ 2)) }
@@ -78,7 +80,8 @@ where
     ensures silent { replay.now.unused_rules ≡ false → replay.now.max_races ≡ None → IfOk result (λ ended. ended.notes.items ≡ []) }
     ensures nothing { IfErr result (LeavesOutput (O.contents (inner_of output.old)) (O.contents (inner_of output.new))) }
 {
-    let (report, trace) = match replay_report(rt, rt.alloc(), source, suppressions, options) {
+    let replayed = replay_report(rt, rt.alloc(), source, suppressions, options, watcher);
+    let (report, trace) = match replayed {
         Ok(ReplayedTrace { report, trace }) => (report, trace),
         Err(why) => return Err(fault_of(why)),
     };

@@ -12,6 +12,7 @@ ghost use Rattle.eraser.specs.Replays.{EndsAs, IsPlain, ReplaysTo};
 
 use crate::advice::report_replay_fault;
 use crate::command::{note, options_of, replay_from};
+use crate::meter::Meter;
 use crate::rules::suppressions_of;
 use crate::sorting::Ended;
 use crate::sources::is_ordinary;
@@ -21,12 +22,12 @@ use er_exit::{Fault, put, report_fault};
 use er_prefix::{Keeping, Prefix};
 use er_request::Replay;
 use er_rules::Suppressions;
-use er_run::Options;
+use er_run::{Options, Watch};
 use er_text::TextFault;
 use std::alloc::Global;
 use std::fs::File;
 use std::io::{Read, Write};
-use std::rt::Files;
+use std::rt::{Clock, Files};
 use std::sync::Wait;
 use std::thread::Threads;
 
@@ -51,30 +52,62 @@ enum Again<'a> {
 }
 
 /// Runs a replay up to the first faulty line of its text, writes its notes, and then the fault, if there is one, and what helps people.
-pub(crate) fn end_until_fault<R, I, O, E>(
+pub(crate) fn end_until_fault<R, I, O, E, P>(
     rt: &R,
     replay: &Replay<'_>,
     input: &mut Device<I>,
     output: &mut Device<O>,
     errors: &mut Device<E>,
+    progress: &mut Device<P>,
     for_people: bool,
 ) -> u8
 where
-    R: Files + AllocGlobal + Threads + Wait + Sync,
+    R: Files + Clock + AllocGlobal + Threads + Wait + Sync,
     I: Read,
     O: Write,
     E: Write,
+    P: Write,
     requires input { has_failed input.old ≡ false }
     requires output { has_failed output.old ≡ false }
     requires errors { has_failed errors.old ≡ false }
     ensures status { result ≤ 4 }
     ensures quiet { result ≤ 1 → GetsNotes (E.contents (inner_of errors.old)) (E.contents (inner_of errors.new)) (has_failed errors.new) }
     ensures silent { replay.now.unused_rules ≡ false → replay.now.max_races ≡ None → result ≤ 1 → Keeps (E.contents (inner_of errors.old)) (E.contents (inner_of errors.new)) }
+    ensures unwatched { replay.now.progress ≡ false → Keeps (P.contents (inner_of progress.old)) (P.contents (inner_of progress.new)) }
 {
-    match run_until_fault(rt, replay, input, output) {
+    match run_shown(rt, replay, input, output, progress, for_people) {
         Ok(ended) => note(ended, errors),
         Err(cut) => report_cut(rt, replay, &cut, errors, for_people),
     }
+}
+
+// Runs a replay up to the first faulty line, and shows how far it has come if that is asked for.
+fn run_shown<R, I, O, P>(
+    rt: &R,
+    replay: &Replay<'_>,
+    input: &mut Device<I>,
+    output: &mut Device<O>,
+    progress: &mut Device<P>,
+    for_people: bool,
+) -> Result<Ended, Cut>
+where
+    R: Files + Clock + AllocGlobal + Threads + Wait + Sync,
+    I: Read,
+    O: Write,
+    P: Write,
+    requires input { has_failed input.old ≡ false }
+    requires output { has_failed output.old ≡ false }
+    ensures status { IfOk result (λ ended. (ended.status ≤ 4) × (ended.status ≢ 2)) }
+    ensures notes { IfOk result (λ ended. AreNotes ended.notes.items) }
+    ensures silent { replay.now.unused_rules ≡ false → replay.now.max_races ≡ None → IfOk result (λ ended. ended.notes.items ≡ []) }
+    ensures unwatched { replay.now.progress ≡ false → Keeps (P.contents (inner_of progress.old)) (P.contents (inner_of progress.new)) }
+{
+    if replay.progress {
+        let mut meter = Meter::new(rt, progress, for_people);
+        return run_until_fault(rt, replay, input, output, &mut meter);
+    }
+    let mut meter: Meter<'_, R, P> = Meter::off(rt);
+    run_until_fault(rt, replay, input, output, &mut meter)
 }
 
 // Writes the notes, then the damage, and then the fault. If a write fails, the rest is left out.
@@ -113,16 +146,18 @@ fn cut_by(alloc: Global, fault: Fault) -> Cut {
 }
 
 // The suppressions are opened and read before the trace is opened.
-fn run_until_fault<R, I, O>(
+fn run_until_fault<R, I, O, V>(
     rt: &R,
     replay: &Replay<'_>,
     input: &mut Device<I>,
     output: &mut Device<O>,
+    watcher: &mut V,
 ) -> Result<Ended, Cut>
 where
     R: Files + AllocGlobal + Threads + Wait + Sync,
     I: Read,
     O: Write,
+    V: Watch,
     requires input { has_failed input.old ≡ false }
     requires output { has_failed output.old ≡ false }
     ensures status { IfOk result (λ ended. (ended.status ≤ 4) × (ended.status ≢ 2)) }
@@ -132,24 +167,28 @@ where
 {
     let options = options_of(replay);
     match suppressions_of(rt, &replay.suppressions, options.byte_limit) {
-        Ok(suppressions) => replay_trace(rt, replay, &suppressions, &options, input, output),
+        Ok(suppressions) => {
+            replay_trace(rt, replay, &suppressions, &options, input, output, watcher)
+        }
         Err(fault) => Err(cut_by(rt.alloc(), fault)),
     }
 }
 
 // What is no ordinary file may not be there a second time, so it is kept.
-fn replay_trace<R, I, O>(
+fn replay_trace<R, I, O, V>(
     rt: &R,
     replay: &Replay<'_>,
     suppressions: &Suppressions,
     options: &Options,
     input: &mut Device<I>,
     output: &mut Device<O>,
+    watcher: &mut V,
 ) -> Result<Ended, Cut>
 where
     R: Files + AllocGlobal + Threads + Wait + Sync,
     I: Read,
     O: Write,
+    V: Watch,
     requires input { has_failed input.old ≡ false }
     requires output { has_failed output.old ≡ false }
     ensures status { IfOk result (λ ended. (ended.status ≤ 4) × (ended.status ≢ 2)) }
@@ -158,37 +197,64 @@ where
     ensures report { IsPlain replay.now → replay.now.trace.now ≡ codes "-" → IfOk result (λ ended. IfSome (I.remaining (inner_of input.old)) (λ text. EndsAs text options.now.byte_limit (targets_of suppressions.now) options.now.explain (O.contents (inner_of output.old)) (O.contents (inner_of output.new)) ended.status)) }
 {
     if replay.trace == "-" {
-        return replay_kept(rt, replay, input, output, suppressions, options);
+        return replay_kept(rt, replay, input, output, suppressions, options, watcher);
     }
     let Ok(file) = File::open(rt, replay.trace) else {
         return Err(cut_by(rt.alloc(), Fault::OpenTrace));
     };
     let mut source = Device::new(file);
     if !is_ordinary(rt, replay.trace) {
-        return replay_kept(rt, replay, &mut source, output, suppressions, options);
+        return replay_kept(
+            rt,
+            replay,
+            &mut source,
+            output,
+            suppressions,
+            options,
+            watcher,
+        );
     }
-    match replay_from(rt, replay, &mut source, output, suppressions, options) {
+    match replay_from(
+        rt,
+        replay,
+        &mut source,
+        output,
+        suppressions,
+        options,
+        watcher,
+    ) {
         Ok(ended) => Ok(ended),
         Err(fault) => {
             let again = Again::File(replay.trace);
-            Err(replay_before(rt, replay, fault, again, output, suppressions, options))
+            Err(replay_before(
+                rt,
+                replay,
+                fault,
+                again,
+                output,
+                suppressions,
+                options,
+                watcher,
+            ))
         }
     }
 }
 
 // Replays what can be read only once.
-fn replay_kept<R, D, O>(
+fn replay_kept<R, D, O, V>(
     rt: &R,
     replay: &Replay<'_>,
     source: &mut Device<D>,
     output: &mut Device<O>,
     suppressions: &Suppressions,
     options: &Options,
+    watcher: &mut V,
 ) -> Result<Ended, Cut>
 where
     R: Files + AllocGlobal + Threads + Wait + Sync,
     D: Read,
     O: Write,
+    V: Watch,
     requires source { has_failed source.old ≡ false }
     requires output { has_failed output.old ≡ false }
     ensures status { IfOk result (λ ended. (ended.status ≤ 4) × (ended.status ≢ 2)) }
@@ -197,13 +263,30 @@ where
     ensures report { IsPlain replay.now → IfOk result (λ ended. IfSome (D.remaining (inner_of source.old)) (λ text. EndsAs text options.now.byte_limit (targets_of suppressions.now) options.now.explain (O.contents (inner_of output.old)) (O.contents (inner_of output.new)) ended.status)) }
 {
     let mut keeping = Device::new(Keeping::new(rt.alloc(), source));
-    let first = replay_from(rt, replay, &mut keeping, output, suppressions, options);
+    let first = replay_from(
+        rt,
+        replay,
+        &mut keeping,
+        output,
+        suppressions,
+        options,
+        watcher,
+    );
     let kept = keeping.into_inner().into_kept();
     match (first, kept) {
         (Ok(ended), _) => Ok(ended),
         (Err(fault), Some(text)) => {
             let again = Again::Kept(&text);
-            Err(replay_before(rt, replay, fault, again, output, suppressions, options))
+            Err(replay_before(
+                rt,
+                replay,
+                fault,
+                again,
+                output,
+                suppressions,
+                options,
+                watcher,
+            ))
         }
         (Err(Fault::Text(_)), None) => Err(cut_by(rt.alloc(), Fault::Memory)),
         (Err(fault), None) => Err(cut_by(rt.alloc(), fault)),
@@ -212,7 +295,7 @@ where
 
 // If the fault is one of the text, replays the lines before it. A text that ends there may lack its line `end`: that is no damage of these
 // lines, so if it is all that a strict replay finds, they have their report.
-fn replay_before<R, O>(
+fn replay_before<R, O, V>(
     rt: &R,
     replay: &Replay<'_>,
     fault: Fault,
@@ -220,26 +303,46 @@ fn replay_before<R, O>(
     output: &mut Device<O>,
     suppressions: &Suppressions,
     options: &Options,
+    watcher: &mut V,
 ) -> Cut
 where
     R: Files + AllocGlobal + Threads + Wait + Sync,
     O: Write,
+    V: Watch,
 {
     let Fault::Text(first) = fault else {
         return cut_by(rt.alloc(), fault);
     };
     let lines = first.line.saturating_sub(1);
-    let second = replay_lines(rt, replay, lines, again, output, suppressions, options);
+    let second = replay_lines(
+        rt,
+        replay,
+        lines,
+        again,
+        output,
+        suppressions,
+        options,
+        watcher,
+    );
     if !lacks_end_alone(&second) {
         return cut_at(rt.alloc(), first, second);
     }
     let options = options.with_strict(false);
-    let third = replay_lines(rt, replay, lines, again, output, suppressions, &options);
+    let third = replay_lines(
+        rt,
+        replay,
+        lines,
+        again,
+        output,
+        suppressions,
+        &options,
+        watcher,
+    );
     cut_at(rt.alloc(), first, third)
 }
 
 // Replays the first lines of a text that is read again. A failed write is final.
-fn replay_lines<R, O>(
+fn replay_lines<R, O, V>(
     rt: &R,
     replay: &Replay<'_>,
     lines: u64,
@@ -247,10 +350,12 @@ fn replay_lines<R, O>(
     output: &mut Device<O>,
     suppressions: &Suppressions,
     options: &Options,
+    watcher: &mut V,
 ) -> Result<Ended, Fault>
 where
     R: Files + AllocGlobal + Threads + Wait + Sync,
     O: Write,
+    V: Watch,
 {
     if output.failed() {
         return Err(Fault::Write);
@@ -261,11 +366,27 @@ where
                 return Err(Fault::OpenTrace);
             };
             let mut source = Device::new(Prefix::new(file, lines));
-            replay_from(rt, replay, &mut source, output, suppressions, options)
+            replay_from(
+                rt,
+                replay,
+                &mut source,
+                output,
+                suppressions,
+                options,
+                watcher,
+            )
         }
         Again::Kept(text) => {
             let mut source = Device::new(Prefix::new(text, lines));
-            replay_from(rt, replay, &mut source, output, suppressions, options)
+            replay_from(
+                rt,
+                replay,
+                &mut source,
+                output,
+                suppressions,
+                options,
+                watcher,
+            )
         }
     }
 }

@@ -13,7 +13,7 @@ returns-in-Ok-clause-report g c =
     subst (λ (n : ℕ). IfSome told (λ text. IsReportOfText text n (targets_of c.args.suppressions.now) c.args.explain c.finish.result.trace.names c.finish.result.report)) c.in_ok-pass.ensures.limit
     (subst (λ (explain : Bool). IfSome told (λ text. IsReportOfText text c.in_ok-pass.pass.lines.place.limit (targets_of c.args.suppressions.now) explain c.finish.result.trace.names c.finish.result.report))
     (c.in-Ok.ensures.explains ∙ c.in_ok-pass.ensures.explains)
-    (subst (λ (rules : List Target). IfSome told (λ text. IsReportOfText text c.in_ok-pass.pass.lines.place.limit rules (is_some c.run.new.self.builder.reasons) c.finish.result.trace.names c.finish.result.report))
+    (subst (λ (rules : List Target). IfSome told (λ text. IsReportOfText text c.in_ok-pass.pass.lines.place.limit rules (is_some c.run-ran.new.self.builder.reasons) c.finish.result.trace.names c.finish.result.report))
     (c.in-Ok.ensures.rules ∙ c.in_ok-pass.ensures.rules) (c.finish.ensures.report told c.in_ok-pass.pass.lines.place.limit ended)))
 
 pub returns-in-Ok-clause-named : goal.returns-in-Ok-clause-named

@@ -6,8 +6,8 @@ use Rattle.er_text.specs.Inner.Lending.{taken_by}
 use Rattle.er_run.proofs.passes.Pass.run.Given as goal
 
 -- what a turn wants, and that it goes on from where the replay began
-abbrev pub invariant-loop : goal.invariant-loop
-invariant-loop g l = record {
+abbrev pub invariant-loop-watcher : goal.invariant-loop-watcher
+invariant-loop-watcher g l = record {
   unfailed : has_failed l.reader ≡ false;
   limit : l.self.lines.place.limit ≡ l.fn.self.lines.place.limit;
   rules : l.self.builder.rules ≡ l.fn.self.builder.rules;
@@ -20,5 +20,5 @@ invariant-loop g l = record {
       → HasSeen told (g.D.Read.remaining (inner_of l.reader)) l.self.lines l.self.trace l.self.inspector;
 }
 
-abbrev pub decreases-loop : goal.decreases-loop
-decreases-loop g l = l.self.lines.place.limit - l.self.lines.place.start
+abbrev pub decreases-loop-watcher : goal.decreases-loop-watcher
+decreases-loop-watcher g l = l.self.lines.place.limit - l.self.lines.place.start

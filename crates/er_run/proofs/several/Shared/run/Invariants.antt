@@ -7,8 +7,8 @@ use Rattle.er_trace.specs.Trace.{IsNamed}
 use Rattle.er_run.proofs.several.Shared.run.Given as goal
 
 -- what a turn wants, and that it goes on from where the replay began
-abbrev pub invariant-loop : goal.invariant-loop
-invariant-loop g l = record {
+abbrev pub invariant-loop-watcher : goal.invariant-loop-watcher
+invariant-loop-watcher g l = record {
   unfailed : has_failed l.reader ≡ false;
   level : length l.self.numbers.items ≡ length l.self.steps.items;
   named : All (IsNamed l.self.trace.names) l.self.steps.items;
@@ -23,5 +23,5 @@ invariant-loop g l = record {
       → HasSeen told (g.D.Read.remaining (inner_of l.reader)) l.self.lines l.self.trace l.self.inspector;
 }
 
-abbrev pub decreases-loop : goal.decreases-loop
-decreases-loop g l = l.self.lines.place.limit - l.self.lines.place.start
+abbrev pub decreases-loop-watcher : goal.decreases-loop-watcher
+decreases-loop-watcher g l = l.self.lines.place.limit - l.self.lines.place.start

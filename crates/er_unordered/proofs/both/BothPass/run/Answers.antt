@@ -6,5 +6,5 @@ use Rattle.er_unordered.proofs.both.BothPass.run.Goals as goal
 pub returns-in_err-turn-clause-fault : goal.returns-in_err-turn-clause-fault
 returns-in_err-turn-clause-fault g c = λ told come.
     let known : IsFaultOf Both told c.args.self.now.lines.place.limit c.in_err-turn.field-0.0 =
-    rw c.loop.invariant.limit at (c.in_err-turn.ensures.fault told (c.loop.invariant.come told come)) in
+    rw c.loop-watcher.invariant.limit at (c.in_err-turn.ensures.fault told (c.loop-watcher.invariant.come told come)) in
     search rules

@@ -5,8 +5,8 @@ use Rattle.er_unordered.specs.Inner.Both.{HaveCome}
 use Rattle.er_unordered.proofs.both.BothPass.run.Given as goal
 
 -- what a turn wants, and that it goes on from where the replay began
-abbrev pub invariant-loop : goal.invariant-loop
-invariant-loop g l = record {
+abbrev pub invariant-loop-watcher : goal.invariant-loop-watcher
+invariant-loop-watcher g l = record {
   unfailed : has_failed l.reader ≡ false;
   limit : l.self.lines.place.limit ≡ l.fn.self.lines.place.limit;
   rules : l.self.builder.rules ≡ l.fn.self.builder.rules;
@@ -18,5 +18,5 @@ invariant-loop g l = record {
       → HaveCome told (g.D.Read.remaining (inner_of l.reader)) l.self.lines l.self.trace l.self.machine l.self.builder l.self.stop l.self.ordering l.self.unordered;
 }
 
-abbrev pub decreases-loop : goal.decreases-loop
-decreases-loop g l = l.self.lines.place.limit - l.self.lines.place.start
+abbrev pub decreases-loop-watcher : goal.decreases-loop-watcher
+decreases-loop-watcher g l = l.self.lines.place.limit - l.self.lines.place.start

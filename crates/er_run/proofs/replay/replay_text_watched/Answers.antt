@@ -2,7 +2,7 @@
 use Rattle.er_device.specs.Device.{inner_of}
 use Rattle.er_rules.specs.Rules.{targets_of}
 use Rattle.er_run.proofs.ReplayLemmas.{whole-of, part, nothing, unwritten, untouched, whole-verdict}
-use Rattle.er_run.proofs.replay.replay_text.Goals as goal
+use Rattle.er_run.proofs.replay.replay_text_watched.Goals as goal
 
 pub returns-in-Ok-clause-report : goal.returns-in-Ok-clause-report
 returns-in-Ok-clause-report g c =

@@ -1,0 +1,142 @@
+//! Shows on a writer how far a replay has come.
+//!
+//! The clock is here and nowhere below, so a replay can't depend on it.
+use er_device::Device;
+use er_run::{Progress, Watch};
+use std::alloc::AllocError;
+use std::io::Write;
+use std::rt::Clock;
+use std::time::{Duration, Instant};
+
+// How many milliseconds a line stays as it is.
+const PAUSE: u128 = 500;
+
+// Clears what stands on the line of a terminal.
+const CLEAR: &[u8] = b"\r\x1b[K";
+
+/// Shows how far a replay has come, about twice a second, on a writer or nowhere.
+#[derive(Drop)]
+pub(crate) struct Meter<'a, R, P> {
+    rt: &'a R,
+    /// Where it is shown, if it is.
+    writer: Option<&'a mut Device<P>>,
+    /// Whether each line takes the place of the one before, as on a terminal.
+    on_one_line: bool,
+    /// Whether the terminal's line has something to clear.
+    has_line: bool,
+    /// When the replay began. None if the clock can't be read.
+    start: Option<Instant>,
+    /// After how many milliseconds the next line is due.
+    due: u128,
+    /// How far the replay has come, if no line says so yet.
+    unshown: Option<Progress>,
+}
+
+impl<'a, R: Clock + AllocGlobal, P: Write> Meter<'a, R, P> {
+    /// Shows nothing.
+    pub(crate) fn off(rt: &'a R) -> Meter<'a, R, P> {
+        Meter {
+            rt,
+            writer: None,
+            on_one_line: false,
+            has_line: false,
+            start: None,
+            due: PAUSE,
+            unshown: None,
+        }
+    }
+
+    /// Shows it on this writer, on one line or on a line each time.
+    pub(crate) fn new(rt: &'a R, writer: &'a mut Device<P>, on_one_line: bool) -> Meter<'a, R, P> {
+        Meter {
+            rt,
+            writer: Some(writer),
+            on_one_line,
+            has_line: false,
+            start: Instant::now(rt).ok(),
+            due: PAUSE,
+            unshown: None,
+        }
+    }
+
+    // How many milliseconds the replay has taken. None if the clock can't be read.
+    fn millis(&self) -> Option<u128> {
+        let start = self.start?;
+        let taken: Duration = start.elapsed(self.rt).ok()?;
+        Some(taken.as_millis())
+    }
+
+    // Writes the line of this moment. If there is no memory for it, or a write has failed, there is no line.
+    fn show(&mut self, progress: Progress, millis: u128) {
+        self.unshown = None;
+        let Ok(line) = line_of(self.rt, progress, millis, self.on_one_line) else {
+            return;
+        };
+        self.write(line.as_bytes());
+        self.has_line = true;
+    }
+
+    fn write(&mut self, bytes: &[u8]) {
+        if let Some(writer) = &mut self.writer {
+            if !writer.failed() {
+                let _ = writer.write_all(bytes);
+            }
+        }
+    }
+}
+
+impl<'a, R: Clock + AllocGlobal, P: Write> Watch for Meter<'a, R, P> {
+    fn come_to(&mut self, progress: Progress) {
+        if self.writer.is_none() {
+            return;
+        }
+        self.unshown = Some(progress);
+        if let Some(millis) = self.millis()
+            && millis >= self.due
+        {
+            self.due = millis.saturating_add(PAUSE);
+            self.show(progress, millis);
+        }
+    }
+
+    /// Clears the line of a terminal. Elsewhere the last line says how far the replay came in the end. What follows is a replay of its own.
+    fn end(&mut self) {
+        if self.writer.is_none() {
+            return;
+        }
+        if self.on_one_line {
+            if self.has_line {
+                self.write(CLEAR);
+            }
+        } else if let (Some(progress), Some(millis)) = (self.unshown, self.millis()) {
+            self.show(progress, millis);
+        }
+        self.has_line = false;
+        self.unshown = None;
+        self.start = Instant::now(self.rt).ok();
+        self.due = PAUSE;
+    }
+}
+
+// How far a replay has come after so many milliseconds, in words. On one line it takes the place of what stands there.
+fn line_of<R: AllocGlobal>(
+    rt: &R,
+    progress: Progress,
+    millis: u128,
+    on_one_line: bool,
+) -> Result<String, AllocError> {
+    let Progress {
+        bytes,
+        steps,
+        races,
+    } = progress;
+    let rate = u128::from(steps) * 1000 / millis.max(1);
+    if on_one_line {
+        return format!(in rt.alloc();
+            "\rprogress: {bytes} bytes, {steps} steps, {rate} steps a second, {races} races\x1b[K"
+        );
+    }
+    format!(in rt.alloc();
+        "progress: {bytes} bytes, {steps} steps, {rate} steps a second, {races} races\n"
+    )
+}
