@@ -33,10 +33,10 @@ module _ {A B : Type 0} (f : A → B) where
 
   named-accessed : (b : Book A) (a : A) (t : ℕ) (kind : Kind) (cover : List ℕ) → named_book f (book_accessed b a t kind cover) ≡ book_accessed (named_book f b) (f a) t kind cover
   named-accessed Untouched a t kind cover = refl
-  named-accessed (Owned p u) a t kind cover = by (u == t)
+  named-accessed (Owned u p) a t kind cover = by (u == t)
     where
-      by : (same : Bool) → named_book f (cond same (Owned p u) (Joined (record { first = p; join = a; write = or_this None (is_writing kind) a; pairs = map (λ l. record { lock = l; at = None }) cover })))
-          ≡ cond same (Owned (f p) u) (Joined (record { first = f p; join = f a; write = or_this None (is_writing kind) (f a); pairs = map (λ l. record { lock = l; at = None }) cover }))
+      by : (same : Bool) → named_book f (cond same (Owned u p) (Joined (record { first = p; join = a; write = or_this None (is_writing kind) a; pairs = map (λ l. record { lock = l; at = None }) cover })))
+          ≡ cond same (Owned u (f p)) (Joined (record { first = f p; join = f a; write = or_this None (is_writing kind) (f a); pairs = map (λ l. record { lock = l; at = None }) cover }))
       by true = refl
       by false = λ i. Joined (record { first = f p; join = f a; write = named-or None (is_writing kind) a i; pairs = named-begun cover i })
   named-accessed (Joined j) a t kind cover =

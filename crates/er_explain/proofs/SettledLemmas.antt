@@ -26,7 +26,7 @@ book-Untouched : (r : Reading) (w n : ℕ) → first r w n ≡ None → book_at 
 unfolding book_at
 book-Untouched r w n none = rw none refl
 
-book-Owned : (r : Reading) (w n f : ℕ) → first r w n ≡ Some f → join r w n ≡ None → book_at r w n ≡ Owned f (thread_of (r f))
+book-Owned : (r : Reading) (w n f : ℕ) → first r w n ≡ Some f → join r w n ≡ None → book_at r w n ≡ Owned (thread_of (r f)) f
 unfolding book_at
 book-Owned r w n f is none = rw (is, none) refl
 

@@ -28,8 +28,8 @@ gone_on j a kind cover = record { first = j.first; join = j.join; write = or_thi
 
 -- after a counted access that is named so
 abbrev pub book_accessed : {A : Type 0} → Book A → A → ℕ → Kind → List ℕ → Book A
-book_accessed Untouched a t kind cover = Owned a t
-book_accessed (Owned f u) a t kind cover = cond (u == t) (Owned f u) (Joined (begun f a kind cover))
+book_accessed Untouched a t kind cover = Owned t a
+book_accessed (Owned u f) a t kind cover = cond (u == t) (Owned u f) (Joined (begun f a kind cover))
 book_accessed (Joined j) a t kind cover = Joined (gone_on j a kind cover)
 
 -- after a position that is this to the words, and named so
@@ -46,7 +46,7 @@ joining_at r w n f j = record { first = f; join = j; write = first_write r w n j
 -- by the first access and the joining, where they exist
 abbrev pub book_by : Reading → ℕ → ℕ → Option ℕ → Option ℕ → Book ℕ
 book_by r w n None joined = Untouched
-book_by r w n (Some f) None = Owned f (thread_of (r f))
+book_by r w n (Some f) None = Owned (thread_of (r f)) f
 book_by r w n (Some f) (Some j) = Joined (joining_at r w n f j)
 
 -- the word's book at point n

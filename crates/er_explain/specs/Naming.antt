@@ -19,5 +19,5 @@ named_joining f j = record { first = f j.first; join = f j.join; write = named_o
 -- each access of the book has the name that stands for its own
 abbrev pub named_book : {A B : Type 0} → (A → B) → Book A → Book B
 named_book f Untouched = Untouched
-named_book f (Owned first thread) = Owned (f first) thread
+named_book f (Owned thread first) = Owned thread (f first)
 named_book f (Joined j) = Joined (named_joining f j)

@@ -25,7 +25,7 @@ book_in blocks w = book_in_block (lookup (nat_eq (w / 128)) blocks) (w % 128)
 -- what a book says of the joining, if a second thread has joined
 abbrev pub joining_in : {A : Type 0} → Book A → Option (Joining A)
 joining_in Untouched = None
-joining_in (Owned first thread) = None
+joining_in (Owned thread first) = None
 joining_in (Joined joining) = Some joining
 
 -- the word stands in the block of this number, at one of these places

@@ -1,7 +1,7 @@
 //! `Block`, the books of words that lie side by side.
-ghost use Rattle.std.specs.Prelude.{◌≡◌, ◌<◌, ◌≤◌, ◌&&◌, ℕ, nat_eq, nat_le, nat_lt, cond, [], length, slice_set, option_copied, OnOk};
+ghost use Rattle.std.specs.Prelude.{◌≡◌, ◌<◌, ◌≤◌, ◌&&◌, ℕ, nat_eq, nat_le, nat_lt, cond, [], length, slice_set, slice_index_or, option_copied, OnOk};
 ghost use Rattle.er_explain.specs.Books.{book_accessed};
-ghost use Rattle.er_explain.specs.Inner.Slots.{emptied, slot_at};
+ghost use Rattle.er_explain.specs.Inner.Slots.{book_of, slot_at, AreApart};
 ghost use Rattle.er_explain.specs.WordBooks.{book_at_place, joining_in};
 ghost use Rattle.er_held.specs.ThreadLocks.{held_by};
 ghost use Rattle.er_model.specs.Following.{locks_for};
@@ -12,16 +12,8 @@ use er_held::ThreadLocks;
 use std::alloc::{AllocError, Global};
 use std::marker::Model;
 
-/// Where the book of a word stands among those of its block, if it has one, and whether it counts.
-#[derive(Clone, Copy)]
-pub(crate) enum Slot {
-    /// The word has no book.
-    Free,
-    /// A reuse has emptied the book that stands there. The next access writes over it.
-    Emptied(u8),
-    /// The book that stands there counts.
-    Kept(u8),
-}
+/// The slot of a place that has no book.
+const FREE: u8 = 255;
 
 /// The books of words that lie side by side.
 ///
@@ -30,8 +22,8 @@ pub(crate) enum Slot {
 pub(crate) struct Block<A> {
     // One book for each word that was accessed, in the order of the first accesses.
     books: Vec<Book<A>>,
-    // The slot of each place. No two places have the same book.
-    slots: [Slot; 128],
+    // The number of each place's book, or 255 if it has none. No two places have the same book.
+    slots: [u8; 128],
 }
 
 impl<A> Model for Block<A> {
@@ -54,7 +46,7 @@ impl<A: Copy> Block<A> {
     {
         Block {
             books: Vec::new(alloc),
-            slots: [Slot::Free; 128],
+            slots: [FREE; 128],
         }
     }
 
@@ -72,26 +64,18 @@ impl<A: Copy> Block<A> {
         requires { place < 128 }
         ensures { OnOk result ((i : ℕ) → book_at_place self.new i ≡ cond (nat_eq place i) (book_accessed (book_at_place self.old place) at thread kind (locks_for (held_by locks.now thread) kind)) (book_at_place self.old i)) }
     {
-        match self.slots[place] {
-            Slot::Kept(number) => {
-                self.books[number as usize].access(alloc, spare, locks, at, thread, kind)
-            }
-            Slot::Emptied(number) => {
-                set(&mut self.books, number as usize, Book::Owned(at, thread));
-                put(&mut self.slots, place, Slot::Kept(number));
-                Ok(())
-            }
-            Slot::Free => {
-                let number = self.books.len();
-                // No two places have the same book, so there is room for this one, and this refusal never comes. That isn't proved.
-                if number >= 128 {
-                    return Err(AllocError);
-                }
-                self.books.push(Book::Owned(at, thread))?;
-                put(&mut self.slots, place, Slot::Kept(number as u8));
-                Ok(())
-            }
+        let number = number_at(&self.slots, place);
+        let count = self.books.len();
+        if number < count {
+            return self.books[number].access(alloc, spare, locks, at, thread, kind);
         }
+        // No two places have the same book, so there is room for this one, and this refusal never comes. That isn't proved.
+        if count >= 128 {
+            return Err(AllocError);
+        }
+        self.books.push(Book::Owned(thread, at))?;
+        put(&mut self.slots, place, count as u8);
+        Ok(())
     }
 
     /// Empties the books from `lo` to `hi`, both included. If these are all books, their joinings are spare.
@@ -101,10 +85,10 @@ impl<A: Copy> Block<A> {
     {
         if lo == 0 && hi == 127 {
             let_go(&mut self.books, spare);
-            self.slots = [Slot::Free; 128];
+            self.slots = [FREE; 128];
             return;
         }
-        empty_slots(&mut self.slots, start_of(lo, hi + 1), hi + 1);
+        empty_books(&mut self.books, &self.slots, start_of(lo, hi + 1), hi + 1);
     }
 
     /// The joining of the word at a place, if a second thread has joined.
@@ -112,10 +96,7 @@ impl<A: Copy> Block<A> {
         requires { place < 128 }
         ensures { option_copied result ≡ joining_in (book_at_place self.now place) }
     {
-        match self.slots[place] {
-            Slot::Kept(number) => joining_at(&self.books, number as usize),
-            Slot::Free | Slot::Emptied(_) => None,
-        }
+        joining_at(&self.books, number_at(&self.slots, place))
     }
 }
 
@@ -149,32 +130,42 @@ fn set<A: Copy>(books: &mut Vec<Book<A>>, number: usize, book: Book<A>)
     books[number] = book;
 }
 
-// Puts a slot at a place.
-fn put(slots: &mut [Slot; 128], place: usize, slot: Slot)
+// The number of a place's book, or 255 if it has none.
+fn number_at(slots: &[u8; 128], place: usize) -> usize
     requires { place < 128 }
-    ensures { (i : ℕ) → slot_at slots.new i ≡ cond (nat_eq place i) slot (slot_at slots.old i) }
+    ensures { result ≡ slot_at slots.now place }
 {
-    slots[place] = slot;
+    slots[place] as usize
 }
 
-// Empties the slots from `start` to `end`, without the one at `end`.
-fn empty_slots(slots: &mut [Slot; 128], start: usize, end: usize)
+// Puts a number at a place.
+fn put(slots: &mut [u8; 128], place: usize, number: u8)
+    requires { place < 128 }
+    ensures { (i : ℕ) → slot_at slots.new i ≡ cond (nat_eq place i) number (slot_at slots.old i) }
+{
+    slots[place] = number;
+}
+
+// Empties the books of the places from `start` to `end`, without the one at `end`.
+fn empty_books<A: Copy>(books: &mut Vec<Book<A>>, slots: &[u8; 128], start: usize, end: usize)
     requires ordered { start ≤ end }
     requires within { end ≤ 128 }
-    ensures { (i : ℕ) → slot_at slots.new i ≡ cond (nat_le start i && nat_lt i end) (emptied (slot_at slots.old i)) (slot_at slots.old i) }
+    requires apart { AreApart slots.now (length books.old.items) }
+    ensures length { length books.new.items ≡ length books.old.items }
+    ensures books { (i : ℕ) → book_of slots.now books.new.items i ≡ cond (nat_le start i && nat_lt i end) Book.Untouched (book_of slots.now books.old.items i) }
 {
     for place in start..end {
-        slots[place] = emptied(slots[place]);
+        empty_book(books, number_at(slots, place));
     }
 }
 
-// The slot once its book is empty.
-fn emptied(slot: Slot) -> Slot
-    ensures { result ≡ emptied slot }
+// Empties the book of this number, if there is one.
+fn empty_book<A: Copy>(books: &mut Vec<Book<A>>, number: usize)
+    ensures length { length books.new.items ≡ length books.old.items }
+    ensures book { (n : ℕ) → slice_index_or books.new.items n Book.Untouched ≡ cond (nat_eq number n) Book.Untouched (slice_index_or books.old.items n Book.Untouched) }
 {
-    match slot {
-        Slot::Kept(number) => Slot::Emptied(number),
-        Slot::Free | Slot::Emptied(_) => slot,
+    if number < books.len() {
+        set(books, number, Book::Untouched);
     }
 }
 
