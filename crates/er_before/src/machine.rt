@@ -35,6 +35,9 @@ impl Model for OrderMachine {
 impl OrderMachine {
     ghost use Rattle.er_before.specs.Standing.{Stands, Changes, IsSame, holding, clock_of, kept_of, reply_by, answered_by, is_show, holds_alone};
 
+    // How many steps are looked at together.
+    const AHEAD: usize = 16;
+
     /// A machine that has taken no step.
     pub fn new(alloc: Global) -> Self
         ensures { Stands result [] }
@@ -63,6 +66,28 @@ impl OrderMachine {
         ensures same { OnErr result (IsSame self.old self.new) }
     {
         self.take(step.thread, step.event)
+    }
+
+    /// Each few steps reads what is kept of the words that the next few access, so that it comes from memory side by side. `at` is the
+    /// place of the step that is answered next. It only saves time, and a caller that leaves it out gets the same answers.
+    #[inline(always)]
+    pub fn look_ahead(&mut self, steps: &[Step], at: usize)
+        ensures { self.new ≡ self.old }
+    {
+        if at % OrderMachine::AHEAD == 0 {
+            self.read_ahead(steps, at);
+        }
+    }
+
+    fn read_ahead(&mut self, steps: &[Step], at: usize)
+        ensures { self.new ≡ self.old }
+    {
+        let end = at.saturating_add(OrderMachine::AHEAD).min(steps.len());
+        for place in at..end {
+            if let Event::Access(_, word, _) = steps[place].event {
+                self.words.look_ahead(word);
+            }
+        }
     }
 
     /// What a thread holds after the steps so far.

@@ -8,7 +8,9 @@
 #![tactic(auto)]
 
 pub use clock::{Clock, Epoch, NoTick};
+pub use hints::{Hints, index_of};
 pub use table::ClockTable;
 
 mod clock;
+mod hints;
 mod table;
