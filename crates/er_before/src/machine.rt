@@ -1,5 +1,5 @@
 //! The machine: every thread's holdings, the clocks, and what is kept of every word.
-ghost use Rattle.std.specs.Prelude.{◌≡◌, ℕ, List, ◌++◌, ◌∷◌, [], IsFalse, IfOk, OnOk, OnErr, None, is_ok, length, true};
+ghost use Rattle.std.specs.Prelude.{◌≡◌, ℕ, List, ◌++◌, ◌∷◌, [], IsFalse, IfOk, IsErrOf, OnOk, OnErr, None, is_ok, length, true};
 ghost use Rattle.er_model.specs.Holdings.{refused_by, holdings_end};
 ghost use Rattle.er_event.specs.declared.steps.Step.{Step as Steps};
 ghost use Rattle.er_order.specs.Order.{acts_of};
@@ -33,7 +33,7 @@ impl Model for OrderMachine {
 }
 
 impl OrderMachine {
-    ghost use Rattle.er_before.specs.Standing.{Stands, Changes, IsSame, holding, clock_of, kept_of, reply_by, answered_by, is_show, holds_alone};
+    ghost use Rattle.er_before.specs.Standing.{Stands, Changes, IsSame, HasFullCount, IsFullAfter, holding, clock_of, kept_of, reply_by, answered_by, is_show, holds_alone};
 
     // How many steps are looked at together.
     const AHEAD: usize = 16;
@@ -52,18 +52,20 @@ impl OrderMachine {
     /// Takes one step and says what it is answered: a reply, or why it is refused. A show is done.
     ///
     /// # Errors
-    /// `CountFull`: a thread's own count would rise, and is the greatest. `OutOfMemory`: memory was refused. The step may be tried
-    /// again.
+    /// `CountFull`: a thread's own count would rise, and is the greatest, 2^32 - 1. `OutOfMemory`: memory was refused. The step may be
+    /// tried again.
     pub fn step(&mut self, step: &Step) -> Result<Result<Reply, Refusal>, NoTick>
         ensures answer { (past : List Steps) → Stands self.old past → IsFalse (is_show step.now.event)
             → IfOk result (λ answer. answer ≡ order_answer (past ++ step.now ∷ []) (length past)) }
         ensures goes_on { (past : List Steps) → Stands self.old past → OnOk result (Stands self.new (past ++ step.now ∷ [])) }
         ensures err { (past : List Steps) → Stands self.old past → OnErr result (Stands self.new past) }
+        ensures full { (past : List Steps) → Stands self.old past → IsErrOf result NoTick.CountFull → IsFullAfter past }
 
         // The same by the machine's own holdings, clocks and words.
         ensures answered { IfOk result (λ answer. answer ≡ answered_by self.old step.now) }
         ensures changes { OnOk result (Changes self.old step.now self.new) }
         ensures same { OnErr result (IsSame self.old self.new) }
+        ensures full_count { IsErrOf result NoTick.CountFull → HasFullCount self.old }
     {
         self.take(step.thread, step.event)
     }
@@ -111,6 +113,7 @@ impl OrderMachine {
         ensures answered { IfOk result (λ answer. answer ≡ answered_by self.old (record { thread = thread; event = event })) }
         ensures changes { OnOk result (Changes self.old (record { thread = thread; event = event }) self.new) }
         ensures same { OnErr result (IsSame self.old self.new) }
+        ensures full { IsErrOf result NoTick.CountFull → HasFullCount self.old }
     {
         // An access is never refused.
         match event {
@@ -131,6 +134,7 @@ impl OrderMachine {
         ensures answered { IfOk result (λ answer. answer ≡ answered_by self.old (record { thread = thread; event = event })) }
         ensures changes { OnOk result (Changes self.old (record { thread = thread; event = event }) self.new) }
         ensures same { OnErr result (IsSame self.old self.new) }
+        ensures full { IsErrOf result NoTick.CountFull → HasFullCount self.old }
     {
         match self.holders.refusal(thread, &event) {
             Some(why) => Ok(Err(why)),
@@ -147,6 +151,7 @@ impl OrderMachine {
         ensures reply { IfOk result (λ reply. reply ≡ reply_by (holding self.old thread) (clock_of self.old thread) (kept_of self.old) event) }
         ensures changes { OnOk result (Changes self.old (record { thread = thread; event = event }) self.new) }
         ensures same { OnErr result (IsSame self.old self.new) }
+        ensures full { IsErrOf result NoTick.CountFull → HasFullCount self.old }
     {
         match event {
             Event::Access(kind, word, _) => self.access(thread, kind, word),
@@ -169,6 +174,7 @@ impl OrderMachine {
         ensures reply { IfOk result (λ reply. reply ≡ reply_by (holding self.old thread) (clock_of self.old thread) (kept_of self.old) (Event.Access kind word 0)) }
         ensures changes { OnOk result (Changes self.old (record { thread = thread; event = Event.Access kind word 0 }) self.new) }
         ensures same { OnErr result (IsSame self.old self.new) }
+        ensures full { IsErrOf result NoTick.CountFull → ⊥ }
     {
         if self.holders.get(thread).ignoring() {
             return Ok(Reply::Ignored);
@@ -193,6 +199,7 @@ impl OrderMachine {
         requires { refused_by (holding self.old thread) (Event.Acquire lock mode) ≡ None }
         ensures changes { OnOk result (Changes self.old (record { thread = thread; event = Event.Acquire lock mode }) self.new) }
         ensures same { OnErr result (IsSame self.old self.new) }
+        ensures full { IsErrOf result NoTick.CountFull → HasFullCount self.old }
     {
         match self.holders.change(thread, Event::Acquire(lock, mode)) {
             Ok(()) => {}
@@ -216,6 +223,7 @@ impl OrderMachine {
         requires { refused_by (holding self.old thread) (Event.Release lock mode) ≡ None }
         ensures changes { OnOk result (Changes self.old (record { thread = thread; event = Event.Release lock mode }) self.new) }
         ensures same { OnErr result (IsSame self.old self.new) }
+        ensures full { IsErrOf result NoTick.CountFull → HasFullCount self.old }
     {
         let step = Step {
             thread,
@@ -234,6 +242,7 @@ impl OrderMachine {
     fn synchronize(&mut self, thread: ThreadId, sync: Sync) -> Result<(), NoTick>
         ensures changes { OnOk result (Changes self.old (record { thread = thread; event = Event.Sync sync }) self.new) }
         ensures same { OnErr result (IsSame self.old self.new) }
+        ensures full { IsErrOf result NoTick.CountFull → HasFullCount self.old }
     {
         let step = Step {
             thread,
@@ -248,6 +257,7 @@ impl OrderMachine {
         requires local { holds_alone event ≡ true }
         ensures changes { OnOk result (Changes self.old (record { thread = thread; event = event }) self.new) }
         ensures same { OnErr result (IsSame self.old self.new) }
+        ensures full { IsErrOf result NoTick.CountFull → ⊥ }
     {
         match self.holders.change(thread, event) {
             Ok(()) => Ok(()),
@@ -260,6 +270,7 @@ impl OrderMachine {
 fn done(outcome: Result<(), NoTick>) -> Result<Reply, NoTick>
     ensures same { is_ok result ≡ is_ok outcome }
     ensures reply { IfOk result (λ reply. reply ≡ Reply.Done) }
+    ensures full { IsErrOf result NoTick.CountFull → IsErrOf outcome NoTick.CountFull }
 {
     match outcome {
         Ok(()) => Ok(Reply::Done),
