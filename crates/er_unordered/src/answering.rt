@@ -34,6 +34,7 @@ pub(crate) fn answer_steps(
         return Err(OrderFault::Memory);
     }
     for (k, step) in steps.iter().enumerate() {
+        machine.look_ahead(steps, k);
         let answer = machine.step(step)?;
         if is_plain(&answer) {
             builder.add_plain(1);
@@ -63,6 +64,7 @@ pub(crate) fn explain_steps(
         return Err(OrderFault::Memory);
     }
     for (k, step) in steps.iter().enumerate() {
+        machine.look_ahead(steps, k);
         explain_step(
             machine,
             trace.names(),

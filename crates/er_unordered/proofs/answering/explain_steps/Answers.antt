@@ -1,6 +1,7 @@
 -- Each step is answered and explained as the definitions say.
-use Rattle.std.proofs.Common.{◌≡◌, ◌≤◌, ◌+◌, ◌∙◌, ◌++◌, ℕ, List, length, slice_get, slice_index, Some, refl, ap, subst, arith}
+use Rattle.std.proofs.Common.{◌≡◌, ◌≤◌, ◌+◌, ◌∙◌, ◌++◌, ℕ, List, length, slice_get, slice_index, Some, refl, sym, ap, subst, arith}
 use Rattle.std.proofs.lemmas.Option.{slice_get_read}
+use Rattle.er_before.specs.Standing.{Ordered}
 use Rattle.er_event.proofs.Lists.{get_behind}
 use Rattle.er_event.specs.declared.steps.Step.{Step}
 use Rattle.er_run.proofs.PassLemmas.{number-behind}
@@ -17,6 +18,8 @@ loop-k-preserved c =
     let read : slice_get c.steps-steps.result.now k ≡ Some step = slice_get_read c.steps-steps.result.now _ k step refl (omega arith) c.index-steps-k.is in
     let here : (past : List Step) → slice_get (past ++ c.args.trace.now.steps) (length past + k) ≡ Some step =
     λ past. get_behind past c.args.trace.now.steps k (length past + k) refl ∙ (rw c.steps-steps.ensures.value at read) in
+    let ahead : (r : Recording) (at : ℕ) → HasExplainedTo c.loop-k.machine c.loop-k.builder c.loop-k.reasons r at → HasExplainedTo c.look_ahead.new.self c.loop-k.builder c.loop-k.reasons r at =
+    λ r at come. subst (λ (m : Ordered). HasExplainedTo m c.loop-k.builder c.loop-k.reasons r at) (sym c.look_ahead.ensures) come in
     record {
       steps = (let so_far = c.loop-k.invariant.steps in let added = c.in_ok-explain_step.ensures.steps in omega arith);
       rules = c.in_ok-explain_step.ensures.rules ∙ c.loop-k.invariant.rules;
@@ -25,7 +28,7 @@ loop-k-preserved c =
           let one : length past + k + 1 ≡ length past + (k + 1) = omega arith in
           let line = ap (λ (numbers : List ℕ). slice_index numbers k) c.lines-in-loop-k.ensures.value ∙ number-behind lines c.args.trace.now.lines (length past) k long in
           subst (λ (n : ℕ). HasExplainedTo c.explain_step.new.machine c.explain_step.new.builder c.explain_step.new.reasons r n) one
-          (c.in_ok-explain_step.ensures.run r (length past + k) (c.loop-k.invariant.run past lines long before) (here past) line c.names.ensures);
+          (c.in_ok-explain_step.ensures.run r (length past + k) (ahead r (length past + k) (c.loop-k.invariant.run past lines long before)) (here past) line c.names.ensures);
     }
 
 pub returns-clause-run : goal.returns-clause-run
