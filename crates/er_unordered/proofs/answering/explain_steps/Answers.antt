@@ -1,5 +1,5 @@
 -- Each step is answered and explained as the definitions say.
-use Rattle.std.proofs.Common.{◌≡◌, ◌≤◌, ◌+◌, ◌∙◌, ◌++◌, ℕ, List, length, slice_get, slice_index, Some, refl, sym, ap, subst, arith}
+use Rattle.std.proofs.Common.{◌≡◌, ◌<◌, ◌≤◌, ◌+◌, ◌∙◌, ◌++◌, ℕ, List, length, length-append, slice_get, slice_index, Some, refl, sym, ap, subst, arith, rules}
 use Rattle.std.proofs.lemmas.Option.{slice_get_read}
 use Rattle.er_before.specs.Standing.{Ordered}
 use Rattle.er_event.proofs.Lists.{get_behind}
@@ -8,6 +8,7 @@ use Rattle.er_run.proofs.PassLemmas.{number-behind}
 use Rattle.er_text.specs.Batches.{joined}
 use Rattle.er_trace.specs.Trace.{Recording}
 use Rattle.er_unordered.specs.Inner.Passes.{HasExplainedTo}
+use Rattle.er_unordered.specs.Inner.Stopping.{IsStopIn}
 use Rattle.er_unordered.proofs.PassLemmas.{start-explained, whole-explained}
 use Rattle.er_unordered.proofs.answering.explain_steps.Goals as goal
 
@@ -41,3 +42,16 @@ returns-clause-run c = λ past lines names kept run.
     let all : c.loop-k.k ≡ length c.args.trace.now.steps = omega (arith, low, high) in
     whole-explained past lines names c.args.trace.now kept c.steps-steps.ensures.named c.lines.ensures.one_per_step c.args.machine.now c.args.builder.now run.answered c.loop-k.machine c.loop-k.builder c.loop-k.reasons
     (subst (λ (n : ℕ). HasExplainedTo c.loop-k.machine c.loop-k.builder c.loop-k.reasons (joined past lines c.args.trace.now) (length past + n)) all come)
+
+pub returns-in_err-explain_step-clause-full : goal.returns-in_err-explain_step-clause-full
+returns-in_err-explain_step-clause-full c = λ past lines names kept run.
+    let r : Recording = joined past lines c.args.trace.now in
+    let at : ℕ = length past + c.loop-k.k in
+    let before : HasExplainedTo c.args.machine.now c.args.builder.now c.args.reasons.now r (length past) =
+    start-explained past lines names c.args.trace.now kept c.steps-steps.ensures.named c.lines.ensures.one_per_step c.args.machine.now c.args.builder.now run.answered c.args.reasons.now run.explained in
+    let come : HasExplainedTo c.look_ahead.new.self c.loop-k.builder c.loop-k.reasons r at =
+    subst (λ (m : Ordered). HasExplainedTo m c.loop-k.builder c.loop-k.reasons r at) (sym c.look_ahead.ensures) (c.loop-k.invariant.run past lines run.answered.long before) in
+    let low : c.loop-k.k < length c.args.trace.now.steps = rw c.steps-steps.ensures.value at c.loop-k-test.true in
+    let within : at < length r.steps = omega (arith, low, length-append past c.args.trace.now.steps) in
+    let known : IsStopIn r.steps c.in_err-explain_step.field-0.0 = c.in_err-explain_step.ensures.full r at come within in
+    search rules
