@@ -18,7 +18,7 @@ use Rattle.er_event.specs.declared.steps.Step.{Step}
 use Rattle.er_order.specs.Order.{Effect, Local, sync_of, act_unless, acts_of}
 use Rattle.er_order.specs.Clocks.{OfThread, clocks_after, clocks_at}
 use Rattle.er_order.specs.Races.{order_answer}
-use Rattle.er_order.specs.Following.{Kept, act_by, kept_by, kept_at, kept_after, kept_moved, fresh, access_answered}
+use Rattle.er_order.specs.Following.{act_by, kept_by, kept_at, kept_after, kept_moved, fresh, access_answered}
 use Rattle.er_order.proofs.ClockSteps.{local}
 use Rattle.er_order.proofs.StepLemmas.{clocks-grow}
 use Rattle.er_order.proofs.Growing.{kept-grow, answer-grow}

@@ -1,5 +1,5 @@
 -- The lists of steps that a machine stands for, and what one more step makes of it.
-use Rattle.std.specs.Prelude.{ℕ, ◌≡◌, nat_lt, Bool, true, false, cond, List, length, Result}
+use Rattle.std.specs.Prelude.{ℕ, ◌≡◌, ◌-◌, ◌^◌, nat_lt, Bool, true, false, cond, List, length, Result}
 use Rattle.er_event.specs.declared.steps.Event.{Event}
 use Rattle.er_event.specs.declared.steps.Event.TheVariants.{Access, Show, IgnoreOn, IgnoreOff, Level}
 use Rattle.er_event.specs.declared.steps.Reply.{Reply}
@@ -9,7 +9,8 @@ use Rattle.er_model.specs.Holdings.{Holdings, refused_by, after_step, holdings_a
 use Rattle.er_model.specs.Answers.{answer_unless}
 use Rattle.er_held.specs.ThreadLocks.{holding_among}
 use Rattle.er_event.specs.declared.steps.Step.{Step}
-use Rattle.er_order.specs.Clocks.{OfThread}
+use Rattle.er_order.specs.Clocks.{OfThread, clocks_at}
+use Rattle.er_order.specs.Order.{acts_of}
 use Rattle.er_order.specs.Following.{Kept, act_by, kept_at, kept_after, reports_at}
 use Rattle.er_clocks.specs.Standing.{ClockMaps, counts, SameCounts, Moves, StandsForClocksOf}
 use Rattle.er_epochs.specs.Words.{AllWords, kept_among}
@@ -37,6 +38,14 @@ pub record Stands (machine : Ordered) (steps : List Step) : Type 0 where
   pub held : (t : ℕ) → holding machine t ≡ holdings_at steps t (length steps)
   pub clocks : StandsForClocksOf machine.clocks steps
   pub kept : (w : ℕ) → kept_of machine w ≡ kept_at steps w (length steps)
+
+-- some thread's own count is the greatest
+abbrev pub HasFullCount : Ordered → Type 0
+HasFullCount machine = (t : ℕ) × (clock_of machine t t ≡ 2 ^ 32 - 1)
+
+-- at the end of the list, some thread's own count is the greatest
+abbrev pub IsFullAfter : List Step → Type 0
+IsFullAfter steps = (t : ℕ) × (clocks_at (acts_of steps) (length steps) (OfThread t) t ≡ 2 ^ 32 - 1)
 
 -- they are what the step makes of those before
 pub record Changes (before : Ordered) (step : Step) (after : Ordered) : Type 0 where

@@ -5,16 +5,19 @@ ghost use Rattle.er_model.specs.Holdings.{refused_by, changed_by};
 ghost use Rattle.er_held.specs.Held.{nothing_held};
 ghost use Rattle.er_held.specs.ThreadLocks.{holding_among};
 
+use er_clock::{Hints, index_of};
 use er_event::{Event, LockId, Mode, Refusal, ThreadId};
 use er_held::Held;
+use indexmap::IndexMap;
 use std::alloc::{AllocError, Global};
-use std::collections::HashMap;
 use std::marker::Model;
 
 /// The holdings of the threads that took something, by thread. Any other thread has nothing.
 #[derive(Drop)]
 pub(crate) struct Holders {
-    held: HashMap<u32, Held>,
+    held: IndexMap<u32, Held>,
+    // Where a thread stands.
+    places: Hints,
     nothing: Held,
     alloc: Global,
 }
@@ -37,18 +40,21 @@ impl Holders {
         ensures { (t : ℕ) → holding_among result t ≡ nothing_held }
     {
         Holders {
-            held: HashMap::new(alloc),
+            held: IndexMap::new(alloc),
+            places: Hints::new(alloc),
             nothing: Held::new(alloc),
             alloc,
         }
     }
 
     /// The thread's holdings.
+    #[inline]
     pub(crate) fn get(&self, thread: ThreadId) -> &Held
         ensures { result.now ≡ holding_among self.now thread }
     {
-        match self.held.get(&thread.number()) {
-            Some(held) => held,
+        let number = thread.number();
+        match index_of(&self.held, self.places.hint(number), number) {
+            Some(index) => &self.held[index],
             None => &self.nothing,
         }
     }
@@ -67,12 +73,19 @@ impl Holders {
         ensures err { OnErr result ((t : ℕ) → holding_among self.new t ≡ holding_among self.old t) }
         ensures within { (l : ℕ) → IsTrue (has (holding_among self.old thread).write_held l) → IsTrue (has (holding_among self.old thread).held l) }
     {
-        match self.held.get_mut(&thread.number()) {
-            Some(held) => change(held, event),
+        let number = thread.number();
+        match index_of(&self.held, self.places.hint(number), number) {
+            Some(index) => {
+                self.places.note(number, index);
+                let held = &mut self.held[index];
+                change(held, event)
+            }
             None => {
                 let mut held = Held::new(self.alloc);
                 change(&mut held, event)?;
-                self.held.insert(thread.number(), held)?;
+                self.places.make_room()?;
+                self.places.note(number, self.held.len());
+                self.held.insert(number, held)?;
                 Ok(())
             }
         }
@@ -83,8 +96,12 @@ impl Holders {
         requires { refused_by (holding_among self.old thread) (Event.Release lock mode) ≡ None }
         ensures { (t : ℕ) → holding_among self.new t ≡ cond (nat_eq thread t) (changed_by (holding_among self.old thread) (Event.Release lock mode)) (holding_among self.old t) }
     {
-        match self.held.get_mut(&thread.number()) {
-            Some(held) => give_up(held, lock, mode),
+        let number = thread.number();
+        match index_of(&self.held, self.places.hint(number), number) {
+            Some(index) => {
+                let held = &mut self.held[index];
+                give_up(held, lock, mode);
+            }
             None => {}
         }
     }

@@ -1,5 +1,5 @@
 //! The machine: every thread's holdings, the clocks, and what is kept of every word.
-ghost use Rattle.std.specs.Prelude.{◌≡◌, ℕ, List, ◌++◌, ◌∷◌, [], IsFalse, IfOk, OnOk, OnErr, None, is_ok, length, true};
+ghost use Rattle.std.specs.Prelude.{◌≡◌, ℕ, List, ◌++◌, ◌∷◌, [], IsFalse, IfOk, IsErrOf, OnOk, OnErr, None, is_ok, length, true};
 ghost use Rattle.er_model.specs.Holdings.{refused_by, holdings_end};
 ghost use Rattle.er_event.specs.declared.steps.Step.{Step as Steps};
 ghost use Rattle.er_order.specs.Order.{acts_of};
@@ -33,7 +33,10 @@ impl Model for OrderMachine {
 }
 
 impl OrderMachine {
-    ghost use Rattle.er_before.specs.Standing.{Stands, Changes, IsSame, holding, clock_of, kept_of, reply_by, answered_by, is_show, holds_alone};
+    ghost use Rattle.er_before.specs.Standing.{Stands, Changes, IsSame, HasFullCount, IsFullAfter, holding, clock_of, kept_of, reply_by, answered_by, is_show, holds_alone};
+
+    // How many steps are looked at together.
+    const AHEAD: usize = 16;
 
     /// A machine that has taken no step.
     pub fn new(alloc: Global) -> Self
@@ -49,20 +52,44 @@ impl OrderMachine {
     /// Takes one step and says what it is answered: a reply, or why it is refused. A show is done.
     ///
     /// # Errors
-    /// `CountFull`: a thread's own count would rise, and is the greatest. `OutOfMemory`: memory was refused. The step may be tried
-    /// again.
+    /// `CountFull`: a thread's own count would rise, and is the greatest, 2^32 - 1. `OutOfMemory`: memory was refused. The step may be
+    /// tried again.
     pub fn step(&mut self, step: &Step) -> Result<Result<Reply, Refusal>, NoTick>
         ensures answer { (past : List Steps) → Stands self.old past → IsFalse (is_show step.now.event)
             → IfOk result (λ answer. answer ≡ order_answer (past ++ step.now ∷ []) (length past)) }
         ensures goes_on { (past : List Steps) → Stands self.old past → OnOk result (Stands self.new (past ++ step.now ∷ [])) }
         ensures err { (past : List Steps) → Stands self.old past → OnErr result (Stands self.new past) }
+        ensures full { (past : List Steps) → Stands self.old past → IsErrOf result NoTick.CountFull → IsFullAfter past }
 
         // The same by the machine's own holdings, clocks and words.
         ensures answered { IfOk result (λ answer. answer ≡ answered_by self.old step.now) }
         ensures changes { OnOk result (Changes self.old step.now self.new) }
         ensures same { OnErr result (IsSame self.old self.new) }
+        ensures full_count { IsErrOf result NoTick.CountFull → HasFullCount self.old }
     {
         self.take(step.thread, step.event)
+    }
+
+    /// Each few steps reads what is kept of the words that the next few access, so that it comes from memory side by side. `at` is the
+    /// place of the step that is answered next. It only saves time, and a caller that leaves it out gets the same answers.
+    #[inline(always)]
+    pub fn look_ahead(&mut self, steps: &[Step], at: usize)
+        ensures { self.new ≡ self.old }
+    {
+        if at % OrderMachine::AHEAD == 0 {
+            self.read_ahead(steps, at);
+        }
+    }
+
+    fn read_ahead(&mut self, steps: &[Step], at: usize)
+        ensures { self.new ≡ self.old }
+    {
+        let end = at.saturating_add(OrderMachine::AHEAD).min(steps.len());
+        for place in at..end {
+            if let Event::Access(_, word, _) = steps[place].event {
+                self.words.look_ahead(word);
+            }
+        }
     }
 
     /// What a thread holds after the steps so far.
@@ -86,6 +113,7 @@ impl OrderMachine {
         ensures answered { IfOk result (λ answer. answer ≡ answered_by self.old (record { thread = thread; event = event })) }
         ensures changes { OnOk result (Changes self.old (record { thread = thread; event = event }) self.new) }
         ensures same { OnErr result (IsSame self.old self.new) }
+        ensures full { IsErrOf result NoTick.CountFull → HasFullCount self.old }
     {
         // An access is never refused.
         match event {
@@ -106,6 +134,7 @@ impl OrderMachine {
         ensures answered { IfOk result (λ answer. answer ≡ answered_by self.old (record { thread = thread; event = event })) }
         ensures changes { OnOk result (Changes self.old (record { thread = thread; event = event }) self.new) }
         ensures same { OnErr result (IsSame self.old self.new) }
+        ensures full { IsErrOf result NoTick.CountFull → HasFullCount self.old }
     {
         match self.holders.refusal(thread, &event) {
             Some(why) => Ok(Err(why)),
@@ -122,6 +151,7 @@ impl OrderMachine {
         ensures reply { IfOk result (λ reply. reply ≡ reply_by (holding self.old thread) (clock_of self.old thread) (kept_of self.old) event) }
         ensures changes { OnOk result (Changes self.old (record { thread = thread; event = event }) self.new) }
         ensures same { OnErr result (IsSame self.old self.new) }
+        ensures full { IsErrOf result NoTick.CountFull → HasFullCount self.old }
     {
         match event {
             Event::Access(kind, word, _) => self.access(thread, kind, word),
@@ -144,6 +174,7 @@ impl OrderMachine {
         ensures reply { IfOk result (λ reply. reply ≡ reply_by (holding self.old thread) (clock_of self.old thread) (kept_of self.old) (Event.Access kind word 0)) }
         ensures changes { OnOk result (Changes self.old (record { thread = thread; event = Event.Access kind word 0 }) self.new) }
         ensures same { OnErr result (IsSame self.old self.new) }
+        ensures full { IsErrOf result NoTick.CountFull → ⊥ }
     {
         if self.holders.get(thread).ignoring() {
             return Ok(Reply::Ignored);
@@ -168,6 +199,7 @@ impl OrderMachine {
         requires { refused_by (holding self.old thread) (Event.Acquire lock mode) ≡ None }
         ensures changes { OnOk result (Changes self.old (record { thread = thread; event = Event.Acquire lock mode }) self.new) }
         ensures same { OnErr result (IsSame self.old self.new) }
+        ensures full { IsErrOf result NoTick.CountFull → HasFullCount self.old }
     {
         match self.holders.change(thread, Event::Acquire(lock, mode)) {
             Ok(()) => {}
@@ -191,6 +223,7 @@ impl OrderMachine {
         requires { refused_by (holding self.old thread) (Event.Release lock mode) ≡ None }
         ensures changes { OnOk result (Changes self.old (record { thread = thread; event = Event.Release lock mode }) self.new) }
         ensures same { OnErr result (IsSame self.old self.new) }
+        ensures full { IsErrOf result NoTick.CountFull → HasFullCount self.old }
     {
         let step = Step {
             thread,
@@ -209,6 +242,7 @@ impl OrderMachine {
     fn synchronize(&mut self, thread: ThreadId, sync: Sync) -> Result<(), NoTick>
         ensures changes { OnOk result (Changes self.old (record { thread = thread; event = Event.Sync sync }) self.new) }
         ensures same { OnErr result (IsSame self.old self.new) }
+        ensures full { IsErrOf result NoTick.CountFull → HasFullCount self.old }
     {
         let step = Step {
             thread,
@@ -223,6 +257,7 @@ impl OrderMachine {
         requires local { holds_alone event ≡ true }
         ensures changes { OnOk result (Changes self.old (record { thread = thread; event = event }) self.new) }
         ensures same { OnErr result (IsSame self.old self.new) }
+        ensures full { IsErrOf result NoTick.CountFull → ⊥ }
     {
         match self.holders.change(thread, event) {
             Ok(()) => Ok(()),
@@ -235,6 +270,7 @@ impl OrderMachine {
 fn done(outcome: Result<(), NoTick>) -> Result<Reply, NoTick>
     ensures same { is_ok result ≡ is_ok outcome }
     ensures reply { IfOk result (λ reply. reply ≡ Reply.Done) }
+    ensures full { IsErrOf result NoTick.CountFull → IsErrOf outcome NoTick.CountFull }
 {
     match outcome {
         Ok(()) => Ok(Reply::Done),

@@ -26,44 +26,20 @@ next_place (suc n) d [] ys = refl
 next_place (suc n) d (x ∷ xs) [] = refl
 next_place (suc n) d (x ∷ xs) (y ∷ ys) = next_place n d xs ys
 
-get_within : (n d e : ℕ) (xs : List ℕ) → n < length xs → get_or xs n d ≡ get_or xs n e
-get_within n d e [] within = absurd (omega arith)
-get_within zero d e (x ∷ xs) within = refl
-get_within (suc n) d e (x ∷ xs) within = get_within n d e xs (omega arith)
-
-raised_place : (n d e : ℕ) (xs ys : List ℕ) → n < length xs → n < length ys → get_or xs n d < get_or ys n e →
-    set (merged_below n xs ys) n (get_or ys n e) ≡ merged_below (suc n) xs ys
+taken_place : (n d e : ℕ) (xs ys : List ℕ) → n < length xs → n < length ys →
+    set (merged_below n xs ys) n (max (get_or xs n d) (get_or ys n e)) ≡ merged_below (suc n) xs ys
 unfolding merged_below
-raised_place n d e [] ys one two less = absurd (omega arith)
-raised_place n d e (x ∷ xs) [] one two less = absurd (omega arith)
-raised_place zero d e (x ∷ xs) (y ∷ ys) one two less = let greater : y ≡ max x y = omega arith in ap (λ z. z ∷ xs) greater
-raised_place (suc n) d e (x ∷ xs) (y ∷ ys) one two less = ap (λ zs. max x y ∷ zs) (raised_place n d e xs ys (omega arith) (omega arith) less)
+taken_place n d e [] ys one two = absurd (omega arith)
+taken_place n d e (x ∷ xs) [] one two = absurd (omega arith)
+taken_place zero d e (x ∷ xs) (y ∷ ys) one two = refl
+taken_place (suc n) d e (x ∷ xs) (y ∷ ys) one two = ap (λ zs. max x y ∷ zs) (taken_place n d e xs ys (omega arith) (omega arith))
 
-kept_place : (n d e : ℕ) (xs ys : List ℕ) → n < length xs → n < length ys → get_or ys n e ≤ get_or xs n d → merged_below n xs ys ≡ merged_below (suc n) xs ys
-unfolding merged_below
-kept_place n d e [] ys one two less = absurd (omega arith)
-kept_place n d e (x ∷ xs) [] one two less = absurd (omega arith)
-kept_place zero d e (x ∷ xs) (y ∷ ys) one two less = let greater : x ≡ max x y = omega arith in ap (λ z. z ∷ xs) greater
-kept_place (suc n) d e (x ∷ xs) (y ∷ ys) one two less = ap (λ zs. max x y ∷ zs) (kept_place n d e xs ys (omega arith) (omega arith) less)
-
--- the loop's next place, where these are the counts that it reads
-module _ (n m x y : ℕ) (now xs ys : List ℕ) (is : now ≡ merged_below n xs ys) (next : m ≡ suc n) (fits : length ys ≤ length xs) (within : n < length ys)
-    (mine : x ≡ get_or now n x) (theirs : y ≡ get_or ys n y) where
-  mine_first : x ≡ get_or xs n x
-  mine_first = mine ∙ ap (λ zs. get_or zs n x) is ∙ next_place n x xs ys
-
-  -- it gets the second list's count where that is greater
-  pub place_raised : (z : ℕ) → z ≡ get_or ys n z → x < y → set now n z ≡ merged_below m xs ys
-  place_raised z again less =
-      let same : z ≡ get_or ys n y = again ∙ get_within n z y ys within in
-      let first = mine_first in
-      ap₂ (λ zs v. set zs n v) is same ∙ raised_place n x y xs ys (omega arith) within (omega (arith, first, theirs, less)) ∙ rw next refl
-
-  -- and keeps its own where that is the greater one
-  pub place_kept : y ≤ x → now ≡ merged_below m xs ys
-  place_kept less =
-      let first = mine_first in
-      is ∙ kept_place n x y xs ys (omega arith) within (omega (arith, first, theirs, less)) ∙ rw next refl
+-- the loop takes the greater count at its next place, where these are the counts that it reads
+pub place_taken : (n m x y z : ℕ) (now xs ys : List ℕ) → now ≡ merged_below n xs ys → m ≡ suc n → length ys ≤ length xs → n < length ys →
+    x ≡ get_or now n x → y ≡ get_or ys n y → z ≡ max x y → set now n z ≡ merged_below m xs ys
+place_taken n m x y z now xs ys is next fits within mine theirs greater =
+    let first : x ≡ get_or xs n x = mine ∙ ap (λ zs. get_or zs n x) is ∙ next_place n x xs ys in
+    ap₂ (λ zs v. set zs n v) is (greater ∙ ap₂ max first theirs) ∙ taken_place n x y xs ys (omega arith) within ∙ rw next refl
 
 -- a list that has the other's rest after it is as long as that one
 pub longer_is : (xs ys : List ℕ) → xs ++ drop (length xs) ys ≡ lengthened xs ys

@@ -1,2 +1,3 @@
 pub mod ClockLemmas
+pub mod Maps
 pub mod TableLemmas

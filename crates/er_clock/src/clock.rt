@@ -182,8 +182,7 @@ fn raise(counts: &mut Vec<u32>, others: &Vec<u32>)
     ensures { counts.new.items ≡ merged counts.old.items others.now.items }
 {
     for place in 0..others.len() {
-        if counts[place] < others[place] {
-            counts[place] = others[place];
-        }
+        // No branch: which count is greater can't be foretold.
+        counts[place] = counts[place].max(others[place]);
     }
 }

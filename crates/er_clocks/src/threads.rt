@@ -113,6 +113,10 @@ impl ThreadClocks {
         ensures ok { OnOk result ((t u : ℕ) → known_to self.new t u ≡ cond (t == thread) (max (known_to self.old t u) (max (count_in one.now u) (count_in other.now u))) (known_to self.old t u)) }
         ensures err { OnErr result ((t u : ℕ) → known_to self.new t u ≡ known_to self.old t u) }
     {
+        // As a rule nobody has released the lock in read mode.
+        if other.len() == 0 {
+            return self.take(thread, one);
+        }
         self.carried.clear();
         self.carried.join(one)?;
         self.carried.join(other)?;

@@ -65,6 +65,14 @@ impl Block {
         Ok(reported)
     }
 
+    /// Reads the word at a place, for an access of it that comes soon.
+    #[inline]
+    pub(crate) fn look_ahead(&self, place: usize) -> u32
+        requires { place < 128 }
+    {
+        get(&self.words, place).peek()
+    }
+
     /// Ends the era of the words from `lo` to `hi`, both included.
     pub(crate) fn reset(&mut self, lo: usize, hi: usize)
         requires { hi < 128 }

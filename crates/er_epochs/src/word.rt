@@ -59,13 +59,22 @@ impl OrderWord {
         self.read_count as usize
     }
 
-    /// Whether the epoch of this access is the word's last one, by the same kind of access. It is then no race, and leaves the word as it
-    /// is. If the answer is no, that may be so all the same.
+    /// A part of the word, for whoever only wants it read.
+    #[inline]
+    pub(crate) fn peek(self) -> u32 {
+        self.writer
+    }
+
+    /// Whether a race was reported, or the epoch of this access is the word's last one, by the same kind of access. It is then no race, and
+    /// leaves the word as it is. If the answer is no, that may be so all the same.
     #[inline]
     pub(crate) fn is_settled(self, clock: &ThreadClock<'_>, kind: Kind) -> bool
         ensures same { IsTrue result → (listed : EpochList) → kept_by (count_by clock.now) (kept_in self listed) clock.now.0 kind ≡ kept_in self listed }
         ensures quiet { IsTrue result → (listed : EpochList) → reports_at (count_by clock.now) (kept_in self listed) kind ≡ false }
     {
+        if self.writer == TOLD {
+            return true;
+        }
         let epoch = clock.epoch();
         match kind {
             Kind::Read => self.is_read_by(epoch) && self.is_written_before(clock),

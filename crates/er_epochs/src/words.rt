@@ -32,6 +32,8 @@ pub struct OrderWords {
     // whoever asks must check what it gets.
     hints: Vec<usize>,
     lists: ReadLists,
+    // What `look_ahead` has read. Nobody asks for it.
+    ahead: u32,
     alloc: Global,
 }
 
@@ -52,6 +54,7 @@ impl OrderWords {
             blocks: IndexMap::new(alloc),
             hints: Vec::new(alloc),
             lists: ReadLists::new(alloc),
+            ahead: 0,
             alloc,
         }
     }
@@ -84,6 +87,19 @@ impl OrderWords {
                 self.blocks.insert(number, block)?;
                 Ok(reported)
             }
+        }
+    }
+
+    /// Reads what is kept of a word that will be accessed soon. Nothing waits for what is read, so several words of several blocks come
+    /// from memory side by side, and are at hand at their accesses.
+    #[inline]
+    pub fn look_ahead(&mut self, word: Word)
+        ensures { self.new ≡ self.old }
+    {
+        let number = block_of(word);
+        if let Some(index) = index_of(&self.blocks, hint(&self.hints, number), number) {
+            note(&mut self.hints, number, index);
+            self.ahead ^= self.blocks[index].look_ahead(place_of(word));
         }
     }
 

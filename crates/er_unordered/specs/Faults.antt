@@ -1,13 +1,16 @@
 -- The faults of a replay by happens-before, alone or beside the lockset rule.
-use Rattle.std.specs.Prelude.{◌≡◌, ℕ, Bool, true, false, List, Option, Some, IfSome, Result, Ok, Err}
+use Rattle.std.specs.Prelude.{◌≡◌, ℕ, ◌<◌, ◌-◌, ◌^◌, Bool, true, false, List, length, Option, Some, IfSome, Result, Ok, Err}
 use Rattle.er_clock.specs.declared.clock.NoTick.{NoTick}
 use Rattle.er_clock.specs.declared.clock.NoTick.TheVariants as tick
 use Rattle.er_event.specs.declared.refusals.NoRoom.{NoRoom}
 use Rattle.er_event.specs.declared.refusals.NoRoom.TheVariants as room
+use Rattle.er_event.specs.declared.steps.Step.{Step}
 use Rattle.er_journal.specs.declared.answers.Stopped.{Stopped}
+use Rattle.er_order.specs.Clocks.{own_count}
+use Rattle.er_order.specs.Order.{acts_of}
 use Rattle.er_print.specs.declared.fault.WriteFault.TheVariants as writing
 use Rattle.er_run.specs.Replays.{IsRunOf}
-use Rattle.er_text.specs.Trace.{IsFault}
+use Rattle.er_text.specs.Trace.{IsTrace, IsFault}
 use Rattle.er_text.specs.declared.faults.ReadFault.TheVariants as reading
 use Rattle.er_trace.specs.Trace.{Recording}
 use Rattle.er_unordered.specs.declared.fault.OrderFault.{OrderFault}
@@ -38,6 +41,19 @@ abbrev pub MayFill : Analysis → Option (List ℕ) → ℕ → Type 0
 MayFill HappensBefore told limit = ⊥
 MayFill Both told limit = IfSome told (λ text. StopsFor text limit room.TableFull)
 
+-- at one of the steps a thread's own count is the greatest
+pub record OverflowsIn (steps : List Step) : Type 0 where
+  pub at : ℕ
+  pub within : at < length steps
+  pub thread : ℕ
+  pub full : own_count (acts_of steps) at thread ≡ 2 ^ 32 - 1
+
+-- the text is a trace, and a thread's own count is the greatest at one of its steps
+pub record Overflows (text : List ℕ) (limit : ℕ) : Type 0 where
+  pub recording : Recording
+  pub trace : IsTrace text limit recording
+  pub full : OverflowsIn recording.steps
+
 -- nothing was written yet, and a fault of the text is its first
 abbrev pub IsFaultOf : Analysis → Option (List ℕ) → ℕ → OrderFault → Type 0
 IsFaultOf analysis told limit (Read (reading.Text fault)) = IfSome told (λ text. IsFault text limit fault)
@@ -45,7 +61,7 @@ IsFaultOf analysis told limit (Read reading.Memory) = Unit {0}
 IsFaultOf analysis told limit (Read reading.Read) = Unit {0}
 IsFaultOf analysis told limit (Write fault) = ⊥
 IsFaultOf analysis told limit TableFull = MayFill analysis told limit
-IsFaultOf analysis told limit CountFull = Unit {0}
+IsFaultOf analysis told limit CountFull = IfSome told (λ text. Overflows text limit)
 IsFaultOf analysis told limit Memory = Unit {0}
 
 -- the same for happens-before alone

@@ -2,4 +2,5 @@
 pub mod Both
 pub mod Passes
 pub mod Reasons
+pub mod Stopping
 pub mod Written

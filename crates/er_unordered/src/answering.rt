@@ -1,5 +1,5 @@
 //! Answers the steps of a batch by happens-before, one by one, with reasons or without.
-ghost use Rattle.std.specs.Prelude.{◌≡◌, ◌+◌, ◌<◌, ◌^◌, ℕ, List, Some, slice_get, slice_index, IfErr, OnOk};
+ghost use Rattle.std.specs.Prelude.{◌≡◌, ◌+◌, ◌++◌, ◌<◌, ◌^◌, ℕ, List, Some, length, slice_get, slice_index, IfErr, OnOk};
 ghost use Rattle.er_event.specs.declared.steps.Step.{Step as Steps};
 ghost use Rattle.er_report.specs.Builder.{is_plain};
 ghost use Rattle.er_report.specs.Names.{HasSiteName};
@@ -8,6 +8,7 @@ ghost use Rattle.er_text.specs.Named.{KeepsNames};
 ghost use Rattle.er_trace.specs.Names.{NameTable};
 ghost use Rattle.er_trace.specs.Trace.{Recording};
 ghost use Rattle.er_unordered.specs.Inner.Passes.{HasAnswered, HasExplained, HasExplainedTo, IsOrderFault, recorded};
+ghost use Rattle.er_unordered.specs.Inner.Stopping.{IsStopIn};
 
 use crate::OrderFault;
 use crate::reasons::Reasons;
@@ -27,6 +28,8 @@ pub(crate) fn answer_steps(
     ensures run { (past : List Steps) (lines : List ℕ) (names : NameTable) → KeepsNames names trace.now.names → HasAnswered machine.old builder.old (recorded past lines names)
         → OnOk result (HasAnswered machine.new builder.new (joined past lines trace.now)) }
     ensures fault { IfErr result (λ why. IsOrderFault why) }
+    ensures full { (past : List Steps) (lines : List ℕ) (names : NameTable) → KeepsNames names trace.now.names → HasAnswered machine.old builder.old (recorded past lines names)
+        → IfErr result (λ why. IsStopIn (past ++ trace.now.steps) why) }
 {
     let steps = trace.steps();
     prove!(steps.len() == trace.lines().len());
@@ -34,6 +37,7 @@ pub(crate) fn answer_steps(
         return Err(OrderFault::Memory);
     }
     for (k, step) in steps.iter().enumerate() {
+        machine.look_ahead(steps, k);
         let answer = machine.step(step)?;
         if is_plain(&answer) {
             builder.add_plain(1);
@@ -56,6 +60,8 @@ pub(crate) fn explain_steps(
     ensures run { (past : List Steps) (lines : List ℕ) (names : NameTable) → KeepsNames names trace.now.names → HasExplained machine.old builder.old reasons.old (recorded past lines names)
         → OnOk result (HasExplained machine.new builder.new reasons.new (joined past lines trace.now)) }
     ensures fault { IfErr result (λ why. IsOrderFault why) }
+    ensures full { (past : List Steps) (lines : List ℕ) (names : NameTable) → KeepsNames names trace.now.names → HasExplained machine.old builder.old reasons.old (recorded past lines names)
+        → IfErr result (λ why. IsStopIn (past ++ trace.now.steps) why) }
 {
     let steps = trace.steps();
     prove!(steps.len() == trace.lines().len());
@@ -63,6 +69,7 @@ pub(crate) fn explain_steps(
         return Err(OrderFault::Memory);
     }
     for (k, step) in steps.iter().enumerate() {
+        machine.look_ahead(steps, k);
         explain_step(
             machine,
             trace.names(),
@@ -91,6 +98,7 @@ fn explain_step(
     ensures run { (r : Recording) (k : ℕ) → HasExplainedTo machine.old builder.old reasons.old r k → slice_get r.steps k ≡ Some step.now → line ≡ slice_index r.lines k → names.now ≡ r.names
         → OnOk result (HasExplainedTo machine.new builder.new reasons.new r (k + 1)) }
     ensures fault { IfErr result (λ why. IsOrderFault why) }
+    ensures full { (r : Recording) (k : ℕ) → HasExplainedTo machine.old builder.old reasons.old r k → k < length r.steps → IfErr result (λ why. IsStopIn r.steps why) }
 {
     let answer = machine.step(step)?;
     let before = builder.races();

@@ -14,6 +14,7 @@ ghost use Rattle.er_unordered.specs.declared.replay.Analysis.TheVariants.{Both};
 use crate::OrderFault;
 use crate::building::OrderBuilder;
 use crate::passes::BATCH_LINES;
+use crate::stopping::read_rest;
 use er_before::OrderMachine;
 use er_device::Device;
 use er_event::NoRoom;
@@ -83,8 +84,8 @@ impl<'t, 'r> BothPass<'t, 'r> {
         })
     }
 
-    /// Reads a batch, answers its steps by both and forgets them, and says whether lines may follow. Where the lockset rule has stopped, the
-    /// text is still read to its end, since a fault of the text comes first.
+    /// Reads a batch, answers its steps by both and forgets them, and says whether lines may follow. If the lockset rule has stopped or a
+    /// count is full, the text is still read to its end, since a fault of the text comes first.
     fn turn<R: Wait, D: Read>(&mut self, rt: &R, reader: &mut Device<D>) -> Result<bool, OrderFault>
         requires open { has_failed reader.old ≡ false }
         ensures come { (told : Option (List ℕ)) → HaveCome told (D.remaining (inner_of reader.old)) self.old.lines self.old.trace self.old.machine self.old.builder self.old.stop self.old.ordering self.old.unordered
@@ -112,7 +113,15 @@ impl<'t, 'r> BothPass<'t, 'r> {
             &mut self.builder,
             self.stop,
         )?;
-        self.unordered.answer(&mut self.ordering, &self.trace)?;
+        match self.unordered.answer(&mut self.ordering, &self.trace) {
+            Ok(()) => {}
+            Err(OrderFault::CountFull) => {
+                read_rest(&mut self.lines, &mut self.trace, reader, batch)?;
+                return Err(OrderFault::CountFull);
+            }
+            // Otherwise memory was refused.
+            Err(_) => return Err(OrderFault::Memory),
+        }
         match batch {
             Batch::End => Ok(false),
             Batch::More => {

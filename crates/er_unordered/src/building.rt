@@ -1,5 +1,5 @@
 //! The report of unordered accesses, built batch by batch, with reasons or without.
-ghost use Rattle.std.specs.Prelude.{◌≡◌, ℕ, List, All, is_some, length, IfOk, IfErr, IfSome, OnOk};
+ghost use Rattle.std.specs.Prelude.{◌≡◌, ◌++◌, ℕ, List, All, is_some, length, IfOk, IfErr, IfSome, OnOk};
 ghost use Rattle.er_event.specs.declared.steps.Step.{Step as Steps};
 ghost use Rattle.er_report.specs.Builder.{IsBuiltBy};
 ghost use Rattle.er_report.specs.Names.{HasNames};
@@ -12,6 +12,7 @@ ghost use Rattle.er_trace.specs.Trace.{Recording, IsNamed};
 ghost use Rattle.er_unordered.specs.Answers.{unordered_answer};
 ghost use Rattle.er_unordered.specs.Inner.Passes.{HasGathered, IsOrderFault, IsReasoned, recorded};
 ghost use Rattle.er_unordered.specs.Inner.Reasons.{HasReasons};
+ghost use Rattle.er_unordered.specs.Inner.Stopping.{IsStopIn};
 ghost use Rattle.er_unordered.specs.Reports.{unordered_report};
 
 use crate::OrderFault;
@@ -83,6 +84,8 @@ impl<'r> OrderBuilder<'r> {
         ensures run { (past : List Steps) (lines : List ℕ) (names : NameTable) → KeepsNames names trace.now.names → HasGathered machine.old self.old (recorded past lines names)
             → OnOk result (HasGathered machine.new self.new (joined past lines trace.now)) }
         ensures fault { IfErr result (λ why. IsOrderFault why) }
+        ensures full { (past : List Steps) (lines : List ℕ) (names : NameTable) → KeepsNames names trace.now.names → HasGathered machine.old self.old (recorded past lines names)
+            → IfErr result (λ why. IsStopIn (past ++ trace.now.steps) why) }
     {
         match &mut self.reasons {
             None => answer_steps(machine, trace, &mut self.report),

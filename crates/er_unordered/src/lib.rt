@@ -8,7 +8,8 @@
 //! What it promises, by the names of clauses, if the reader and the writer tell their bytes, as a slice and a `Vec` do: what was written
 //! is exactly the text that the trace, the rules and the analysis define (`report`); a fault of the text is the text's first fault
 //! (`fault`); and nothing was written after any fault but a failed write, which leaves a beginning of that text (`nothing`, `fault`). With
-//! both analyses, each part of the text is what its analysis alone writes.
+//! both analyses, each part of the text is what its analysis alone writes. A count is full only if the text is a trace, and a thread's own
+//! count is 2^32 - 1 at one of its steps (`fault`).
 //!
 //! Whatever they tell of their bytes: the reader and the writer failed exactly if the fault says so (`failed`), and at most the limit and
 //! 1,025 bytes were taken from the reader (`taken`).
@@ -43,4 +44,5 @@ mod fault;
 mod passes;
 mod reasons;
 mod replay;
+mod stopping;
 mod text;

@@ -11,6 +11,7 @@ ghost use Rattle.er_unordered.specs.Reports.{IsReportOfText};
 
 use crate::OrderFault;
 use crate::building::OrderBuilder;
+use crate::stopping::read_rest;
 use er_before::OrderMachine;
 use er_device::Device;
 use er_report::Report;
@@ -66,7 +67,8 @@ impl<'r> Pass<'r> {
         })
     }
 
-    /// Reads a batch, answers its steps and forgets them, and says whether lines may follow.
+    /// Reads a batch, answers its steps and forgets them, and says whether lines may follow. If a count is full, the text is still read to its
+    /// end, since a fault of the text comes first.
     fn turn<D: Read>(&mut self, reader: &mut Device<D>) -> Result<bool, OrderFault>
         requires open { has_failed reader.old ≡ false }
         ensures come { (told : Option (List ℕ)) → HasCome told (D.remaining (inner_of reader.old)) self.old.lines self.old.trace self.old.machine self.old.builder
@@ -85,7 +87,15 @@ impl<'r> Pass<'r> {
         ensures most { taken_by self.new.lines.place ≤ self.new.lines.place.limit + bytes_past_limit }
     {
         let batch = self.lines.next_batch(reader, &mut self.trace, BATCH_LINES)?;
-        self.builder.answer(&mut self.machine, &self.trace)?;
+        match self.builder.answer(&mut self.machine, &self.trace) {
+            Ok(()) => {}
+            Err(OrderFault::CountFull) => {
+                read_rest(&mut self.lines, &mut self.trace, reader, batch)?;
+                return Err(OrderFault::CountFull);
+            }
+            // Otherwise memory was refused.
+            Err(_) => return Err(OrderFault::Memory),
+        }
         match batch {
             Batch::End => Ok(false),
             Batch::More => {

@@ -1,13 +1,14 @@
 -- The step is answered as the definitions say and added to the report, and its reason is found.
-use Rattle.std.proofs.Common.{◌≡◌, ◌+◌, ◌∙◌, nat_lt, List, sym, ap, ap₂, subst}
-use Rattle.er_event.specs.declared.steps.Step.{Step}
+use Rattle.std.proofs.Common.{◌+◌, ◌∙◌, nat_lt, List, Err, take, sym, ap, ap₂, subst}
 use Rattle.er_model.specs.Holdings.{Holdings}
+use Rattle.er_replay.proofs.ThreadsLemmas.{err_from}
 use Rattle.er_report.specs.Builder.{IsBuiltBy}
 use Rattle.er_rules.specs.Rules.{Target}
 use Rattle.er_unordered.specs.Answers.{unordered_answer}
 use Rattle.er_unordered.specs.Inner.Passes.{HasComeTo}
 use Rattle.er_unordered.specs.Inner.Reasons.{HasReasons}
 use Rattle.er_unordered.proofs.PassLemmas.{clock-lent, come-to, known-here, printed-here, step-here}
+use Rattle.er_unordered.proofs.StoppingLemmas.{full-here, stop-by}
 use Rattle.er_unordered.proofs.answering.explain_step.Goals as goal
 
 pub returns-clause-run : goal.returns-clause-run
@@ -25,3 +26,8 @@ returns-clause-run c = λ r k old here line named.
           (ap₂ nat_lt c.races-before.ensures c.races.ensures ∙ printed-here (unordered_answer r.steps) c.args.builder.now c.add.new.self r k old.come.built built c.in_ok-add.ensures.rules)
           (clock-lent c.step.new.self _ c.args.step.now.thread c.clock-clock.result come.stands c.clock-clock.ensures.thread c.clock-clock.ensures.counts));
     }
+
+pub returns-in_err-answer-clause-full : goal.returns-in_err-answer-clause-full
+returns-in_err-answer-clause-full c = λ r k old within.
+    err_from c.from_residual.result _ _ c.from_residual.ensures.1 (λ e is.
+    stop-by r.steps c.in_err-answer.field-0.0 e is (λ full. full-here r.steps k within (c.in_err-answer.ensures.full (take k r.steps) old.come.stands (ap Err full))))
