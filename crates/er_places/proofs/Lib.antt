@@ -1,0 +1,4 @@
+pub mod NameLemmas
+pub mod PlaceLemmas
+pub mod TextLemmas
+pub mod AskLemmas

@@ -1,0 +1,91 @@
+-- A pass that forgets its steps stands for all of them, and at the end for those of the text.
+use Rattle.std.proofs.Common.{◌≡◌, ℕ, Bool, List, [], ◌++◌, length, Option, Some, None, IfSome, Ok, refl, sym, ap, subst, ◌∙◌, arith}
+use Rattle.std.specs.List.{All}
+use Rattle.std.proofs.lemmas.List.{length-append}
+use Rattle.std.proofs.lemmas.List.Elements.{All-append, All-nil}
+use Rattle.er_event.specs.declared.steps.Step.{Step}
+use Rattle.er_places.proofs.NameLemmas.{all-named}
+use Rattle.er_places.specs.Inner.Following.{Followed, HasCome, HasEnded, StandsFor}
+use Rattle.er_places.specs.Places.{ArePlaces, HasPlaces, PlaceTable, place_in}
+use Rattle.er_places.specs.declared.place.Place.{Place}
+use Rattle.er_text.proofs.BatchLaws.{forgotten}
+use Rattle.er_text.proofs.TextLaws.{same_trace}
+use Rattle.er_text.specs.Batches.{joined, HasRead, GivesBatch}
+use Rattle.er_text.specs.Named.{KeepsNames}
+use Rattle.er_text.specs.Places.{Reached}
+use Rattle.er_text.specs.Trace.{IsTrace}
+use Rattle.er_text.specs.declared.reading.Batch.{Batch}
+use Rattle.er_text.specs.declared.reading.Batch.TheVariants.{More, End}
+use Rattle.er_trace.specs.Names.{NameTable, no_names}
+use Rattle.er_trace.specs.Trace.{IsNamed, Recording, no_steps, without_steps}
+
+-- a batch
+module _ (wants : ℕ → Bool) (told : Option (List ℕ)) (old new : Reached) (known rest : Option (List ℕ)) (t u : Recording) (batch : Batch) (seen after_it : Followed)
+    (state : HasCome wants told known old t seen)
+    (gives : (text : List ℕ) (steps : List Step) (numbers : List ℕ) → HasRead text steps numbers old known t → GivesBatch text steps numbers new rest u (Ok batch))
+    (kept : KeepsNames t.names u.names) (level : length u.lines ≡ length u.steps) (named : All (IsNamed u.names) u.steps)
+    (stands : StandsFor wants after_it (state.past ++ u.steps) (state.lines ++ u.lines)) where
+  all : All (IsNamed u.names) (state.past ++ u.steps)
+  all = All-append (IsNamed u.names) state.past u.steps (all-named t.names u.names kept state.past state.named) named
+
+  part : batch ≡ More → (o : Option (List ℕ)) → IfSome o (λ text. HasRead text state.past state.lines old known t)
+      → IfSome o (λ text. HasRead text (state.past ++ u.steps) (state.lines ++ u.lines) new rest (without_steps u))
+  part is None read = tt
+  part is (Some text) read =
+      forgotten text state.past state.lines new rest u (subst (λ (b : Batch). GivesBatch text state.past state.lines new rest u (Ok b)) is (gives text state.past state.lines read))
+
+  pub come-part : batch ≡ More → HasCome wants told rest new (without_steps u) after_it
+  come-part is =
+      let even : length state.lines ≡ length state.past = state.even in
+      record {
+        past = state.past ++ u.steps;
+        lines = state.lines ++ u.lines;
+        read = part is told state.read;
+        even = omega (arith, length-append state.past u.steps, length-append state.lines u.lines);
+        named = all;
+        stands = stands;
+      }
+
+  whole : batch ≡ End → new.place.limit ≡ old.place.limit → (o : Option (List ℕ)) → IfSome o (λ text. HasRead text state.past state.lines old known t)
+      → IfSome o (λ text. IsTrace text old.place.limit (joined state.past state.lines u))
+  whole is limit None read = tt
+  whole is limit (Some text) read =
+      subst (λ (n : ℕ). IsTrace text n (joined state.past state.lines u)) limit
+      (subst (λ (b : Batch). GivesBatch text state.past state.lines new rest u (Ok b)) is (gives text state.past state.lines read))
+
+  pub come-whole : batch ≡ End → new.place.limit ≡ old.place.limit → HasEnded wants told old.place.limit u after_it
+  come-whole is limit =
+      record {
+        recording = joined state.past state.lines u;
+        read = whole is limit told state.read;
+        names = refl;
+        named = all;
+        stands = stands;
+      }
+
+-- before the first batch
+pub come-start : (wants : ℕ → Bool) (reader : Reached) (trace : Recording) (seen : Followed) → trace ≡ no_steps → ((text : List ℕ) → HasRead text [] [] reader (Some text) no_steps)
+    → StandsFor wants seen [] [] → (told : Option (List ℕ)) → HasCome wants told told reader trace seen
+come-start wants reader trace seen empty starts stands told =
+    subst (λ (t : Recording). HasCome wants told told reader t seen) (sym empty)
+    (record { past = []; lines = []; read = read-by told; even = refl; named = All-nil (IsNamed no_names); stands = stands })
+  where
+    read-by : (o : Option (List ℕ)) → IfSome o (λ text. HasRead text [] [] reader o no_steps)
+    read-by None = tt
+    read-by (Some text) = starts text
+
+-- behind the last one
+pub places-found : (wants : ℕ → Bool) (told : Option (List ℕ)) (limit : ℕ) (trace : Recording) (seen : Followed) (table : PlaceTable) → HasEnded wants told limit trace seen
+    → table.places ≡ seen.places → table.names ≡ trace.names → IfSome told (λ text. ArePlaces wants text limit table)
+places-found wants told limit trace seen table ended places names = by told ended.read
+  where
+    kept : KeepsNames table.names ended.recording.names
+    kept = subst (λ (n : NameTable). KeepsNames n ended.recording.names) (sym (names ∙ ended.names))
+        (record { threads = λ n name is. is; locks = λ n name is. is; sites = λ n name is. is })
+
+    has : HasPlaces wants ended.recording table
+    has = record { places = λ line. ap (λ (all : List (ℕ × Place)). place_in all line) places ∙ ended.stands.places line; names = kept }
+
+    by : (o : Option (List ℕ)) → IfSome o (λ text. IsTrace text limit ended.recording) → IfSome o (λ text. ArePlaces wants text limit table)
+    by None read = tt
+    by (Some text) read = λ r is. subst (λ (x : Recording). HasPlaces wants x table) (same_trace text limit ended.recording r read is) has
