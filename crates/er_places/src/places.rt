@@ -4,6 +4,7 @@ ghost use Rattle.er_places.specs.Inner.Following.{AreNamed};
 ghost use Rattle.er_places.specs.Places.{HasPlaceNames, place_at, place_in};
 ghost use Rattle.er_places.specs.Reasons.{fits, if_fits, reason_place};
 ghost use Rattle.er_places.specs.Wanted.{same_kind};
+ghost use Rattle.er_trace.specs.Names.{no_names};
 
 use crate::Place;
 use er_event::Kind;
@@ -34,7 +35,8 @@ impl Model for Places {
 impl Places {
     /// No place is known.
     pub fn new(alloc: Global) -> Self
-        ensures { (line : ℕ) → place_at result line ≡ None }
+        ensures none { (line : ℕ) → place_at result line ≡ None }
+        ensures names { result.names ≡ no_names }
     {
         Places {
             by_line: HashMap::new(alloc),
