@@ -1,12 +1,12 @@
 -- A pass that forgets its steps stands for all of them, and at the end for those of the text.
-use Rattle.std.proofs.Common.{◌≡◌, ℕ, Bool, List, [], ◌++◌, length, Option, Some, None, IfSome, Ok, refl, sym, ap, subst, ◌∙◌, arith}
+use Rattle.std.proofs.Common.{◌≡◌, ℕ, Bool, List, [], ◌++◌, length, Option, Some, None, IfSome, IfOk, Result, Ok, Err, cond, refl, sym, ap, subst, ◌∙◌, arith}
 use Rattle.std.specs.List.{All}
 use Rattle.std.proofs.lemmas.List.{length-append}
 use Rattle.std.proofs.lemmas.List.Elements.{All-append, All-nil}
 use Rattle.er_event.specs.declared.steps.Step.{Step}
 use Rattle.er_places.proofs.NameLemmas.{all-named}
 use Rattle.er_places.specs.Inner.Following.{Followed, HasCome, HasEnded, StandsFor}
-use Rattle.er_places.specs.Places.{ArePlaces, HasPlaces, PlaceTable, place_in}
+use Rattle.er_places.specs.Places.{ArePlaces, HasPlaces, PlaceTable, place_in, place_on}
 use Rattle.er_places.specs.declared.place.Place.{Place}
 use Rattle.er_text.proofs.BatchLaws.{forgotten}
 use Rattle.er_text.proofs.TextLaws.{same_trace}
@@ -14,6 +14,7 @@ use Rattle.er_text.specs.Batches.{joined, HasRead, GivesBatch}
 use Rattle.er_text.specs.Named.{KeepsNames}
 use Rattle.er_text.specs.Places.{Reached}
 use Rattle.er_text.specs.Trace.{IsTrace}
+use Rattle.er_text.specs.declared.faults.ReadFault.{ReadFault}
 use Rattle.er_text.specs.declared.reading.Batch.{Batch}
 use Rattle.er_text.specs.declared.reading.Batch.TheVariants.{More, End}
 use Rattle.er_trace.specs.Names.{NameTable, no_names}
@@ -89,3 +90,15 @@ places-found wants told limit trace seen table ended places names = by told ende
     by : (o : Option (List ℕ)) → IfSome o (λ text. IsTrace text limit ended.recording) → IfSome o (λ text. ArePlaces wants text limit table)
     by None read = tt
     by (Some text) read = λ r is. subst (λ (x : Recording). HasPlaces wants x table) (same_trace text limit ended.recording r read is) has
+
+-- what is asked is what is wanted
+same-cond : (one other : Bool) (o : Option Place) → one ≡ other → cond one o None ≡ cond other o None
+same-cond one other o same = ap (λ (b : Bool). cond b o None) same
+
+pub places-asked : (one other : ℕ → Bool) (told : Option (List ℕ)) (limit : ℕ) (result : Result PlaceTable ReadFault) → ((line : ℕ) → one line ≡ other line)
+    → IfOk result (λ table. IfSome told (λ text. ArePlaces one text limit table)) → IfOk result (λ table. IfSome told (λ text. ArePlaces other text limit table))
+places-asked one other told limit (Err why) same found = tt
+places-asked one other None limit (Ok table) same found = tt
+places-asked one other (Some text) limit (Ok table) same found = λ r is.
+    let has : HasPlaces one r table = found r is in
+    record { places = λ line. has.places line ∙ same-cond (one line) (other line) (place_on r line) (same line); names = has.names }

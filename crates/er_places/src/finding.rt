@@ -4,13 +4,14 @@ ghost use Rattle.er_device.specs.Device.{inner_of, has_failed};
 ghost use Rattle.er_event.specs.declared.steps.Step.{Step};
 ghost use Rattle.er_places.specs.Inner.Following.{AreNamed, HasCome, HasEnded, StandsFor};
 ghost use Rattle.er_places.specs.Places.{ArePlaces, IsFaultOf};
-ghost use Rattle.er_places.specs.Wanted.{is_wanted};
+ghost use Rattle.er_places.specs.Wanted.{is_asked, is_wanted};
 ghost use Rattle.er_text.specs.Trace.{HasFailedBy};
 ghost use Rattle.er_trace.specs.Trace.{IsNamed};
 
 use crate::follower::Follower;
 use crate::{Places, Wanted};
 use er_device::Device;
+use er_report::Line;
 use er_text::{Batch, ReadFault, TraceReader};
 use er_trace::Trace;
 use std::alloc::{AllocError, Global};
@@ -125,4 +126,33 @@ pub fn find_places<D: Read>(
         Ok(()) => Ok(finder.finish()),
         Err(why) => Err(why),
     }
+}
+
+/// The same for the lines that the reasons of a report's first races name. If there is none, nothing is read.
+pub fn places_of_reasons<D: Read>(
+    alloc: Global,
+    reader: &mut Device<D>,
+    byte_limit: u64,
+    lines: &[Line],
+) -> Result<Places, ReadFault>
+    requires open { has_failed reader.old ≡ false }
+    requires limit { byte_limit ≤ 2 ^ 62 }
+    ensures found { IfOk result (λ places. IfSome (D.remaining (inner_of reader.old)) (λ text. ArePlaces (is_asked lines.now) text byte_limit places)) }
+    ensures fault { IfErr result (λ why. IsFaultOf (D.remaining (inner_of reader.old)) byte_limit why) }
+    ensures failed { HasFailedBy (has_failed reader.new) result }
+{
+    let wanted = asked_lines(alloc, lines)?;
+    if wanted.is_empty() {
+        return Ok(Places::new(alloc));
+    }
+    find_places(alloc, reader, byte_limit, &wanted)
+}
+
+// The lines that the reasons name.
+fn asked_lines(alloc: Global, lines: &[Line]) -> Result<Wanted, AllocError>
+    ensures { IfOk result (λ wanted. (line : ℕ) → is_wanted wanted line ≡ is_asked lines.now line) }
+{
+    let mut wanted = Wanted::new(alloc);
+    wanted.add_reasons(alloc, lines)?;
+    Ok(wanted)
 }
