@@ -2,3 +2,4 @@ pub mod NameLemmas
 pub mod PlaceLemmas
 pub mod TextLemmas
 pub mod AskLemmas
+pub mod FrontLemmas

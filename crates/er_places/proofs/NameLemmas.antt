@@ -76,8 +76,8 @@ module _ (names : NameTable) (steps : List Step) (lines : List ℕ) (all : All (
   unfolding place_below
   below-named l zero = tt
   below-named l (suc n) =
-      cond-named (HasPlaceNames names) (slice_index lines n == l) (or_else (place_of steps lines n (slice_get steps n)) (place_below steps lines l n)) (place_below steps lines l n)
-      (or-named (HasPlaceNames names) (place_of steps lines n (slice_get steps n)) (place_below steps lines l n) (of-named n (slice_get steps n) refl) (below-named l n))
+      cond-named (HasPlaceNames names) (slice_index lines n == l) (or_else (place_below steps lines l n) (place_of steps lines n (slice_get steps n))) (place_below steps lines l n)
+      (or-named (HasPlaceNames names) (place_below steps lines l n) (place_of steps lines n (slice_get steps n)) (below-named l n) (of-named n (slice_get steps n) refl))
       (below-named l n)
 
   -- of the places that stand for these steps

@@ -4,20 +4,22 @@ use Rattle.std.specs.List.{All}
 use Rattle.std.proofs.lemmas.List.{length-append}
 use Rattle.std.proofs.lemmas.List.Elements.{All-append, All-nil}
 use Rattle.er_event.specs.declared.steps.Step.{Step}
-use Rattle.er_places.proofs.NameLemmas.{all-named}
-use Rattle.er_places.specs.Inner.Following.{Followed, HasCome, HasEnded, StandsFor}
-use Rattle.er_places.specs.Places.{ArePlaces, HasPlaces, PlaceTable, place_in, place_on}
+use Rattle.er_places.proofs.FrontLemmas.{in-front}
+use Rattle.er_places.proofs.NameLemmas.{all-named, are-named}
+use Rattle.er_places.proofs.PlaceLemmas.{found-all}
+use Rattle.er_places.specs.Inner.Following.{Followed, HasAll, HasCome, HasEnded, StandsFor}
+use Rattle.er_places.specs.Places.{place_below, ArePlaces, HasPlaces, PlaceTable, place_on}
 use Rattle.er_places.specs.declared.place.Place.{Place}
 use Rattle.er_text.proofs.BatchLaws.{forgotten}
 use Rattle.er_text.proofs.TextLaws.{same_trace}
 use Rattle.er_text.specs.Batches.{joined, HasRead, GivesBatch}
-use Rattle.er_text.specs.Named.{KeepsNames}
+use Rattle.er_text.specs.Named.{Grows, KeepsNames}
 use Rattle.er_text.specs.Places.{Reached}
 use Rattle.er_text.specs.Trace.{IsTrace}
 use Rattle.er_text.specs.declared.faults.ReadFault.{ReadFault}
 use Rattle.er_text.specs.declared.reading.Batch.{Batch}
 use Rattle.er_text.specs.declared.reading.Batch.TheVariants.{More, End}
-use Rattle.er_trace.specs.Names.{NameTable, no_names}
+use Rattle.er_trace.specs.Names.{no_names}
 use Rattle.er_trace.specs.Trace.{IsNamed, Recording, no_steps, without_steps}
 
 -- a batch
@@ -47,21 +49,52 @@ module _ (wants : ℕ → Bool) (told : Option (List ℕ)) (old new : Reached) (
         stands = stands;
       }
 
+  abbrev found : PlaceTable
+  found = record { places = after_it.places; names = u.names }
+
+  names_kept : KeepsNames u.names u.names
+  names_kept = record { threads = λ n name is. is; locks = λ n name is. is; sites = λ n name is. is }
+
+  -- the last batch has the rest of the text's steps
   whole : batch ≡ End → new.place.limit ≡ old.place.limit → (o : Option (List ℕ)) → IfSome o (λ text. HasRead text state.past state.lines old known t)
-      → IfSome o (λ text. IsTrace text old.place.limit (joined state.past state.lines u))
+      → IfSome o (λ text. ArePlaces wants text old.place.limit found)
   whole is limit None read = tt
-  whole is limit (Some text) read =
+  whole is limit (Some text) read = λ r trace.
+      let here : IsTrace text old.place.limit (joined state.past state.lines u) =
       subst (λ (n : ℕ). IsTrace text n (joined state.past state.lines u)) limit
-      (subst (λ (b : Batch). GivesBatch text state.past state.lines new rest u (Ok b)) is (gives text state.past state.lines read))
+      (subst (λ (b : Batch). GivesBatch text state.past state.lines new rest u (Ok b)) is (gives text state.past state.lines read)) in
+      subst (λ (x : Recording). HasPlaces wants x found) (same_trace text old.place.limit (joined state.past state.lines u) r here trace)
+      (record { places = stands.places; names = names_kept })
 
   pub come-whole : batch ≡ End → new.place.limit ≡ old.place.limit → HasEnded wants told old.place.limit u after_it
   come-whole is limit =
       record {
-        recording = joined state.past state.lines u;
-        read = whole is limit told state.read;
-        names = refl;
-        named = all;
-        stands = stands;
+        named = are-named u.names (state.past ++ u.steps) (state.lines ++ u.lines) all wants after_it stands;
+        found = whole is limit told state.read;
+      }
+
+  -- and where each wanted line has its place, later batches change nothing
+  enough : batch ≡ More → new.place.limit ≡ old.place.limit → HasAll wants after_it.places → (o : Option (List ℕ)) → IfSome o (λ text. HasRead text state.past state.lines old known t)
+      → IfSome o (λ text. ArePlaces wants text old.place.limit found)
+  enough is limit has None read = tt
+  enough is limit has (Some text) read = λ r trace.
+      let so_far : HasRead text state.past state.lines new rest u = subst (λ (b : Batch). GivesBatch text state.past state.lines new rest u (Ok b)) is (gives text state.past state.lines read) in
+      let grows : Grows (joined state.past state.lines u) r = in-front text state.past state.lines new rest u r so_far (subst (λ (n : ℕ). IsTrace text n r) (sym limit) trace) in
+      let even : length state.lines ≡ length state.past = state.even in
+      let level_all : length (state.lines ++ u.lines) ≡ length (state.past ++ u.steps) = omega (arith, length-append state.past u.steps, length-append state.lines u.lines) in
+      record {
+        places = λ l. found-all wants after_it (state.past ++ u.steps) grows.more (state.lines ++ u.lines) grows.others level_all stands has l
+            ∙ ap (λ (o : Option Place). cond (wants l) o None)
+            (ap (λ (steps : List Step). place_below steps ((state.lines ++ u.lines) ++ grows.others) l (length steps)) (sym grows.steps)
+            ∙ ap (λ (lines : List ℕ). place_below r.steps lines l (length r.steps)) (sym grows.lines));
+        names = grows.names;
+      }
+
+  pub come-enough : batch ≡ More → new.place.limit ≡ old.place.limit → HasAll wants after_it.places → HasEnded wants told old.place.limit u after_it
+  come-enough is limit has =
+      record {
+        named = are-named u.names (state.past ++ u.steps) (state.lines ++ u.lines) all wants after_it stands;
+        found = enough is limit has told state.read;
       }
 
 -- before the first batch
@@ -75,21 +108,11 @@ come-start wants reader trace seen empty starts stands told =
     read-by None = tt
     read-by (Some text) = starts text
 
--- behind the last one
+-- once no more can be found
 pub places-found : (wants : ℕ → Bool) (told : Option (List ℕ)) (limit : ℕ) (trace : Recording) (seen : Followed) (table : PlaceTable) → HasEnded wants told limit trace seen
     → table.places ≡ seen.places → table.names ≡ trace.names → IfSome told (λ text. ArePlaces wants text limit table)
-places-found wants told limit trace seen table ended places names = by told ended.read
-  where
-    kept : KeepsNames table.names ended.recording.names
-    kept = subst (λ (n : NameTable). KeepsNames n ended.recording.names) (sym (names ∙ ended.names))
-        (record { threads = λ n name is. is; locks = λ n name is. is; sites = λ n name is. is })
-
-    has : HasPlaces wants ended.recording table
-    has = record { places = λ line. ap (λ (all : List (ℕ × Place)). place_in all line) places ∙ ended.stands.places line; names = kept }
-
-    by : (o : Option (List ℕ)) → IfSome o (λ text. IsTrace text limit ended.recording) → IfSome o (λ text. ArePlaces wants text limit table)
-    by None read = tt
-    by (Some text) read = λ r is. subst (λ (x : Recording). HasPlaces wants x table) (same_trace text limit ended.recording r read is) has
+places-found wants told limit trace seen table ended places names =
+    subst (λ (x : PlaceTable). IfSome told (λ text. ArePlaces wants text limit x)) (sym (λ i. record { places = places i; names = names i })) ended.found
 
 -- what is asked is what is wanted
 same-cond : (one other : Bool) (o : Option Place) → one ≡ other → cond one o None ≡ cond other o None

@@ -28,11 +28,11 @@ abbrev pub or_else : Option Place → Option Place → Option Place
 or_else None other = other
 or_else (Some place) other = Some place
 
--- the place of the last access on this line, among the first n steps
+-- the place of the first access on this line, among the first n steps
 unfoldable pub place_below : List Step → List ℕ → ℕ → ℕ → Option Place
 place_below steps lines line zero = None
 place_below steps lines line (suc n) =
-    cond (slice_index lines n == line) (or_else (place_of steps lines n (slice_get steps n)) (place_below steps lines line n)) (place_below steps lines line n)
+    cond (slice_index lines n == line) (or_else (place_below steps lines line n) (place_of steps lines n (slice_get steps n))) (place_below steps lines line n)
 
 -- among all steps of a recording
 abbrev pub place_on : Recording → ℕ → Option Place

@@ -42,7 +42,8 @@ impl Finder {
         })
     }
 
-    /// Reads a batch, follows its steps and forgets them, and says whether lines may follow.
+    /// Reads a batch, follows its steps and forgets them, and says whether more can be found. If each wanted line has its place, the rest of
+    /// the text isn't read.
     fn turn<D: Read>(&mut self, reader: &mut Device<D>, wanted: &Wanted) -> Result<bool, ReadFault>
         requires open { has_failed reader.old ≡ false }
         ensures come { (told : Option (List ℕ)) → HasCome (is_wanted wanted.now) told (D.remaining (inner_of reader.old)) self.old.lines self.old.trace self.old.follower
@@ -61,13 +62,16 @@ impl Finder {
         match batch {
             Batch::End => Ok(false),
             Batch::More => {
+                if self.follower.has_all(wanted) {
+                    return Ok(false);
+                }
                 self.trace.clear();
                 Ok(true)
             }
         }
     }
 
-    /// Reads and follows all batches.
+    /// Reads and follows batches as long as more can be found.
     fn run<D: Read>(&mut self, reader: &mut Device<D>, wanted: &Wanted) -> Result<(), ReadFault>
         requires open { has_failed reader.old ≡ false }
         ensures ended { (told : Option (List ℕ)) → HasCome (is_wanted wanted.now) told (D.remaining (inner_of reader.old)) self.old.lines self.old.trace self.old.follower
@@ -108,7 +112,8 @@ fn follow_batch(follower: &mut Follower, wanted: &Wanted, trace: &Trace) -> Resu
 }
 
 /// Reads a trace text of at most `byte_limit` bytes once more, and gives the places of the accesses on the wanted lines. The steps of each
-/// batch of lines are forgotten, so that memory goes by the wanted lines, the threads and the names.
+/// batch of lines are forgotten, so that memory goes by the wanted lines, the threads and the names. Behind the batch in which the last
+/// wanted line has its place nothing is read.
 pub fn find_places<D: Read>(
     alloc: Global,
     reader: &mut Device<D>,

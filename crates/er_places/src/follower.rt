@@ -1,8 +1,8 @@
 //! `Follower`, which notes places as steps go by.
-ghost use Rattle.std.specs.Prelude.{◌≡◌, ◌++◌, ◌==◌, ◌&&◌, ℕ, List, [], cond, nat_eq, length, IfSome, OnOk};
+ghost use Rattle.std.specs.Prelude.{◌≡◌, ◌++◌, ◌==◌, ◌&&◌, ℕ, List, [], true, cond, nat_eq, length, IfSome, OnOk};
 ghost use Rattle.er_event.specs.declared.steps.Step.{Step as Steps};
 ghost use Rattle.er_held.specs.ThreadLocks.{held_by};
-ghost use Rattle.er_places.specs.Inner.Following.{Follows, StandsFor};
+ghost use Rattle.er_places.specs.Inner.Following.{Follows, HasAll, StandsFor};
 ghost use Rattle.er_places.specs.Places.{or_else, place_by, place_in};
 ghost use Rattle.er_places.specs.Wanted.{is_wanted};
 
@@ -70,12 +70,19 @@ impl Follower {
         places
     }
 
+    /// Whether each wanted line has its place.
+    pub(crate) fn has_all(&self, wanted: &Wanted) -> bool
+        ensures { result ≡ true → HasAll (is_wanted wanted.now) self.now.places }
+    {
+        self.places.len() == wanted.len() && wanted.are_in(&self.places)
+    }
+
     // Goes on by one step.
     fn follow_step(&mut self, wanted: &Wanted, step: &Step, line: u64) -> Result<(), AllocError>
         ensures { OnOk result (Follows (is_wanted wanted.now) self.old step.now line self.new) }
     {
         if let Event::Access(kind, _, site) = step.event {
-            if wanted.contains(line) {
+            if wanted.contains(line) && !self.places.contains_key(&line) {
                 self.note(line, step.thread, kind, site)?;
             }
             return Ok(());

@@ -1,14 +1,16 @@
 //! `Wanted`, the lines of a trace that a report asks about.
-ghost use Rattle.std.specs.Prelude.{◌≡◌, ℕ, ◌||◌, nat_eq, false, true, OnOk};
-ghost use Rattle.std.specs.List.{list_any};
+ghost use Rattle.std.specs.Prelude.{◌≡◌, ℕ, ◌||◌, nat_eq, false, true, is_some, OnOk};
+ghost use Rattle.std.specs.List.{list_all};
 ghost use Rattle.er_event.specs.declared.steps.Kind.{Kind};
 ghost use Rattle.er_places.specs.Inner.Sites.{has_site};
+ghost use Rattle.er_places.specs.Places.{place_in};
 ghost use Rattle.er_places.specs.Wanted.{asks_unless, is_asked, is_race_at, is_wanted, name_line};
 
+use crate::Place;
 use crate::sites::Sites;
 use er_report::{Because, Line};
 use std::alloc::{AllocError, Global};
-use std::collections::HashSet;
+use std::collections::{HashMap, HashSet};
 use std::marker::Model;
 
 /// The lines whose accesses are wanted.
@@ -40,6 +42,18 @@ impl Wanted {
         ensures { result ≡ true → (line : ℕ) → is_wanted self.now line ≡ false }
     {
         self.lines.is_empty()
+    }
+
+    /// How many lines are wanted.
+    pub(crate) fn len(&self) -> usize {
+        self.lines.len()
+    }
+
+    /// Whether each of them has a place.
+    pub(crate) fn are_in(&self, places: &HashMap<u64, Place>) -> bool
+        ensures { result ≡ list_all (λ line. is_some (place_in places.now.entries line)) self.now }
+    {
+        self.lines.iter().all(|line| places.contains_key(line))
     }
 
     /// Whether the line is wanted.

@@ -113,8 +113,7 @@ where
         Ok(found) => found,
         Err(why) => return Err(order_fault_of(why)),
     };
-    let places = places_of(rt, replay, options, &found.lockset, Some(&found.unordered));
-    write_sites(rt.alloc(), output, &found, places)?;
+    write_sites(rt, replay, options, output, &found)?;
     let races = found.lockset.races > 0 || found.unordered.races > 0;
     Ok(Ended {
         status: u8::from(races),
@@ -122,8 +121,29 @@ where
     })
 }
 
+// Writes the sites of both reports, with the places of their reasons if they are known.
+fn write_sites<R, O>(
+    rt: &R,
+    replay: &Replay<'_>,
+    options: &Options,
+    output: &mut Device<O>,
+    found: &BothReports,
+) -> Result<(), Fault>
+where
+    R: Files + AllocGlobal,
+    O: Write,
+    requires output { has_failed output.old ≡ false }
+    requires lockset { All (HasNames found.now.trace.names) found.now.lockset.lines.items }
+    requires unordered { All (HasNames found.now.trace.names) found.now.unordered.lines.items }
+    ensures nothing { IfErr result (LeavesOutput (O.contents (inner_of output.old)) (O.contents (inner_of output.new))) }
+{
+    let other = Some(&found.unordered);
+    let places = places_of(rt, replay, options, &found.lockset, other);
+    write_placed(rt.alloc(), output, found, places)
+}
+
 // Writes the sites of both reports, and lets go of the places.
-fn write_sites<O: Write>(
+fn write_placed<O: Write>(
     alloc: Global,
     output: &mut Device<O>,
     found: &BothReports,

@@ -90,12 +90,12 @@ where
     };
     let triaged = sorted(rt.alloc(), report, &trace, suppressions, replay)?;
     let excerpts = excerpts_of(rt, replay.source, &triaged.report, trace.names())?;
-    write_as(
-        rt.alloc(),
-        replay.format,
+    write_asked(
+        rt,
+        replay,
+        options,
         &triaged.report,
         trace.names(),
-        places_of(rt, replay, options, &triaged.report, None),
         suppressions,
         &excerpts,
         output,
@@ -133,6 +133,37 @@ fn wishes_of(replay: &Replay<'_>) -> Wishes
         unused_rules: replay.unused_rules,
         max_races: replay.max_races,
     }
+}
+
+// Writes the report as it is asked for, with the places of its reasons if they are shown and known. Split for the prover.
+fn write_asked<R, O>(
+    rt: &R,
+    replay: &Replay<'_>,
+    options: &Options,
+    report: &Report,
+    names: &Names,
+    suppressions: &Suppressions,
+    excerpts: &[Excerpt],
+    output: &mut Device<O>,
+) -> Result<(), Fault>
+where
+    R: Files + AllocGlobal,
+    O: Write,
+    requires output { has_failed output.old ≡ false }
+    requires named { All (HasNames names.now) report.now.lines.items }
+    ensures nothing { IfErr result (LeavesOutput (O.contents (inner_of output.old)) (O.contents (inner_of output.new))) }
+{
+    let places = places_of(rt, replay, options, report, None);
+    write_as(
+        rt.alloc(),
+        replay.format,
+        report,
+        names,
+        places,
+        suppressions,
+        excerpts,
+        output,
+    )
 }
 
 // Writes the report in the format that was asked for, with the excerpts of source files if it is a page, and lets go of the places.

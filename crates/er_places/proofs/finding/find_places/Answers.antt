@@ -1,20 +1,16 @@
 -- The places of the whole pass are those of the text, and have names.
-use Rattle.std.proofs.Common.{ℕ, List, Option, subst, sym, IfSome}
+use Rattle.std.proofs.Common.{ℕ, List, Option, subst, IfSome}
 use Rattle.er_device.specs.Device.{inner_of}
-use Rattle.er_places.proofs.NameLemmas.{are-named}
 use Rattle.er_places.proofs.TextLemmas.{places-found}
-use Rattle.er_places.specs.Inner.Following.{AreNamed}
 use Rattle.er_places.specs.Places.{ArePlaces}
 use Rattle.er_places.specs.Wanted.{is_wanted}
-use Rattle.er_trace.specs.Names.{NameTable}
 use Rattle.er_places.proofs.finding.find_places.Goals as goal
 
 pub finish-requires : goal.finish-requires
 finish-requires g c =
     let told : Option (List ℕ) = g.D.Read.remaining (inner_of c.args.reader.now) in
     let ended = c.in-Ok.ensures.ended told (c.in_ok-finder.ensures.come c.args.wanted.now told) in
-    subst (λ (n : NameTable). AreNamed n c.run.new.self.follower.places) (sym ended.names)
-    (are-named ended.recording.names ended.recording.steps ended.recording.lines ended.named (is_wanted c.args.wanted.now) c.run.new.self.follower ended.stands)
+    ended.named
 
 pub returns-in-Ok-clause-found : goal.returns-in-Ok-clause-found
 returns-in-Ok-clause-found g c =
