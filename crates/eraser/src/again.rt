@@ -74,10 +74,10 @@ fn open_again<R: Files>(rt: &R, replay: &Replay<'_>) -> Option<Device<R::File>>
     }
 }
 
-// Whether places are shown, and the trace is a file.
+// Whether places are shown, and the trace may be a file that is read whole.
 fn shows_places(replay: &Replay<'_>) -> bool {
     let is_shown = matches!(replay.format, Format::BySite | Format::Sarif);
-    replay.explain && is_shown && replay.trace != "-"
+    replay.explain && is_shown && !replay.until_fault && replay.trace != "-"
 }
 
 /// The places of the accesses that the reasons of the reports name, of which there may be one. None is known if they aren't shown, and if
