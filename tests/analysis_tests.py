@@ -26,7 +26,7 @@ import order_reference
 import order_tests
 import reference
 from alone import each_failed, each_refused, run_alone
-from site_tests import by_site_of_both, preloaded, sites_in
+from site_tests import by_site_of_both, places_in, preloaded, run_file, sites_in
 
 TOP = pathlib.Path(__file__).resolve().parent.parent
 PROGRAM = TOP / "crates/eraser/out/eraser"
@@ -170,8 +170,11 @@ def by_sites(record):
         want = output.encode(), errors.encode(), status
         if status != 2:
             ordered, ordered_status = unordered_report(text, reference.rules_of(rules or b""), explain=True)
-            want = by_site_of_both(output, ordered, sites_in(text)).encode(), b"", max(status, ordered_status)
+            want = by_site_of_both(output, ordered, sites_in(text), {}).encode(), b"", max(status, ordered_status)
             kinds.add((b"races in this run: none" in want[0], b"no common lock: none" in want[0]))
+            placed = by_site_of_both(output, ordered, sites_in(text), places_in(text)).encode(), b"", max(status, ordered_status)
+            found = run_file(rules, text, *BOTH, "--by-site")
+            record(f"both by site, from a file: {name}{'' if rules is None else ' with suppressions'}", found == placed, f"{found}, not {placed}")
         found = run_with(rules, text, *BOTH, "--by-site")
         record(f"both by site: {name}{'' if rules is None else ' with suppressions'}", found == want, f"{found}, not {want}")
     record("both by site: each part has sites in some text, and none in another", len(kinds) == 4, f"{kinds}")

@@ -18,7 +18,7 @@ import reference
 import site_tests
 from alone import each_refused, run_alone
 from json_tests import document_of, plain
-from site_tests import DID, TOP, preloaded, run, run_with
+from site_tests import DID, PLACED, TOP, places_in, preloaded, run, run_fifo, run_file, run_with
 
 RULES = [{"id": f"race/{kind}", "shortDescription": {"text": f"A {kind} that no lock protects"}} for kind in ("read", "write")]
 RULES.append({"id": "race/suppressed", "shortDescription": {"text": "Races that a rule of suppressions takes"}})
@@ -54,12 +54,17 @@ def location(site):
     return {"physicalLocation": {"artifactLocation": {"uri": uri}, "region": {"startLine": int(place[2])}}}
 
 
-def reason(found):
+def reason(found, places):
     label = found["label"] if found["lock"] is None else f"{found['lock']} {found['label']}"
-    return {"message": {"text": f"{label}: {found['thread']} {found['kind']} on line {found['line']} of the trace"}}
+    text = f"{label}: {found['thread']} {found['kind']} on line {found['line']} of the trace"
+    if str(found["line"]) not in places:
+        return {"message": {"text": text}}
+    site, locks = places[str(found["line"])]
+    held = ", ".join(lock + ("" if writes else " (to read)") for lock, writes in locks) or "no lock"
+    return {**({} if site == "-" else location(site)), "message": {"text": f"{text}, holding {held}"}}
 
 
-def results_of(document):
+def results_of(document, places):
     """The results, each with the first race of its site and kind."""
     sorts = {}
     for race in document["races"]:
@@ -73,7 +78,7 @@ def results_of(document):
             "occurrenceCount": len(races),
             "locations": [location(site)],
             "partialFingerprints": {"siteAndKind/v1": f"{site} {kind}"},
-            "relatedLocations": [reason(found) for found in race["reasons"]],
+            "relatedLocations": [reason(found, places) for found in race["reasons"]],
             "properties": {"line": race["line"], "held": race["held"]},
         }
 
@@ -108,11 +113,11 @@ def text_of(results):
     return f'{{"$schema":"{schema}",\n"version":"2.1.0",\n"runs":[{{\n"tool":{driver},\n"results":[{rows}]}}]}}\n'
 
 
-def expected(text, rules):
+def expected(text, rules, is_file=False):
     output, errors, status = reference.replay(text, rules or b"", explain=True)
     if status < 2:
         document = document_of(output)
-        output = text_of([*results_of(document), *suppressed_of(reference.rules_of(rules or b""), document["suppressions"])])
+        output = text_of([*results_of(document, places_in(text) if is_file else {}), *suppressed_of(reference.rules_of(rules or b""), document["suppressions"])])
     return output.encode(), errors.encode(), status
 
 
@@ -135,7 +140,7 @@ def faults(log):
                 yield "no rule"
             if result.get("level") not in ("none", "note", "warning", "error") or result.get("occurrenceCount", 0) < 1:
                 yield "no level or no count"
-            for found in result.get("locations", []):
+            for found in [*result.get("locations", []), *result.get("relatedLocations", [])]:
                 place = found.get("physicalLocation")
                 if place and (not place.get("artifactLocation", {}).get("uri") or place.get("region", {}).get("startLine", 0) < 1):
                     yield "no place"
@@ -156,6 +161,8 @@ def log_tests(record):
         record(f"{name} as SARIF", found == wanted, f"{found}, {wanted}"[:2000])
         record(f"{name} as SARIF, status", found[1:] == run_with(rules, text)[1:], f"{found[1:]}")
         record(f"{name} as SARIF, explained or by several workers", found == run_with(rules, text, "--format", "sarif", "--explain", "--workers", "3"))
+        wanted, found = expected(text, rules, True), run_file(rules, text, "--format", "sarif")
+        record(f"{name} as SARIF, from a file", found == wanted, f"{found}, {wanted}"[:2000])
         if found[2] < 2:
             log = json.loads(found[0])
             wrong = list(faults(log))
@@ -173,6 +180,8 @@ def log_tests(record):
         named = {"logicalLocations": [{"fullyQualifiedName": site}]}
         wanted = named if place is None else {"physicalLocation": {"artifactLocation": {"uri": place[0]}, "region": {"startLine": place[1]}}}
         record(f"the location of {site}", one == wanted, f"{one}")
+    record("related locations from a FIFO have no places", run_fifo(PLACED, "--format", "sarif") == expected(PLACED, None))
+    record("related locations from a file have places", b'"startLine":8}},"message"' in run_file(None, PLACED, "--format", "sarif")[0])
     formats = (TOP / "docs/FORMATS.md").read_text()
     shown = run(["replay", "--format", "sarif", str(TOP / "examples/explained.trace")])[0].decode()
     record("the log of the formats", shown and shown in formats, shown)
@@ -189,13 +198,14 @@ def refusal_tests(record, preloaded):
     with tempfile.TemporaryDirectory() as folder:
         library = preloaded(folder, "refuse")
         words = ["replay", "--format", "sarif", str(TOP / "examples/explained.trace")]
-        whole = run(words)
+        whole, bare = run(words), run([*words[:-1], "-"], (TOP / "examples/explained.trace").read_bytes())
+        record("the example's related locations have places", whole != bare)
         for nth, found, was_refused in each_refused(library, folder, lambda env: run(words, env=env)):
             if not was_refused:
                 record("SARIF with all allocations", found == whole and nth > 20, f"{nth}")
                 break
             is_stopped = found[1:] == (b"", 3) and not list(faults(json.loads(found[0])))
-            record(f"SARIF without allocation {nth}", found in (whole, (b"", b"out of memory\n", 3)) or is_stopped, f"{found}")
+            record(f"SARIF without allocation {nth}", found in (whole, bare, (b"", b"out of memory\n", 3)) or is_stopped, f"{found}")
     with open("/dev/full", "wb") as full:
         done = subprocess.run([str(site_tests.PROGRAM), *words], stdout=full, stderr=subprocess.PIPE, timeout=120)
         record("SARIF on a full device", (done.stderr, done.returncode) == (b"write fault\n", 4), f"{done}")

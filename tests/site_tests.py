@@ -4,11 +4,13 @@
 `tests/run` calls `tests`. By itself this file runs these tests alone.
 """
 
+import os
 import pathlib
 import re
 import subprocess
 import sys
 import tempfile
+import threading
 
 sys.path.insert(0, str(pathlib.Path(__file__).parent))
 sys.dont_write_bytecode = True
@@ -20,6 +22,9 @@ TOP = pathlib.Path(__file__).resolve().parent.parent
 PROGRAM = TOP / "crates/eraser/out/eraser"
 RANDOM_TRACES = 300
 WIDEST = 120
+
+# The first access has a site and a lock, and the race has none.
+PLACED = b"eraser trace 1\nt1 lock a\nt1 write 0x1000 pool.c:8\nt2 write 0x1000\n"
 
 RACE = re.compile(r"line (\d+): (?:race|unordered): (\S+) (read|write) (0x[0-9a-f]{12}) at (\S+), holds (.*)")
 REASON = re.compile(r"  (.+): line (\d+), (\S+) (read|write)")
@@ -49,7 +54,41 @@ def sites_in(text):
     return found
 
 
-def story(race):
+class Placed(reference.Replay):
+    """A replay that notes of each access its site and the locks that its thread held, each with whether it was held to write."""
+
+    def __init__(self):
+        super().__init__([])
+        self.places = {}
+
+    def step(self, line, thread, verb, operands):
+        if verb in (b"read", b"write"):
+            held = self.held.get(thread, {})
+            locks = self.in_order(list(held) + list(range(1, self.level.get(thread, 0) + 1)))
+            site = operands[1].decode() if len(operands) > 1 else "-"
+            self.places[str(line)] = site, [(self.name(lock), held.get(lock) != b"rlock") for lock in locks]
+        super().step(line, thread, verb, operands)
+
+
+def places_in(text):
+    """Where the accesses of a trace stood, by their lines."""
+    run = Placed()
+    for line, (thread, verb, operands) in reference.events_of(text):
+        run.step(line, thread, verb, operands)
+    return run.places
+
+
+def place_lines(place):
+    """The lines behind a reason whose place is known."""
+    site, locks = place
+    at = "" if site == "-" else f"at {short(site, 72)}"
+    if not locks:
+        return ["    " + ", ".join(part for part in (at, "holding no lock") if part)]
+    held = [f"    holding {lock_name(lock)}" + ("" if writes else ", but only to read") for lock, writes in locks]
+    return [*([f"    {at}"] if at else []), *held]
+
+
+def story(race, places):
     """A race in sentences."""
     line, thread, kind, address, site, held, reasons = race
     who = short(thread, 24)
@@ -73,6 +112,8 @@ def story(race):
             yield f"  nothing orders this before it: {one} {deed} (line {at})"
         else:
             yield f"  {lock_name(label.removesuffix(' not covering'))} did not protect it when {one} {deed} (line {at})"
+        if at != line and at in places:
+            yield from place_lines(places[at])
     if reasons and reasons[0][0] != "unordered with":
         yield "  So no lock protected all accesses from the second thread's first one on"
 
@@ -102,7 +143,7 @@ def rows_of(races, numbers):
     return sorted(sites.items(), key=lambda row: (-len(row[1]), numbers[row[0]]))
 
 
-def table(rows):
+def table(rows, places):
     """The lines of a table and of an example for each of its rows."""
     if not rows:
         return []
@@ -112,44 +153,64 @@ def table(rows):
         threads, locks = len({race[1] for race in found}), len({lock for race in found for lock in race[5]})
         lines.append(f"{len(found):<10}{kinds:<12}{threads:<10}{locks:<10}{short(site, 72)}")
     for _, found in rows:
-        lines += story(found[0])
+        lines += story(found[0], places)
     return [*lines, ""]
 
 
-def part(title, rows):
+def part(title, rows, places):
     """A heading, and below it the table and the examples, if there are rows."""
-    return [title, *table(rows)] if rows else [f"{title}: none", ""]
+    return [title, *table(rows, places)] if rows else [f"{title}: none", ""]
 
 
-def by_site(report, numbers):
-    """The text for people, from the lines of an explained report."""
+def by_site(report, numbers, places):
+    """The text for people, from the lines of an explained report and where accesses stood as far as that is known."""
     races, refused, rest = read_report(report)
-    return "".join(line + "\n" for line in [*table(rows_of(races, numbers)), *refused, *rest])
+    return "".join(line + "\n" for line in [*table(rows_of(races, numbers), places), *refused, *rest])
 
 
-def by_site_of_both(lockset, unordered, numbers):
+def by_site_of_both(lockset, unordered, numbers, places):
     """The same of a trace that was analysed both ways: the sites of unordered accesses, and the other sites of races by locks."""
     (races, refused, rest), (others, _, more) = read_report(lockset), read_report(unordered)
     by_locks, by_order = rows_of(races, numbers), rows_of(others, numbers)
     apart = [row for row in by_locks if row[0] not in dict(by_order)]
-    lines = [*part("races in this run", by_order), *part("no common lock", apart)]
+    lines = [*part("races in this run", by_order, places), *part("no common lock", apart, places)]
     return "".join(line + "\n" for line in [*lines, *refused, *rest, *more])
 
 
-def expected(text, rules):
+def expected(text, rules, is_file=False):
     output, errors, status = reference.replay(text, rules or b"", explain=True)
     if status < 2:
-        output = by_site(output, sites_in(text))
+        output = by_site(output, sites_in(text), places_in(text) if is_file else {})
     return output.encode(), errors.encode(), status
 
 
-def run_with(rules, text, *options):
+def run_with(rules, text, *options, path="-"):
     if rules is None:
-        return run(["replay", *options, "-"], text)
+        return run(["replay", *options, path], text)
     with tempfile.NamedTemporaryFile() as file:
         file.write(rules)
         file.flush()
-        return run(["replay", *options, "--suppress", file.name, "-"], text)
+        return run(["replay", *options, "--suppress", file.name, path], text)
+
+
+def run_file(rules, text, *options):
+    """The same over a file, which can be read twice."""
+    with tempfile.NamedTemporaryFile() as file:
+        file.write(text)
+        file.flush()
+        return run_with(rules, b"", *options, path=file.name)
+
+
+def run_fifo(text, *options):
+    """The same over a FIFO, which has a name and can't be read twice."""
+    with tempfile.TemporaryDirectory() as folder:
+        path = pathlib.Path(folder) / "fifo"
+        os.mkfifo(path)
+        writer = threading.Thread(target=path.write_bytes, args=(text,))
+        writer.start()
+        found = run(["replay", *options, str(path)])
+        writer.join()
+        return found
 
 
 def texts():
@@ -177,17 +238,26 @@ def long_names(count):
 
 
 def tests(record, preloaded):
-    raced = 0
+    raced = placed = 0
     for name, text, rules in texts():
         wanted, found = expected(text, rules), run_with(rules, text, "--by-site")
         record(f"{name} by site", found == wanted, f"{found}"[:1000])
         record(f"{name} by site, status", found[1:] == run_with(rules, text)[1:], f"{found[1:]}")
         record(f"{name} by site, explained or by several workers", found == run_with(rules, text, "--by-site", "--explain", "--workers", "3"))
         raced += b"used it first" in found[0]
+        wanted, found = expected(text, rules, True), run_file(rules, text, "--by-site")
+        record(f"{name} by site, from a file", found == wanted, f"{found}"[:1000])
+        placed += b"\n    holding " in found[0] and b"\n    at " in found[0]
     record("traces by site have races", raced > 100, f"{raced}")
+    record("some reasons have a site and locks", placed > 50, f"{placed}")
+    record("reasons from a FIFO have no places", run_fifo(PLACED, "--by-site") == expected(PLACED, None))
+    record("reasons from a file have places", run_file(None, PLACED, "--by-site") == expected(PLACED, None, True) and b"    at pool.c:8\n    holding a\n" in expected(PLACED, None, True)[0])
     found = run(["replay", "--by-site", "-"], long_names(9))
     record("long names by site", found == expected(long_names(9), None) and found[2] == 1 and b"only to read" in found[0], f"{found}"[:1000])
     record("long names by site are cut", max(len(line) for line in found[0].splitlines()) <= WIDEST)
+    found = run_file(None, long_names(9), "--by-site")
+    record("long names by site from a file", found == expected(long_names(9), None, True))
+    record("long names by site from a file are cut", max(len(line) for line in found[0].splitlines()) <= WIDEST)
     record("no colour by site", b"\x1b" not in found[0])
     # As many sites as there are races: a pass over the rows for each would take minutes.
     many = "eraser trace 1\n" + "".join(f"t{who} write {4 * k} s:{k}\n" for who in (1, 2) for k in range(100_000))
@@ -199,13 +269,14 @@ def tests(record, preloaded):
     with tempfile.TemporaryDirectory() as folder:
         library = preloaded(folder, "refuse")
         words = ["replay", "--by-site", str(TOP / "examples/explained.trace")]
-        whole = run(words)
+        whole, bare = run(words), run(["replay", "--by-site", "-"], (TOP / "examples/explained.trace").read_bytes())
+        record("by site the example's reasons have places", whole != bare)
         for nth, found, was_refused in each_refused(library, folder, lambda env: run(words, env=env)):
             if not was_refused:
                 record("by site with all allocations", found == whole and nth > 20, f"{nth}")
                 break
             is_stopped = found[1:] == (b"", 3) and b": stopped: out of memory\n" in found[0]
-            record(f"by site without allocation {nth}", found in (whole, (b"", b"out of memory\n", 3)) or is_stopped, f"{found}")
+            record(f"by site without allocation {nth}", found in (whole, bare, (b"", b"out of memory\n", 3)) or is_stopped, f"{found}")
 
 
 def preloaded(folder, name):

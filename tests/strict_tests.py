@@ -139,9 +139,10 @@ def worked_traces(record):
             file.write(text)
             file.flush()
             for options in FORMS:
-                whole = (b"", lines, 2) if lines else run(["replay", *options, "-"], text)
-                for found in (run(["replay", "--strict", *options, "-"], text), run(["replay", *options, "--strict", file.name])):
-                    record(f"strict: {name} {options}", found == whole, f"{found}, {whole}"[:1000])
+                for trace in ("-", file.name):
+                    whole = (b"", lines, 2) if lines else run(["replay", *options, trace], text)
+                    found = run(["replay", "--strict", *options, trace], text)
+                    record(f"strict: {name} {options} {trace == '-'}", found == whole, f"{found}, {whole}"[:1000])
         record(f"strict: {name}, second reading", lines is None or damage_of(text) == lines, f"{lines}")
         record(f"strict: {name} without rules", run(["replay", "--strict", "-"], text) == wanted)
 

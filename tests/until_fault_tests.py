@@ -126,6 +126,10 @@ def worked_traces(record, folder):
     ):
         for options in FORMS:
             check(record, name, text, None, *options)
+    path.write_bytes(HEAD + RACE)
+    for options in (["--by-site"], ["--format", "sarif"]):
+        found = run(["replay", "--until-fault", *options, str(path)])
+        record(f"until fault: reasons have no places {options}", found == run(["replay", *options, "-"], HEAD + RACE), f"{found}")
     whole, text = run(["replay", "-"], HEAD + RACE), HEAD + RACE + MORE
     for limit in (len(HEAD + RACE), len(HEAD + RACE) + 3, len(text) - 1):
         check(record, f"a limit of {limit} bytes", text, None, "--byte-limit", str(limit))

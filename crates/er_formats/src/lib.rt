@@ -15,6 +15,6 @@
 //! ```
 #![tactic(auto)]
 
-pub use forms::{Form, replay_as};
+pub use forms::{Form, ReplayedTwice, replay_as, replay_as_twice};
 
 mod forms;

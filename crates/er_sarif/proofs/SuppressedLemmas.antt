@@ -7,7 +7,7 @@ use Rattle.er_json.specs.Document.{rows_text}
 use Rattle.er_json.specs.Inner.Sections.{has_none, next_text}
 use Rattle.er_rules.specs.Rules.{Target, target_of}
 use Rattle.er_rules.specs.declared.rules.Rule.{Rule}
-use Rattle.er_sarif.specs.Document.{suppressed_at, suppressed_below, suppressed_of, suppressed_text}
+use Rattle.er_sarif.specs.Document.{suppressed_at, suppressed_below, suppressed_of}
 
 -- the results up to the next rule
 pub suppressed_next : (counts : List ℕ) (rules : List Rule) (k : ℕ) (rule : Rule) → k < length rules → rule ≡ get_or rules k rule

@@ -1,9 +1,12 @@
 -- The SARIF of a report: a result for each site and kind of race, and one for each rule that takes races.
-use Rattle.std.specs.Prelude.{ℕ, zero, suc, ◌+◌, ◌-◌, ◌==◌, cond, List, [], ◌∷◌, ◌++◌, take, drop, length, count_by, slice_get, Option, Some, None, codes, decimal}
-use Rattle.er_event.specs.Lockset.{is_level_lock, level_base}
+use Rattle.std.specs.Prelude.{ℕ, zero, suc, ◌+◌, ◌-◌, ◌==◌, cond, List, [], ◌∷◌, ◌++◌, flat_map, take, drop, length, count_by, slice_get, Option, Some, None, codes, decimal}
+use Rattle.er_event.specs.Lockset.{has, is_level_lock, level_base}
 use Rattle.er_event.specs.declared.steps.Kind.{Kind}
 use Rattle.er_event.specs.declared.steps.Kind.TheVariants as kind
 use Rattle.er_json.specs.Document.{access_verb, array_text, escaped_text, lock_text, rows_text, string_text}
+use Rattle.er_places.specs.Places.{PlaceTable}
+use Rattle.er_places.specs.Reasons.{reason_place}
+use Rattle.er_places.specs.declared.place.Place.{Place}
 use Rattle.er_print.specs.Printed.{address_text, name_at, site_text}
 use Rattle.er_report.specs.declared.report.Because.{Because}
 use Rattle.er_report.specs.declared.report.Label.{Label}
@@ -42,20 +45,23 @@ count_member count = codes ",\"occurrenceCount\":" ++ decimal count
 
 -- a site that doesn't end with a line is a name
 unfoldable pub name_member : List ℕ → List ℕ
-name_member site = codes ",\"locations\":[{\"logicalLocations\":[{\"fullyQualifiedName\":" ++ string_text site ++ codes "}]}]"
+name_member site = codes "{\"logicalLocations\":[{\"fullyQualifiedName\":" ++ string_text site ++ codes "}]"
 
 -- and of another the file ends at the colon
 unfoldable pub file_member : List ℕ → ℕ → List ℕ
 file_member site n =
-    codes ",\"locations\":[{\"physicalLocation\":{\"artifactLocation\":{\"uri\":" ++ uri_text (take n site) ++ codes "},\"region\":{\"startLine\":" ++ drop (n + 1) site
-    ++ codes "}}}]"
+    codes "{\"physicalLocation\":{\"artifactLocation\":{\"uri\":" ++ uri_text (take n site) ++ codes "},\"region\":{\"startLine\":" ++ drop (n + 1) site ++ codes "}}"
 
-abbrev pub location_by : List ℕ → Option ℕ → List ℕ
-location_by site None = name_member site
-location_by site (Some n) = file_member site n
+abbrev pub place_by : List ℕ → Option ℕ → List ℕ
+place_by site None = name_member site
+place_by site (Some n) = file_member site n
+
+-- a location with this site, which is left open
+unfoldable pub open_location : List ℕ → List ℕ
+open_location site = place_by site (file_end site)
 
 unfoldable pub location_member : List ℕ → List ℕ
-location_member site = location_by site (file_end site)
+location_member site = codes ",\"locations\":[" ++ open_location site ++ codes "}]"
 
 -- what an access has to do with a race
 unfoldable pub label_words : NameTable → Label → List ℕ
@@ -69,13 +75,45 @@ label_words names label.Unordered = codes "unordered with: "
 unfoldable pub access_words : NameTable → ℕ → Kind → ℕ → List ℕ
 access_words names thread kind number = thread_words names thread ++ codes " " ++ access_verb kind ++ codes " on line " ++ decimal number
 
--- one of a race's reasons
-unfoldable pub reason_text : NameTable → Because → List ℕ
-reason_text names because =
-    codes "{\"message\":{\"text\":\"" ++ label_words names because.label ++ access_words names because.thread because.kind because.line ++ codes " of the trace\"}}"
+unfoldable pub sentence_words : NameTable → Because → List ℕ
+sentence_words names because =
+    codes "\"message\":{\"text\":\"" ++ label_words names because.label ++ access_words names because.thread because.kind because.line ++ codes " of the trace"
 
-unfoldable pub related_member : NameTable → List Because → List ℕ
-related_member names explained = codes ",\"relatedLocations\":" ++ array_text (reason_text names) explained
+-- a lock that is held only to read is marked
+abbrev pub mode_words : List ℕ → ℕ → List ℕ
+mode_words writes lock = cond (has writes lock) [] (codes " (to read)")
+
+-- a lock behind others
+unfoldable pub next_words : NameTable → List ℕ → ℕ → List ℕ
+next_words names writes lock = codes ", " ++ lock_words names lock ++ mode_words writes lock
+
+-- the locks that a thread held, of which these to write
+abbrev pub locks_words : NameTable → List ℕ → List ℕ → List ℕ
+locks_words names writes [] = codes " no lock"
+locks_words names writes (lock ∷ locks) = codes " " ++ lock_words names lock ++ mode_words writes lock ++ flat_map (next_words names writes) locks
+
+-- if that is known
+unfoldable pub holding_words : NameTable → Option Place → List ℕ
+holding_words names None = []
+holding_words names (Some place) = codes ", holding" ++ locks_words names place.write_held place.held
+
+-- where an access stood: the missing site is left out
+unfoldable pub opening_of : NameTable → ℕ → List ℕ
+opening_of names zero = codes "{"
+opening_of names (suc n) = open_location (name_at names.sites n) ++ codes ","
+
+-- if that is known
+abbrev pub opening_text : NameTable → Option Place → List ℕ
+opening_text names None = codes "{"
+opening_text names (Some place) = opening_of names place.site
+
+-- one of a race's reasons
+unfoldable pub reason_text : NameTable → PlaceTable → Because → List ℕ
+reason_text names table because =
+    opening_text table.names (reason_place table because) ++ sentence_words names because ++ holding_words table.names (reason_place table because) ++ codes "\"}}"
+
+unfoldable pub related_member : NameTable → PlaceTable → List Because → List ℕ
+related_member names table explained = codes ",\"relatedLocations\":" ++ array_text (reason_text names table) explained
 
 -- the same in each run
 unfoldable pub fingerprint_member : List ℕ → Kind → List ℕ
@@ -93,13 +131,13 @@ unfoldable pub place_text : List ℕ → Kind → List ℕ
 place_text site kind = location_member site ++ fingerprint_member site kind
 
 -- how it came about
-unfoldable pub back_text : NameTable → ℕ → List ℕ → List Because → List ℕ
-back_text names number held explained = related_member names explained ++ properties_member names number held
+unfoldable pub back_text : NameTable → PlaceTable → ℕ → List ℕ → List Because → List ℕ
+back_text names table number held explained = related_member names table explained ++ properties_member names number held
 
 -- a result: so many races, and the first of them
-unfoldable pub result_text : NameTable → ℕ → ℕ → ℕ → Kind → ℕ → ℕ → List ℕ → List Because → List ℕ
-result_text names count number thread kind word site held explained =
-    front_text names thread kind word count ++ place_text (site_text names site) kind ++ back_text names number held explained
+unfoldable pub result_text : NameTable → PlaceTable → ℕ → ℕ → ℕ → Kind → ℕ → ℕ → List ℕ → List Because → List ℕ
+result_text names table count number thread kind word site held explained =
+    front_text names thread kind word count ++ place_text (site_text names site) kind ++ back_text names table number held explained
 
 -- how many of the lines are races of the line's site and kind
 abbrev pub races_like : List Line → Line → ℕ
@@ -109,20 +147,20 @@ races_like lines (Refused number step refusal) = 0
 races_like lines (Shown number word state) = 0
 
 -- a race has a result if none like it came before; there are so many like it in all
-abbrev pub results_of : NameTable → ℕ → ℕ → Line → List (List ℕ)
-results_of names before count (Race number thread kind word site held explained) =
-    cond (before == 0) (result_text names count number thread kind word site held explained.items ∷ []) []
-results_of names before count (Refused number step refusal) = []
-results_of names before count (Shown number word state) = []
+abbrev pub results_of : NameTable → PlaceTable → ℕ → ℕ → Line → List (List ℕ)
+results_of names table before count (Race number thread kind word site held explained) =
+    cond (before == 0) (result_text names table count number thread kind word site held explained.items ∷ []) []
+results_of names table before count (Refused number step refusal) = []
+results_of names table before count (Shown number word state) = []
 
-abbrev pub results_at : NameTable → List Line → ℕ → Option Line → List (List ℕ)
-results_at names lines n None = []
-results_at names lines n (Some line) = results_of names (races_like (take n lines) line) (races_like lines line) line
+abbrev pub results_at : NameTable → PlaceTable → List Line → ℕ → Option Line → List (List ℕ)
+results_at names table lines n None = []
+results_at names table lines n (Some line) = results_of names table (races_like (take n lines) line) (races_like lines line) line
 
 -- the results of the first n lines
-unfoldable pub results_below : NameTable → List Line → ℕ → List (List ℕ)
-results_below names lines zero = []
-results_below names lines (suc n) = results_below names lines n ++ results_at names lines n (slice_get lines n)
+unfoldable pub results_below : NameTable → PlaceTable → List Line → ℕ → List (List ℕ)
+results_below names table lines zero = []
+results_below names table lines (suc n) = results_below names table lines n ++ results_at names table lines n (slice_get lines n)
 
 -- the rule of this text, which takes races, and how many
 unfoldable pub taken_text : List ℕ → ℕ → List ℕ
@@ -159,8 +197,8 @@ suppressed_below counts targets zero = []
 suppressed_below counts targets (suc n) = suppressed_below counts targets n ++ suppressed_at counts n (slice_get targets n)
 
 -- the results of the lines, and behind them those of the rules
-abbrev pub all_results : NameTable → List Line → List ℕ → List Target → List (List ℕ)
-all_results names lines counts targets = results_below names lines (length lines) ++ suppressed_below counts targets (length targets)
+abbrev pub all_results : NameTable → PlaceTable → List Line → List ℕ → List Target → List (List ℕ)
+all_results names table lines counts targets = results_below names table lines (length lines) ++ suppressed_below counts targets (length targets)
 
 abbrev pub version_text : List ℕ
 version_text = codes "{\"$schema\":\"https://json.schemastore.org/sarif-2.1.0.json\",\n\"version\":\"2.1.0\",\n\"runs\":[{\n\"tool\":{\"driver\":"
@@ -183,6 +221,6 @@ start_text = version_text ++ read_rule_text ++ write_rule_text ++ suppressed_rul
 unfoldable pub end_text : List ℕ
 end_text = codes "]}]}\n"
 
--- the whole document
-unfoldable pub sarif_text : NameTable → List Line → List ℕ → List Target → List ℕ
-sarif_text names lines counts targets = start_text ++ rows_text (all_results names lines counts targets) ++ end_text
+-- the whole document; each reason says where its access was, as far as this table knows
+unfoldable pub sarif_text : NameTable → PlaceTable → List Line → List ℕ → List Target → List ℕ
+sarif_text names table lines counts targets = start_text ++ rows_text (all_results names table lines counts targets) ++ end_text

@@ -9,6 +9,7 @@ ghost use Rattle.er_sarif.specs.Document.{end_text, sarif_text, start_text};
 use crate::results::put_results;
 use crate::suppressed::put_suppressed;
 use er_device::Device;
+use er_places::Places;
 use er_print::WriteFault;
 use er_report::{Line, Report};
 use er_rules::Suppressions;
@@ -17,22 +18,30 @@ use er_trace::Names;
 use std::alloc::{AllocError, Global};
 use std::io::Write;
 
-/// Writes the races of a report as SARIF, with these names for its numbers, and how many races each of these rules took. The document is
-/// whole before its first byte is written.
+/// Writes the races of a report as SARIF, with these names for its numbers, and how many races each of these rules took. Each reason
+/// of a race says where its access was, as far as the places are known. The document is whole before its first byte is written.
 pub fn write_sarif<W: Write>(
     alloc: Global,
     writer: &mut Device<W>,
     report: &Report,
     names: &Names,
     rules: &Suppressions,
+    places: &Places,
 ) -> Result<(), WriteFault>
     requires open { has_failed writer.old ≡ false }
     requires names { All (HasNames names.now) report.now.lines.items }
-    ensures bytes { WritesReport (W.contents (inner_of writer.old)) (W.contents (inner_of writer.new)) (sarif_text names.now report.now.lines.items report.now.rule_counts.items (targets_of rules.now)) result }
+    ensures bytes { WritesReport (W.contents (inner_of writer.old)) (W.contents (inner_of writer.new)) (sarif_text names.now places.now report.now.lines.items report.now.rule_counts.items (targets_of rules.now)) result }
     ensures failed { FailsWriting (has_failed writer.new) result }
     ensures taken { taken_of writer.new ≡ taken_of writer.old }
 {
-    let Ok(text) = sarif_text(alloc, &report.lines, &report.rule_counts, names, rules) else {
+    let Ok(text) = sarif_text(
+        alloc,
+        &report.lines,
+        &report.rule_counts,
+        names,
+        rules,
+        places,
+    ) else {
         return Err(WriteFault::Memory);
     };
     if writer.write_all(&text).is_err() {
@@ -48,14 +57,15 @@ fn sarif_text(
     rule_counts: &[u64],
     names: &Names,
     rules: &Suppressions,
+    places: &Places,
 ) -> Result<Vec<u8>, AllocError>
     requires { All (HasNames names.now) lines.now }
-    ensures { IfOk result (λ text. text.items ≡ sarif_text names.now lines.now rule_counts.now (targets_of rules.now)) }
+    ensures { IfOk result (λ text. text.items ≡ sarif_text names.now places.now lines.now rule_counts.now (targets_of rules.now)) }
 {
     let total = count_races(alloc, lines)?;
     let mut text = Vec::new(alloc);
     put_start(&mut text)?;
-    let is_first = put_results(alloc, &mut text, names, lines, &total)?;
+    let is_first = put_results(alloc, &mut text, names, places, lines, &total)?;
     put_suppressed(alloc, &mut text, rule_counts, rules, is_first)?;
     put_end(&mut text)?;
     Ok(text)

@@ -18,5 +18,6 @@ mod document;
 mod members;
 mod places;
 mod results;
+mod standing;
 mod suppressed;
 mod uris;

@@ -2,12 +2,14 @@
 ghost use Rattle.std.specs.Prelude.{◌≡◌, ◌++◌, ◌+◌, ◌<◌, length, All, OnOk};
 ghost use Rattle.er_json.specs.Document.{access_verb, array_text, more_text, values_text};
 ghost use Rattle.er_report.specs.Names.{HasLabelName, HasLockName, HasLockNames, HasReasonNames};
-ghost use Rattle.er_sarif.specs.Document.{access_words, count_member, deed_words, file_member, fingerprint_member, label_words, location_member, lock_words, message_member, name_member, properties_member, reason_text, related_member, rule_member, thread_words};
+ghost use Rattle.er_sarif.specs.Document.{access_words, count_member, deed_words, file_member, fingerprint_member, label_words, location_member, lock_words, message_member, name_member, open_location, properties_member, reason_text, related_member, rule_member, sentence_words, thread_words};
 
 use crate::places::file_end;
+use crate::standing::{put_holding, put_opening};
 use crate::uris::put_uri;
 use er_event::{Kind, LockId, ThreadId, Word};
 use er_json::{put_escaped, put_locks, put_string};
+use er_places::Places;
 use er_print::{put_address, put_number};
 use er_report::{Because, Label};
 use er_trace::Names;
@@ -22,7 +24,7 @@ fn put_thread(out: &mut Vec<u8>, names: &Names, thread: ThreadId) -> Result<(), 
 }
 
 #[tactic(auto, unfolding(crate::specs::Document::lock_words))]
-fn put_lock(out: &mut Vec<u8>, names: &Names, lock: LockId) -> Result<(), AllocError>
+pub(crate) fn put_lock(out: &mut Vec<u8>, names: &Names, lock: LockId) -> Result<(), AllocError>
     requires { HasLockName names.now lock }
     ensures { OnOk result (out.new.items ≡ out.old.items ++ lock_words names.now lock) }
 {
@@ -96,6 +98,17 @@ pub(crate) fn put_count(out: &mut Vec<u8>, count: u64) -> Result<(), AllocError>
 pub(crate) fn put_location(out: &mut Vec<u8>, site: &[u8]) -> Result<(), AllocError>
     ensures { OnOk result (out.new.items ≡ out.old.items ++ location_member site.now) }
 {
+    out.extend_from_slice(b",\"locations\":[")?;
+    open_location(out, site)?;
+    out.extend_from_slice(b"}]")?;
+    Ok(())
+}
+
+/// Opens a location with its site.
+#[tactic(auto, unfolding(crate::specs::Document::open_location))]
+pub(crate) fn open_location(out: &mut Vec<u8>, site: &[u8]) -> Result<(), AllocError>
+    ensures { OnOk result (out.new.items ≡ out.old.items ++ open_location site.now) }
+{
     match file_end(site) {
         Some(place) => put_file(out, site, place),
         None => put_name(out, site),
@@ -106,9 +119,9 @@ pub(crate) fn put_location(out: &mut Vec<u8>, site: &[u8]) -> Result<(), AllocEr
 fn put_name(out: &mut Vec<u8>, site: &[u8]) -> Result<(), AllocError>
     ensures { OnOk result (out.new.items ≡ out.old.items ++ name_member site.now) }
 {
-    out.extend_from_slice(b",\"locations\":[{\"logicalLocations\":[{\"fullyQualifiedName\":")?;
+    out.extend_from_slice(b"{\"logicalLocations\":[{\"fullyQualifiedName\":")?;
     put_string(out, site)?;
-    out.extend_from_slice(b"}]}]")?;
+    out.extend_from_slice(b"}]")?;
     Ok(())
 }
 
@@ -117,13 +130,11 @@ fn put_file(out: &mut Vec<u8>, site: &[u8], place: usize) -> Result<(), AllocErr
     requires { place < length site.now }
     ensures { OnOk result (out.new.items ≡ out.old.items ++ file_member site.now place) }
 {
-    out.extend_from_slice(
-        b",\"locations\":[{\"physicalLocation\":{\"artifactLocation\":{\"uri\":",
-    )?;
+    out.extend_from_slice(b"{\"physicalLocation\":{\"artifactLocation\":{\"uri\":")?;
     put_uri(out, &site[..place])?;
     out.extend_from_slice(b"},\"region\":{\"startLine\":")?;
     out.extend_from_slice(&site[place + 1..])?;
-    out.extend_from_slice(b"}}}]")?;
+    out.extend_from_slice(b"}}")?;
     Ok(())
 }
 
@@ -145,41 +156,44 @@ pub(crate) fn put_fingerprint(out: &mut Vec<u8>, site: &[u8], kind: Kind) -> Res
 pub(crate) fn put_related(
     out: &mut Vec<u8>,
     names: &Names,
+    places: &Places,
     explained: &[Because],
 ) -> Result<(), AllocError>
     requires { All (HasReasonNames names.now) explained.now }
-    ensures { OnOk result (out.new.items ≡ out.old.items ++ related_member names.now explained.now) }
+    ensures { OnOk result (out.new.items ≡ out.old.items ++ related_member names.now places.now explained.now) }
 {
     out.extend_from_slice(b",\"relatedLocations\":")?;
-    put_reason_array(out, names, explained)
+    put_reason_array(out, names, places, explained)
 }
 
 fn put_reason_array(
     out: &mut Vec<u8>,
     names: &Names,
+    places: &Places,
     explained: &[Because],
 ) -> Result<(), AllocError>
     requires { All (HasReasonNames names.now) explained.now }
-    ensures { OnOk result (out.new.items ≡ out.old.items ++ array_text (reason_text names.now) explained.now) }
+    ensures { OnOk result (out.new.items ≡ out.old.items ++ array_text (reason_text names.now places.now) explained.now) }
 {
     out.extend_from_slice(b"[")?;
-    put_reason_list(out, names, explained)?;
+    put_reason_list(out, names, places, explained)?;
     out.extend_from_slice(b"]")
 }
 
 fn put_reason_list(
     out: &mut Vec<u8>,
     names: &Names,
+    places: &Places,
     explained: &[Because],
 ) -> Result<(), AllocError>
     requires { All (HasReasonNames names.now) explained.now }
-    ensures { OnOk result (out.new.items ≡ out.old.items ++ values_text (reason_text names.now) explained.now) }
+    ensures { OnOk result (out.new.items ≡ out.old.items ++ values_text (reason_text names.now places.now) explained.now) }
 {
     match explained {
         [] => Ok(()),
         [first, rest @ ..] => {
-            put_reason(out, names, first)?;
-            put_more_reasons(out, names, rest)
+            put_reason(out, names, places, first)?;
+            put_more_reasons(out, names, places, rest)
         }
     }
 }
@@ -188,27 +202,46 @@ fn put_reason_list(
 fn put_more_reasons(
     out: &mut Vec<u8>,
     names: &Names,
+    places: &Places,
     explained: &[Because],
 ) -> Result<(), AllocError>
     requires { All (HasReasonNames names.now) explained.now }
-    ensures { OnOk result (out.new.items ≡ out.old.items ++ more_text (reason_text names.now) explained.now) }
+    ensures { OnOk result (out.new.items ≡ out.old.items ++ more_text (reason_text names.now places.now) explained.now) }
 {
     for because in explained {
         out.push(b',')?;
-        put_reason(out, names, because)?;
+        put_reason(out, names, places, because)?;
     }
     Ok(())
 }
 
 #[tactic(auto, unfolding(crate::specs::Document::reason_text))]
-fn put_reason(out: &mut Vec<u8>, names: &Names, because: &Because) -> Result<(), AllocError>
+fn put_reason(
+    out: &mut Vec<u8>,
+    names: &Names,
+    places: &Places,
+    because: &Because,
+) -> Result<(), AllocError>
     requires { HasReasonNames names.now because.now }
-    ensures { OnOk result (out.new.items ≡ out.old.items ++ reason_text names.now because.now) }
+    ensures { OnOk result (out.new.items ≡ out.old.items ++ reason_text names.now places.now because.now) }
 {
-    out.extend_from_slice(b"{\"message\":{\"text\":\"")?;
+    put_opening(out, places, because)?;
+    put_sentence(out, names, because)?;
+    put_holding(out, places, because)?;
+    out.extend_from_slice(b"\"}}")?;
+    Ok(())
+}
+
+// Puts who did what, and what it has to do with the race.
+#[tactic(auto, unfolding(crate::specs::Document::sentence_words))]
+fn put_sentence(out: &mut Vec<u8>, names: &Names, because: &Because) -> Result<(), AllocError>
+    requires { HasReasonNames names.now because.now }
+    ensures { OnOk result (out.new.items ≡ out.old.items ++ sentence_words names.now because.now) }
+{
+    out.extend_from_slice(b"\"message\":{\"text\":\"")?;
     put_label(out, names, because.label)?;
     put_access(out, names, because.thread, because.kind, because.line)?;
-    out.extend_from_slice(b" of the trace\"}}")?;
+    out.extend_from_slice(b" of the trace")?;
     Ok(())
 }
 

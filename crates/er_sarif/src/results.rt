@@ -13,6 +13,7 @@ use crate::members::{
 };
 use er_event::{Kind, LockId, Site, ThreadId, Word};
 use er_json::put_separator;
+use er_places::Places;
 use er_report::{Because, Line};
 use er_sites::{Counts, count_at, count_line};
 use er_trace::Names;
@@ -24,13 +25,14 @@ pub(crate) fn put_results(
     alloc: Global,
     out: &mut Vec<u8>,
     names: &Names,
+    places: &Places,
     lines: &[Line],
     total: &Counts,
 ) -> Result<bool, AllocError>
     requires named { All (HasNames names.now) lines.now }
     requires total { AreCounts lines.now total.now }
-    ensures text { OnOk result (out.new.items ≡ out.old.items ++ rows_text (results_below names.now lines.now (length lines.now))) }
-    ensures first { IfOk result (λ first. first ≡ has_none (results_below names.now lines.now (length lines.now))) }
+    ensures text { OnOk result (out.new.items ≡ out.old.items ++ rows_text (results_below names.now places.now lines.now (length lines.now))) }
+    ensures first { IfOk result (λ first. first ≡ has_none (results_below names.now places.now lines.now (length lines.now))) }
 {
     prove!(lines.len() < 1 << 63);
     let mut reads = Vec::new(alloc);
@@ -39,7 +41,7 @@ pub(crate) fn put_results(
     for line in lines {
         let before = count_like(&reads, &writes, line);
         let count = count_like(&total.reads, &total.writes, line);
-        is_first = put_next(out, names, line, before, count, is_first)?;
+        is_first = put_next(out, names, places, line, before, count, is_first)?;
         count_line(&mut reads, &mut writes, line)?;
     }
     Ok(is_first)
@@ -69,14 +71,15 @@ fn count_like(reads: &[u64], writes: &[u64], line: &Line) -> u64
 fn put_next(
     out: &mut Vec<u8>,
     names: &Names,
+    places: &Places,
     line: &Line,
     before: u64,
     count: u64,
     is_first: bool,
 ) -> Result<bool, AllocError>
     requires { HasNames names.now line.now }
-    ensures text { OnOk result (out.new.items ≡ out.old.items ++ next_text is_first (results_of names.now before count line.now)) }
-    ensures first { IfOk result (λ still. still ≡ (is_first && has_none (results_of names.now before count line.now))) }
+    ensures text { OnOk result (out.new.items ≡ out.old.items ++ next_text is_first (results_of names.now places.now before count line.now)) }
+    ensures first { IfOk result (λ still. still ≡ (is_first && has_none (results_of names.now places.now before count line.now))) }
 {
     let Line::Race {
         line,
@@ -96,7 +99,7 @@ fn put_next(
     put_separator(out, is_first)?;
     put_front(out, names, *thread, *kind, *word, count)?;
     put_place(out, names, *site, *kind)?;
-    put_back(out, names, *line, held.as_slice(), explained)?;
+    put_back(out, names, places, *line, held.as_slice(), explained)?;
     Ok(false)
 }
 
@@ -142,14 +145,15 @@ fn put_site(out: &mut Vec<u8>, site: &[u8], kind: Kind) -> Result<(), AllocError
 fn put_back(
     out: &mut Vec<u8>,
     names: &Names,
+    places: &Places,
     line: u64,
     held: &[LockId],
     explained: &[Because],
 ) -> Result<(), AllocError>
     requires held { HasLockNames names.now held.now }
     requires explained { All (HasReasonNames names.now) explained.now }
-    ensures { OnOk result (out.new.items ≡ out.old.items ++ back_text names.now line held.now explained.now) }
+    ensures { OnOk result (out.new.items ≡ out.old.items ++ back_text names.now places.now line held.now explained.now) }
 {
-    put_related(out, names, explained)?;
+    put_related(out, names, places, explained)?;
     put_properties(out, names, line, held)
 }

@@ -74,6 +74,10 @@ falling lines rows short own rising i j d before within =
     (few_words lines (slice_index_or rows i d) short (own i d (omega arith))) (few_words lines (slice_index_or rows j d) short (own j d within))
     (rising i j d before within)
 
+-- four texts put one behind another
+pub put_four : (old a b c d r s t u : List ℕ) → a ≡ old ++ r → b ≡ a ++ s → c ≡ b ++ t → d ≡ c ++ u → d ≡ old ++ (r ++ s ++ t ++ u)
+put_four old a b c d r s t u first second third fourth = rw (fourth, third, second, first) (simp append_assoc)
+
 -- two texts put one behind the other
 pub put_two : (old front new first second : List ℕ) → front ≡ old ++ first → new ≡ front ++ second → new ≡ old ++ (first ++ second)
 put_two old front new first second one two = two ∙ ap (λ (text : List ℕ). text ++ second) one ∙ append_assoc old first second

@@ -1,6 +1,7 @@
 -- The text for people of a trace that was analysed both ways: the sites of the accesses that are unordered in the run, and the other sites.
 use Rattle.std.specs.Prelude.{◌≡◌, ◌==◌, ◌&&◌, ℕ, Bool, true, false, cond, count_by, List, [], ◌∷◌, ◌++◌, flat_map, codes}
 use Rattle.std.specs.List.{find}
+use Rattle.er_places.specs.Places.{PlaceTable}
 use Rattle.er_report.specs.declared.report.Line.{Line}
 use Rattle.er_sites.specs.Table.{IsTable, reads_at, writes_at}
 use Rattle.er_sites.specs.Text.{is_refused, refused_text, rows_text}
@@ -17,8 +18,8 @@ abbrev pub title_of : List ℕ → Bool → List ℕ
 title_of title none = title ++ cond none (codes ": none" ++ 10 ∷ 10 ∷ []) (10 ∷ [])
 
 -- below it the table and the examples
-unfoldable pub part_text : List ℕ → NameTable → List Line → List SiteRow → List ℕ
-part_text title names lines rows = title_of title (are_none rows) ++ rows_text names lines rows
+unfoldable pub part_text : List ℕ → NameTable → PlaceTable → List Line → List SiteRow → List ℕ
+part_text title names table lines rows = title_of title (are_none rows) ++ rows_text names table lines rows
 
 -- the row, if its site has no race among these lines
 abbrev pub if_elsewhere : List Line → SiteRow → List SiteRow
@@ -29,12 +30,12 @@ unfoldable pub other_rows : List Line → List SiteRow → List SiteRow
 other_rows lines rows = flat_map (if_elsewhere lines) rows
 
 -- the sites of the unordered accesses, then the other sites of the lockset rule's races, then the first refused step
-unfoldable pub both_text : NameTable → List Line → List Line → List SiteRow → List SiteRow → List ℕ
-both_text names lockset unordered first all =
-    part_text (codes "races in this run") names unordered first ++ part_text (codes "no common lock") names lockset (other_rows unordered all)
+unfoldable pub both_text : NameTable → PlaceTable → List Line → List Line → List SiteRow → List SiteRow → List ℕ
+both_text names table lockset unordered first all =
+    part_text (codes "races in this run") names table unordered first ++ part_text (codes "no common lock") names table lockset (other_rows unordered all)
     ++ refused_text (find is_refused lockset)
 
 -- the text was put, of a table of each analysis
-abbrev pub PutsBoth : List ℕ → List ℕ → NameTable → List Line → List Line → Type 0
-PutsBoth old new names lockset unordered =
-    (first : List SiteRow) × (all : List SiteRow) × (IsTable unordered first × (IsTable lockset all × (new ≡ old ++ both_text names lockset unordered first all)))
+abbrev pub PutsBoth : List ℕ → List ℕ → NameTable → PlaceTable → List Line → List Line → Type 0
+PutsBoth old new names table lockset unordered =
+    (first : List SiteRow) × (all : List SiteRow) × (IsTable unordered first × (IsTable lockset all × (new ≡ old ++ both_text names table lockset unordered first all)))

@@ -1,11 +1,14 @@
 -- The text for people: a table of the sites with races, a race of each site in sentences, and the lines that every report ends with.
 use Rattle.std.specs.Prelude.{ℕ, zero, suc, ◌-◌, ◌==◌, ◌&&◌, Bool, true, false, cond, nat_le, List, [], ◌∷◌, ◌++◌, length, drop, flat_map, min, Option, Some, None, codes, decimal, slice_get}
 use Rattle.std.specs.List.{list_any, find}
-use Rattle.er_event.specs.Lockset.{is_level_lock, level_base}
+use Rattle.er_event.specs.Lockset.{has, is_level_lock, level_base}
 use Rattle.er_event.specs.Refusal.{text_of}
 use Rattle.er_event.specs.declared.steps.Kind.{Kind}
 use Rattle.er_event.specs.declared.steps.Kind.TheVariants as kind
 use Rattle.er_trace.specs.Names.{NameTable}
+use Rattle.er_places.specs.Places.{PlaceTable}
+use Rattle.er_places.specs.Reasons.{reason_place}
+use Rattle.er_places.specs.declared.place.Place.{Place}
 use Rattle.er_print.specs.Printed.{name_at, address_text, stop_text, counts_text, totals_text}
 use Rattle.er_report.specs.Lines.{LineView, RaceView, RefusedView, ShownView, line_view}
 use Rattle.er_report.specs.Report.{told}
@@ -113,9 +116,43 @@ story_text names thread kind label.Write = thread_text names thread ++ codes " h
 story_text names thread kind (label.Uncovered lock) = unprotected_text names thread kind lock
 story_text names thread kind label.Unordered = unordered_text names thread kind
 
--- one of a race's reasons
-abbrev pub reason_text : NameTable → Because → List ℕ
-reason_text names because = codes "  " ++ story_text names because.thread because.kind because.label ++ line_text because.line ++ 10 ∷ []
+-- a lock that is held only to read is marked
+abbrev pub read_text : List ℕ → ℕ → List ℕ
+read_text writes lock = cond (has writes lock) [] (codes ", but only to read")
+
+-- a lock that the thread of a reason held, if these are held to write
+unfoldable pub kept_text : NameTable → List ℕ → ℕ → List ℕ
+kept_text names writes lock = codes "    holding " ++ lock_text names lock ++ read_text writes lock ++ 10 ∷ []
+
+-- the site of an access that was made with locks; the missing one is left out
+abbrev pub at_text : NameTable → ℕ → List ℕ
+at_text names site = cond (site == 0) [] (codes "    at " ++ site_text names site ++ 10 ∷ [])
+
+-- and of one that was made without
+unfoldable pub alone_text : NameTable → ℕ → List ℕ
+alone_text names site = codes "    at " ++ site_text names site ++ codes ", holding no lock" ++ 10 ∷ []
+
+abbrev pub bare_text : NameTable → ℕ → List ℕ
+bare_text names site = cond (site == 0) (codes "    holding no lock" ++ 10 ∷ []) (alone_text names site)
+
+-- where an access stood, and what its thread held, of which these to write
+abbrev pub stood_text : NameTable → ℕ → List ℕ → List ℕ → List ℕ
+stood_text names site writes [] = bare_text names site
+stood_text names site writes (lock ∷ locks) = at_text names site ++ flat_map (kept_text names writes) (lock ∷ locks)
+
+-- if that is known
+abbrev pub known_text : NameTable → Option Place → List ℕ
+known_text names None = []
+known_text names (Some place) = stood_text names place.site place.write_held place.held
+
+-- and if the access is not the race itself, which is on this line
+abbrev pub where_text : PlaceTable → ℕ → Because → List ℕ
+where_text table number because = cond (because.line == number) [] (known_text table.names (reason_place table because))
+
+-- one of the reasons of the race on this line
+abbrev pub reason_text : NameTable → PlaceTable → ℕ → Because → List ℕ
+reason_text names table number because =
+    codes "  " ++ story_text names because.thread because.kind because.label ++ line_text because.line ++ 10 ∷ [] ++ where_text table number because
 
 -- what follows from the reasons of the lockset rule
 abbrev pub no_common_lock : List ℕ
@@ -144,16 +181,17 @@ head_text names number thread kind word =
     codes "  " ++ thread_text names thread ++ access_text kind ++ address_text word ++ line_text number ++ 10 ∷ []
 
 -- a race in sentences, under its site
-abbrev pub example_text : NameTable → LineView → List ℕ
-example_text names (RaceView number thread kind word site held explained) =
-    title_text names site ++ head_text names number thread kind word ++ holds_text names number thread explained held ++ flat_map (reason_text names) explained ++ so_text explained
-example_text names (RefusedView number step refusal) = []
-example_text names (ShownView number word state) = []
+abbrev pub example_text : NameTable → PlaceTable → LineView → List ℕ
+example_text names table (RaceView number thread kind word site held explained) =
+    title_text names site ++ head_text names number thread kind word ++ holds_text names number thread explained held
+    ++ flat_map (reason_text names table number) explained ++ so_text explained
+example_text names table (RefusedView number step refusal) = []
+example_text names table (ShownView number word state) = []
 
 -- the example of a row, among the lines of the report
-abbrev pub example_of : NameTable → Option Line → List ℕ
-example_of names None = []
-example_of names (Some line) = example_text names (line_view line)
+abbrev pub example_of : NameTable → PlaceTable → Option Line → List ℕ
+example_of names table None = []
+example_of names table (Some line) = example_text names table (line_view line)
 
 -- the heads of the columns, if there are rows
 abbrev pub heading_text : List SiteRow → List ℕ
@@ -166,9 +204,9 @@ blank_text [] = []
 blank_text (row ∷ rows) = 10 ∷ []
 
 -- the table, and an example of each of its rows
-abbrev pub rows_text : NameTable → List Line → List SiteRow → List ℕ
-rows_text names lines rows =
-    heading_text rows ++ flat_map (row_text names) rows ++ flat_map (λ (row : SiteRow). example_of names (slice_get lines row.example)) rows ++ blank_text rows
+abbrev pub rows_text : NameTable → PlaceTable → List Line → List SiteRow → List ℕ
+rows_text names table lines rows =
+    heading_text rows ++ flat_map (row_text names) rows ++ flat_map (λ (row : SiteRow). example_of names table (slice_get lines row.example)) rows ++ blank_text rows
 
 -- the line of a refused step, and why it was refused
 abbrev pub refusal_text : LineView → List ℕ
@@ -186,7 +224,7 @@ abbrev pub refused_text : Option Line → List ℕ
 refused_text None = []
 refused_text (Some line) = refusal_text (line_view line)
 
--- the whole text
-unfoldable pub sites_text : NameTable → Report → List SiteRow → List ℕ
-sites_text names r rows =
-    rows_text names r.lines.items rows ++ refused_text (find is_refused r.lines.items) ++ stop_text r.stop ++ counts_text 1 r.rule_counts.items ++ totals_text (told r)
+-- the whole text; behind each reason stands where its access was, as far as this table knows
+unfoldable pub sites_text : NameTable → PlaceTable → Report → List SiteRow → List ℕ
+sites_text names table r rows =
+    rows_text names table r.lines.items rows ++ refused_text (find is_refused r.lines.items) ++ stop_text r.stop ++ counts_text 1 r.rule_counts.items ++ totals_text (told r)

@@ -9,6 +9,7 @@ use crate::counts::{Counts, count_at, count_races};
 use crate::row::SiteRow;
 use crate::sites::{first_refused, put_refused, put_rows};
 use crate::table::site_rows;
+use er_places::Places;
 use er_report::{Line, Report};
 use er_trace::Names;
 use std::alloc::{AllocError, Global};
@@ -22,10 +23,11 @@ pub fn put_sites_of_both(
     lockset: &Report,
     unordered: &Report,
     names: &Names,
+    places: &Places,
 ) -> Result<(), AllocError>
     requires lockset { All (HasNames names.now) lockset.now.lines.items }
     requires unordered { All (HasNames names.now) unordered.now.lines.items }
-    ensures { OnOk result (PutsBoth out.old.items out.new.items names.now lockset.now.lines.items unordered.now.lines.items) }
+    ensures { OnOk result (PutsBoth out.old.items out.new.items names.now places.now lockset.now.lines.items unordered.now.lines.items) }
 {
     let first = site_rows(alloc, &unordered.lines)?;
     let all = site_rows(alloc, &lockset.lines)?;
@@ -35,6 +37,7 @@ pub fn put_sites_of_both(
         &lockset.lines,
         &unordered.lines,
         names,
+        places,
         &first,
         &all,
     )?;
@@ -49,6 +52,7 @@ fn put_both(
     lockset: &[Line],
     unordered: &[Line],
     names: &Names,
+    places: &Places,
     first: &[SiteRow],
     all: &[SiteRow],
 ) -> Result<(), AllocError>
@@ -56,11 +60,11 @@ fn put_both(
     requires unordered { All (HasNames names.now) unordered.now }
     requires first { IsTable unordered.now first.now }
     requires all { IsTable lockset.now all.now }
-    ensures { OnOk result (out.new.items ≡ out.old.items ++ both_text names.now lockset.now unordered.now first.now all.now) }
+    ensures { OnOk result (out.new.items ≡ out.old.items ++ both_text names.now places.now lockset.now unordered.now first.now all.now) }
 {
     let others = other_rows(alloc, unordered, all)?;
-    put_part(out, b"races in this run", names, unordered, first)?;
-    put_part(out, b"no common lock", names, lockset, &others)?;
+    put_part(out, b"races in this run", names, places, unordered, first)?;
+    put_part(out, b"no common lock", names, places, lockset, &others)?;
     put_refused(out, first_refused(lockset))?;
     Ok(())
 }
@@ -71,15 +75,16 @@ fn put_part(
     out: &mut Vec<u8>,
     title: &[u8],
     names: &Names,
+    places: &Places,
     lines: &[Line],
     rows: &[SiteRow],
 ) -> Result<(), AllocError>
     requires names { All (HasNames names.now) lines.now }
     requires rows { All (λ row. row.site ≤ length names.now.sites) rows.now }
-    ensures { OnOk result (out.new.items ≡ out.old.items ++ part_text title.now names.now lines.now rows.now) }
+    ensures { OnOk result (out.new.items ≡ out.old.items ++ part_text title.now names.now places.now lines.now rows.now) }
 {
     put_title(out, title, rows.is_empty())?;
-    put_rows(out, names, lines, rows)?;
+    put_rows(out, names, places, lines, rows)?;
     Ok(())
 }
 

@@ -22,5 +22,6 @@ mod names;
 mod row;
 mod rows;
 mod sites;
+mod standing;
 mod stories;
 mod table;

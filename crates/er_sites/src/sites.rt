@@ -13,29 +13,32 @@ use crate::row::SiteRow;
 use crate::stories::put_example;
 use crate::table::site_rows;
 use er_device::Device;
+use er_places::Places;
 use er_print::{WriteFault, put_number, put_rule_counts, put_stop, put_totals};
 use er_report::{Line, Report};
 use er_trace::Names;
 use std::alloc::{AllocError, Global};
 use std::io::Write;
 
-/// Writes the races of a report by their sites, with these names for its numbers. The text is whole before its first byte is written.
+/// Writes the races of a report by their sites, with these names for its numbers. Behind each reason stands where its access was, as far
+/// as the places are known. The text is whole before its first byte is written.
 pub fn write_sites<W: Write>(
     alloc: Global,
     writer: &mut Device<W>,
     report: &Report,
     names: &Names,
+    places: &Places,
 ) -> Result<(), WriteFault>
     requires open { has_failed writer.old ≡ false }
     requires names { All (HasNames names.now) report.now.lines.items }
-    ensures bytes { WritesSites (W.contents (inner_of writer.old)) (W.contents (inner_of writer.new)) names.now report.now result }
+    ensures bytes { WritesSites (W.contents (inner_of writer.old)) (W.contents (inner_of writer.new)) names.now places.now report.now result }
     ensures failed { FailsWriting (has_failed writer.new) result }
     ensures taken { taken_of writer.new ≡ taken_of writer.old }
 {
     let Ok(rows) = site_rows(alloc, &report.lines) else {
         return Err(WriteFault::Memory);
     };
-    let Ok(text) = sites_text(alloc, report, names, &rows) else {
+    let Ok(text) = sites_text(alloc, report, names, places, &rows) else {
         return Err(WriteFault::Memory);
     };
     if writer.write_all(&text).is_err() {
@@ -49,14 +52,15 @@ fn sites_text(
     alloc: Global,
     report: &Report,
     names: &Names,
+    places: &Places,
     rows: &[SiteRow],
 ) -> Result<Vec<u8>, AllocError>
     requires names { All (HasNames names.now) report.now.lines.items }
     requires rows { IsTable report.now.lines.items rows.now }
-    ensures { IfOk result (λ text. text.items ≡ sites_text names.now report.now rows.now) }
+    ensures { IfOk result (λ text. text.items ≡ sites_text names.now places.now report.now rows.now) }
 {
     let mut text = Vec::new(alloc);
-    put_rows(&mut text, names, &report.lines, rows)?;
+    put_rows(&mut text, names, places, &report.lines, rows)?;
     put_refused(&mut text, first_refused(&report.lines))?;
     put_stop(&mut text, report.stop)?;
     put_rule_counts(&mut text, &report.rule_counts)?;
@@ -68,16 +72,17 @@ fn sites_text(
 pub(crate) fn put_rows(
     out: &mut Vec<u8>,
     names: &Names,
+    places: &Places,
     lines: &[Line],
     rows: &[SiteRow],
 ) -> Result<(), AllocError>
     requires names { All (HasNames names.now) lines.now }
     requires rows { All (λ row. row.site ≤ length names.now.sites) rows.now }
-    ensures { OnOk result (out.new.items ≡ out.old.items ++ rows_text names.now lines.now rows.now) }
+    ensures { OnOk result (out.new.items ≡ out.old.items ++ rows_text names.now places.now lines.now rows.now) }
 {
     put_heading(out, rows)?;
     put_table(out, names, rows)?;
-    put_examples(out, names, lines, rows)?;
+    put_examples(out, names, places, lines, rows)?;
     put_blank(out, rows)
 }
 
@@ -137,14 +142,15 @@ fn put_kinds(out: &mut Vec<u8>, reads: u64, writes: u64) -> Result<(), AllocErro
 fn put_examples(
     out: &mut Vec<u8>,
     names: &Names,
+    places: &Places,
     lines: &[Line],
     rows: &[SiteRow],
 ) -> Result<(), AllocError>
     requires { All (HasNames names.now) lines.now }
-    ensures { OnOk result (out.new.items ≡ out.old.items ++ flat_map (λ row. example_of names.now (slice_get lines.now row.example)) rows.now) }
+    ensures { OnOk result (out.new.items ≡ out.old.items ++ flat_map (λ row. example_of names.now places.now (slice_get lines.now row.example)) rows.now) }
 {
     for row in rows {
-        put_example_at(out, names, lines, row.example)?;
+        put_example_at(out, names, places, lines, row.example)?;
     }
     Ok(())
 }
@@ -153,14 +159,15 @@ fn put_examples(
 fn put_example_at(
     out: &mut Vec<u8>,
     names: &Names,
+    places: &Places,
     lines: &[Line],
     place: usize,
 ) -> Result<(), AllocError>
     requires { All (HasNames names.now) lines.now }
-    ensures { OnOk result (out.new.items ≡ out.old.items ++ example_of names.now (slice_get lines.now place)) }
+    ensures { OnOk result (out.new.items ≡ out.old.items ++ example_of names.now places.now (slice_get lines.now place)) }
 {
     match lines.get(place) {
-        Some(line) => put_example(out, names, line),
+        Some(line) => put_example(out, names, places, line),
         None => Ok(()),
     }
 }

@@ -6,16 +6,23 @@ ghost use Rattle.er_report.specs.Names.{HasLabelName, HasLockName, HasLockNames,
 ghost use Rattle.er_sites.specs.Text.{deed_text, example_text, failed_lock_text, head_text, held_text, holds_text, title_text, mode_text, reason_text, so_by, so_text, story_text, unordered_text, unprotected_text, is_without};
 
 use crate::names::{put_access, put_did, put_line, put_lock, put_site, put_thread};
+use crate::standing::put_where;
 use er_event::{Kind, LockId, Site, ThreadId, Word};
+use er_places::Places;
 use er_print::put_address;
 use er_report::{Because, Label, Line};
 use er_trace::Names;
 use std::alloc::AllocError;
 
 /// Puts a race in sentences, under its site. Other lines have no story.
-pub(crate) fn put_example(out: &mut Vec<u8>, names: &Names, line: &Line) -> Result<(), AllocError>
+pub(crate) fn put_example(
+    out: &mut Vec<u8>,
+    names: &Names,
+    places: &Places,
+    line: &Line,
+) -> Result<(), AllocError>
     requires { HasNames names.now line.now }
-    ensures { OnOk result (out.new.items ≡ out.old.items ++ example_text names.now (line_view line.now)) }
+    ensures { OnOk result (out.new.items ≡ out.old.items ++ example_text names.now places.now (line_view line.now)) }
 {
     let Line::Race {
         line,
@@ -32,7 +39,7 @@ pub(crate) fn put_example(out: &mut Vec<u8>, names: &Names, line: &Line) -> Resu
     put_title(out, names, *site)?;
     put_head(out, names, *line, *thread, *kind, *word)?;
     put_locks(out, names, *line, *thread, explained, held.as_slice())?;
-    put_reasons(out, names, explained)?;
+    put_reasons(out, names, places, *line, explained)?;
     put_so(out, explained)
 }
 
@@ -145,25 +152,39 @@ fn is_without(line: u64, lock: LockId, because: &Because) -> bool
     }
 }
 
-fn put_reasons(out: &mut Vec<u8>, names: &Names, explained: &[Because]) -> Result<(), AllocError>
+// Puts the reasons of the race on this line.
+fn put_reasons(
+    out: &mut Vec<u8>,
+    names: &Names,
+    places: &Places,
+    line: u64,
+    explained: &[Because],
+) -> Result<(), AllocError>
     requires { All (HasReasonNames names.now) explained.now }
-    ensures { OnOk result (out.new.items ≡ out.old.items ++ flat_map (reason_text names.now) explained.now) }
+    ensures { OnOk result (out.new.items ≡ out.old.items ++ flat_map (reason_text names.now places.now line) explained.now) }
 {
     for because in explained {
-        put_reason(out, names, because)?;
+        put_reason(out, names, places, line, because)?;
     }
     Ok(())
 }
 
-// Puts the sentence of one reason.
-fn put_reason(out: &mut Vec<u8>, names: &Names, because: &Because) -> Result<(), AllocError>
+// Puts the sentence of one reason, and where its access stood.
+fn put_reason(
+    out: &mut Vec<u8>,
+    names: &Names,
+    places: &Places,
+    line: u64,
+    because: &Because,
+) -> Result<(), AllocError>
     requires { HasReasonNames names.now because.now }
-    ensures { OnOk result (out.new.items ≡ out.old.items ++ reason_text names.now because.now) }
+    ensures { OnOk result (out.new.items ≡ out.old.items ++ reason_text names.now places.now line because.now) }
 {
     out.extend_from_slice(b"  ")?;
     put_story(out, names, because.thread, because.kind, because.label)?;
     put_line(out, because.line)?;
-    out.extend_from_slice(b"\n")
+    out.extend_from_slice(b"\n")?;
+    put_where(out, places, line, because)
 }
 
 fn put_story(

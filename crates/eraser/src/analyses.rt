@@ -8,10 +8,13 @@ ghost use Rattle.er_rules.specs.Rules.{targets_of};
 ghost use Rattle.er_triage.specs.Notes.{AreNotes};
 ghost use Rattle.eraser.specs.Replays.{EndsBy, IsPlainBy, order_of};
 
+use crate::again;
+use crate::again::places_of;
 use crate::faults::order_fault_of;
 use crate::sorting::{Ended, asks_more, finish, sorted, status_of};
 use er_device::Device;
 use er_exit::Fault;
+use er_places::Places;
 use er_print::{WriteFault, put_rule_counts, put_totals};
 use er_report::Report;
 use er_request::{Format, Replay};
@@ -64,7 +67,7 @@ where
     ensures nothing { IfErr result (LeavesOutput (O.contents (inner_of output.old)) (O.contents (inner_of output.new))) }
 {
     if asks_sites(replay) {
-        return replay_by_site(rt, source, output, suppressions, options, watcher);
+        return replay_by_site(rt, replay, source, output, suppressions, options, watcher);
     }
     if analysis == Analysis::HappensBefore && asks_more(replay) {
         return sort_unordered(rt, replay, source, output, suppressions, options, watcher);
@@ -88,6 +91,7 @@ fn asks_sites(replay: &Replay<'_>) -> bool
 // Replays what the reader gives by both analyses, and writes the sites of both reports.
 fn replay_by_site<R, D, O, V>(
     rt: &R,
+    replay: &Replay<'_>,
     source: &mut Device<D>,
     output: &mut Device<O>,
     suppressions: &Suppressions,
@@ -95,7 +99,7 @@ fn replay_by_site<R, D, O, V>(
     watcher: &mut V,
 ) -> Result<Ended, Fault>
 where
-    R: AllocGlobal + Wait,
+    R: Files + AllocGlobal + Wait,
     D: Read,
     O: Write,
     V: Watch,
@@ -109,7 +113,7 @@ where
         Ok(found) => found,
         Err(why) => return Err(order_fault_of(why)),
     };
-    write_sites(rt.alloc(), output, &found)?;
+    write_sites(rt, replay, options, output, &found)?;
     let races = found.lockset.races > 0 || found.unordered.races > 0;
     Ok(Ended {
         status: u8::from(races),
@@ -117,18 +121,42 @@ where
     })
 }
 
-// Writes the sites of both reports.
-fn write_sites<O: Write>(
+// Writes the sites of both reports, with the places of their reasons if they are known.
+fn write_sites<R, O>(
+    rt: &R,
+    replay: &Replay<'_>,
+    options: &Options,
+    output: &mut Device<O>,
+    found: &BothReports,
+) -> Result<(), Fault>
+where
+    R: Files + AllocGlobal,
+    O: Write,
+    requires output { has_failed output.old ≡ false }
+    requires lockset { All (HasNames found.now.trace.names) found.now.lockset.lines.items }
+    requires unordered { All (HasNames found.now.trace.names) found.now.unordered.lines.items }
+    ensures nothing { IfErr result (LeavesOutput (O.contents (inner_of output.old)) (O.contents (inner_of output.new))) }
+{
+    let other = Some(&found.unordered);
+    let places = places_of(rt, replay, options, &found.lockset, other);
+    write_placed(rt.alloc(), output, found, places)
+}
+
+// Writes the sites of both reports, and lets go of the places.
+fn write_placed<O: Write>(
     alloc: Global,
     output: &mut Device<O>,
     found: &BothReports,
+    places: Places,
 ) -> Result<(), Fault>
     requires output { has_failed output.old ≡ false }
     requires lockset { All (HasNames found.now.trace.names) found.now.lockset.lines.items }
     requires unordered { All (HasNames found.now.trace.names) found.now.unordered.lines.items }
     ensures nothing { IfErr result (LeavesOutput (O.contents (inner_of output.old)) (O.contents (inner_of output.new))) }
 {
-    let Ok(text) = sites_text(alloc, found) else {
+    let text = sites_text(alloc, found, &places);
+    again::close(places);
+    let Ok(text) = text else {
         return Err(Fault::Memory);
     };
     match output.write_all(&text) {
@@ -138,7 +166,7 @@ fn write_sites<O: Write>(
 }
 
 // The sites of both reports, and what each report ends with.
-fn sites_text(alloc: Global, found: &BothReports) -> Result<Vec<u8>, AllocError>
+fn sites_text(alloc: Global, found: &BothReports, places: &Places) -> Result<Vec<u8>, AllocError>
     requires lockset { All (HasNames found.now.trace.names) found.now.lockset.lines.items }
     requires unordered { All (HasNames found.now.trace.names) found.now.unordered.lines.items }
 {
@@ -148,7 +176,7 @@ fn sites_text(alloc: Global, found: &BothReports) -> Result<Vec<u8>, AllocError>
         trace,
     } = found;
     let mut text = Vec::new(alloc);
-    put_sites_of_both(alloc, &mut text, lockset, unordered, trace.names())?;
+    put_sites_of_both(alloc, &mut text, lockset, unordered, trace.names(), places)?;
     put_rule_counts(&mut text, &lockset.rule_counts)?;
     put_totals(&mut text, lockset)?;
     put_rule_counts(&mut text, &unordered.rule_counts)?;

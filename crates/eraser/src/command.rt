@@ -13,6 +13,7 @@ ghost use Rattle.er_unordered.specs.declared.replay.Analysis.{Analysis as Order}
 ghost use Rattle.eraser.specs.Replays.{EndsAs, EndsBy, IsPlain, IsPlainBy, ReplaysTo};
 
 use crate::advice::report_replay_fault;
+use crate::again::replay_form;
 use crate::analyses::{order_of, replay_by_order};
 use crate::faults::fault_of;
 use crate::meter::Meter;
@@ -23,7 +24,7 @@ use crate::until::end_until_fault;
 use clap::error::ErrorKind;
 use er_device::Device;
 use er_exit::{Fault, put, report_fault, run_demo};
-use er_formats::{Form, replay_as};
+use er_formats::Form;
 use er_load::Workload;
 use er_request::{Demo, Explain, Format, Replay, Request, read_request};
 use er_rules::Suppressions;
@@ -366,15 +367,7 @@ where
     if asks_more(replay) || shows_sources(replay) {
         return replay_and_sort(rt, replay, source, output, suppressions, options, watcher);
     }
-    match replay_in(
-        rt,
-        replay.format,
-        source,
-        output,
-        suppressions,
-        options,
-        watcher,
-    ) {
+    match replay_in(rt, replay, source, output, suppressions, options, watcher) {
         Ok(verdict) => Ok(Ended {
             status: status_of(verdict),
             notes: Vec::new(rt.alloc()),
@@ -393,7 +386,7 @@ fn shows_sources(replay: &Replay<'_>) -> bool
 // Replays what the reader gives, and writes the report in the format that was asked for.
 fn replay_in<R, D, O, V>(
     rt: &R,
-    format: Format,
+    replay: &Replay<'_>,
     source: &mut Device<D>,
     output: &mut Device<O>,
     suppressions: &Suppressions,
@@ -401,59 +394,44 @@ fn replay_in<R, D, O, V>(
     watcher: &mut V,
 ) -> Result<Verdict, Fault>
 where
-    R: AllocGlobal + Threads + Wait + Sync,
+    R: Files + AllocGlobal + Threads + Wait + Sync,
     D: Read,
     O: Write,
     V: Watch,
     requires source { has_failed source.old ≡ false }
     requires output { has_failed output.old ≡ false }
-    ensures report { format ≡ Text → IfOk result (λ verdict. IfSome (D.remaining (inner_of source.old)) (λ text. IsReplayed text options.now.byte_limit (targets_of suppressions.now) options.now.explain (O.contents (inner_of output.old)) (O.contents (inner_of output.new)) verdict)) }
+    ensures report { replay.now.format ≡ Text → IfOk result (λ verdict. IfSome (D.remaining (inner_of source.old)) (λ text. IsReplayed text options.now.byte_limit (targets_of suppressions.now) options.now.explain (O.contents (inner_of output.old)) (O.contents (inner_of output.new)) verdict)) }
     ensures nothing { IfErr result (LeavesOutput (O.contents (inner_of output.old)) (O.contents (inner_of output.new))) }
 {
-    let replayed = match format {
-        Format::Text => replay_text_watched(rt, source, output, suppressions, options, watcher),
-        Format::BySite => {
-            replay_as(
-                rt,
-                source,
-                output,
-                suppressions,
-                options,
-                Form::BySite,
-                watcher,
-            )
-        }
-        Format::Json => replay_as(
+    let replayed = match form_of(replay.format) {
+        None => replay_text_watched(rt, source, output, suppressions, options, watcher),
+        Some(form) => replay_form(
             rt,
+            replay,
+            form,
             source,
             output,
             suppressions,
             options,
-            Form::Json,
-            watcher,
-        ),
-        Format::Sarif => replay_as(
-            rt,
-            source,
-            output,
-            suppressions,
-            options,
-            Form::Sarif,
-            watcher,
-        ),
-        Format::Html => replay_as(
-            rt,
-            source,
-            output,
-            suppressions,
-            options,
-            Form::Html,
             watcher,
         ),
     };
     match replayed {
         Ok(verdict) => Ok(verdict),
         Err(why) => Err(fault_of(why)),
+    }
+}
+
+// The form that is another than the text.
+fn form_of(format: Format) -> Option<Form>
+    ensures { format ≡ Text → result ≡ None }
+{
+    match format {
+        Format::Text => None,
+        Format::BySite => Some(Form::BySite),
+        Format::Json => Some(Form::Json),
+        Format::Sarif => Some(Form::Sarif),
+        Format::Html => Some(Form::Html),
     }
 }
 

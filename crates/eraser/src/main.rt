@@ -5,6 +5,7 @@
 #![tactic(auto)]
 
 mod advice;
+mod again;
 mod analyses;
 mod command;
 mod faults;

@@ -8,6 +8,8 @@ ghost use Rattle.er_triage.specs.Notes.{AreNotes};
 ghost use Rattle.er_unordered.specs.declared.replay.Analysis.{Analysis as Order};
 ghost use Rattle.eraser.specs.Replays.{IsPlain, IsPlainBy, verdict_status};
 
+use crate::again;
+use crate::again::places_of;
 use crate::faults::fault_of;
 use crate::rules::write_rules;
 use crate::sources::excerpts_of;
@@ -15,6 +17,7 @@ use er_device::Device;
 use er_exit::Fault;
 use er_html::{Excerpt, write_html};
 use er_json::write_json;
+use er_places::Places;
 use er_print::{WriteFault, write_report};
 use er_report::Report;
 use er_request::{Format, Replay};
@@ -87,9 +90,10 @@ where
     };
     let triaged = sorted(rt.alloc(), report, &trace, suppressions, replay)?;
     let excerpts = excerpts_of(rt, replay.source, &triaged.report, trace.names())?;
-    write_as(
-        rt.alloc(),
-        replay.format,
+    write_asked(
+        rt,
+        replay,
+        options,
         &triaged.report,
         trace.names(),
         suppressions,
@@ -131,12 +135,44 @@ fn wishes_of(replay: &Replay<'_>) -> Wishes
     }
 }
 
-// Writes the report in the format that was asked for, with the excerpts of source files if it is a page.
+// Writes the report as it is asked for, with the places of its reasons if they are shown and known. Split for the prover.
+fn write_asked<R, O>(
+    rt: &R,
+    replay: &Replay<'_>,
+    options: &Options,
+    report: &Report,
+    names: &Names,
+    suppressions: &Suppressions,
+    excerpts: &[Excerpt],
+    output: &mut Device<O>,
+) -> Result<(), Fault>
+where
+    R: Files + AllocGlobal,
+    O: Write,
+    requires output { has_failed output.old ≡ false }
+    requires named { All (HasNames names.now) report.now.lines.items }
+    ensures nothing { IfErr result (LeavesOutput (O.contents (inner_of output.old)) (O.contents (inner_of output.new))) }
+{
+    let places = places_of(rt, replay, options, report, None);
+    write_as(
+        rt.alloc(),
+        replay.format,
+        report,
+        names,
+        places,
+        suppressions,
+        excerpts,
+        output,
+    )
+}
+
+// Writes the report in the format that was asked for, with the excerpts of source files if it is a page, and lets go of the places.
 fn write_as<O: Write>(
     alloc: Global,
     format: Format,
     report: &Report,
     names: &Names,
+    places: Places,
     suppressions: &Suppressions,
     excerpts: &[Excerpt],
     output: &mut Device<O>,
@@ -147,11 +183,12 @@ fn write_as<O: Write>(
 {
     let written = match format {
         Format::Text => write_report(alloc, output, report, names),
-        Format::BySite => write_sites(alloc, output, report, names),
+        Format::BySite => write_sites(alloc, output, report, names, &places),
         Format::Json => write_json(alloc, output, report, names),
-        Format::Sarif => write_sarif(alloc, output, report, names, suppressions),
+        Format::Sarif => write_sarif(alloc, output, report, names, suppressions, &places),
         Format::Html => write_html(alloc, output, report, names, excerpts),
     };
+    again::close(places);
     match written {
         Ok(()) => Ok(()),
         Err(WriteFault::Memory) => Err(Fault::Memory),

@@ -9,6 +9,6 @@ use Rattle.er_sarif.proofs.members.put_file.Goals as goal
 pub returns : goal.returns
 unfolding file_member
 returns c =
-    put_five _ _ _ _ _ _ (codes ",\"locations\":[{\"physicalLocation\":{\"artifactLocation\":{\"uri\":") (uri_text (take c.args.place c.args.site.now))
-    (codes "},\"region\":{\"startLine\":") (drop (c.args.place + 1) c.args.site.now) (codes "}}}]") c.in_ok-extend_from_slice.ensures.items c.in_ok-put_uri.ensures
+    put_five _ _ _ _ _ _ (codes "{\"physicalLocation\":{\"artifactLocation\":{\"uri\":") (uri_text (take c.args.place c.args.site.now))
+    (codes "},\"region\":{\"startLine\":") (drop (c.args.place + 1) c.args.site.now) (codes "}}") c.in_ok-extend_from_slice.ensures.items c.in_ok-put_uri.ensures
     c.in_ok-extend_from_slice-2.ensures.items (rw (rest_all (c.args.place + 1) c.args.site.now) at c.in_ok-extend_from_slice-3.ensures.items) c.in_ok-extend_from_slice-4.ensures.items

@@ -8,5 +8,5 @@ use Rattle.er_sarif.proofs.members.put_name.Goals as goal
 pub returns : goal.returns
 unfolding name_member
 returns c =
-    put_three _ _ _ _ (codes ",\"locations\":[{\"logicalLocations\":[{\"fullyQualifiedName\":") (string_text c.args.site.now) (codes "}]}]") c.in_ok-extend_from_slice.ensures.items
+    put_three _ _ _ _ (codes "{\"logicalLocations\":[{\"fullyQualifiedName\":") (string_text c.args.site.now) (codes "}]") c.in_ok-extend_from_slice.ensures.items
     c.in_ok-put_string.ensures c.in_ok-extend_from_slice-2.ensures.items

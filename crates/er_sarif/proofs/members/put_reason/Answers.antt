@@ -1,12 +1,13 @@
 -- The four parts, one behind another.
 use Rattle.std.proofs.Common.{codes}
+use Rattle.er_places.specs.Reasons.{reason_place}
 use Rattle.er_sarif.proofs.PutLemmas.{put_four}
-use Rattle.er_sarif.specs.Document.{access_words, label_words, reason_text}
+use Rattle.er_sarif.specs.Document.{holding_words, opening_text, reason_text, sentence_words}
 use Rattle.er_sarif.proofs.members.put_reason.Goals as goal
 
 pub returns : goal.returns
 unfolding reason_text
 returns c =
-    put_four _ _ _ _ _ (codes "{\"message\":{\"text\":\"") (label_words c.args.names.now c.args.because.now.label)
-    (access_words c.args.names.now c.args.because.now.thread c.args.because.now.kind c.args.because.now.line) (codes " of the trace\"}}") c.in_ok-extend_from_slice.ensures.items
-    c.in_ok-put_label.ensures c.in_ok-put_access.ensures c.in_ok-extend_from_slice-2.ensures.items
+    put_four _ _ _ _ _ (opening_text c.args.places.now.names (reason_place c.args.places.now c.args.because.now)) (sentence_words c.args.names.now c.args.because.now)
+    (holding_words c.args.places.now.names (reason_place c.args.places.now c.args.because.now)) (codes "\"}}") c.in_ok-put_opening.ensures c.in_ok-put_sentence.ensures
+    c.in_ok-put_holding.ensures c.in_ok-extend_from_slice.ensures.items

@@ -1,5 +1,5 @@
 -- The next rule adds its result if it has one.
-use Rattle.std.proofs.Common.{◌≡◌, ◌∙◌, ◌&&◌, ◌<◌, ◌+◌, ℕ, Bool, List, ◌++◌, length, get_or, slice_get, refl, sym, ap, append_assoc}
+use Rattle.std.proofs.Common.{◌≡◌, ◌∙◌, ◌&&◌, ◌<◌, ◌+◌, ℕ, Bool, List, ◌++◌, length, get_or, slice_get, sym, ap, append_assoc}
 use Rattle.std.proofs.lemmas.List.{append-nil}
 use Rattle.er_json.proofs.RowLemmas.{none_more}
 use Rattle.er_json.specs.Document.{rows_text}

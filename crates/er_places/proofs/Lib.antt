@@ -1,0 +1,5 @@
+pub mod NameLemmas
+pub mod PlaceLemmas
+pub mod TextLemmas
+pub mod AskLemmas
+pub mod FrontLemmas

@@ -1,0 +1,4 @@
+pub mod Places
+pub mod Wanted
+pub mod Reasons
+pub mod Inner

@@ -1,0 +1,53 @@
+-- The lines of a trace that a report asks about.
+use Rattle.std.specs.Prelude.{ℕ, zero, suc, nat_eq, ◌&&◌, ◌||◌, not, Bool, true, false, List, take, length, slice_get, Option, Some, None}
+use Rattle.std.specs.List.{list_any}
+use Rattle.er_event.specs.declared.steps.Kind.{Kind}
+use Rattle.er_event.specs.declared.steps.Kind.TheVariants as kind
+use Rattle.er_report.specs.declared.report.Because.{Because}
+use Rattle.er_report.specs.declared.report.Line.{Line}
+use Rattle.er_report.specs.declared.report.Line.TheVariants.{Race, Refused, Shown}
+
+-- the line is among these
+abbrev pub is_wanted : List ℕ → ℕ → Bool
+is_wanted wanted line = list_any (nat_eq line) wanted
+
+-- the kinds are equal
+abbrev pub same_kind : Kind → Kind → Bool
+same_kind kind.Read kind.Read = true
+same_kind kind.Write kind.Write = true
+same_kind kind.Read kind.Write = false
+same_kind kind.Write kind.Read = false
+
+-- the line is a race of this kind at this site
+abbrev pub is_race_at : ℕ → Kind → Line → Bool
+is_race_at s k (Race number thread kind word site held explained) = nat_eq site s && same_kind kind k
+is_race_at s k (Refused number step refusal) = false
+is_race_at s k (Shown number word state) = false
+
+-- one of these reasons names this line of the trace
+abbrev pub name_line : List Because → ℕ → Bool
+name_line reasons line = list_any (λ (because : Because). nat_eq because.line line) reasons
+
+-- a race asks about the lines that its reasons name, unless one of its site and kind is known
+abbrev pub asks_unless : (ℕ → Kind → Bool) → ℕ → Line → Bool
+asks_unless known line (Race number thread kind word site held explained) = not (known site kind) && name_line explained.items line
+asks_unless known line (Refused number step refusal) = false
+asks_unless known line (Shown number word state) = false
+
+-- behind these lines the first race of each site and kind asks
+abbrev pub asks : List Line → ℕ → Line → Bool
+asks before line told = asks_unless (λ (s : ℕ) (k : Kind). list_any (is_race_at s k) before) line told
+
+-- past the list's end there is nothing
+abbrev pub asks_of : List Line → ℕ → Option Line → Bool
+asks_of before line None = false
+asks_of before line (Some told) = asks before line told
+
+-- one of the first n lines does
+unfoldable pub asked_below : List Line → ℕ → ℕ → Bool
+asked_below lines line zero = false
+asked_below lines line (suc n) = asked_below lines line n || asks_of (take n lines) line (slice_get lines n)
+
+-- one of all lines does
+abbrev pub is_asked : List Line → ℕ → Bool
+is_asked lines line = asked_below lines line (length lines)

@@ -1,0 +1,163 @@
+//! A second look at a trace text, batch by batch.
+ghost use Rattle.std.specs.Prelude.{◌≡◌, ◌<◌, ◌≤◌, ◌^◌, ◌++◌, ℕ, List, Option, All, false, true, length, IfSome, IfOk, IfErr, OnOk};
+ghost use Rattle.er_device.specs.Device.{inner_of, has_failed};
+ghost use Rattle.er_event.specs.declared.steps.Step.{Step};
+ghost use Rattle.er_places.specs.Inner.Following.{AreNamed, HasCome, HasEnded, StandsFor};
+ghost use Rattle.er_places.specs.Places.{ArePlaces, IsFaultOf};
+ghost use Rattle.er_places.specs.Wanted.{is_asked, is_wanted};
+ghost use Rattle.er_text.specs.Trace.{HasFailedBy};
+ghost use Rattle.er_trace.specs.Trace.{IsNamed};
+
+use crate::follower::Follower;
+use crate::{Places, Wanted};
+use er_device::Device;
+use er_report::Line;
+use er_text::{Batch, ReadFault, TraceReader};
+use er_trace::Trace;
+use std::alloc::{AllocError, Global};
+use std::io::Read;
+
+/// How many lines a batch has.
+const BATCH_LINES: u32 = 1024;
+
+/// What reads the lines, the trace that each batch fills, and what is kept of the steps so far.
+#[derive(Drop)]
+struct Finder {
+    lines: TraceReader,
+    trace: Trace,
+    follower: Follower,
+}
+
+impl Finder {
+    fn new(alloc: Global, byte_limit: u64) -> Result<Finder, AllocError>
+        requires { byte_limit ≤ 2 ^ 62 }
+        ensures come { IfOk result (λ finder. (wanted : List ℕ) (told : Option (List ℕ)) → HasCome (is_wanted wanted) told told finder.lines finder.trace finder.follower) }
+        ensures limit { IfOk result (λ finder. finder.lines.place.limit ≡ byte_limit) }
+    {
+        let lines = TraceReader::new(alloc, byte_limit)?;
+        Ok(Finder {
+            lines,
+            trace: Trace::new(alloc),
+            follower: Follower::new(alloc),
+        })
+    }
+
+    /// Reads a batch, follows its steps and forgets them, and says whether more can be found. If each wanted line has its place, the rest of
+    /// the text isn't read.
+    fn turn<D: Read>(&mut self, reader: &mut Device<D>, wanted: &Wanted) -> Result<bool, ReadFault>
+        requires open { has_failed reader.old ≡ false }
+        ensures come { (told : Option (List ℕ)) → HasCome (is_wanted wanted.now) told (D.remaining (inner_of reader.old)) self.old.lines self.old.trace self.old.follower
+            → IfOk result (λ more. more ≡ true → HasCome (is_wanted wanted.now) told (D.remaining (inner_of reader.new)) self.new.lines self.new.trace self.new.follower) }
+        ensures ended { (told : Option (List ℕ)) → HasCome (is_wanted wanted.now) told (D.remaining (inner_of reader.old)) self.old.lines self.old.trace self.old.follower
+            → IfOk result (λ more. more ≡ false → HasEnded (is_wanted wanted.now) told self.old.lines.place.limit self.new.trace self.new.follower) }
+        ensures fault { (told : Option (List ℕ)) → HasCome (is_wanted wanted.now) told (D.remaining (inner_of reader.old)) self.old.lines self.old.trace self.old.follower
+            → IfErr result (λ why. IsFaultOf told self.old.lines.place.limit why) }
+        ensures limit { self.new.lines.place.limit ≡ self.old.lines.place.limit }
+        ensures more { IfOk result (λ more. more ≡ true → self.old.lines.place.start < self.new.lines.place.start) }
+        ensures within { self.new.lines.place.start ≤ self.new.lines.place.limit }
+        ensures failed { HasFailedBy (has_failed reader.new) result }
+    {
+        let batch = self.lines.next_batch(reader, &mut self.trace, BATCH_LINES)?;
+        follow_batch(&mut self.follower, wanted, &self.trace)?;
+        match batch {
+            Batch::End => Ok(false),
+            Batch::More => {
+                if self.follower.has_all(wanted) {
+                    return Ok(false);
+                }
+                self.trace.clear();
+                Ok(true)
+            }
+        }
+    }
+
+    /// Reads and follows batches as long as more can be found.
+    fn run<D: Read>(&mut self, reader: &mut Device<D>, wanted: &Wanted) -> Result<(), ReadFault>
+        requires open { has_failed reader.old ≡ false }
+        ensures ended { (told : Option (List ℕ)) → HasCome (is_wanted wanted.now) told (D.remaining (inner_of reader.old)) self.old.lines self.old.trace self.old.follower
+            → OnOk result (HasEnded (is_wanted wanted.now) told self.old.lines.place.limit self.new.trace self.new.follower) }
+        ensures fault { (told : Option (List ℕ)) → HasCome (is_wanted wanted.now) told (D.remaining (inner_of reader.old)) self.old.lines self.old.trace self.old.follower
+            → IfErr result (λ why. IsFaultOf told self.old.lines.place.limit why) }
+        ensures failed { HasFailedBy (has_failed reader.new) result }
+    {
+        while self.turn(reader, wanted)? {}
+        Ok(())
+    }
+
+    /// The places, under the names of the trace.
+    fn finish(self) -> Places
+        requires { AreNamed self.trace.names self.follower.places }
+        ensures places { result.places ≡ self.follower.places }
+        ensures names { result.names ≡ self.trace.names }
+    {
+        let Finder {
+            lines: _,
+            trace,
+            follower,
+        } = self;
+        Places::of(follower.into_places(), trace)
+    }
+}
+
+// Goes on by the steps of a batch.
+fn follow_batch(follower: &mut Follower, wanted: &Wanted, trace: &Trace) -> Result<(), AllocError>
+    ensures level { length trace.now.lines ≡ length trace.now.steps }
+    ensures named { All (IsNamed trace.now.names) trace.now.steps }
+    ensures stands { (past : List Step) (numbers : List ℕ) → length numbers ≡ length past → StandsFor (is_wanted wanted.now) follower.old past numbers
+        → OnOk result (StandsFor (is_wanted wanted.now) follower.new (past ++ trace.now.steps) (numbers ++ trace.now.lines)) }
+{
+    let steps = trace.steps();
+    let lines = trace.lines();
+    follower.follow(wanted, steps, lines)
+}
+
+/// Reads a trace text of at most `byte_limit` bytes once more, and gives the places of the accesses on the wanted lines. The steps of each
+/// batch of lines are forgotten, so that memory goes by the wanted lines, the threads and the names. Behind the batch in which the last
+/// wanted line has its place nothing is read.
+pub fn find_places<D: Read>(
+    alloc: Global,
+    reader: &mut Device<D>,
+    byte_limit: u64,
+    wanted: &Wanted,
+) -> Result<Places, ReadFault>
+    requires open { has_failed reader.old ≡ false }
+    requires limit { byte_limit ≤ 2 ^ 62 }
+    ensures found { IfOk result (λ places. IfSome (D.remaining (inner_of reader.old)) (λ text. ArePlaces (is_wanted wanted.now) text byte_limit places)) }
+    ensures fault { IfErr result (λ why. IsFaultOf (D.remaining (inner_of reader.old)) byte_limit why) }
+    ensures failed { HasFailedBy (has_failed reader.new) result }
+{
+    let mut finder = Finder::new(alloc, byte_limit)?;
+    match finder.run(reader, wanted) {
+        Ok(()) => Ok(finder.finish()),
+        Err(why) => Err(why),
+    }
+}
+
+/// The same for the lines that the reasons of a report's first races name. If there is none, nothing is read.
+pub fn places_of_reasons<D: Read>(
+    alloc: Global,
+    reader: &mut Device<D>,
+    byte_limit: u64,
+    lines: &[Line],
+) -> Result<Places, ReadFault>
+    requires open { has_failed reader.old ≡ false }
+    requires limit { byte_limit ≤ 2 ^ 62 }
+    ensures found { IfOk result (λ places. IfSome (D.remaining (inner_of reader.old)) (λ text. ArePlaces (is_asked lines.now) text byte_limit places)) }
+    ensures fault { IfErr result (λ why. IsFaultOf (D.remaining (inner_of reader.old)) byte_limit why) }
+    ensures failed { HasFailedBy (has_failed reader.new) result }
+{
+    let wanted = asked_lines(alloc, lines)?;
+    if wanted.is_empty() {
+        return Ok(Places::new(alloc));
+    }
+    find_places(alloc, reader, byte_limit, &wanted)
+}
+
+// The lines that the reasons name.
+fn asked_lines(alloc: Global, lines: &[Line]) -> Result<Wanted, AllocError>
+    ensures { IfOk result (λ wanted. (line : ℕ) → is_wanted wanted line ≡ is_asked lines.now line) }
+{
+    let mut wanted = Wanted::new(alloc);
+    wanted.add_reasons(alloc, lines)?;
+    Ok(wanted)
+}

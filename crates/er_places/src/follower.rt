@@ -1,0 +1,116 @@
+//! `Follower`, which notes places as steps go by.
+ghost use Rattle.std.specs.Prelude.{◌≡◌, ◌++◌, ◌==◌, ◌&&◌, ℕ, List, [], true, cond, nat_eq, length, IfSome, OnOk};
+ghost use Rattle.er_event.specs.declared.steps.Step.{Step as Steps};
+ghost use Rattle.er_held.specs.ThreadLocks.{held_by};
+ghost use Rattle.er_places.specs.Inner.Following.{Follows, HasAll, StandsFor};
+ghost use Rattle.er_places.specs.Places.{or_else, place_by, place_in};
+ghost use Rattle.er_places.specs.Wanted.{is_wanted};
+
+use crate::{Place, Wanted};
+use er_event::{Event, Kind, Site, Step, ThreadId};
+use er_held::ThreadLocks;
+use std::alloc::{AllocError, Global};
+use std::collections::HashMap;
+use std::marker::Model;
+
+/// What each thread holds, and the places of the accesses so far that are on wanted lines.
+#[derive(Drop)]
+pub(crate) struct Follower {
+    alloc: Global,
+    threads: ThreadLocks,
+    places: HashMap<u64, Place>,
+}
+
+impl Model for Follower {
+    ghost use Rattle.er_places.specs.Inner.Following.{Followed};
+
+    ghost Value = { Followed };
+
+    ghost view = { λ f. record { threads = f.threads; places = f.places.entries } };
+}
+
+impl Follower {
+    /// It has seen no step.
+    pub(crate) fn new(alloc: Global) -> Self
+        ensures { (wanted : List ℕ) → StandsFor (is_wanted wanted) result [] [] }
+    {
+        Follower {
+            alloc,
+            threads: ThreadLocks::new(alloc),
+            places: HashMap::new(alloc),
+        }
+    }
+
+    /// Goes on by these steps, each with its line. `AllocError`: memory was refused, and nothing is known of what it has now.
+    pub(crate) fn follow(
+        &mut self,
+        wanted: &Wanted,
+        steps: &[Step],
+        lines: &[u64],
+    ) -> Result<(), AllocError>
+        requires { length lines.now ≡ length steps.now }
+        ensures { (past : List Steps) (numbers : List ℕ) → length numbers ≡ length past → StandsFor (is_wanted wanted.now) self.old past numbers
+            → OnOk result (StandsFor (is_wanted wanted.now) self.new (past ++ steps.now) (numbers ++ lines.now)) }
+    {
+        for (k, step) in steps.iter().enumerate() {
+            self.follow_step(wanted, step, lines[k])?;
+        }
+        Ok(())
+    }
+
+    /// The places.
+    pub(crate) fn into_places(self) -> HashMap<u64, Place>
+        ensures { result.entries ≡ self.places }
+    {
+        let Follower {
+            alloc: _,
+            threads: _,
+            places,
+        } = self;
+        places
+    }
+
+    /// Whether each wanted line has its place.
+    pub(crate) fn has_all(&self, wanted: &Wanted) -> bool
+        ensures { result ≡ true → HasAll (is_wanted wanted.now) self.now.places }
+    {
+        self.places.len() == wanted.len() && wanted.are_in(&self.places)
+    }
+
+    // Goes on by one step.
+    fn follow_step(&mut self, wanted: &Wanted, step: &Step, line: u64) -> Result<(), AllocError>
+        ensures { OnOk result (Follows (is_wanted wanted.now) self.old step.now line self.new) }
+    {
+        if let Event::Access(kind, _, site) = step.event {
+            if wanted.contains(line) && !self.places.contains_key(&line) {
+                self.note(line, step.thread, kind, site)?;
+            }
+            return Ok(());
+        }
+        self.threads.follow(self.alloc, step)
+    }
+
+    // Notes the place of an access.
+    fn note(
+        &mut self,
+        line: u64,
+        thread: ThreadId,
+        kind: Kind,
+        site: Site,
+    ) -> Result<(), AllocError>
+        ensures threads { self.new.threads ≡ self.old.threads }
+        ensures places { OnOk result ((l : ℕ) → place_in self.new.places l
+            ≡ cond (nat_eq line l) (Some (record { line = line; thread = thread; kind = kind; site = site; held = (held_by self.old.threads thread).held; write_held = (held_by self.old.threads thread).write_held })) (place_in self.old.places l)) }
+    {
+        let place = Place {
+            line,
+            thread,
+            kind,
+            site,
+            held: self.threads.locks_of(self.alloc, thread)?,
+            write_held: self.threads.cover_of(self.alloc, thread, Kind::Write)?,
+        };
+        self.places.insert(line, place)?;
+        Ok(())
+    }
+}

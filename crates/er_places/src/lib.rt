@@ -1,0 +1,35 @@
+//! Where the accesses on given lines of a trace stood, and which locks their threads held.
+//!
+//! Begin with [`places_of_reasons`]. It reads a trace text once more and gives the [`Places`] of the accesses that the reasons of a report's
+//! first races name. [`find_places`] does so for any [`Wanted`] lines. [`Places::of_reason`] is the place of the access that a reason
+//! names.
+//!
+//! What it promises, by the names of clauses: of a text that is a trace, the places are those of the accesses on the wanted lines, and
+//! each is what the definitions give of the steps before it (`found`); a fault of the text is the text's first fault (`fault`). A place
+//! is given for a reason only if it has the reason's line, thread and kind (`place`). Each number of a place has a name among the places'
+//! own names (`named`), so that nothing is wrong to print if the text has changed since the report was made.
+//!
+//! It keeps no step, and what each thread holds in one pass over batches of steps. So memory goes by the wanted lines, the threads and the
+//! names, and not by the steps.
+//!
+//! ```
+//! // The trace is `t1 write 0x1000 main.c:3` on its line 2, and `t2 write 0x1000` on line 3.
+//! let places = places_of_reasons(alloc, &mut again, limit, &report.lines)?;
+//! // The first reason of the race on line 3 names the write on line 2.
+//! if let Some(place) = places.of_reason(&explained[0]) {
+//!     // Here the place's site is `main.c:3`, and it has no lock.
+//! }
+//! ```
+#![tactic(auto)]
+
+pub use finding::{find_places, places_of_reasons};
+pub use place::Place;
+pub use places::Places;
+pub use wanted::Wanted;
+
+mod finding;
+mod follower;
+mod place;
+mod places;
+mod sites;
+mod wanted;

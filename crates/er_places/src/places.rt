@@ -1,0 +1,99 @@
+//! `Places`, by line.
+ghost use Rattle.std.specs.Prelude.{◌≡◌, ℕ, None, Some, option_copied, IfSome};
+ghost use Rattle.er_places.specs.Inner.Following.{AreNamed};
+ghost use Rattle.er_places.specs.Places.{HasPlaceNames, place_at, place_in};
+ghost use Rattle.er_places.specs.Reasons.{fits, if_fits, reason_place};
+ghost use Rattle.er_places.specs.Wanted.{same_kind};
+ghost use Rattle.er_trace.specs.Names.{no_names};
+
+use crate::Place;
+use er_event::Kind;
+use er_report::Because;
+use er_trace::{Names, Trace};
+use std::alloc::Global;
+use std::collections::HashMap;
+use std::marker::Model;
+
+/// The places of some accesses, by the line of each, and the names of their numbers.
+#[derive(Drop)]
+pub struct Places {
+    by_line: HashMap<u64, Place>,
+    trace: Trace,
+}
+
+impl Model for Places {
+    ghost use Rattle.er_places.specs.Places.{PlaceTable};
+    ghost use Rattle.er_places.specs.Inner.Following.{AreNamed};
+
+    ghost Value = { PlaceTable };
+
+    ghost view = { λ p. record { places = p.by_line.entries; names = p.trace.names } };
+
+    ghost invariant = { λ p. AreNamed p.trace.names p.by_line.entries };
+}
+
+impl Places {
+    /// No place is known.
+    pub fn new(alloc: Global) -> Self
+        ensures none { (line : ℕ) → place_at result line ≡ None }
+        ensures names { result.names ≡ no_names }
+    {
+        Places {
+            by_line: HashMap::new(alloc),
+            trace: Trace::new(alloc),
+        }
+    }
+
+    /// These places, under the names of a trace.
+    pub(crate) fn of(by_line: HashMap<u64, Place>, trace: Trace) -> Self
+        requires { AreNamed trace.names by_line.entries }
+        ensures places { result.places ≡ by_line.entries }
+        ensures names { result.names ≡ trace.names }
+    {
+        Places { by_line, trace }
+    }
+
+    /// The names of the numbers in the places.
+    pub fn names(&self) -> &Names
+        ensures { result.now ≡ self.now.names }
+    {
+        self.trace.names()
+    }
+
+    /// The place of the access that a reason names, if it is known.
+    pub fn of_reason(&self, because: &Because) -> Option<&Place>
+        ensures place { option_copied result ≡ reason_place self.now because.now }
+        ensures named { IfSome (option_copied result) (HasPlaceNames self.now.names) }
+    {
+        match self.by_line.get(&because.line) {
+            Some(place) => if_fits(because, place),
+            None => None,
+        }
+    }
+}
+
+// The place, if it is that of the access that the reason names.
+fn if_fits<'p>(because: &Because, place: &'p Place) -> Option<&'p Place>
+    ensures { option_copied result ≡ if_fits because.now (Some place.now) }
+{
+    if fits(because, place) {
+        Some(place)
+    } else {
+        None
+    }
+}
+
+fn fits(because: &Because, place: &Place) -> bool
+    ensures { result ≡ fits because.now place.now }
+{
+    place.thread == because.thread && is_same(place.kind, because.kind)
+}
+
+fn is_same(kind: Kind, other: Kind) -> bool
+    ensures { result ≡ same_kind kind other }
+{
+    match (kind, other) {
+        (Kind::Read, Kind::Read) | (Kind::Write, Kind::Write) => true,
+        _ => false,
+    }
+}

@@ -1,0 +1,123 @@
+//! Where the access of a reason stood, and what its thread held.
+ghost use Rattle.std.specs.Prelude.{◌≡◌, ◌++◌, ◌≤◌, flat_map, length, OnOk};
+ghost use Rattle.er_places.specs.Places.{HasPlaceNames};
+ghost use Rattle.er_places.specs.Reasons.{reason_place};
+ghost use Rattle.er_report.specs.Names.{HasLockName, HasLockNames};
+ghost use Rattle.er_sarif.specs.Document.{holding_words, locks_words, mode_words, next_words, opening_of, opening_text};
+
+use crate::members::{open_location, put_lock};
+use er_event::{LockId, Lockset, Site};
+use er_places::Places;
+use er_report::Because;
+use er_trace::Names;
+use std::alloc::AllocError;
+
+/// Opens the location of a reason, with its site if that is known.
+pub(crate) fn put_opening(
+    out: &mut Vec<u8>,
+    places: &Places,
+    because: &Because,
+) -> Result<(), AllocError>
+    ensures { OnOk result (out.new.items ≡ out.old.items ++ opening_text places.now.names (reason_place places.now because.now)) }
+{
+    match places.of_reason(because) {
+        Some(place) => put_site(out, places.names(), place.site),
+        None => out.extend_from_slice(b"{"),
+    }
+}
+
+#[tactic(auto, unfolding(crate::specs::Document::opening_of))]
+fn put_site(out: &mut Vec<u8>, names: &Names, site: Site) -> Result<(), AllocError>
+    requires { site ≤ length names.now.sites }
+    ensures { OnOk result (out.new.items ≡ out.old.items ++ opening_of names.now site) }
+{
+    if site.number() == 0 {
+        return out.extend_from_slice(b"{");
+    }
+    open_location(out, names.site_name(site).as_bytes())?;
+    out.extend_from_slice(b",")
+}
+
+/// Puts what the thread of a reason held, if that is known.
+#[tactic(auto, unfolding(crate::specs::Document::holding_words))]
+pub(crate) fn put_holding(
+    out: &mut Vec<u8>,
+    places: &Places,
+    because: &Because,
+) -> Result<(), AllocError>
+    ensures { OnOk result (out.new.items ≡ out.old.items ++ holding_words places.now.names (reason_place places.now because.now)) }
+{
+    match places.of_reason(because) {
+        Some(place) => {
+            out.extend_from_slice(b", holding")?;
+            put_locks(
+                out,
+                places.names(),
+                &place.write_held,
+                place.held.as_slice(),
+            )
+        }
+        None => Ok(()),
+    }
+}
+
+fn put_locks(
+    out: &mut Vec<u8>,
+    names: &Names,
+    write_held: &Lockset,
+    locks: &[LockId],
+) -> Result<(), AllocError>
+    requires { HasLockNames names.now locks.now }
+    ensures { OnOk result (out.new.items ≡ out.old.items ++ locks_words names.now write_held.now locks.now) }
+{
+    match locks {
+        [] => out.extend_from_slice(b" no lock"),
+        [first, rest @ ..] => {
+            out.extend_from_slice(b" ")?;
+            put_lock(out, names, *first)?;
+            put_mode(out, write_held, *first)?;
+            put_more_locks(out, names, write_held, rest)
+        }
+    }
+}
+
+// Puts each lock behind a comma.
+fn put_more_locks(
+    out: &mut Vec<u8>,
+    names: &Names,
+    write_held: &Lockset,
+    locks: &[LockId],
+) -> Result<(), AllocError>
+    requires { HasLockNames names.now locks.now }
+    ensures { OnOk result (out.new.items ≡ out.old.items ++ flat_map (next_words names.now write_held.now) locks.now) }
+{
+    for lock in locks {
+        put_next(out, names, write_held, *lock)?;
+    }
+    Ok(())
+}
+
+#[tactic(auto, unfolding(crate::specs::Document::next_words))]
+fn put_next(
+    out: &mut Vec<u8>,
+    names: &Names,
+    write_held: &Lockset,
+    lock: LockId,
+) -> Result<(), AllocError>
+    requires { HasLockName names.now lock }
+    ensures { OnOk result (out.new.items ≡ out.old.items ++ next_words names.now write_held.now lock) }
+{
+    out.extend_from_slice(b", ")?;
+    put_lock(out, names, lock)?;
+    put_mode(out, write_held, lock)
+}
+
+// Puts that a lock was held only to read, if it was.
+fn put_mode(out: &mut Vec<u8>, write_held: &Lockset, lock: LockId) -> Result<(), AllocError>
+    ensures { OnOk result (out.new.items ≡ out.old.items ++ mode_words write_held.now lock) }
+{
+    if write_held.contains(lock) {
+        return Ok(());
+    }
+    out.extend_from_slice(b" (to read)")
+}

@@ -1,0 +1,121 @@
+//! Where the access of a reason stood, and what its thread held.
+ghost use Rattle.std.specs.Prelude.{◌≡◌, ◌++◌, ◌≤◌, flat_map, length, OnOk};
+ghost use Rattle.er_places.specs.Places.{HasPlaceNames};
+ghost use Rattle.er_report.specs.Names.{HasLockName, HasLockNames};
+ghost use Rattle.er_sites.specs.Text.{alone_text, at_text, bare_text, kept_text, read_text, stood_text, where_text};
+
+use crate::names::{put_lock, put_site};
+use er_event::{LockId, Lockset, Site};
+use er_places::{Place, Places};
+use er_report::Because;
+use er_trace::Names;
+use std::alloc::AllocError;
+
+/// Puts where the access of a reason stood, if that is known and it isn't the race on this line.
+pub(crate) fn put_where(
+    out: &mut Vec<u8>,
+    places: &Places,
+    line: u64,
+    because: &Because,
+) -> Result<(), AllocError>
+    ensures { OnOk result (out.new.items ≡ out.old.items ++ where_text places.now line because.now) }
+{
+    if because.line == line {
+        return Ok(());
+    }
+    match places.of_reason(because) {
+        Some(place) => put_place(out, places.names(), place),
+        None => Ok(()),
+    }
+}
+
+fn put_place(out: &mut Vec<u8>, names: &Names, place: &Place) -> Result<(), AllocError>
+    requires { HasPlaceNames names.now place.now }
+    ensures { OnOk result (out.new.items ≡ out.old.items ++ stood_text names.now place.now.site place.now.write_held place.now.held) }
+{
+    match place.held.as_slice() {
+        [] => put_bare(out, names, place.site),
+        locks => {
+            put_at(out, names, place.site)?;
+            put_kept_locks(out, names, &place.write_held, locks)
+        }
+    }
+}
+
+// Puts the site of an access without a lock.
+fn put_bare(out: &mut Vec<u8>, names: &Names, site: Site) -> Result<(), AllocError>
+    requires { site ≤ length names.now.sites }
+    ensures { OnOk result (out.new.items ≡ out.old.items ++ bare_text names.now site) }
+{
+    if site.number() == 0 {
+        return out.extend_from_slice(b"    holding no lock\n");
+    }
+    put_alone(out, names, site)
+}
+
+#[tactic(auto, unfolding(crate::specs::Text::alone_text))]
+fn put_alone(out: &mut Vec<u8>, names: &Names, site: Site) -> Result<(), AllocError>
+    requires { site ≤ length names.now.sites }
+    ensures { OnOk result (out.new.items ≡ out.old.items ++ alone_text names.now site) }
+{
+    out.extend_from_slice(b"    at ")?;
+    put_site(out, names, site)?;
+    out.extend_from_slice(b", holding no lock\n")?;
+    Ok(())
+}
+
+// Puts the site of an access with locks.
+fn put_at(out: &mut Vec<u8>, names: &Names, site: Site) -> Result<(), AllocError>
+    requires { site ≤ length names.now.sites }
+    ensures { OnOk result (out.new.items ≡ out.old.items ++ at_text names.now site) }
+{
+    if site.number() == 0 {
+        return Ok(());
+    }
+    out.extend_from_slice(b"    at ")?;
+    put_site(out, names, site)?;
+    out.extend_from_slice(b"\n")
+}
+
+// Puts the locks, each on a line of its own.
+fn put_kept_locks(
+    out: &mut Vec<u8>,
+    names: &Names,
+    write_held: &Lockset,
+    locks: &[LockId],
+) -> Result<(), AllocError>
+    requires { HasLockNames names.now locks.now }
+    ensures { OnOk result (out.new.items ≡ out.old.items ++ flat_map (kept_text names.now write_held.now) locks.now) }
+{
+    for lock in locks {
+        put_kept(out, names, write_held, *lock)?;
+    }
+    Ok(())
+}
+
+#[tactic(auto, unfolding(crate::specs::Text::kept_text))]
+fn put_kept(
+    out: &mut Vec<u8>,
+    names: &Names,
+    write_held: &Lockset,
+    lock: LockId,
+) -> Result<(), AllocError>
+    requires { HasLockName names.now lock }
+    ensures { OnOk result (out.new.items ≡ out.old.items ++ kept_text names.now write_held.now lock) }
+{
+    out.extend_from_slice(b"    holding ")?;
+    put_lock(out, names, lock)?;
+    put_mode(out, write_held, lock)?;
+    out.extend_from_slice(b"\n")?;
+    Ok(())
+}
+
+// Puts that a lock was held only to read, if it was.
+fn put_mode(out: &mut Vec<u8>, write_held: &Lockset, lock: LockId) -> Result<(), AllocError>
+    ensures { OnOk result (out.new.items ≡ out.old.items ++ read_text write_held.now lock) }
+{
+    if write_held.contains(lock) {
+        return Ok(());
+    }
+    out.extend_from_slice(b", but only to read")
+}

@@ -1,0 +1,122 @@
+//! A second look at a trace, for the places of the accesses that reasons name.
+ghost use Rattle.std.specs.Prelude.{◌≡◌, false, IfErr, IfSome};
+ghost use Rattle.er_device.specs.Device.{inner_of, has_failed};
+ghost use Rattle.er_run.specs.Replays.{WritesNothing};
+
+use crate::sources::is_ordinary;
+use er_device::Device;
+use er_formats::{Form, replay_as, replay_as_twice};
+use er_places::{Places, Wanted, find_places};
+use er_report::Report;
+use er_request::{Format, Replay};
+use er_rules::Suppressions;
+use er_run::{Options, RunFault, Verdict, Watch};
+use er_text::ReadFault;
+use std::alloc::Global;
+use std::fs::File;
+use std::io::{Read, Write};
+use std::rt::Files;
+use std::sync::Wait;
+use std::thread::Threads;
+
+/// Replays what the reader gives, and writes its report in a form, with the places of reasons if they are shown and known.
+pub(crate) fn replay_form<R, D, O, V>(
+    rt: &R,
+    replay: &Replay<'_>,
+    form: Form,
+    source: &mut Device<D>,
+    output: &mut Device<O>,
+    suppressions: &Suppressions,
+    options: &Options,
+    watcher: &mut V,
+) -> Result<Verdict, RunFault>
+where
+    R: Files + AllocGlobal + Threads + Wait + Sync,
+    D: Read,
+    O: Write,
+    V: Watch,
+    requires source { has_failed source.old ≡ false }
+    requires output { has_failed output.old ≡ false }
+    ensures nothing { IfErr result (WritesNothing (O.contents (inner_of output.old)) (O.contents (inner_of output.new))) }
+{
+    let Some(mut again) = open_again(rt, replay) else {
+        return replay_as(rt, source, output, suppressions, options, form, watcher);
+    };
+    let replayed = replay_as_twice(
+        rt,
+        source,
+        &mut again,
+        output,
+        suppressions,
+        options,
+        form,
+        watcher,
+    );
+    match replayed {
+        Ok(told) => Ok(told.verdict),
+        Err(why) => Err(why),
+    }
+}
+
+/// Lets go of places. Split for the prover.
+pub(crate) fn close(_places: Places) {}
+
+// The trace once more, if its report has reasons whose places are shown. What is no ordinary file can't be read twice.
+fn open_again<R: Files>(rt: &R, replay: &Replay<'_>) -> Option<Device<R::File>>
+    ensures { IfSome result (λ again. has_failed again ≡ false) }
+{
+    if !shows_places(replay) || !is_ordinary(rt, replay.trace) {
+        return None;
+    }
+    match File::open(rt, replay.trace) {
+        Ok(file) => Some(Device::new(file)),
+        Err(_) => None,
+    }
+}
+
+// Whether places are shown, and the trace may be a file that is read whole.
+fn shows_places(replay: &Replay<'_>) -> bool {
+    let is_shown = matches!(replay.format, Format::BySite | Format::Sarif);
+    replay.explain && is_shown && !replay.until_fault && replay.trace != "-"
+}
+
+/// The places of the accesses that the reasons of the reports name, of which there may be one. None is known if they aren't shown, and if
+/// the trace can't be read again.
+pub(crate) fn places_of<R>(
+    rt: &R,
+    replay: &Replay<'_>,
+    options: &Options,
+    report: &Report,
+    other: Option<&Report>,
+) -> Places
+where
+    R: Files + AllocGlobal,
+{
+    let Some(mut again) = open_again(rt, replay) else {
+        return Places::new(rt.alloc());
+    };
+    match places_in(rt.alloc(), &mut again, options, report, other) {
+        Ok(places) => places,
+        Err(_) => Places::new(rt.alloc()),
+    }
+}
+
+fn places_in<A: Read>(
+    alloc: Global,
+    again: &mut Device<A>,
+    options: &Options,
+    report: &Report,
+    other: Option<&Report>,
+) -> Result<Places, ReadFault>
+    requires { has_failed again.old ≡ false }
+{
+    let mut wanted = Wanted::new(alloc);
+    wanted.add_reasons(alloc, &report.lines)?;
+    if let Some(other) = other {
+        wanted.add_reasons(alloc, &other.lines)?;
+    }
+    if wanted.is_empty() {
+        return Ok(Places::new(alloc));
+    }
+    find_places(alloc, again, options.byte_limit, &wanted)
+}
