@@ -26,7 +26,7 @@
 pub use endings::Ending;
 pub use faults::{ReadFault, TextFault, TextKind};
 pub use laws::{a_batch_may_be_forgotten, rules_or_fault, steps_are_named, trace_or_fault};
-pub use reading::{Batch, TraceReader, read_trace};
+pub use reading::{Batch, TraceReader, read_trace, read_trace_keyed};
 pub use suppressions::read_suppressions;
 
 mod adding;

@@ -25,7 +25,7 @@ use crate::lines::LineReader;
 use crate::parsing::{ParsedLine, Words, split_words};
 use crate::stages::{IdleThreads, Stage, is_known_thread};
 use er_device::Device;
-use er_trace::Trace;
+use er_trace::{NameKeys, Trace};
 use std::alloc::{AllocError, Global};
 use std::io::Read;
 use std::marker::Model;
@@ -313,6 +313,7 @@ fn read_all<R: Read>(
     alloc: Global,
     reader: &mut Device<R>,
     byte_limit: u64,
+    keys: NameKeys,
 ) -> Result<Trace, ReadFault>
     requires open { has_failed reader.old ≡ false }
     requires limit { byte_limit ≤ 2 ^ 62 }
@@ -321,7 +322,7 @@ fn read_all<R: Read>(
     ensures taken { taken_of reader.new ≤ taken_of reader.old + byte_limit + bytes_past_limit }
 {
     let mut lines = TraceReader::new(alloc, byte_limit)?;
-    let mut trace = Trace::new(alloc);
+    let mut trace = Trace::keyed(alloc, keys);
     while lines.next_line(reader, &mut trace)? {}
     lines.finish()?;
     Ok(trace)
@@ -330,7 +331,8 @@ fn read_all<R: Read>(
 /// Reads a trace text to its end, or to its first faulty line, in whatever pieces it comes.
 ///
 /// The text has at most `byte_limit` bytes, and the limit is at most 2^62. What follows a faulty line may or may not have been taken
-/// from the reader. No memory is kept but that of the trace and a window of 65,536 bytes.
+/// from the reader. No memory is kept but that of the trace and a window of 65,536 bytes. Whoever makes a text with many names can make
+/// it slow: see [`read_trace_keyed`].
 pub fn read_trace<R: Read>(
     alloc: Global,
     reader: &mut Device<R>,
@@ -345,5 +347,21 @@ pub fn read_trace<R: Read>(
     ensures failed { HasFailedBy (has_failed reader.new) result }
     ensures taken { taken_of reader.new ≤ taken_of reader.old + byte_limit + bytes_past_limit }
 {
-    read_all(alloc, reader, byte_limit)
+    read_trace_keyed(alloc, reader, byte_limit, NameKeys::KNOWN)
+}
+
+/// The same for a text of a stranger: its names are hashed by these keys.
+pub fn read_trace_keyed<R: Read>(
+    alloc: Global,
+    reader: &mut Device<R>,
+    byte_limit: u64,
+    keys: NameKeys,
+) -> Result<Trace, ReadFault>
+    requires open { has_failed reader.old ≡ false }
+    requires limit { byte_limit ≤ 2 ^ 62 }
+    ensures told { IfSome (R.remaining (inner_of reader.old)) (λ text. Tells text byte_limit result) }
+    ensures failed { HasFailedBy (has_failed reader.new) result }
+    ensures taken { taken_of reader.new ≤ taken_of reader.old + byte_limit + bytes_past_limit }
+{
+    read_all(alloc, reader, byte_limit, keys)
 }

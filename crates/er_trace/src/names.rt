@@ -3,7 +3,9 @@ ghost use Rattle.std.specs.Prelude.{◌≡◌, ◌+◌, ◌-◌, ◌<◌, ◌≤
 ghost use Rattle.er_trace.specs.Inner.Recent.{bytes_of, Knows};
 ghost use Rattle.er_trace.specs.Names.{is_known, number_of, with_name, no_names, most_names};
 
+use crate::NameKeys;
 use crate::hints::NameHints;
+use crate::keys::NameHasher;
 use crate::recent::{RecentNames, ShortName};
 use er_event::{LockId, Site, ThreadId};
 use indexmap::IndexSet;
@@ -13,7 +15,7 @@ use std::marker::Model;
 /// Names of one sort, in the order of their first appearance.
 #[derive(Drop)]
 struct NameList {
-    names: IndexSet<String>,
+    names: IndexSet<String, NameHasher>,
 }
 
 impl Model for NameList {
@@ -32,11 +34,11 @@ impl NameList {
     /// How many names can have numbers.
     const MOST: usize = 1 << 30;
 
-    fn new(alloc: Global) -> Self
+    fn new(alloc: Global, keys: NameKeys) -> Self
         ensures { result ≡ [] }
     {
         NameList {
-            names: IndexSet::new(alloc),
+            names: IndexSet::with_hasher(alloc, NameHasher::new(keys)),
         }
     }
 
@@ -110,11 +112,11 @@ impl Model for CachedNames {
 }
 
 impl CachedNames {
-    fn new(alloc: Global) -> Self
+    fn new(alloc: Global, keys: NameKeys) -> Self
         ensures { result ≡ [] }
     {
         CachedNames {
-            list: NameList::new(alloc),
+            list: NameList::new(alloc, keys),
             recent: RecentNames::new(alloc),
             hints: NameHints::new(alloc),
         }
@@ -199,14 +201,21 @@ impl Model for Names {
 }
 
 impl Names {
-    /// No names.
+    /// No names. Whoever chooses many of them can make them slow: see [`keyed`](Names::keyed).
     pub fn new(alloc: Global) -> Self
         ensures { result ≡ no_names }
     {
+        Names::keyed(alloc, NameKeys::KNOWN)
+    }
+
+    /// No names, of which each will be hashed by these keys.
+    pub fn keyed(alloc: Global, keys: NameKeys) -> Self
+        ensures { result ≡ no_names }
+    {
         Names {
-            threads: CachedNames::new(alloc),
-            locks: CachedNames::new(alloc),
-            sites: CachedNames::new(alloc),
+            threads: CachedNames::new(alloc, keys),
+            locks: CachedNames::new(alloc, keys),
+            sites: CachedNames::new(alloc, keys),
         }
     }
 

@@ -3,7 +3,7 @@ ghost use Rattle.std.specs.Prelude.{◌≡◌, ◌+◌, ◌≤◌, All, length, 
 ghost use Rattle.er_trace.specs.Names.{is_known, number_of, most_names};
 ghost use Rattle.er_trace.specs.Trace.{IsNamed, no_steps, with_step, without_steps, with_thread_name, with_lock_name, with_site_name};
 
-use crate::Names;
+use crate::{NameKeys, Names};
 use er_event::{LockId, Site, Step, ThreadId};
 use std::alloc::{AllocError, Global};
 use std::marker::Model;
@@ -28,14 +28,21 @@ impl Model for Trace {
 }
 
 impl Trace {
-    /// The trace with no steps.
+    /// The trace with no steps. Whoever makes a text with many names can make it slow: see [`keyed`](Trace::keyed).
     pub fn new(alloc: Global) -> Self
+        ensures { result ≡ no_steps }
+    {
+        Trace::keyed(alloc, NameKeys::KNOWN)
+    }
+
+    /// The trace with no steps, whose names are hashed by these keys.
+    pub fn keyed(alloc: Global, keys: NameKeys) -> Self
         ensures { result ≡ no_steps }
     {
         Trace {
             steps: Vec::new(alloc),
             lines: Vec::new(alloc),
-            names: Names::new(alloc),
+            names: Names::keyed(alloc, keys),
         }
     }
 
