@@ -21,7 +21,7 @@ use er_run::{Options, ReplayedTrace, RunFault, Verdict, Watch, replay_report, ve
 use er_sarif::write_sarif;
 use er_sites::write_sites;
 use er_text::ReadFault;
-use er_trace::Names;
+use er_trace::{NameKeys, Names};
 use std::alloc::Global;
 use std::io::{Read, Write};
 use std::sync::Wait;
@@ -122,6 +122,7 @@ where
             &found,
             suppressions,
             options.byte_limit,
+            options.keys,
             form,
         ),
         Err(why) => Err(why),
@@ -136,6 +137,7 @@ fn write_placed<A: Read, W: Write>(
     found: &ReplayedTrace,
     suppressions: &Suppressions,
     byte_limit: u64,
+    keys: NameKeys,
     form: Form,
 ) -> Result<ReplayedTwice, RunFault>
     requires again { has_failed again.old ≡ false }
@@ -145,7 +147,7 @@ fn write_placed<A: Read, W: Write>(
     ensures found { WritesPlaced (A.remaining (inner_of again.old)) byte_limit form (W.contents (inner_of writer.old)) (W.contents (inner_of writer.new)) found.now.trace.names (targets_of suppressions.now) found.now.report result }
     ensures failed { FailsBy false (has_failed writer.new) result }
 {
-    match places_of_reasons(alloc, again, byte_limit, &found.report.lines) {
+    match places_of_reasons(alloc, again, byte_limit, keys, &found.report.lines) {
         Ok(places) => told(
             write_with(alloc, writer, found, places, suppressions, form),
             None,

@@ -13,7 +13,7 @@ use crate::{Places, Wanted};
 use er_device::Device;
 use er_report::Line;
 use er_text::{Batch, ReadFault, TraceReader};
-use er_trace::Trace;
+use er_trace::{NameKeys, Trace};
 use std::alloc::{AllocError, Global};
 use std::io::Read;
 
@@ -29,7 +29,7 @@ struct Finder {
 }
 
 impl Finder {
-    fn new(alloc: Global, byte_limit: u64) -> Result<Finder, AllocError>
+    fn new(alloc: Global, byte_limit: u64, keys: NameKeys) -> Result<Finder, AllocError>
         requires { byte_limit ≤ 2 ^ 62 }
         ensures come { IfOk result (λ finder. (wanted : List ℕ) (told : Option (List ℕ)) → HasCome (is_wanted wanted) told told finder.lines finder.trace finder.follower) }
         ensures limit { IfOk result (λ finder. finder.lines.place.limit ≡ byte_limit) }
@@ -37,7 +37,7 @@ impl Finder {
         let lines = TraceReader::new(alloc, byte_limit)?;
         Ok(Finder {
             lines,
-            trace: Trace::new(alloc),
+            trace: Trace::keyed(alloc, keys),
             follower: Follower::new(alloc),
         })
     }
@@ -111,13 +111,14 @@ fn follow_batch(follower: &mut Follower, wanted: &Wanted, trace: &Trace) -> Resu
     follower.follow(wanted, steps, lines)
 }
 
-/// Reads a trace text of at most `byte_limit` bytes once more, and gives the places of the accesses on the wanted lines. The steps of each
+/// Reads a trace text of at most `byte_limit` bytes once more, whose names are hashed by these keys, and gives the places of the accesses on the wanted lines. The steps of each
 /// batch of lines are forgotten, so that memory goes by the wanted lines, the threads and the names. Behind the batch in which the last
 /// wanted line has its place nothing is read.
 pub fn find_places<D: Read>(
     alloc: Global,
     reader: &mut Device<D>,
     byte_limit: u64,
+    keys: NameKeys,
     wanted: &Wanted,
 ) -> Result<Places, ReadFault>
     requires open { has_failed reader.old ≡ false }
@@ -126,7 +127,7 @@ pub fn find_places<D: Read>(
     ensures fault { IfErr result (λ why. IsFaultOf (D.remaining (inner_of reader.old)) byte_limit why) }
     ensures failed { HasFailedBy (has_failed reader.new) result }
 {
-    let mut finder = Finder::new(alloc, byte_limit)?;
+    let mut finder = Finder::new(alloc, byte_limit, keys)?;
     match finder.run(reader, wanted) {
         Ok(()) => Ok(finder.finish()),
         Err(why) => Err(why),
@@ -138,6 +139,7 @@ pub fn places_of_reasons<D: Read>(
     alloc: Global,
     reader: &mut Device<D>,
     byte_limit: u64,
+    keys: NameKeys,
     lines: &[Line],
 ) -> Result<Places, ReadFault>
     requires open { has_failed reader.old ≡ false }
@@ -150,7 +152,7 @@ pub fn places_of_reasons<D: Read>(
     if wanted.is_empty() {
         return Ok(Places::new(alloc));
     }
-    find_places(alloc, reader, byte_limit, &wanted)
+    find_places(alloc, reader, byte_limit, keys, &wanted)
 }
 
 // The lines that the reasons name.

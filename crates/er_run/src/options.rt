@@ -2,6 +2,8 @@
 ghost use Rattle.std.specs.Prelude.{◌≡◌, ◌≤◌, ◌<◌, ◌⊎◌, false, IsSome, IsNone, IfSome};
 ghost use Rattle.er_run.specs.Limits.{AreInLimits, most_bytes, most_sets, most_shards, most_workers, usual_bytes, usual_shards};
 
+use er_trace::NameKeys;
+
 /// How a replay is run. Each number is in its limits.
 #[derive(Clone, Copy, Debug, PartialEq, Eq)]
 pub struct Options {
@@ -17,6 +19,8 @@ pub struct Options {
     pub workers: u32,
     /// Whether a damaged trace is a fault.
     pub strict: bool,
+    /// By which keys the names of the trace are hashed. They change no report.
+    pub keys: NameKeys,
     pub ghost some_sets: { 1 ≤ max_sets },
     pub ghost few_sets: { max_sets ≤ most_sets },
     pub ghost few_bytes: { byte_limit ≤ most_bytes },
@@ -63,6 +67,7 @@ impl Options {
                 shards: Options::USUAL_SHARDS,
                 workers: 1,
                 strict: false,
+                keys: NameKeys::KNOWN,
             })
         } else {
             None
@@ -84,6 +89,7 @@ impl Options {
             shards: Options::USUAL_SHARDS,
             workers: 1,
             strict: false,
+            keys: NameKeys::KNOWN,
         }
     }
 
@@ -102,6 +108,7 @@ impl Options {
             shards: self.shards,
             workers: self.workers,
             strict: self.strict,
+            keys: self.keys,
         }
     }
 
@@ -120,6 +127,26 @@ impl Options {
             shards: self.shards,
             workers: self.workers,
             strict,
+            keys: self.keys,
+        }
+    }
+
+    /// The same options, by which the names of the trace are hashed by these keys.
+    pub fn with_keys(self, keys: NameKeys) -> Options
+        ensures sets { result.max_sets ≡ self.max_sets }
+        ensures bytes { result.byte_limit ≡ self.byte_limit }
+        ensures explain { result.explain ≡ self.explain }
+        ensures crew { (result.shards ≡ self.shards) × (result.workers ≡ self.workers) }
+        ensures strict { result.strict ≡ self.strict }
+    {
+        Options {
+            max_sets: self.max_sets,
+            byte_limit: self.byte_limit,
+            explain: self.explain,
+            shards: self.shards,
+            workers: self.workers,
+            strict: self.strict,
+            keys,
         }
     }
 
@@ -141,6 +168,7 @@ impl Options {
             shards: self.shards,
             workers: self.workers,
             strict: self.strict,
+            keys: self.keys,
         })
     }
 
@@ -165,6 +193,7 @@ impl Options {
             shards,
             workers,
             strict: self.strict,
+            keys: self.keys,
         })
     }
 }

@@ -77,7 +77,7 @@ impl<'t, 'r> Pass<'t, 'r> {
         let builder = ReportBuilder::explaining(alloc, suppressions, options.explain)?;
         Ok(Pass {
             lines,
-            trace: Trace::new(alloc),
+            trace: Trace::keyed(alloc, options.keys),
             machine,
             builder,
             stop: None,

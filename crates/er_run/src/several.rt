@@ -144,7 +144,7 @@ impl<'t, 'r> Shared<'t, 'r> {
     {
         let mut lines = TraceReader::new(alloc, options.byte_limit)?;
         let builder = ReportBuilder::explaining(alloc, suppressions, options.explain)?;
-        let mut trace = Trace::new(alloc);
+        let mut trace = Trace::keyed(alloc, options.keys);
         let config = ReplayConfig {
             shards: options.shards,
             max_sets: options.max_sets,

@@ -24,7 +24,7 @@ use er_rules::Suppressions;
 use er_run::{Options, Progress, Watch, answer_batch};
 use er_table::LocksetTable;
 use er_text::{Batch, TraceReader};
-use er_trace::Trace;
+use er_trace::{NameKeys, Trace};
 use std::alloc::{AllocError, Global};
 use std::io::Read;
 use std::sync::Wait;
@@ -59,6 +59,7 @@ impl<'t, 'r> BothPass<'t, 'r> {
         suppressions: &'r Suppressions,
         byte_limit: u64,
         explain: bool,
+        keys: NameKeys,
     ) -> Result<BothPass<'t, 'r>, AllocError>
         requires { byte_limit ≤ most_bytes }
         ensures come { IfOk result (λ pass. (told : Option (List ℕ)) → HaveCome told told pass.lines pass.trace pass.machine pass.builder pass.stop pass.ordering pass.unordered) }
@@ -75,7 +76,7 @@ impl<'t, 'r> BothPass<'t, 'r> {
         let unordered = OrderBuilder::new(alloc, suppressions, explain)?;
         Ok(BothPass {
             lines,
-            trace: Trace::new(alloc),
+            trace: Trace::keyed(alloc, keys),
             machine,
             builder,
             stop: None,
@@ -246,6 +247,7 @@ pub fn report_both<R: Wait, D: Read, V: Watch>(
         suppressions,
         options.byte_limit,
         options.explain,
+        options.keys,
     )?;
     let ran = pass.run(rt, reader, watcher);
     watcher.end();

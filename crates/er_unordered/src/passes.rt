@@ -18,7 +18,7 @@ use er_report::Report;
 use er_rules::Suppressions;
 use er_run::{Progress, Watch};
 use er_text::{Batch, TraceReader};
-use er_trace::Trace;
+use er_trace::{NameKeys, Trace};
 use std::alloc::{AllocError, Global};
 use std::io::Read;
 
@@ -49,6 +49,7 @@ impl<'r> Pass<'r> {
         suppressions: &'r Suppressions,
         byte_limit: u64,
         explain: bool,
+        keys: NameKeys,
     ) -> Result<Pass<'r>, AllocError>
         requires { byte_limit ≤ 2 ^ 62 }
         ensures come { IfOk result (λ pass. (told : Option (List ℕ)) → HasCome told told pass.lines pass.trace pass.machine pass.builder) }
@@ -61,7 +62,7 @@ impl<'r> Pass<'r> {
         let builder = OrderBuilder::new(alloc, suppressions, explain)?;
         Ok(Pass {
             lines,
-            trace: Trace::new(alloc),
+            trace: Trace::keyed(alloc, keys),
             machine: OrderMachine::new(alloc),
             builder,
         })
@@ -166,7 +167,8 @@ impl<'r> Pass<'r> {
 fn close(_lines: TraceReader, _machine: OrderMachine) {}
 
 /// Reads a trace text of at most so many bytes, and reports its unordered accesses, without those that the rules take. If `explain` is
-/// set, each has the earlier access that it is unordered with. The watcher is told how far it has come, as by `replay_text_watched`.
+/// set, each has the earlier access that it is unordered with. Its names are hashed by the keys. The watcher is told how far it has come,
+/// as by `replay_text_watched`.
 ///
 /// # Errors
 /// `Read`: the text has a fault, a read failed, or memory was refused to the reader. `CountFull`: a thread releases, starts or signals
@@ -177,6 +179,7 @@ pub fn report_unordered<D: Read, V: Watch>(
     suppressions: &Suppressions,
     byte_limit: u64,
     explain: bool,
+    keys: NameKeys,
     watcher: &mut V,
 ) -> Result<UnorderedReport, OrderFault>
     requires reader { has_failed reader.old ≡ false }
@@ -187,7 +190,7 @@ pub fn report_unordered<D: Read, V: Watch>(
     ensures failed { FailsBy (has_failed reader.new) false result }
     ensures taken { taken_of reader.new ≤ taken_of reader.old + byte_limit + bytes_past_limit }
 {
-    let mut pass = Pass::new(alloc, suppressions, byte_limit, explain)?;
+    let mut pass = Pass::new(alloc, suppressions, byte_limit, explain, keys)?;
     let ran = pass.run(reader, watcher);
     watcher.end();
     match ran {

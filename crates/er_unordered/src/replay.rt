@@ -96,6 +96,7 @@ fn replay_unordered<D: Read, W: Write, V: Watch>(
         suppressions,
         options.byte_limit,
         options.explain,
+        options.keys,
         watcher,
     ) {
         Ok(found) => write_found(alloc, writer, &found),

@@ -118,5 +118,5 @@ fn places_in<A: Read>(
     if wanted.is_empty() {
         return Ok(Places::new(alloc));
     }
-    find_places(alloc, again, options.byte_limit, &wanted)
+    find_places(alloc, again, options.byte_limit, options.keys, &wanted)
 }

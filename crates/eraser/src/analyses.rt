@@ -212,6 +212,7 @@ where
         suppressions,
         options.byte_limit,
         options.explain,
+        options.keys,
         watcher,
     ) {
         Ok(UnorderedReport { report, trace }) => (report, trace),

@@ -29,9 +29,11 @@ use er_load::Workload;
 use er_request::{Demo, Explain, Format, Replay, Request, read_request};
 use er_rules::Suppressions;
 use er_run::{Options, Verdict, Watch, replay_text_watched};
+use er_trace::NameKeys;
 use std::alloc::Global;
 use std::fs::File;
 use std::io::{Read, Write};
+use std::random::RandomSource;
 use std::rt::{Clock, Files};
 use std::sync::Wait;
 use std::thread::Threads;
@@ -50,7 +52,7 @@ pub fn command<R, I, O, E, P>(
     for_people: bool,
 ) -> u8
 where
-    R: Files + Clock + AllocGlobal + Threads + Wait + Sync,
+    R: Files + Clock + RandomSource + AllocGlobal + Threads + Wait + Sync,
     I: Read,
     O: Write,
     E: Write,
@@ -84,7 +86,7 @@ fn run_request<R, I, O, E, P>(
     for_people: bool,
 ) -> u8
 where
-    R: Files + Clock + AllocGlobal + Threads + Wait + Sync,
+    R: Files + Clock + RandomSource + AllocGlobal + Threads + Wait + Sync,
     I: Read,
     O: Write,
     E: Write,
@@ -121,7 +123,7 @@ fn end_replay<R, I, O, E, P>(
     for_people: bool,
 ) -> u8
 where
-    R: Files + Clock + AllocGlobal + Threads + Wait + Sync,
+    R: Files + Clock + RandomSource + AllocGlobal + Threads + Wait + Sync,
     I: Read,
     O: Write,
     E: Write,
@@ -151,7 +153,7 @@ fn run_shown<R, I, O, P>(
     for_people: bool,
 ) -> Result<Ended, Fault>
 where
-    R: Files + Clock + AllocGlobal + Threads + Wait + Sync,
+    R: Files + Clock + RandomSource + AllocGlobal + Threads + Wait + Sync,
     I: Read,
     O: Write,
     P: Write,
@@ -180,7 +182,7 @@ fn end_story<R, I, O, E>(
     errors: &mut Device<E>,
 ) -> u8
 where
-    R: Files + AllocGlobal,
+    R: Files + RandomSource + AllocGlobal,
     I: Read,
     O: Write,
     E: Write,
@@ -248,14 +250,22 @@ where
     }
 }
 
+/// By which keys names are hashed: by those that nobody can foretell, if the system gives random bytes.
+pub(crate) fn keys_from<R: RandomSource>(rt: &R) -> NameKeys {
+    match NameKeys::random(rt) {
+        Ok(keys) => keys,
+        Err(_) => NameKeys::KNOWN,
+    }
+}
+
 /// How the trace is to be replayed.
-pub(crate) fn options_of(replay: &Replay<'_>) -> Options
+pub(crate) fn options_of(replay: &Replay<'_>, keys: NameKeys) -> Options
     ensures explain { result.explain ≡ replay.now.explain }
     ensures bytes { result.byte_limit ≡ replay.now.byte_limit }
     ensures strict { result.strict ≡ replay.now.strict }
 {
     let options = Options::usual().with_explain(replay.explain);
-    let options = options.with_strict(replay.strict);
+    let options = options.with_strict(replay.strict).with_keys(keys);
     let options = options.with_byte_limit(replay.byte_limit).unwrap();
     options.with_workers(replay.shards, replay.workers).unwrap()
 }
@@ -269,7 +279,7 @@ fn run_replay<R, I, O, V>(
     watcher: &mut V,
 ) -> Result<Ended, Fault>
 where
-    R: Files + AllocGlobal + Threads + Wait + Sync,
+    R: Files + RandomSource + AllocGlobal + Threads + Wait + Sync,
     I: Read,
     O: Write,
     V: Watch,
@@ -282,7 +292,7 @@ where
     ensures report_by { (analysis : Order) → IsPlainBy analysis replay.now → replay.now.suppressions.items ≡ [] → replay.now.trace.now ≡ codes "-" → IfOk result (λ ended. IfSome (I.remaining (inner_of input.old)) (λ text. EndsBy analysis text replay.now.byte_limit [] replay.now.explain (O.contents (inner_of output.old)) (O.contents (inner_of output.new)) ended.status)) }
     ensures nothing { IfErr result (LeavesOutput (O.contents (inner_of output.old)) (O.contents (inner_of output.new))) }
 {
-    let options = options_of(replay);
+    let options = options_of(replay, keys_from(rt));
     let suppressions = suppressions_of(rt, &replay.suppressions, options.byte_limit)?;
     replay_trace(rt, replay, &suppressions, &options, input, output, watcher)
 }

@@ -5,17 +5,19 @@ ghost use Rattle.er_exit.specs.Writes.{LeavesOutput};
 ghost use Rattle.er_triage.specs.Notes.{AreNotes};
 ghost use Rattle.eraser.specs.Stories.{ExplainsTo, FailsOutput, IsExplainFault, IsStoryFault, WritesStory};
 
+use crate::command::keys_from;
 use crate::sorting::Ended;
 use er_device::Device;
 use er_exit::Fault;
 use er_print::WriteFault;
 use er_request::Explain;
 use er_story::{tell_line, write_story};
-use er_text::read_trace;
-use er_trace::Trace;
+use er_text::read_trace_keyed;
+use er_trace::{NameKeys, Trace};
 use std::alloc::Global;
 use std::fs::File;
 use std::io::{Read, Write};
+use std::random::RandomSource;
 use std::rt::Files;
 
 /// Writes the story of the step that was asked for.
@@ -26,7 +28,7 @@ pub(crate) fn explain_step<R, I, O>(
     output: &mut Device<O>,
 ) -> Result<Ended, Fault>
 where
-    R: Files + AllocGlobal,
+    R: Files + RandomSource + AllocGlobal,
     I: Read,
     O: Write,
     requires input { has_failed input.old ≡ false }
@@ -53,7 +55,7 @@ fn write_asked<R, I, O>(
     output: &mut Device<O>,
 ) -> Result<(), Fault>
 where
-    R: Files + AllocGlobal,
+    R: Files + RandomSource + AllocGlobal,
     I: Read,
     O: Write,
     requires input { has_failed input.old ≡ false }
@@ -63,8 +65,16 @@ where
     ensures fault { asked.now.trace.now ≡ codes "-" → IfErr result (λ why. IfSome (I.remaining (inner_of input.old)) (λ text. IsExplainFault text asked.now.byte_limit asked.now.line why)) }
     ensures failed { FailsOutput (has_failed output.new) result }
 {
+    let keys = keys_from(rt);
     if asked.trace == "-" {
-        return explain_from(rt.alloc(), asked.line, asked.byte_limit, input, output);
+        return explain_from(
+            rt.alloc(),
+            asked.line,
+            asked.byte_limit,
+            keys,
+            input,
+            output,
+        );
     }
     let Ok(file) = File::open(rt, asked.trace) else {
         return Err(Fault::OpenTrace);
@@ -74,6 +84,7 @@ where
         rt.alloc(),
         asked.line,
         asked.byte_limit,
+        keys,
         &mut source,
         output,
     )
@@ -84,6 +95,7 @@ fn explain_from<D: Read, O: Write>(
     alloc: Global,
     line: u64,
     byte_limit: u64,
+    keys: NameKeys,
     source: &mut Device<D>,
     output: &mut Device<O>,
 ) -> Result<(), Fault>
@@ -95,7 +107,7 @@ fn explain_from<D: Read, O: Write>(
     ensures fault { IfErr result (λ why. IfSome (D.remaining (inner_of source.old)) (λ text. IsExplainFault text byte_limit line why)) }
     ensures failed { FailsOutput (has_failed output.new) result }
 {
-    match read_trace(alloc, source, byte_limit) {
+    match read_trace_keyed(alloc, source, byte_limit, keys) {
         Ok(trace) => explain_in(alloc, &trace, line, output),
         Err(fault) => Err(Fault::of_trace(fault)),
     }

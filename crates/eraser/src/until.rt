@@ -11,7 +11,7 @@ ghost use Rattle.eraser.specs.Notes.{GetsNotes};
 ghost use Rattle.eraser.specs.Replays.{EndsAs, IsPlain, ReplaysTo};
 
 use crate::advice::report_replay_fault;
-use crate::command::{note, options_of, replay_from};
+use crate::command::{keys_from, note, options_of, replay_from};
 use crate::meter::Meter;
 use crate::rules::suppressions_of;
 use crate::sorting::Ended;
@@ -27,6 +27,7 @@ use er_text::TextFault;
 use std::alloc::Global;
 use std::fs::File;
 use std::io::{Read, Write};
+use std::random::RandomSource;
 use std::rt::{Clock, Files};
 use std::sync::Wait;
 use std::thread::Threads;
@@ -62,7 +63,7 @@ pub(crate) fn end_until_fault<R, I, O, E, P>(
     for_people: bool,
 ) -> u8
 where
-    R: Files + Clock + AllocGlobal + Threads + Wait + Sync,
+    R: Files + Clock + RandomSource + AllocGlobal + Threads + Wait + Sync,
     I: Read,
     O: Write,
     E: Write,
@@ -91,7 +92,7 @@ fn run_shown<R, I, O, P>(
     for_people: bool,
 ) -> Result<Ended, Cut>
 where
-    R: Files + Clock + AllocGlobal + Threads + Wait + Sync,
+    R: Files + Clock + RandomSource + AllocGlobal + Threads + Wait + Sync,
     I: Read,
     O: Write,
     P: Write,
@@ -154,7 +155,7 @@ fn run_until_fault<R, I, O, V>(
     watcher: &mut V,
 ) -> Result<Ended, Cut>
 where
-    R: Files + AllocGlobal + Threads + Wait + Sync,
+    R: Files + RandomSource + AllocGlobal + Threads + Wait + Sync,
     I: Read,
     O: Write,
     V: Watch,
@@ -165,7 +166,7 @@ where
     ensures silent { replay.now.unused_rules ≡ false → replay.now.max_races ≡ None → IfOk result (λ ended. ended.notes.items ≡ []) }
     ensures report { IsPlain replay.now → replay.now.suppressions.items ≡ [] → replay.now.trace.now ≡ codes "-" → IfOk result (λ ended. IfSome (I.remaining (inner_of input.old)) (λ text. ReplaysTo text replay.now.byte_limit replay.now.explain (O.contents (inner_of output.old)) (O.contents (inner_of output.new)) ended.status)) }
 {
-    let options = options_of(replay);
+    let options = options_of(replay, keys_from(rt));
     match suppressions_of(rt, &replay.suppressions, options.byte_limit) {
         Ok(suppressions) => {
             replay_trace(rt, replay, &suppressions, &options, input, output, watcher)

@@ -11,7 +11,7 @@ returns-in-Err-clause-fault g c =
     let told : Option (List ℕ) = g.D.Read.remaining (inner_of c.args.reader.now) in
     subst (λ (n : ℕ). IsFaultOfText told n c.fault_behind-fault.result) c.in_ok-lines.ensures.limit
     (c.fault_behind-fault.ensures.fault told [] [] (start-may c.in-Err.why c.in-Err.ensures.fault)
-    (start-read told c.in_ok-lines.lines c.new-trace.result c.new-trace.ensures c.in_ok-lines.ensures.starts))
+    (start-read told c.in_ok-lines.lines c.keyed-trace.result c.keyed-trace.ensures c.in_ok-lines.ensures.starts))
 
 pub returns-in-Ok-clause-seen : goal.returns-in-Ok-clause-seen
-returns-in-Ok-clause-seen g c = seen-begun c.in_ok-lines.lines c.new-trace.result c.start.result c.new-trace.ensures c.in_ok-lines.ensures.starts c.start.ensures.seen
+returns-in-Ok-clause-seen g c = seen-begun c.in_ok-lines.lines c.keyed-trace.result c.start.result c.keyed-trace.ensures c.in_ok-lines.ensures.starts c.start.ensures.seen
