@@ -2,7 +2,8 @@
 //! hosts.
 //!
 //! Begin with [`replay_as`]. It reads a trace text, replays it, and writes the report in a [`Form`]. Each form has a crate of its own that
-//! makes the bytes: `er_sites`, `er_json`, `er_sarif` and `er_html`.
+//! makes the bytes: `er_sites`, `er_json`, `er_sarif` and `er_html`. [`replay_as_twice`] has a second reader of the text, and tells where the accesses
+//! stood that reasons name.
 //!
 //! What it promises, by the names of clauses, if the reader and the writer tell their bytes: what was written is exactly that form of a
 //! report of a run of the text's trace under the rules (`form`), a fault of the text is the text's first fault (`fault`), and nothing

@@ -1,7 +1,7 @@
 //! Races by the site of their access: the text for people.
 //!
 //! Begin with [`write_sites`]. It writes a table of the sites with races, the site with most words first, and for each site one race
-//! with its reasons in sentences.
+//! with its reasons in sentences. Behind a reason stands where its access was, and which locks it held, if the places given know it.
 //!
 //! What it promises, by the names of clauses: what it writes is the text of such a table and nothing else, or nothing at all for want of
 //! memory, or a prefix of the text if the writer failed (`bytes`). In the table each race of the report counts at its own site and at
