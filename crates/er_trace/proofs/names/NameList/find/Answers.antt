@@ -1,4 +1,4 @@
-use Rattle.std.proofs.Common.{◌≡◌, false, true, map, sym, ◌∙◌, ap}
+use Rattle.std.proofs.Common.{sym, ◌∙◌, ap}
 use Rattle.er_trace.specs.Names.{is_known, number_of}
 use Rattle.er_trace.proofs.NamesLemmas.{known_at, number_at, found_place}
 use Rattle.er_trace.proofs.names.NameList.find.Goals as goal
