@@ -3,8 +3,8 @@ use std::hash::{BuildHasher, DefaultHasher, Hasher};
 use std::io;
 use std::random::RandomSource;
 
-/// Two numbers by which names are hashed. If nobody who makes a trace can know them, no choice of names makes looking them up slow. They
-/// change no number of a name.
+/// Two numbers by which names are hashed. Whoever makes a trace and doesn't know them can't choose names that collide. They change no
+/// number of a name.
 #[derive(Clone, Copy, Debug, PartialEq, Eq)]
 pub struct NameKeys {
     first: u64,
