@@ -1,4 +1,7 @@
 pub mod NamesLemmas
 pub mod HintLemmas
 pub mod NumberLemmas
+pub mod AppendedLemmas
+pub mod AppendedSteps
+pub mod RenumberingLemmas
 pub mod RecentLemmas

@@ -1,3 +1,4 @@
 pub mod Names
 pub mod Trace
+pub mod Appended
 pub mod Inner

@@ -14,6 +14,7 @@ pub use keys::NameKeys;
 pub use names::{Names, equal_names_alone_share_a_number};
 pub use trace::Trace;
 
+mod appending;
 mod hints;
 mod keys;
 mod names;

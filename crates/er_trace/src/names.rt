@@ -1,9 +1,12 @@
 //! Numbers for the names of threads, locks and sites.
-ghost use Rattle.std.specs.Prelude.{◌≡◌, ◌+◌, ◌-◌, ◌<◌, ◌≤◌, ℕ, List, [], length, Some, slice_get, IsTrue, IsOk, IsErr, IfOk, IfSome, IfNone, OnOk, OnErr, true, false};
+ghost use Rattle.std.specs.Prelude.{◌≡◌, ◌+◌, ◌-◌, ◌<◌, ◌≤◌, ℕ, List, [], length, map, Some, slice_get, IsTrue, IsOk, IsErr, IfOk, IfSome, IfNone, OnOk, OnErr, true, false};
+ghost use Rattle.er_trace.specs.Appended.{with_names, with_table};
 ghost use Rattle.er_trace.specs.Inner.Recent.{bytes_of, Knows};
+ghost use Rattle.er_trace.specs.Inner.Renumbering.{AreNumbers, HasMore};
 ghost use Rattle.er_trace.specs.Names.{is_known, number_of, with_name, no_names, most_names};
 
 use crate::NameKeys;
+use crate::appending::{NewNumbers, NewTable};
 use crate::hints::NameHints;
 use crate::keys::NameHasher;
 use crate::recent::{RecentNames, ShortName};
@@ -70,6 +73,12 @@ impl NameList {
             Some(found) => found.as_str() == name,
             None => false,
         }
+    }
+
+    fn len(&self) -> usize
+        ensures { result ≡ length self.now }
+    {
+        self.names.len()
     }
 
     fn name(&self, number: usize) -> &str
@@ -182,6 +191,20 @@ impl CachedNames {
     {
         self.list.name(number)
     }
+
+    /// The numbers here of all those names, by their numbers there. Those of them that are new come behind, in their order.
+    fn add(&mut self, others: &CachedNames) -> Result<NewNumbers, AllocError>
+        ensures names { OnOk result (self.new ≡ with_names self.old others.now) }
+        ensures numbers { IfOk result (λ numbers. numbers ≡ map (number_of self.new) others.now) }
+        ensures more { length self.old ≤ length self.new }
+    {
+        let mut numbers = NewNumbers::new(*self.list.names.allocator());
+        for at in 0..others.list.len() {
+            let number = self.number(others.name(at))?;
+            numbers.push(number)?;
+        }
+        Ok(numbers)
+    }
 }
 
 /// The names of threads, locks and sites, each sort numbered by first appearance. Threads and locks count from 0, sites from 1.
@@ -270,6 +293,22 @@ impl Names {
             Some(number) => Some(ThreadId::new(number as u32)),
             None => None,
         }
+    }
+
+    /// The numbers here of all those names, by their numbers there. Those of them that are new come behind, in their order.
+    pub(crate) fn add(&mut self, others: &Names) -> Result<NewTable, AllocError>
+        ensures names { OnOk result (self.new ≡ with_table self.old others.now) }
+        ensures numbers { IfOk result (λ numbers. AreNumbers numbers others.now self.new) }
+        ensures more { HasMore self.old self.new }
+    {
+        let threads = self.threads.add(&others.threads)?;
+        let locks = self.locks.add(&others.locks)?;
+        let sites = self.sites.add(&others.sites)?;
+        Ok(NewTable {
+            threads,
+            locks,
+            sites,
+        })
     }
 
     /// The name of a thread that was numbered here.

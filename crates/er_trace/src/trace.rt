@@ -1,8 +1,11 @@
 //! `Trace`, steps with their lines and names.
-ghost use Rattle.std.specs.Prelude.{◌≡◌, ◌+◌, ◌≤◌, All, length, IsTrue, IsOk, IsErr, IfOk, OnOk, OnErr, false};
+ghost use Rattle.std.specs.Prelude.{◌≡◌, ◌+◌, ◌^◌, ◌<◌, ◌≤◌, All, length, IsTrue, IsOk, IsErr, IfOk, OnOk, OnErr, false};
+ghost use Rattle.er_trace.specs.Appended.{with_table, appended};
+ghost use Rattle.er_trace.specs.Inner.Renumbering.{AreNumbers};
 ghost use Rattle.er_trace.specs.Names.{is_known, number_of, most_names};
 ghost use Rattle.er_trace.specs.Trace.{IsNamed, no_steps, with_step, without_steps, with_thread_name, with_lock_name, with_site_name};
 
+use crate::appending::NewTable;
 use crate::{NameKeys, Names};
 use er_event::{LockId, Site, Step, ThreadId};
 use std::alloc::{AllocError, Global};
@@ -81,6 +84,28 @@ impl Trace {
         self.lines.push(line)?;
         self.steps.push_reserved(Step { thread, event });
         Ok(())
+    }
+
+    /// Adds the steps of another trace, under the names here: those of its names that are new come behind, in their order. Each of its
+    /// lines is counted from behind so many lines. `AllocError`: memory was refused, or there are 2^30 names of one sort and a new one. Then
+    /// only some of the names and steps are there.
+    pub fn append(&mut self, more: &Trace, before: u64) -> Result<(), AllocError>
+        requires { All (λ line. before + line < 2 ^ 64) more.now.lines }
+        ensures ok { OnOk result (self.new ≡ appended before self.old more.now) }
+    {
+        let numbers = self.add_names(&more.names)?;
+        for at in 0..more.steps.len() {
+            self.push(numbers.step(more.steps[at]), before + more.lines[at])?;
+        }
+        Ok(())
+    }
+
+    /// The numbers here of all those names. Those of them that are new come behind.
+    fn add_names(&mut self, others: &Names) -> Result<NewTable, AllocError>
+        ensures names { OnOk result (self.new ≡ record self.old { names = with_table self.old.names others.now }) }
+        ensures numbers { IfOk result (λ numbers. AreNumbers numbers others.now self.new.names) }
+    {
+        self.names.add(others)
     }
 
     /// Forgets the steps and their lines. It keeps the names, and the room for as many steps.

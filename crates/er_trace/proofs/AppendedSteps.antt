@@ -1,0 +1,178 @@
+-- Steps of an appended recording: their new numbers have names, and stay as they are once more names have appeared.
+use Rattle.std.proofs.Common.{◌≡◌, ℕ, zero, suc, ◌+◌, ◌<◌, ◌≤◌, List, [], ◌∷◌, ◌++◌, map, length, get_or, append_assoc, append-nil, refl, ap, sym, ◌∙◌, subst, arith}
+use Rattle.std.specs.List.{All, AllByRecursion}
+use Rattle.std.proofs.lemmas.List.{map-append}
+use Rattle.std.proofs.lemmas.List.Elements.{All-weaker, recursion_from_All}
+use Rattle.er_event.specs.declared.steps.Event.{Event}
+use Rattle.er_event.specs.declared.steps.Event.TheVariants.{Acquire, Release, Access, Reuse, IgnoreOn, IgnoreOff, Show, Level, Sync}
+use Rattle.er_event.specs.declared.steps.Step.{Step}
+use Rattle.er_event.specs.declared.steps.Sync.{Sync as Order}
+use Rattle.er_event.specs.declared.steps.Sync.TheVariants.{Start, Join, Signal, Await}
+use Rattle.er_trace.specs.Names.{NameTable}
+use Rattle.er_trace.specs.Trace.{Recording, no_steps, HasOrderNames, HasNames, IsNamed, with_thread_name, with_lock_name, with_site_name}
+use Rattle.er_trace.specs.Appended.{with_names, with_table, renumbered, renumbered_site, renumbered_order, renumbered_event, renumbered_step, appended}
+use Rattle.er_trace.proofs.AppendedLemmas.{with_more, renumbered_below, same_number, more_names}
+
+-- new numbers have names
+site_below : (a b : List (List ℕ)) (site : ℕ) → site ≤ length b → renumbered_site b (with_names a b) site ≤ length (with_names a b)
+site_below a b zero below = omega arith
+site_below a b (suc n) below = let less = renumbered_below a b n (omega (arith, below)) in omega (arith, less)
+
+order_named : (a b : NameTable) (o : Order) → HasOrderNames b o → HasOrderNames (with_table a b) (renumbered_order b (with_table a b) o)
+order_named a b (Start thread) is = renumbered_below a.threads b.threads thread is
+order_named a b (Join thread) is = renumbered_below a.threads b.threads thread is
+order_named a b (Signal object) is = renumbered_below a.locks b.locks object is
+order_named a b (Await object) is = renumbered_below a.locks b.locks object is
+
+event_named : (a b : NameTable) (e : Event) → HasNames b e → HasNames (with_table a b) (renumbered_event b (with_table a b) e)
+event_named a b (Acquire lock mode) is = renumbered_below a.locks b.locks lock is
+event_named a b (Release lock mode) is = renumbered_below a.locks b.locks lock is
+event_named a b (Access kind word site) is = site_below a.sites b.sites site is
+event_named a b (Reuse range) is = tt
+event_named a b IgnoreOn is = tt
+event_named a b IgnoreOff is = tt
+event_named a b (Show word) is = tt
+event_named a b (Level level) is = tt
+event_named a b (Sync sync) is = order_named a b sync is
+
+pub step_named : (a b : NameTable) (s : Step) → IsNamed b s → IsNamed (with_table a b) (renumbered_step b (with_table a b) s)
+step_named a b s is = record { thread = renumbered_below a.threads b.threads s.thread is.thread; event = event_named a b s.event is.event }
+
+-- what has a number keeps its new number from one pair of names to another
+abbrev Same : List (List ℕ) → List (List ℕ) → List (List ℕ) → List (List ℕ) → Type 0
+Same old new later newer = (n : ℕ) → n < length old → renumbered later newer n ≡ renumbered old new n
+
+record AllSame (old new later newer : NameTable) : Type 0 where
+  threads : Same old.threads new.threads later.threads newer.threads
+  locks : Same old.locks new.locks later.locks newer.locks
+  sites : Same old.sites new.sites later.sites newer.sites
+
+module _ (old new later newer : NameTable) (same : AllSame old new later newer) where
+  same_site : (site : ℕ) → site ≤ length old.sites → renumbered_site later.sites newer.sites site ≡ renumbered_site old.sites new.sites site
+  same_site zero below = refl
+  same_site (suc n) below = ap (λ k. k + 1) (same.sites n (omega (arith, below)))
+
+  same_order : (o : Order) → HasOrderNames old o → renumbered_order later newer o ≡ renumbered_order old new o
+  same_order (Start thread) is = ap Start (same.threads thread is)
+  same_order (Join thread) is = ap Join (same.threads thread is)
+  same_order (Signal object) is = ap Signal (same.locks object is)
+  same_order (Await object) is = ap Await (same.locks object is)
+
+  same_event : (e : Event) → HasNames old e → renumbered_event later newer e ≡ renumbered_event old new e
+  same_event (Acquire lock mode) is = ap (λ n. Acquire n mode) (same.locks lock is)
+  same_event (Release lock mode) is = ap (λ n. Release n mode) (same.locks lock is)
+  same_event (Access kind word site) is = ap (λ n. Access kind word n) (same_site site is)
+  same_event (Reuse range) is = refl
+  same_event IgnoreOn is = refl
+  same_event IgnoreOff is = refl
+  same_event (Show word) is = refl
+  same_event (Level level) is = refl
+  same_event (Sync sync) is = ap Sync (same_order sync is)
+
+  same_step : (s : Step) → IsNamed old s → renumbered_step later newer s ≡ renumbered_step old new s
+  same_step s is =
+      ap (λ (n : ℕ). record { thread = n; event = renumbered_event later newer s.event }) (same.threads s.thread is.thread)
+      ∙ ap (λ (e : Event). record { thread = renumbered old.threads new.threads s.thread; event = e }) (same_event s.event is.event)
+
+  same_steps : (steps : List Step) → AllByRecursion (IsNamed old) steps → map (renumbered_step later newer) steps ≡ map (renumbered_step old new) steps
+  same_steps [] all = refl
+  same_steps (s ∷ steps) all =
+      ap (λ (t : Step). t ∷ map (renumbered_step later newer) steps) (same_step s all.0)
+      ∙ ap (λ (ts : List Step). renumbered_step old new s ∷ ts) (same_steps steps all.1)
+
+-- recordings with the same lines
+abbrev parts : List Step → List ℕ → NameTable → Recording
+parts steps lines names = record { steps = steps; lines = lines; names = names }
+
+same_parts : (steps more : List Step) (lines : List ℕ) (names others : NameTable) → steps ≡ more → names ≡ others → parts steps lines names ≡ parts more lines others
+same_parts steps more lines names others e f = ap (λ (s : List Step). parts s lines names) e ∙ ap (λ (n : NameTable). parts more lines n) f
+
+module _ (before : ℕ) (r q : Recording) (named : All (IsNamed q.names) q.steps) (x : List ℕ) where
+  all : AllByRecursion (IsNamed q.names) q.steps
+  all = recursion_from_All (IsNamed q.names) q.steps named
+
+  -- one more name of each sort
+  pub appended_thread : appended before r (with_thread_name q x) ≡ with_thread_name (appended before r q) x
+  appended_thread =
+      let later : NameTable = (with_thread_name q x).names in
+      let same : AllSame q.names (with_table r.names q.names) later (with_table r.names later) =
+      record { threads = λ n below. same_number r.names.threads q.names.threads x n below; locks = λ n below. refl; sites = λ n below. refl } in
+      same_parts _ _ _ _ _ (ap (λ (s : List Step). r.steps ++ s) (same_steps q.names (with_table r.names q.names) later (with_table r.names later) same q.steps all))
+      (ap (λ (names : List (List ℕ)). record (with_table r.names q.names) { threads = names }) (with_more r.names.threads q.names.threads x))
+
+  pub appended_lock : appended before r (with_lock_name q x) ≡ with_lock_name (appended before r q) x
+  appended_lock =
+      let later : NameTable = (with_lock_name q x).names in
+      let same : AllSame q.names (with_table r.names q.names) later (with_table r.names later) =
+      record { threads = λ n below. refl; locks = λ n below. same_number r.names.locks q.names.locks x n below; sites = λ n below. refl } in
+      same_parts _ _ _ _ _ (ap (λ (s : List Step). r.steps ++ s) (same_steps q.names (with_table r.names q.names) later (with_table r.names later) same q.steps all))
+      (ap (λ (names : List (List ℕ)). record (with_table r.names q.names) { locks = names }) (with_more r.names.locks q.names.locks x))
+
+  pub appended_site : appended before r (with_site_name q x) ≡ with_site_name (appended before r q) x
+  appended_site =
+      let later : NameTable = (with_site_name q x).names in
+      let same : AllSame q.names (with_table r.names q.names) later (with_table r.names later) =
+      record { threads = λ n below. refl; locks = λ n below. refl; sites = λ n below. same_number r.names.sites q.names.sites x n below } in
+      same_parts _ _ _ _ _ (ap (λ (s : List Step). r.steps ++ s) (same_steps q.names (with_table r.names q.names) later (with_table r.names later) same q.steps all))
+      (ap (λ (names : List (List ℕ)). record (with_table r.names q.names) { sites = names }) (with_more r.names.sites q.names.sites x))
+
+-- and more steps, which have names there
+abbrev pub with_more_steps : Recording → List Step → List ℕ → Recording
+with_more_steps r steps lines = record r { steps = r.steps ++ steps; lines = r.lines ++ lines }
+
+pub appended_steps : (before : ℕ) (r q : Recording) (steps : List Step) (lines : List ℕ)
+    → appended before r (with_more_steps q steps lines)
+    ≡ with_more_steps (appended before r q) (map (renumbered_step q.names (with_table r.names q.names)) steps) (map (λ line. before + line) lines)
+appended_steps before r q steps lines =
+    let f : Step → Step = renumbered_step q.names (with_table r.names q.names) in
+    let g : ℕ → ℕ = λ line. before + line in
+    rw (map-append f q.steps steps, map-append g q.lines lines, append_assoc r.steps (map f q.steps) (map f steps), append_assoc r.lines (map g q.lines) (map g lines)) refl
+
+-- nothing to append
+pub appended_nothing : (before : ℕ) (r : Recording) → appended before r no_steps ≡ r
+appended_nothing before r = rw (append-nil r.steps, append-nil r.lines) refl
+
+-- steps that have names keep them once another one has appeared
+order_still : (b c : NameTable) (o : Order) → length b.threads ≤ length c.threads → length b.locks ≤ length c.locks → HasOrderNames b o → HasOrderNames c o
+order_still b c (Start thread) threads locks is = omega (arith, threads, is)
+order_still b c (Join thread) threads locks is = omega (arith, threads, is)
+order_still b c (Signal object) threads locks is = omega (arith, locks, is)
+order_still b c (Await object) threads locks is = omega (arith, locks, is)
+
+event_still : (b c : NameTable) (e : Event) → length b.threads ≤ length c.threads → length b.locks ≤ length c.locks → length b.sites ≤ length c.sites → HasNames b e → HasNames c e
+event_still b c (Acquire lock mode) threads locks sites is = omega (arith, locks, is)
+event_still b c (Release lock mode) threads locks sites is = omega (arith, locks, is)
+event_still b c (Access kind word site) threads locks sites is = omega (arith, sites, is)
+event_still b c (Reuse range) threads locks sites is = tt
+event_still b c IgnoreOn threads locks sites is = tt
+event_still b c IgnoreOff threads locks sites is = tt
+event_still b c (Show word) threads locks sites is = tt
+event_still b c (Level level) threads locks sites is = tt
+event_still b c (Sync sync) threads locks sites is = order_still b c sync threads locks is
+
+steps_still : (b c : NameTable) (steps : List Step) → length b.threads ≤ length c.threads → length b.locks ≤ length c.locks → length b.sites ≤ length c.sites → All (IsNamed b) steps
+    → All (IsNamed c) steps
+steps_still b c steps threads locks sites all =
+    let one : (s : Step) → IsNamed b s → IsNamed c s = λ s is. record {
+      thread = (let less = is.thread in omega (arith, threads, less));
+      event = event_still b c s.event threads locks sites is.event;
+    } in
+    All-weaker (IsNamed b) (IsNamed c) one steps all
+
+module _ (q : Recording) (named : All (IsNamed q.names) q.steps) (x : List ℕ) where
+  pub named_with_thread : All (IsNamed (with_thread_name q x).names) q.steps
+  named_with_thread = steps_still q.names (with_thread_name q x).names q.steps (more_names q.names.threads x) (omega arith) (omega arith) named
+
+  pub named_with_lock : All (IsNamed (with_lock_name q x).names) q.steps
+  named_with_lock = steps_still q.names (with_lock_name q x).names q.steps (omega arith) (more_names q.names.locks x) (omega arith) named
+
+  pub named_with_site : All (IsNamed (with_site_name q x).names) q.steps
+  named_with_site = steps_still q.names (with_site_name q x).names q.steps (omega arith) (omega arith) (more_names q.names.sites x) named
+
+-- a step of the other recording has names, and so has its new form here
+pub push_named : (a b now : NameTable) (steps : List Step) (i : ℕ) (s t : Step) → All (IsNamed b) steps → i < length steps → s ≡ get_or steps i s → now ≡ with_table a b
+    → (IsNamed b s → t ≡ renumbered_step b (with_table a b) s) → IsNamed now t
+push_named a b now steps i s t all below at names does =
+    let P : Step → Type 0 = λ x. IsNamed b x in
+    let named : IsNamed b s = subst P (sym at) (all i s below) in
+    rw (names, does named) (step_named a b s named)

@@ -1,0 +1,66 @@
+-- A list of new numbers gives the number that stands for each old one.
+use Rattle.std.proofs.Common.{◌≡◌, ℕ, zero, suc, ◌+◌, ◌<◌, ◌≤◌, true, List, [], ◌∷◌, ◌++◌, map, take, length, get_or, Some, refl, ap, sym, ◌∙◌, arith}
+use Rattle.std.specs.List.{AllByRecursion, slice_get}
+use Rattle.std.proofs.lemmas.List.{map-append, take_more}
+use Rattle.std.proofs.lemmas.List.Elements.{All-from_get_or, recursion_from_All}
+use Rattle.std.proofs.lemmas.Option.{slice_get_within, get_or_from_slice_get}
+use Rattle.er_trace.specs.Names.{is_known, number_of, with_name}
+use Rattle.er_trace.specs.Appended.{with_names, name_at, renumbered, renumbered_site}
+use Rattle.er_trace.specs.Inner.Renumbering.{new_site}
+use Rattle.er_trace.proofs.NumberLemmas.{kept, again}
+use Rattle.er_trace.proofs.AppendedLemmas.{there, known_at, last, all_more}
+
+mapped_at : (new old : List (List ℕ)) (n : ℕ) → n < length old → get_or (map (number_of new) old) n 0 ≡ number_of new (name_at old n)
+mapped_at new [] n below = absurd (omega (arith, below))
+mapped_at new (x ∷ old) zero below = refl
+mapped_at new (x ∷ old) (suc n) below = mapped_at new old n (omega (arith, below))
+
+pub number_at : (numbers : List ℕ) (old new : List (List ℕ)) (n : ℕ) → numbers ≡ map (number_of new) old → n < length old → get_or numbers n 0 ≡ renumbered old new n
+number_at numbers old new n are below = ap (λ (xs : List ℕ). get_or xs n 0) are ∙ mapped_at new old n below
+
+pub site_at : (numbers : List ℕ) (old new : List (List ℕ)) (site : ℕ) → numbers ≡ map (number_of new) old → site ≤ length old → new_site numbers site ≡ renumbered_site old new site
+site_at numbers old new zero are below = refl
+site_at numbers old new (suc n) are below = ap (λ k. k + 1) (number_at numbers old new n are (omega (arith, below)))
+
+-- one name more
+kept_numbers : (names : List (List ℕ)) (x : List ℕ) (b : List (List ℕ)) → AllByRecursion (λ y. is_known names y ≡ true) b → map (number_of (with_name names x)) b ≡ map (number_of names) b
+kept_numbers names x [] known = refl
+kept_numbers names x (y ∷ b) known =
+    ap (λ (n : ℕ). n ∷ map (number_of (with_name names x)) b) (kept names y x known.0) ∙ ap (λ (ns : List ℕ). number_of names y ∷ ns) (kept_numbers names x b known.1)
+
+all_known : (a b : List (List ℕ)) → AllByRecursion (λ y. is_known (with_names a b) y ≡ true) b
+all_known a b =
+    let P : List ℕ → Type 0 = λ y. is_known (with_names a b) y ≡ true in
+    recursion_from_All P b (All-from_get_or P b [] (λ i below. there a b (name_at b i) (known_at b i below)))
+
+pub one_more : (a b : List (List ℕ)) (x : List ℕ)
+    → map (number_of (with_names a (b ++ x ∷ []))) (b ++ x ∷ []) ≡ map (number_of (with_names a b)) b ++ number_of (with_names a b) x ∷ []
+one_more a b x =
+    ap (λ (names : List (List ℕ)). map (number_of names) (b ++ x ∷ [])) (last a b x)
+    ∙ map-append (number_of (with_name (with_names a b) x)) b (x ∷ [])
+    ∙ ap (λ (ns : List ℕ). ns ++ number_of (with_name (with_names a b) x) x ∷ []) (kept_numbers (with_names a b) x b (all_known a b))
+    ∙ ap (λ (n : ℕ). map (number_of (with_names a b)) b ++ n ∷ []) (again (with_names a b) x)
+
+-- the first names and one more
+pub taken : (b : List (List ℕ)) (i : ℕ) (x : List ℕ) → slice_get b i ≡ Some x → take (i + 1) b ≡ take i b ++ x ∷ []
+taken b i x is = take_more b i [] (slice_get_within b i x is) ∙ ap (λ (y : List ℕ). take i b ++ y ∷ []) (get_or_from_slice_get b i x [] is)
+
+-- a turn of the loop that numbers them
+module _ (a others mid new : List (List ℕ)) (i : ℕ) (x : List ℕ) (is : slice_get others i ≡ Some x) (so_far : mid ≡ with_names a (take i others)) (ok : new ≡ with_name mid x) where
+  pub names_on : new ≡ with_names a (take (i + 1) others)
+  names_on =
+      ok ∙ ap (λ (names : List (List ℕ)). with_name names x) so_far ∙ sym (last a (take i others) x)
+      ∙ ap (λ (names : List (List ℕ)). with_names a names) (sym (taken others i x is))
+
+  pub numbers_on : (ns ms : List ℕ) (n : ℕ) → ns ≡ map (number_of mid) (take i others) → n ≡ number_of mid x → ms ≡ ns ++ n ∷ [] → ms ≡ map (number_of new) (take (i + 1) others)
+  numbers_on ns ms n before number put =
+      put
+      ∙ ap (λ (k : ℕ). ns ++ k ∷ []) number
+      ∙ ap (λ (ks : List ℕ). ks ++ number_of mid x ∷ []) before
+      ∙ ap (λ (names : List (List ℕ)). map (number_of names) (take i others) ++ number_of names x ∷ []) so_far
+      ∙ sym (one_more a (take i others) x)
+      ∙ ap (λ (names : List (List ℕ)). map (number_of (with_names a names)) names) (sym (taken others i x is))
+      ∙ ap (λ (names : List (List ℕ)). map (number_of names) (take (i + 1) others)) (sym names_on)
+
+pub no_fewer : (a b names : List (List ℕ)) → names ≡ with_names a b → length a ≤ length names
+no_fewer a b names is = rw is (all_more a b)

@@ -1,0 +1,137 @@
+//! Numbers of one trace's names in another, and its steps with these numbers.
+ghost use Rattle.std.specs.Prelude.{◌≡◌, ◌+◌, ◌-◌, ◌<◌, ◌≤◌, ◌++◌, ℕ, [], ◌∷◌, get_or, length, OnOk, OnErr};
+ghost use Rattle.er_trace.specs.Appended.{renumbered_order, renumbered_event, renumbered_step};
+ghost use Rattle.er_trace.specs.Inner.Renumbering.{AreNumbers, new_site};
+ghost use Rattle.er_trace.specs.Names.{NameTable, most_names};
+ghost use Rattle.er_trace.specs.Trace.{HasOrderNames, HasNames, IsNamed};
+
+use er_event::{Event, LockId, Site, Step, Sync, ThreadId};
+use std::alloc::{AllocError, Global};
+use std::marker::Model;
+
+/// The new number of each name of one sort, by its old one.
+#[derive(Drop)]
+pub(crate) struct NewNumbers {
+    numbers: Vec<u32>,
+}
+
+impl Model for NewNumbers {
+    ghost use Rattle.std.specs.Prelude.{ℕ, ◌<◌, List, All};
+    ghost use Rattle.er_trace.specs.Names.{most_names};
+
+    ghost Value = { List ℕ };
+
+    ghost view = { λ n. n.numbers.items };
+
+    ghost invariant = { λ n. All (λ number. number < most_names) n.numbers.items };
+}
+
+impl NewNumbers {
+    pub(crate) fn new(alloc: Global) -> Self
+        ensures { result ≡ [] }
+    {
+        NewNumbers {
+            numbers: Vec::new(alloc),
+        }
+    }
+
+    /// Notes the number of the next name.
+    pub(crate) fn push(&mut self, number: usize) -> Result<(), AllocError>
+        requires { number < most_names }
+        ensures ok { OnOk result (self.new ≡ self.old ++ number ∷ []) }
+        ensures err { OnErr result (self.new ≡ self.old) }
+    {
+        self.numbers.push(number as u32)?;
+        Ok(())
+    }
+
+    /// The new number of this one.
+    #[inline(always)]
+    fn get(&self, number: u32) -> u32
+        requires { number < length self.now }
+        ensures is { result ≡ get_or self.now number 0 }
+        ensures small { result < most_names }
+    {
+        self.numbers[number as usize]
+    }
+}
+
+/// The new numbers of all names of a trace.
+#[derive(Drop)]
+pub(crate) struct NewTable {
+    pub(crate) threads: NewNumbers,
+    pub(crate) locks: NewNumbers,
+    pub(crate) sites: NewNumbers,
+}
+
+impl NewTable {
+    /// The step with the new numbers.
+    #[inline(always)]
+    pub(crate) fn step(&self, step: Step) -> Step
+        requires { (old : NameTable) × (new : NameTable) × AreNumbers self.now old new × IsNamed old step }
+        ensures { (old new : NameTable) → AreNumbers self.now old new → IsNamed old step → result ≡ renumbered_step old new step }
+    {
+        let Step { thread, event } = step;
+        Step {
+            thread: self.thread(thread),
+            event: self.event(event),
+        }
+    }
+
+    #[inline(always)]
+    fn event(&self, event: Event) -> Event
+        requires { (old : NameTable) × (new : NameTable) × AreNumbers self.now old new × HasNames old event }
+        ensures { (old new : NameTable) → AreNumbers self.now old new → HasNames old event → result ≡ renumbered_event old new event }
+    {
+        match event {
+            Event::Acquire(lock, mode) => Event::Acquire(self.lock(lock), mode),
+            Event::Release(lock, mode) => Event::Release(self.lock(lock), mode),
+            Event::Access(kind, word, site) => Event::Access(kind, word, self.site(site)),
+            Event::Reuse(range) => Event::Reuse(range),
+            Event::IgnoreOn => Event::IgnoreOn,
+            Event::IgnoreOff => Event::IgnoreOff,
+            Event::Show(word) => Event::Show(word),
+            Event::Level(level) => Event::Level(level),
+            Event::Sync(sync) => Event::Sync(self.order(sync)),
+        }
+    }
+
+    fn order(&self, sync: Sync) -> Sync
+        requires { (old : NameTable) × (new : NameTable) × AreNumbers self.now old new × HasOrderNames old sync }
+        ensures { (old new : NameTable) → AreNumbers self.now old new → HasOrderNames old sync → result ≡ renumbered_order old new sync }
+    {
+        match sync {
+            Sync::Start(thread) => Sync::Start(self.thread(thread)),
+            Sync::Join(thread) => Sync::Join(self.thread(thread)),
+            Sync::Signal(object) => Sync::Signal(self.lock(object)),
+            Sync::Await(object) => Sync::Await(self.lock(object)),
+        }
+    }
+
+    #[inline(always)]
+    fn thread(&self, thread: ThreadId) -> ThreadId
+        requires { thread < length self.now.threads }
+        ensures { result ≡ get_or self.now.threads thread 0 }
+    {
+        ThreadId::new(self.threads.get(thread.number()))
+    }
+
+    #[inline(always)]
+    fn lock(&self, lock: LockId) -> LockId
+        requires { lock < length self.now.locks }
+        ensures { result ≡ get_or self.now.locks lock 0 }
+    {
+        LockId::new(self.locks.get(lock.number()))
+    }
+
+    #[inline(always)]
+    fn site(&self, site: Site) -> Site
+        requires { site ≤ length self.now.sites }
+        ensures { result ≡ new_site self.now.sites site }
+    {
+        match site.number() {
+            0 => site,
+            number => Site::new(self.sites.get(number - 1) + 1),
+        }
+    }
+}
