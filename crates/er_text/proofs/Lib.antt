@@ -1,6 +1,7 @@
 pub mod ByteLemmas
 pub mod ClassLemmas
 pub mod LineLemmas
+pub mod WholeLemmas
 pub mod WordLemmas
 pub mod WindowLemmas
 pub mod NumberLemmas
@@ -30,3 +31,7 @@ pub mod BlockLemmas
 pub mod GrowthLemmas
 pub mod IdleLemmas
 pub mod EventWords
+pub mod PieceLemmas
+pub mod AppendedLemmas
+pub mod PieceLaws
+pub mod PieceGives

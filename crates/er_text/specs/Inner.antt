@@ -9,3 +9,4 @@ pub mod RuleLines
 pub mod Windows
 pub mod Blocks
 pub mod FastPath
+pub mod Pieces

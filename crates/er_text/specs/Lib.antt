@@ -9,6 +9,7 @@ pub mod Trace
 pub mod Named
 pub mod Rules
 pub mod Places
+pub mod Pieces
 pub mod Ending
 pub mod Batches
 pub mod Inner

@@ -1,15 +1,27 @@
 //! Where lines and words end.
-ghost use Rattle.std.specs.Prelude.{◌≡◌, ◌≤◌, not, position, length, drop};
+ghost use Rattle.std.specs.Prelude.{◌≡◌, ◌≤◌, not, position, length, take, drop};
 ghost use Rattle.std.specs.List.{list_all, position_or_len};
 ghost use Rattle.er_text.specs.Lines.{is_end, is_gap, is_ascii, is_comment, first_of, words, word_at, says_something};
+ghost use Rattle.er_text.specs.Pieces.{AreWhole};
 
-use memchr::memchr;
+use memchr::{memchr, memrchr};
 
 /// How many bytes stand before the first LF, or before the end.
 pub(crate) fn line_len(bytes: &[u8]) -> usize
     ensures { result ≡ position_or_len is_end bytes.now }
 {
     memchr(b'\n', bytes).unwrap_or(bytes.len())
+}
+
+/// How many bytes the whole lines have: those up to the last LF.
+pub(crate) fn whole_len(bytes: &[u8]) -> usize
+    ensures bound { result ≤ length bytes.now }
+    ensures whole { AreWhole (take result bytes.now) }
+{
+    match memrchr(b'\n', bytes) {
+        Some(at) => at + 1,
+        None => 0,
+    }
 }
 
 pub(crate) fn is_ascii(bytes: &[u8]) -> bool

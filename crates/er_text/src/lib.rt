@@ -26,8 +26,10 @@
 pub use endings::Ending;
 pub use faults::{ReadFault, TextFault, TextKind};
 pub use laws::{a_batch_may_be_forgotten, rules_or_fault, steps_are_named, trace_or_fault};
+pub use pieces::Piece;
 pub use reading::{Batch, TraceReader, read_trace, read_trace_keyed};
 pub use suppressions::read_suppressions;
+pub use verbs::Version;
 
 mod adding;
 mod bytes;
@@ -40,6 +42,7 @@ mod lines;
 mod naming;
 mod numbers;
 mod parsing;
+mod pieces;
 mod reading;
 mod rules;
 mod stages;

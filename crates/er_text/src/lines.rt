@@ -1,13 +1,17 @@
 //! The lines of a text, one after another, in whatever pieces a reader gives its bytes.
-ghost use Rattle.std.specs.Prelude.{◌≡◌, ◌+◌, ◌<◌, ◌≤◌, ◌^◌, length, take, OnOk, IfOk, IfSome, IsErrOf, if◌then◌else◌, ℕ, List, Option, false};
-ghost use Rattle.er_device.specs.Device.{inner_of, has_failed, taken_of};
+ghost use Rattle.std.specs.Prelude.{◌≡◌, ◌+◌, ◌++◌, ◌<◌, ◌≤◌, ◌^◌, length, take, OnOk, IfOk, IfSome, IsErrOf, if◌then◌else◌, ℕ, List, Option, false};
+ghost use Rattle.std.specs.Io.KnownBytes.{Keeps, prepend_known};
+ghost use Rattle.er_device.specs.Device.{inner_of, has_failed, taken_of, Failing};
 ghost use Rattle.er_text.specs.Lines.{bytes_past_limit};
+ghost use Rattle.er_text.specs.Pieces.{AreWhole};
 ghost use Rattle.er_text.specs.Trace.{HasFailedBy};
-ghost use Rattle.er_text.specs.Inner.Lending.{taken_by, lines_left, front_width, past, IsInFront, IsWithin, Finds};
+ghost use Rattle.er_text.specs.Inner.Windows.{items};
+ghost use Rattle.er_text.specs.Inner.Lending.{taken_by, lines_left, front_width, past, past_lines, IsInFront, IsWithin, Finds};
 
+use crate::bytes::whole_len;
 use crate::faults::{ReadFault, TextKind, fault_at};
 use crate::windows::{LineEnd, Window};
-use er_device::Device;
+use er_device::{Device, Failed};
 use std::alloc::{AllocError, Global};
 use std::io::Read;
 use std::marker::Model;
@@ -50,18 +54,48 @@ impl LineReader {
         ensures ahead { IfOk result (λ r. length r.ahead ≡ 0) }
     {
         let window = Window::new(alloc)?;
-        Ok(LineReader {
+        Ok(LineReader::over(window, limit))
+    }
+
+    /// The same, with room for `size` bytes that are read ahead.
+    pub(crate) fn with_window(
+        alloc: Global,
+        limit: u64,
+        size: usize,
+    ) -> Result<LineReader, AllocError>
+        requires limit { limit ≤ 2 ^ 62 }
+        requires size { (65536 ≤ size) × (size ≤ 2 ^ 30) }
+        ensures limit { IfOk result (λ r. r.limit ≡ limit) }
+        ensures number { IfOk result (λ r. r.number ≡ 1) }
+        ensures start { IfOk result (λ r. r.start ≡ 0) }
+        ensures ahead { IfOk result (λ r. length r.ahead ≡ 0) }
+    {
+        let window = Window::with_size(alloc, size)?;
+        Ok(LineReader::over(window, limit))
+    }
+
+    /// A reader in front of a text, with a window that shows nothing.
+    fn over(window: Window, limit: u64) -> LineReader
+        requires limit { limit ≤ 2 ^ 62 }
+        requires nothing { length (items window) ≡ 0 }
+        ensures limit { result.limit ≡ limit }
+        ensures number { result.number ≡ 1 }
+        ensures start { result.start ≡ 0 }
+        ensures ahead { length result.ahead ≡ 0 }
+    {
+        LineReader {
             window,
             limit,
             number: 1,
             start: 0,
-        })
+        }
     }
 
     /// The number of the next line, from 1.
     pub(crate) fn number(&self) -> u64
         ensures value { result ≡ self.now.number }
         ensures bound { result ≤ self.now.limit + 1 }
+        ensures most_limit { self.now.limit ≤ 2 ^ 62 }
         ensures within { self.now.start ≤ self.now.limit }
         ensures most { taken_by self.now ≤ self.now.limit + bytes_past_limit }
     {
@@ -73,6 +107,36 @@ impl LineReader {
         ensures { result ≡ ReadFault.Text (record { line = self.now.number; kind = kind }) }
     {
         fault_at(self.number, kind)
+    }
+
+    /// Reads on until the window is full, the limit is reached, or the text ends.
+    pub(crate) fn fill<R: Read>(&mut self, reader: &mut Device<R>) -> Result<(), Failed>
+        ensures same { OnOk result (Keeps (prepend_known self.old.ahead (R.remaining (inner_of reader.old)))
+            (prepend_known self.new.ahead (R.remaining (inner_of reader.new)))) }
+        ensures limit { self.new.limit ≡ self.old.limit }
+        ensures number { self.new.number ≡ self.old.number }
+        ensures start { self.new.start ≡ self.old.start }
+        ensures within { self.new.start ≤ self.new.limit }
+        ensures failed { Failing (has_failed reader.old) (has_failed reader.new) result }
+        ensures taken { taken_of reader.new + taken_by self.old ≤ taken_of reader.old + taken_by self.new }
+        ensures most { taken_by self.new ≤ self.new.limit + bytes_past_limit }
+    {
+        let most = (self.limit + 1025 - self.start) as usize;
+        self.window.fill_up(reader, most)
+    }
+
+    /// The whole lines that were read ahead, and none of them if they go past the limit.
+    pub(crate) fn ahead(&self) -> &[u8]
+        ensures front { (more : List ℕ) × (self.now.ahead ≡ result.now ++ more) }
+        ensures whole { AreWhole result.now }
+        ensures within { self.now.start + length result.now ≤ self.now.limit }
+    {
+        let bytes = self.window.as_slice();
+        let len = whole_len(bytes);
+        if self.start + len as u64 > self.limit {
+            return &bytes[..0];
+        }
+        &bytes[..len]
     }
 
     /// The line in front, if it doesn't go past the limit.
@@ -128,6 +192,18 @@ impl LineReader {
         let width = front.width();
         self.window.consume(width as usize);
         self.start += width;
+    }
+
+    /// Passes over so many whole lines in front, which take so many bytes.
+    pub(crate) fn pass_lines(&mut self, lines: u64, len: usize)
+        requires lines { lines ≤ len }
+        requires len { len ≤ length self.old.ahead }
+        requires within { self.old.start + len ≤ self.old.limit }
+        ensures { self.new ≡ past_lines self.old lines len }
+    {
+        self.number += lines;
+        self.window.consume(len);
+        self.start += len as u64;
     }
 }
 

@@ -1,5 +1,5 @@
 //! Traces, line by line, and batch by batch.
-ghost use Rattle.std.specs.Prelude.{◌≡◌, ◌+◌, ◌<◌, ◌≤◌, ◌^◌, length, OnOk, IfOk, IfSome, IfErr, IsErrOf, Ok, true, false, Option, ℕ, List, [], Some};
+ghost use Rattle.std.specs.Prelude.{◌≡◌, ◌+◌, ◌++◌, ◌<◌, ◌≤◌, ◌^◌, length, OnOk, IfOk, IfSome, IfErr, IsErrOf, IsTrue, Ok, true, false, Option, ℕ, List, [], Some};
 ghost use Rattle.er_device.specs.Device.{inner_of, has_failed, taken_of};
 ghost use Rattle.er_text.specs.Lines.{bytes_past_limit};
 ghost use Rattle.er_text.specs.Trace.{Tells, HasFailedBy};
@@ -7,6 +7,7 @@ ghost use Rattle.er_trace.specs.Trace.{Recording, no_steps};
 ghost use Rattle.er_event.specs.declared.steps.Step.{Step};
 ghost use Rattle.er_text.specs.Named.{Grows};
 ghost use Rattle.er_text.specs.Batches.{HasRead, GivesBatch};
+ghost use Rattle.er_text.specs.Pieces.{AreWhole, StaysAt};
 ghost use Rattle.er_text.specs.Ending.{KnowsEnd, IsEndingOf};
 ghost use Rattle.er_text.specs.Inner.Endings.{PassesCut, BatchesCut};
 ghost use Rattle.er_text.specs.Inner.Lending.{taken_by, lines_left};
@@ -24,6 +25,7 @@ use crate::faults::{ReadFault, TextKind, fault_at};
 use crate::lines::LineReader;
 use crate::parsing::{ParsedLine, Words, split_words};
 use crate::stages::{IdleThreads, Stage, is_known_thread};
+use crate::verbs::Version;
 use er_device::Device;
 use er_trace::{NameKeys, Trace};
 use std::alloc::{AllocError, Global};
@@ -32,12 +34,31 @@ use std::marker::Model;
 
 /// What the lines so far make known: the stage of the text, and the threads that are named but don't act yet.
 #[derive(Drop)]
-struct Header {
-    stage: Stage,
-    idle: IdleThreads,
+pub(crate) struct Header {
+    pub(crate) stage: Stage,
+    pub(crate) idle: IdleThreads,
 }
 
 impl Header {
+    /// Behind the header of a text of this version, before any event line.
+    pub(crate) fn behind(alloc: Global, version: Version) -> Header
+        ensures stage { result.stage ≡ Stage.Events version }
+        ensures idle { result.idle ≡ [] }
+    {
+        Header {
+            stage: Stage::Events(version),
+            idle: IdleThreads::new(alloc),
+        }
+    }
+
+    /// Whether event lines of this version may follow, and no thread is idle.
+    pub(crate) fn is_open(&self, version: Version) -> bool
+        ensures stage { IsTrue result → self.now.stage ≡ Stage.Events version }
+        ensures idle { IsTrue result → self.now.idle ≡ [] }
+    {
+        self.stage == Stage::Events(version) && self.idle.is_empty()
+    }
+
     /// Reads the words of the first line with content.
     fn open(&mut self, line: u64, words: &Words<'_>) -> Result<(), ReadFault>
         ensures read { (told : Recording) → Reads line (at_line (line + 1) self.new.stage self.new.idle told) result
@@ -126,7 +147,12 @@ impl Header {
 
     /// Reads a line in the limits. A line in its usual form is ASCII, and so the test is for the others alone.
     #[inline(always)]
-    fn read_plain(&mut self, trace: &mut Trace, line: u64, bytes: &[u8]) -> Result<(), ReadFault>
+    pub(crate) fn read_plain(
+        &mut self,
+        trace: &mut Trace,
+        line: u64,
+        bytes: &[u8],
+    ) -> Result<(), ReadFault>
         ensures read { Reads line (at_line (line + 1) self.new.stage self.new.idle trace.new) result (plain_at (at_line line self.old.stage self.old.idle trace.old) line bytes.now) }
         ensures failed { IsErrOf result ReadFault.Read → ⊥ }
     {
@@ -152,9 +178,9 @@ pub enum Batch {
 /// [`clear`](Trace::clear) the trace, which keeps the names, whose numbers later steps use.
 #[derive(Drop)]
 pub struct TraceReader {
-    lines: LineReader,
-    header: Header,
-    cut: bool,
+    pub(crate) lines: LineReader,
+    pub(crate) header: Header,
+    pub(crate) cut: bool,
 }
 
 impl Model for TraceReader {
@@ -178,14 +204,73 @@ impl TraceReader {
         ensures starts { IfOk result (λ r. (text : List ℕ) → HasRead text [] [] r (Some text) no_steps) }
     {
         let lines = LineReader::new(alloc, limit)?;
-        Ok(TraceReader {
+        Ok(TraceReader::over(alloc, lines))
+    }
+
+    /// The same, with room for `size` bytes that are read ahead: see [`fill`](TraceReader::fill).
+    pub fn with_window(alloc: Global, limit: u64, size: usize) -> Result<TraceReader, AllocError>
+        requires limit { limit ≤ 2 ^ 62 }
+        requires size { (65536 ≤ size) × (size ≤ 2 ^ 30) }
+        ensures limit { IfOk result (λ r. r.place.limit ≡ limit) }
+        ensures number { IfOk result (λ r. r.place.number ≡ 1) }
+        ensures start { IfOk result (λ r. r.place.start ≡ 0) }
+        ensures ahead { IfOk result (λ r. length r.place.ahead ≡ 0) }
+        ensures stage { IfOk result (λ r. r.stage ≡ Stage.Front) }
+        ensures cut { IfOk result (λ r. r.cut ≡ false) }
+        ensures starts { IfOk result (λ r. (text : List ℕ) → HasRead text [] [] r (Some text) no_steps) }
+    {
+        let lines = LineReader::with_window(alloc, limit, size)?;
+        Ok(TraceReader::over(alloc, lines))
+    }
+
+    /// A reader of a trace in front of these lines.
+    fn over(alloc: Global, lines: LineReader) -> TraceReader
+        requires number { lines.number ≡ 1 }
+        requires start { lines.start ≡ 0 }
+        requires ahead { length lines.ahead ≡ 0 }
+        ensures place { result.place ≡ lines }
+        ensures stage { result.stage ≡ Stage.Front }
+        ensures cut { result.cut ≡ false }
+        ensures starts { (text : List ℕ) → HasRead text [] [] result (Some text) no_steps }
+    {
+        TraceReader {
             lines,
             header: Header {
                 stage: Stage::Front,
                 idle: IdleThreads::new(alloc),
             },
             cut: false,
-        })
+        }
+    }
+
+    /// Reads on until the window is full, the limit is reached, or the text ends. It passes over no line: those that were read ahead are
+    /// the next ones.
+    pub fn fill<R: Read>(&mut self, reader: &mut Device<R>) -> Result<(), ReadFault>
+        requires { has_failed reader.old ≡ false }
+
+        // What was read of a text stays read, and what is left of it is left.
+        ensures told { (text : List ℕ) (steps : List Step) (lines : List ℕ) (trace : Recording)
+            → HasRead text steps lines self.old (R.remaining (inner_of reader.old)) trace
+            → OnOk result (HasRead text steps lines self.new (R.remaining (inner_of reader.new)) trace) }
+
+        ensures same { StaysAt self.old self.new }
+        ensures fault { IfErr result (λ why. why ≡ ReadFault.Read) }
+        ensures within { self.new.place.start ≤ self.new.place.limit }
+        ensures failed { HasFailedBy (has_failed reader.new) result }
+        ensures taken { taken_of reader.new + taken_by self.old.place ≤ taken_of reader.old + taken_by self.new.place }
+        ensures most { taken_by self.new.place ≤ self.new.place.limit + bytes_past_limit }
+    {
+        self.lines.fill(reader)?;
+        Ok(())
+    }
+
+    /// The whole lines that were read ahead, each with its LF, and none of them if they go past the limit.
+    pub fn ahead(&self) -> &[u8]
+        ensures front { (more : List ℕ) × (self.now.place.ahead ≡ result.now ++ more) }
+        ensures whole { AreWhole result.now }
+        ensures within { self.now.place.start + length result.now ≤ self.now.place.limit }
+    {
+        self.lines.ahead()
     }
 
     /// Reads the next line, and says whether there was one.

@@ -56,6 +56,13 @@ impl IdleThreads {
         }
     }
 
+    /// Whether there is none.
+    pub(crate) fn is_empty(&self) -> bool
+        ensures { IsTrue result → self.now ≡ [] }
+    {
+        self.flags.is_empty()
+    }
+
     fn contains(&self, thread: ThreadId) -> bool
         ensures { result ≡ is_idle self.now thread }
     {

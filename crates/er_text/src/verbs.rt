@@ -4,7 +4,8 @@ ghost use Rattle.er_text.specs.Verbs.{has_levels, is_third, header_version, verb
 
 /// The version of a text, which its header tells.
 #[derive(Clone, Copy, Debug, PartialEq, Eq)]
-pub(crate) enum Version {
+pub enum Version {
+    /// The first, which has neither levels nor the order of threads.
     One,
     /// It has interrupt levels.
     Two,

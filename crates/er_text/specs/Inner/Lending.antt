@@ -33,6 +33,10 @@ front_line at front = record { number = at.number; start = at.start; line = reco
 abbrev pub past : Place → FrontLine → Place
 past at front = record at { number = at.number + 1; start = at.start + front_width front; ahead = drop (front_width front) at.ahead }
 
+-- past so many lines in front, which take so many bytes
+abbrev pub past_lines : Place → ℕ → ℕ → Place
+past_lines at lines len = record at { number = at.number + lines; start = at.start + len; ahead = drop len at.ahead }
+
 -- a line in front can be passed over
 pub record IsInFront (at : Place) (front : FrontLine) : Type 0 where
   pub len : front_width front ≤ length at.ahead

@@ -1,0 +1,157 @@
+-- A piece of the lines in front gives what a reading of these lines gives.
+use Rattle.std.proofs.Common.{◌≡◌, ℕ, ◌+◌, ◌^◌, ◌&&◌, nat_eq, ◌<◌, ◌≤◌, Bool, true, false, List, [], ◌∷◌, ◌++◌, append_assoc, length, take, drop, Option, Some, None, Ok, refl, subst, sym, ap, ◌∙◌, arith}
+use Rattle.std.proofs.lemmas.Bool.Decides.{nat_tests}
+use Rattle.std.proofs.lemmas.List.{take-append-drop, length-take-le, nil_from_length}
+use Rattle.std.proofs.lemmas.List.Elements.{All-nil}
+use Rattle.std.specs.List.{All}
+use Rattle.std.specs.Io.KnownBytes.{prepend_known}
+use Rattle.er_event.specs.declared.steps.Step.{Step}
+use Rattle.er_trace.specs.Appended.{appended}
+use Rattle.er_trace.specs.Trace.{Recording, IsNamed, no_steps}
+use Rattle.er_text.specs.declared.reading.Batch.TheVariants.{More}
+use Rattle.er_text.specs.declared.stages.Stage.{Stage}
+use Rattle.er_text.specs.declared.stages.Stage.TheVariants.{Events}
+use Rattle.er_text.specs.declared.verbs.Version.{Version}
+use Rattle.er_text.specs.Batches.{HasRead}
+use Rattle.er_text.specs.Ending.{is_cut_after}
+use Rattle.er_text.specs.Lines.{Line, Placed, lines_of, placed_from}
+use Rattle.er_text.specs.Pieces.{ReadPiece, IsPieceOf, StandsInFront, AreWhole}
+use Rattle.er_text.specs.Places.{Place, Reached}
+use Rattle.er_text.specs.Inner.Endings.{BatchesCut, KeepsCut}
+use Rattle.er_text.specs.Inner.Lending.{lines_from, lines_left, past_lines}
+use Rattle.er_text.specs.Inner.Pieces.{AreRead}
+use Rattle.er_text.specs.Inner.Reading.{read_lines}
+use Rattle.er_text.specs.Inner.Traces.{Progress, at_line, progress, read_content, Batches}
+use Rattle.er_text.proofs.AppendedLemmas.{nothing_appended}
+use Rattle.er_text.proofs.BatchLaws.{batch_gives}
+use Rattle.er_text.proofs.PieceLaws.{Named, lines_on, cut_on, same_cut, lines_below, few_lines}
+use Rattle.er_text.proofs.WholeLemmas.{lines_append, widths, widths_all}
+
+and_false : (b : Bool) → (b && false) ≡ false
+and_false true = refl
+and_false false = refl
+
+and_true : (b : Bool) → (b && true) ≡ b
+and_true true = refl
+and_true false = refl
+
+-- nothing has steps without names
+none_named : Named no_steps
+none_named = All-nil (IsNamed no_steps.names)
+
+-- the lines in front, and those behind them
+split_lines : (at : Place) (len : ℕ) (ys : List ℕ) → AreWhole (take len at.ahead) → lines_of (at.ahead ++ ys) ≡ lines_of (take len at.ahead) ++ lines_of (drop len at.ahead ++ ys)
+split_lines at len ys whole =
+    ap (λ (b : List ℕ). lines_of (b ++ ys)) (sym (take-append-drop len at.ahead))
+    ∙ ap lines_of (append_assoc (take len at.ahead) (drop len at.ahead) ys)
+    ∙ lines_append (take len at.ahead) (drop len at.ahead ++ ys) whole
+
+-- the bytes of the lines in front
+front_widths : (at : Place) (len : ℕ) → len ≤ length at.ahead → widths (lines_of (take len at.ahead)) ≡ len
+front_widths at len fits = widths_all (take len at.ahead) ∙ length-take-le len at.ahead fits
+
+-- what stands behind a reader once it has passed over a piece
+abbrev pub past_piece : Reached → ReadPiece → Bool → Reached
+past_piece old piece cut = record { place = past_lines old.place piece.lines piece.len; stage = old.stage; idle = old.idle; cut = cut }
+
+reads_front : (old : Reached) (piece : ReadPiece) (t : Recording) (front : StandsInFront old piece) → piece.whole ≡ true → (ys : List ℕ)
+    → read_lines old.place.limit read_content (placed_from old.place.number old.place.start (lines_of (old.place.ahead ++ ys))) (at_line old.place.number (Events front.version) [] t)
+    ≡ read_lines old.place.limit read_content (placed_from (old.place.number + piece.lines) (old.place.start + piece.len) (lines_of (drop piece.len old.place.ahead ++ ys)))
+    (at_line (old.place.number + piece.lines) (Events front.version) [] (appended old.place.number t piece.told))
+reads_front old piece t front whole ys =
+    let at = old.place in
+    let lines = lines_of (take piece.len at.ahead) in
+    let size = front_widths at piece.len front.fits in
+    let number : at.number ≡ at.number + 0 = omega arith in
+    let within : at.start + widths lines ≤ at.limit = let room = front.within in omega (arith, size, room) in
+    ap (λ (ls : List Line). read_lines at.limit read_content (placed_from at.number at.start ls) (at_line at.number (Events front.version) [] t)) (split_lines at piece.len ys front.lines)
+    ∙ ap (λ (u : Recording). read_lines at.limit read_content (placed_from at.number at.start (lines ++ lines_of (drop piece.len at.ahead ++ ys))) (at_line at.number (Events front.version) [] u))
+    (sym (nothing_appended at.number t))
+    ∙ lines_on front.version at.number at.limit 0 piece.lines at.number at.start t no_steps piece.told lines (lines_of (drop piece.len at.ahead ++ ys)) number none_named (front.read.1 whole) within
+    ∙ ap (λ (w : ℕ). read_lines at.limit read_content (placed_from (at.number + piece.lines) (at.start + w) (lines_of (drop piece.len at.ahead ++ ys)))
+    (at_line (at.number + piece.lines) (Events front.version) [] (appended at.number t piece.told))) size
+
+-- in the reader's own words
+abbrev told_at : Reached → ℕ → Recording → Stage → List Bool → Progress
+told_at old lines u stage idle = at_line (old.place.number + lines) stage idle u
+
+reads_known : (old : Reached) (piece : ReadPiece) (cut : Bool) (t : Recording) (front : StandsInFront old piece) → piece.whole ≡ true → (known : Option (List ℕ))
+    → Batches old.place.limit (lines_left old.place known) (lines_left (past_piece old piece cut).place known) (progress old t)
+    (progress (past_piece old piece cut) (appended old.place.number t piece.told)) (Ok More)
+reads_known old piece cut t front whole None = tt
+reads_known old piece cut t front whole (Some ys) =
+    let P : Stage → List Bool → Type 0 = λ stage idle.
+    read_lines old.place.limit read_content (placed_from old.place.number old.place.start (lines_of (old.place.ahead ++ ys))) (at_line old.place.number stage idle t)
+    ≡ read_lines old.place.limit read_content (placed_from (old.place.number + piece.lines) (old.place.start + piece.len) (lines_of (drop piece.len old.place.ahead ++ ys)))
+    (at_line (old.place.number + piece.lines) stage idle (appended old.place.number t piece.told)) in
+    subst (λ (idle : List Bool). P old.stage idle) (sym front.idle) (subst (λ (stage : Stage). P stage []) (sym front.stage) (reads_front old piece t front whole ys))
+
+-- whether the last line lacks its LF, behind so many bytes of whole lines
+abbrev pub cut_past : ℕ → Bool → Bool → Type 0
+cut_past len before cut = (0 < len → cut ≡ false) × (len ≡ 0 → cut ≡ before)
+
+-- no bytes, no lines
+lines_cut : (v : Version) (m k j start to len : ℕ) (t : Recording) (bytes : List ℕ) (lines more : List Line) (before cut : Bool) → lines_of bytes ≡ lines → length bytes ≡ len
+    → AreRead v lines 0 no_steps m t → cut_past len before cut
+    → is_cut_after before (placed_from k start (lines ++ more)) ≡ is_cut_after cut (placed_from j to more)
+lines_cut v m k j start to len t bytes [] more before cut is size are past =
+    let none : len ≡ 0 = sym size ∙ sym (widths_all bytes) ∙ ap widths is in
+    same_cut k j start to more before ∙ ap (λ (b : Bool). is_cut_after b (placed_from j to more)) (sym (past.1 none))
+lines_cut v m k j start to len t [] (line ∷ lines) more before cut is size are past = absurd (cc)
+lines_cut v m k j start to len t (b ∷ bytes) (line ∷ lines) more before cut is size are past =
+    let some : 0 < len = omega (arith, size) in
+    cut_on v 0 m k j start to no_steps t line lines more before are
+    ∙ ap (λ (c : Bool). is_cut_after c (placed_from j to more)) (sym (past.0 some))
+
+cuts_known : (old : Reached) (piece : ReadPiece) (cut : Bool) (front : StandsInFront old piece) → piece.whole ≡ true → cut_past piece.len old.cut cut → (known : Option (List ℕ))
+    → BatchesCut (lines_left old.place known) (lines_left (past_piece old piece cut).place known) old.cut cut (Ok More)
+cuts_known old piece cut front whole past None = tt
+cuts_known old piece cut front whole past (Some ys) =
+    let at = old.place in
+    ap (λ (ls : List Line). is_cut_after old.cut (placed_from at.number at.start ls)) (split_lines at piece.len ys front.lines)
+    ∙ lines_cut front.version piece.lines at.number (at.number + piece.lines) at.start (at.start + piece.len) piece.len piece.told (take piece.len at.ahead)
+    (lines_of (take piece.len at.ahead)) (lines_of (drop piece.len at.ahead ++ ys)) old.cut cut refl (length-take-le piece.len at.ahead front.fits) (front.read.1 whole) past
+
+-- what was read of the text goes on behind a piece
+pub piece_gives : (text : List ℕ) (steps : List Step) (lines : List ℕ) (old : Reached) (piece : ReadPiece) (cut : Bool) (known : Option (List ℕ)) (t : Recording)
+    → StandsInFront old piece → piece.whole ≡ true → cut_past piece.len old.cut cut → HasRead text steps lines old known t
+    → HasRead text steps lines (past_piece old piece cut) known (appended old.place.number t piece.told)
+piece_gives text steps lines old piece cut known t front whole past read =
+    batch_gives text steps lines old (past_piece old piece cut) known known t (appended old.place.number t piece.told) (Ok More) refl read
+    (reads_known old piece cut t front whole known) (cuts_known old piece cut front whole past known)
+
+-- a piece has no more lines than bytes
+pub piece_few : (old : Reached) (piece : ReadPiece) → StandsInFront old piece → piece.whole ≡ true → piece.lines ≤ piece.len
+piece_few old piece front whole =
+    let few = few_lines front.version 0 piece.lines no_steps piece.told (lines_of (take piece.len old.place.ahead)) (front.read.1 whole) in
+    let size = front_widths old.place piece.len front.fits in
+    omega (arith, few, size)
+
+-- and its lines have small numbers
+pub piece_small : (old : Reached) (piece : ReadPiece) → StandsInFront old piece → piece.whole ≡ true → All (λ line. line < piece.lines) piece.told.lines
+piece_small old piece front whole =
+    lines_below front.version 0 piece.lines no_steps piece.told (lines_of (take piece.len old.place.ahead)) (front.read.1 whole) (All-nil (λ line. line < 0))
+
+-- the same of what the code has, which keeps the mark of a line without its LF if there is no byte
+pub added_gives : (text : List ℕ) (steps : List Step) (lines : List ℕ) (old : Reached) (at : Place) (piece : ReadPiece) (before : ℕ) (cut : Bool) (known : Option (List ℕ)) (t u : Recording)
+    → StandsInFront old piece → piece.whole ≡ true → before ≡ old.place.number → u ≡ appended before t piece.told → at ≡ past_lines old.place piece.lines piece.len
+    → cut ≡ (old.cut && nat_eq piece.len 0) → HasRead text steps lines old known t
+    → HasRead text steps lines (record { place = at; stage = old.stage; idle = old.idle; cut = cut }) known u
+added_gives text steps lines old at piece before cut known t u front whole number told passed is read =
+    let past : cut_past piece.len old.cut cut = (
+      (λ some. is ∙ (let other : nat_eq piece.len 0 ≡ false = grind (arith, nat_tests, some) in rw other (and_false old.cut))),
+      (λ none. is ∙ (rw none (and_true old.cut))),
+    ) in
+    let same : u ≡ appended old.place.number t piece.told = told ∙ ap (λ (n : ℕ). appended n t piece.told) number in
+    subst (λ (r : Recording). HasRead text steps lines (record { place = at; stage = old.stage; idle = old.idle; cut = cut }) known r) (sym same)
+    (subst (λ (p : Place). HasRead text steps lines (record { place = p; stage = old.stage; idle = old.idle; cut = cut }) known (appended old.place.number t piece.told)) (sym passed)
+    (piece_gives text steps lines old piece cut known t front whole past read))
+
+-- the numbers of the piece's lines fit behind those of the text
+pub piece_fits : (old : Reached) (piece : ReadPiece) (before : ℕ) → StandsInFront old piece → piece.whole ≡ true → before ≤ old.place.limit + 1 → old.place.limit ≤ 2 ^ 62
+    → All (λ line. before + line < 2 ^ 64) piece.told.lines
+piece_fits old piece before front whole number limit i d h =
+    let small = piece_small old piece front whole i d h in
+    let few = piece_few old piece front whole in
+    let within = front.within in
+    omega (arith, small, few, within, number, limit)

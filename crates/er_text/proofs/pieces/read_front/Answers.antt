@@ -1,0 +1,10 @@
+-- What the line in front says, alone.
+use Rattle.std.proofs.Common.{◌≤◌, ◌<◌, length, arith}
+use Rattle.er_text.proofs.PieceLemmas.{front_read}
+use Rattle.er_text.proofs.pieces.read_front.Goals as goal
+
+pub returns-clause-read : goal.returns-clause-read
+returns-clause-read c =
+    front_read c.args.version c.args.line c.args.bytes.now c.line_len-len.result _ c.read_plain.new.self.stage _ c.read_plain.new.self.idle c.args.trace.now c.read_plain.new.trace
+    c.line_len-len.ensures (omega (arith, c.if-len-bytes.false)) (omega (arith, c.if-len-gt-LINE.false)) c.requires.«open».0 c.requires.«open».1
+    (c.is_open.ensures.stage c.if-not-is_open.false) (c.is_open.ensures.idle c.if-not-is_open.false) c.in-Ok.ensures.read

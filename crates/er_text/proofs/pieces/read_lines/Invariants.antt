@@ -1,0 +1,19 @@
+-- What the lines behind say from here on, all of them say from the first on.
+use Rattle.std.proofs.Common.{◌≡◌, ℕ, ◌-◌, ◌≤◌, [], length, drop}
+use Rattle.er_trace.specs.Trace.{Recording}
+use Rattle.er_text.specs.declared.stages.Stage.TheVariants.{Events}
+use Rattle.er_text.specs.Inner.Pieces.{AreRead}
+use Rattle.er_text.specs.Lines.{lines_of}
+use Rattle.er_text.proofs.pieces.read_lines.Given as goal
+
+abbrev pub invariant-loop-at : goal.invariant-loop-at
+invariant-loop-at l = record {
+  stage : l.header.stage ≡ Events l.version;
+  idle : l.header.idle ≡ [];
+  within : l.at ≤ length l.bytes;
+  few : l.line ≤ l.at;
+  goes_on : (m : ℕ) (t : Recording) → AreRead l.version (lines_of (drop l.at l.bytes)) l.line l.trace m t → AreRead l.version (lines_of l.bytes) 0 l.fn.trace m t;
+}
+
+abbrev pub decreases-loop-at : goal.decreases-loop-at
+decreases-loop-at l = length l.bytes - l.at
