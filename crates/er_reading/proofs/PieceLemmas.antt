@@ -1,0 +1,66 @@
+-- Pieces behind others.
+use Rattle.std.proofs.Common.{◌≡◌, ℕ, ◌+◌, List, [], ◌∷◌, ◌++◌, length, take, drop, sym, ap, ◌∙◌, subst, arith}
+use Rattle.std.proofs.lemmas.List.{take-append-le, drop-append-le, take_all, drop_all, length-append, length-drop}
+use Rattle.std.specs.Prelude.{Result, Ok, Err, OnOk}
+use Rattle.er_trace.specs.Trace.{Recording}
+use Rattle.er_text.specs.Named.{Grows}
+use Rattle.er_text.proofs.GrowthLemmas.{grows_on}
+use Rattle.er_text.specs.declared.verbs.Version.{Version}
+use Rattle.er_text.specs.Pieces.{AreWhole, ReadPiece, IsPieceOf, StandsInFront}
+use Rattle.er_text.specs.Places.{Reached}
+use Rattle.er_reading.specs.Inner.Adding.{StandInFront}
+use Rattle.er_reading.specs.Pieces.{ArePiecesOf}
+
+-- one piece of all bytes
+pub one_piece : (v : Version) (bytes : List ℕ) (p : ReadPiece) → AreWhole bytes → IsPieceOf v bytes p → ArePiecesOf v bytes (p ∷ [])
+one_piece v bytes p whole read =
+    let all : take p.len bytes ≡ bytes = take_all p.len bytes (omega (arith, read.0)) in (
+      omega (arith, read.0),
+      subst AreWhole (sym all) whole,
+      subst (λ (b : List ℕ). IsPieceOf v b p) (sym all) read,
+      drop_all p.len bytes (omega (arith, read.0)),
+    )
+
+pub pieces_append : (v : Version) (a b : List ℕ) (ps qs : List ReadPiece) → ArePiecesOf v a ps → ArePiecesOf v b qs → ArePiecesOf v (a ++ b) (ps ++ qs)
+pieces_append v a b [] qs first second = subst (λ (c : List ℕ). ArePiecesOf v (c ++ b) qs) (sym first) second
+pieces_append v a b (p ∷ ps) qs first second =
+    let front : take p.len (a ++ b) ≡ take p.len a = take-append-le p.len a b first.0 in
+    let back : drop p.len (a ++ b) ≡ drop p.len a ++ b = drop-append-le p.len a b first.0 in (
+      omega (arith, first.0, length-append a b),
+      subst AreWhole (sym front) first.1,
+      subst (λ (c : List ℕ). IsPieceOf v c p) (sym front) first.2,
+      subst (λ (c : List ℕ). ArePiecesOf v c (ps ++ qs)) (sym back) (pieces_append v (drop p.len a) b ps qs first.3 second),
+    )
+
+-- the first of the pieces in front of a reader
+pub first_in_front : (reader : Reached) (p : ReadPiece) (ps : List ReadPiece) → StandInFront reader (p ∷ ps) → StandsInFront reader p
+first_in_front reader p ps all =
+    let front : take p.len reader.place.ahead ≡ take p.len all.front = ap (take p.len) all.ahead ∙ take-append-le p.len all.front all.more all.read.0 in
+    record {
+      version = all.version;
+      stage = all.stage;
+      idle = all.idle;
+      fits = omega (arith, all.read.0, ap length all.ahead, length-append all.front all.more);
+      lines = subst AreWhole (sym front) all.read.1;
+      within = omega (arith, all.within, all.read.0);
+      read = subst (λ (b : List ℕ). IsPieceOf all.version b p) (sym front) all.read.2;
+    }
+
+-- past the first of them
+pub others_in_front : (old new : Reached) (p : ReadPiece) (ps : List ReadPiece) → StandInFront old (p ∷ ps) → new.stage ≡ old.stage → new.idle ≡ old.idle
+    → new.place.start ≡ old.place.start + p.len → new.place.limit ≡ old.place.limit → new.place.ahead ≡ drop p.len old.place.ahead → StandInFront new ps
+others_in_front old new p ps all stage idle start limit ahead = record {
+  version = all.version;
+  stage = stage ∙ all.stage;
+  idle = idle ∙ all.idle;
+  front = drop p.len all.front;
+  more = all.more;
+  ahead = ahead ∙ ap (drop p.len) all.ahead ∙ drop-append-le p.len all.front all.more all.read.0;
+  within = omega (arith, all.within, all.read.0, start, limit, length-drop p.len all.front);
+  read = all.read.3;
+}
+
+-- what grew goes on to grow, unless a call failed
+pub grows_if : {X E : Type 0} (a b c : Recording) (result : Result X E) → Grows a b → OnOk result (Grows b c) → OnOk result (Grows a c)
+grows_if a b c (Ok x) first second = grows_on a b c first second
+grows_if a b c (Err e) first second = tt

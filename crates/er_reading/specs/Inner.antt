@@ -1,0 +1,2 @@
+-- What the parts of the code keep true of one another. No public clause cites it.
+pub mod Adding

@@ -1,0 +1,55 @@
+//! Lines cut into pieces, and each piece read in a thread of its own.
+ghost use Rattle.std.specs.Prelude.{◌≡◌, ◌+◌, ◌<◌, ◌≤◌, length, take, drop};
+ghost use Rattle.std.specs.Thread.{IsSync};
+ghost use Rattle.er_reading.specs.Pieces.{ArePiecesOf};
+ghost use Rattle.er_text.specs.Pieces.{AreWhole};
+
+use er_text::{Piece, Version};
+use memchr::memchr;
+use std::thread::{Threads, join_mut};
+
+/// How many bytes the first lines have that are no fewer than so many.
+fn front_len(bytes: &[u8], least: usize) -> usize
+    requires within { least ≤ length bytes.now }
+    requires whole { AreWhole bytes.now }
+    ensures bound { (least ≤ result) × (result ≤ length bytes.now) }
+    ensures front { AreWhole (take result bytes.now) }
+    ensures back { AreWhole (drop result bytes.now) }
+{
+    match memchr(b'\n', &bytes[least..]) {
+        Some(at) => least + at + 1,
+        None => bytes.len(),
+    }
+}
+
+/// Reads whole lines into so many pieces of about the same size, each in a thread of its own if one can be started.
+pub(crate) fn read_pieces<R: Threads + Sync>(
+    rt: &R,
+    version: Version,
+    bytes: &[u8],
+    pieces: &mut [Piece],
+)
+    requires some { (1 ≤ length pieces.old) × (length pieces.old ≤ 16) }
+    requires whole { AreWhole bytes.now }
+    ensures { ArePiecesOf version bytes.now pieces.new }
+{
+    let count = pieces.len();
+    if count == 1 {
+        pieces[0].read(version, bytes);
+        return;
+    }
+    let half = count / 2;
+    let (front, back) = bytes.split_at(front_len(bytes, bytes.len() / count * half));
+    let (first, second) = pieces.split_at_mut(half);
+    join_mut(
+        rt,
+        &mut ||
+            requires { IsSync R.row × (1 ≤ length first.now) × (length first.now ≤ 16) × AreWhole front.now }
+            ensures { ArePiecesOf version front.entry.now first.exit.now }
+        { read_pieces(rt, version, front, first) },
+        &mut ||
+            requires { IsSync R.row × (1 ≤ length second.now) × (length second.now ≤ 16) × AreWhole back.now }
+            ensures { ArePiecesOf version back.entry.now second.exit.now }
+        { read_pieces(rt, version, back, second) },
+    );
+}

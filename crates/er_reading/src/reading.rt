@@ -1,0 +1,163 @@
+//! A reader of a trace by several threads, batch by batch.
+ghost use Rattle.std.specs.Prelude.{◌≡◌, ◌+◌, ◌<◌, ◌≤◌, ◌^◌, ℕ, List, [], Option, Some, OnOk, IfOk, length, false};
+ghost use Rattle.er_device.specs.Device.{inner_of, has_failed, taken_of};
+ghost use Rattle.er_event.specs.declared.steps.Step.{Step};
+ghost use Rattle.er_text.specs.Batches.{HasRead, GivesBatch};
+ghost use Rattle.er_text.specs.Ending.{KnowsEnd, IsEndingOf};
+ghost use Rattle.er_text.specs.Inner.Lending.{taken_by};
+ghost use Rattle.er_text.specs.Lines.{bytes_past_limit};
+ghost use Rattle.er_text.specs.Named.{Grows};
+ghost use Rattle.er_text.specs.Trace.{HasFailedBy};
+ghost use Rattle.er_trace.specs.Trace.{no_steps};
+
+use crate::adding::add_pieces;
+use crate::cutting::read_pieces;
+use er_device::Device;
+use er_text::{Batch, Ending, Piece, ReadFault, TraceReader};
+use er_trace::{NameKeys, Trace};
+use std::alloc::{AllocError, Global};
+use std::io::Read;
+use std::marker::Model;
+use std::thread::Threads;
+
+/// How many bytes are read ahead, to be cut into pieces.
+const WINDOW_BYTES: usize = 4_194_304;
+
+/// The least bytes of a piece: fewer aren't worth a thread.
+const PIECE_BYTES: usize = 65_536;
+
+/// How many lines are read before those that are cut into pieces. The header is mostly among them.
+const FIRST_LINES: u32 = 64;
+
+/// How many lines a batch has if they can't be read in pieces.
+const BATCH_LINES: u32 = 131_072;
+
+/// A reader of a trace text that gives its steps batch by batch, and reads each batch by several threads.
+///
+/// It does what a [`TraceReader`] does: each call of [`next_batch`](PieceReader::next_batch) takes the same device and the same trace, and
+/// between two calls the caller may [`clear`](Trace::clear) the trace.
+#[derive(Drop)]
+pub struct PieceReader {
+    lines: TraceReader,
+    pieces: Vec<Piece>,
+}
+
+impl Model for PieceReader {
+    ghost use Rattle.std.specs.Prelude.{◌≤◌, length};
+    ghost use Rattle.er_text.specs.Places.{Reached};
+
+    ghost Value = { Reached };
+
+    ghost view = { λ r. r.lines };
+
+    ghost invariant = { λ r. (1 ≤ length r.pieces.items) × (length r.pieces.items ≤ 16) };
+}
+
+impl PieceReader {
+    /// A reader in front of a text of at most `limit` bytes, which reads by so many threads, 1 to 16. Names are hashed by these keys.
+    pub fn new(
+        alloc: Global,
+        limit: u64,
+        keys: NameKeys,
+        workers: u32,
+    ) -> Result<PieceReader, AllocError>
+        requires limit { limit ≤ 2 ^ 62 }
+        requires workers { (1 ≤ workers) × (workers ≤ 16) }
+        ensures limit { IfOk result (λ r. r.place.limit ≡ limit) }
+        ensures number { IfOk result (λ r. r.place.number ≡ 1) }
+        ensures start { IfOk result (λ r. r.place.start ≡ 0) }
+        ensures ahead { IfOk result (λ r. length r.place.ahead ≡ 0) }
+        ensures cut { IfOk result (λ r. r.cut ≡ false) }
+        ensures starts { IfOk result (λ r. (text : List ℕ) → HasRead text [] [] r (Some text) no_steps) }
+    {
+        let lines = TraceReader::with_window(alloc, limit, WINDOW_BYTES)?;
+        let mut pieces = Vec::with_capacity(alloc, workers as usize)?;
+        for _ in 0..workers {
+            pieces.push_reserved(Piece::new(alloc, keys));
+        }
+        Ok(PieceReader { lines, pieces })
+    }
+
+    /// Reads the whole lines that were read ahead by several threads, and adds what they say. Says whether it came to their end: it doesn't
+    /// if they are too few to be worth it, or some of them can't be read apart.
+    fn add_ahead<R: Threads + Sync>(
+        &mut self,
+        rt: &R,
+        trace: &mut Trace,
+    ) -> Result<bool, AllocError>
+        requires within { self.old.place.start ≤ self.old.place.limit }
+        requires most { taken_by self.old.place ≤ self.old.place.limit + bytes_past_limit }
+        ensures told { (text : List ℕ) (steps : List Step) (lines : List ℕ) (known : Option (List ℕ))
+            → HasRead text steps lines self.old known trace.old
+            → OnOk result (HasRead text steps lines self.new known trace.new) }
+        ensures grows { OnOk result (Grows trace.old trace.new) }
+        ensures limit { self.new.place.limit ≡ self.old.place.limit }
+        ensures start { OnOk result (self.old.place.start ≤ self.new.place.start) }
+        ensures within { self.new.place.start ≤ self.new.place.limit }
+        ensures taken { taken_by self.new.place ≡ taken_by self.old.place }
+        ensures most { taken_by self.new.place ≤ self.new.place.limit + bytes_past_limit }
+    {
+        let Some(version) = self.lines.version() else {
+            return Ok(false);
+        };
+        let bytes = self.lines.ahead();
+        if bytes.len() / PIECE_BYTES < self.pieces.len() {
+            return Ok(false);
+        }
+        read_pieces(rt, version, bytes, self.pieces.as_mut_slice());
+        add_pieces(&mut self.lines, trace, self.pieces.as_slice())
+    }
+
+    /// Reads some of the next lines, or those up to the end of the text, and adds their steps to the trace.
+    ///
+    /// A text that ends without a header has a fault at its end. After a fault the reader is not to be called again: nothing is known
+    /// of what it would read.
+    pub fn next_batch<R: Threads + Sync, D: Read>(
+        &mut self,
+        rt: &R,
+        reader: &mut Device<D>,
+        trace: &mut Trace,
+    ) -> Result<Batch, ReadFault>
+        requires { has_failed reader.old ≡ false }
+
+        // Of a text that was read so far it gives more steps, or the whole trace at the end, or the first fault of the text.
+        ensures told { (text : List ℕ) (steps : List Step) (lines : List ℕ)
+            → HasRead text steps lines self.old (D.remaining (inner_of reader.old)) trace.old
+            → GivesBatch text steps lines self.new (D.remaining (inner_of reader.new)) trace.new result }
+
+        // At the end of the text it knows how the text ends.
+        ensures ends { (text : List ℕ) (steps : List Step) (lines : List ℕ)
+            → HasRead text steps lines self.old (D.remaining (inner_of reader.old)) trace.old
+            → IfOk result (λ batch. batch ≡ Batch.End → KnowsEnd text self.new) }
+
+        // The steps that the trace had stay in front, and names keep their numbers.
+        ensures grows { OnOk result (Grows trace.old trace.new) }
+
+        ensures limit { self.new.place.limit ≡ self.old.place.limit }
+
+        // A batch that isn't the last has passed over some bytes, within the limit.
+        ensures more { IfOk result (λ batch. batch ≡ Batch.More → self.old.place.start < self.new.place.start) }
+        ensures within { self.new.place.start ≤ self.new.place.limit }
+
+        ensures failed { HasFailedBy (has_failed reader.new) result }
+        ensures taken { taken_of reader.new + taken_by self.old.place ≤ taken_of reader.old + taken_by self.new.place }
+        ensures most { taken_by self.new.place ≤ self.new.place.limit + bytes_past_limit }
+    {
+        match self.lines.next_batch(reader, trace, FIRST_LINES)? {
+            Batch::End => return Ok(Batch::End),
+            Batch::More => {}
+        }
+        self.lines.fill(reader)?;
+        if self.add_ahead(rt, trace)? {
+            return Ok(Batch::More);
+        }
+        self.lines.next_batch(reader, trace, BATCH_LINES)
+    }
+
+    /// How the text ended, once a batch was the last.
+    pub fn ending(&self) -> Ending
+        ensures { (text : List ℕ) → KnowsEnd text self.now → IsEndingOf text result }
+    {
+        self.lines.ending()
+    }
+}
