@@ -1,10 +1,9 @@
 -- A piece of the lines in front gives what a reading of these lines gives.
 use Rattle.std.proofs.Common.{◌≡◌, ℕ, ◌+◌, ◌^◌, ◌&&◌, nat_eq, ◌<◌, ◌≤◌, Bool, true, false, List, [], ◌∷◌, ◌++◌, append_assoc, length, take, drop, Option, Some, None, Ok, refl, subst, sym, ap, ◌∙◌, arith}
 use Rattle.std.proofs.lemmas.Bool.Decides.{nat_tests}
-use Rattle.std.proofs.lemmas.List.{take-append-drop, length-take-le, nil_from_length}
+use Rattle.std.proofs.lemmas.List.{take-append-drop, length-take-le}
 use Rattle.std.proofs.lemmas.List.Elements.{All-nil}
 use Rattle.std.specs.List.{All}
-use Rattle.std.specs.Io.KnownBytes.{prepend_known}
 use Rattle.er_event.specs.declared.steps.Step.{Step}
 use Rattle.er_trace.specs.Appended.{appended}
 use Rattle.er_trace.specs.Trace.{Recording, IsNamed, no_steps}
@@ -14,11 +13,11 @@ use Rattle.er_text.specs.declared.stages.Stage.TheVariants.{Events}
 use Rattle.er_text.specs.declared.verbs.Version.{Version}
 use Rattle.er_text.specs.Batches.{HasRead}
 use Rattle.er_text.specs.Ending.{is_cut_after}
-use Rattle.er_text.specs.Lines.{Line, Placed, lines_of, placed_from}
-use Rattle.er_text.specs.Pieces.{ReadPiece, IsPieceOf, StandsInFront, AreWhole}
+use Rattle.er_text.specs.Lines.{Line, lines_of, placed_from}
+use Rattle.er_text.specs.Pieces.{ReadPiece, StandsInFront, AreWhole}
 use Rattle.er_text.specs.Places.{Place, Reached}
-use Rattle.er_text.specs.Inner.Endings.{BatchesCut, KeepsCut}
-use Rattle.er_text.specs.Inner.Lending.{lines_from, lines_left, past_lines}
+use Rattle.er_text.specs.Inner.Endings.{BatchesCut}
+use Rattle.er_text.specs.Inner.Lending.{lines_left, past_lines}
 use Rattle.er_text.specs.Inner.Pieces.{AreRead}
 use Rattle.er_text.specs.Inner.Reading.{read_lines}
 use Rattle.er_text.specs.Inner.Traces.{Progress, at_line, progress, read_content, Batches}

@@ -1,5 +1,5 @@
 -- Lines that are read apart from those before them say the same behind these.
-use Rattle.std.proofs.Common.{◌≡◌, ℕ, ◌+◌, ◌-◌, ◌<◌, ◌≤◌, Bool, true, List, [], ◌∷◌, ◌++◌, append-nil, length, take, drop, Ok, refl, sym, ap, ◌∙◌, subst, arith, length-take-le}
+use Rattle.std.proofs.Common.{◌≡◌, ℕ, ◌+◌, ◌-◌, ◌<◌, ◌≤◌, Bool, true, List, [], ◌∷◌, append-nil, length, take, drop, Ok, refl, sym, ap, ◌∙◌, subst, arith, length-take-le}
 use Rattle.std.specs.List.{position_or_len}
 use Rattle.std.proofs.lemmas.List.{take_all, drop_all, drop-drop, length-drop}
 use Rattle.er_trace.specs.Trace.{Recording}

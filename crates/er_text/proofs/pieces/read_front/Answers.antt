@@ -1,5 +1,5 @@
 -- What the line in front says, alone.
-use Rattle.std.proofs.Common.{◌≤◌, ◌<◌, length, arith}
+use Rattle.std.proofs.Common.{arith}
 use Rattle.er_text.proofs.PieceLemmas.{front_read}
 use Rattle.er_text.proofs.pieces.read_front.Goals as goal
 

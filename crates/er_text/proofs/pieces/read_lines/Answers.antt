@@ -1,5 +1,5 @@
 -- The lines so far, one behind the other.
-use Rattle.std.proofs.Common.{◌≤◌, ◌+◌, length, arith, rules}
+use Rattle.std.proofs.Common.{arith, rules}
 use Rattle.std.proofs.lemmas.List.{length-drop}
 use Rattle.er_text.proofs.PieceLemmas.{rest_is, next_then, none_left}
 use Rattle.er_text.proofs.pieces.read_lines.Goals as goal

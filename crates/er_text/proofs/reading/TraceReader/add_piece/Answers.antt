@@ -1,5 +1,5 @@
 -- The piece comes behind what was read.
-use Rattle.std.proofs.Common.{◌≡◌, ℕ, ◌+◌, ◌≤◌, ◌^◌, List, Option, true, refl, subst, sym, ap, ◌∙◌, arith}
+use Rattle.std.proofs.Common.{◌≡◌, true, subst, sym}
 use Rattle.er_text.specs.Batches.{HasRead}
 use Rattle.er_text.specs.Pieces.{ReadPiece, StandsInFront}
 use Rattle.er_text.specs.Places.{Reached}
