@@ -1,6 +1,6 @@
 -- Pieces behind others.
 use Rattle.std.proofs.Common.{◌≡◌, ℕ, ◌+◌, List, [], ◌∷◌, ◌++◌, length, take, drop, sym, ap, ◌∙◌, subst, arith}
-use Rattle.std.proofs.lemmas.List.{take-append-le, drop-append-le, take_all, drop_all, length-append, length-drop}
+use Rattle.std.proofs.lemmas.List.{take-append-le, drop-append-le, length-append, length-drop}
 use Rattle.std.specs.Prelude.{Result, Ok, Err, OnOk}
 use Rattle.er_trace.specs.Trace.{Recording}
 use Rattle.er_text.specs.Named.{Grows}
@@ -10,16 +10,6 @@ use Rattle.er_text.specs.Pieces.{AreWhole, ReadPiece, IsPieceOf, StandsInFront}
 use Rattle.er_text.specs.Places.{Reached}
 use Rattle.er_reading.specs.Inner.Adding.{StandInFront}
 use Rattle.er_reading.specs.Pieces.{ArePiecesOf}
-
--- one piece of all bytes
-pub one_piece : (v : Version) (bytes : List ℕ) (p : ReadPiece) → AreWhole bytes → IsPieceOf v bytes p → ArePiecesOf v bytes (p ∷ [])
-one_piece v bytes p whole read =
-    let all : take p.len bytes ≡ bytes = take_all p.len bytes (omega (arith, read.0)) in (
-      omega (arith, read.0),
-      subst AreWhole (sym all) whole,
-      subst (λ (b : List ℕ). IsPieceOf v b p) (sym all) read,
-      drop_all p.len bytes (omega (arith, read.0)),
-    )
 
 pub pieces_append : (v : Version) (a b : List ℕ) (ps qs : List ReadPiece) → ArePiecesOf v a ps → ArePiecesOf v b qs → ArePiecesOf v (a ++ b) (ps ++ qs)
 pieces_append v a b [] qs first second = subst (λ (c : List ℕ). ArePiecesOf v (c ++ b) qs) (sym first) second

@@ -20,7 +20,7 @@ use Rattle.er_text.specs.Inner.Endings.{BatchesCut}
 use Rattle.er_text.specs.Inner.Lending.{lines_left, past_lines}
 use Rattle.er_text.specs.Inner.Pieces.{AreRead}
 use Rattle.er_text.specs.Inner.Reading.{read_lines}
-use Rattle.er_text.specs.Inner.Traces.{Progress, at_line, progress, read_content, Batches}
+use Rattle.er_text.specs.Inner.Traces.{at_line, progress, read_content, Batches}
 use Rattle.er_text.proofs.AppendedLemmas.{nothing_appended}
 use Rattle.er_text.proofs.BatchLaws.{batch_gives}
 use Rattle.er_text.proofs.PieceLaws.{Named, lines_on, cut_on, same_cut, lines_below, few_lines}
@@ -69,10 +69,6 @@ reads_front old piece t front whole ys =
     ∙ lines_on front.version at.number at.limit 0 piece.lines at.number at.start t no_steps piece.told lines (lines_of (drop piece.len at.ahead ++ ys)) number none_named (front.read.1 whole) within
     ∙ ap (λ (w : ℕ). read_lines at.limit read_content (placed_from (at.number + piece.lines) (at.start + w) (lines_of (drop piece.len at.ahead ++ ys)))
     (at_line (at.number + piece.lines) (Events front.version) [] (appended at.number t piece.told))) size
-
--- in the reader's own words
-abbrev told_at : Reached → ℕ → Recording → Stage → List Bool → Progress
-told_at old lines u stage idle = at_line (old.place.number + lines) stage idle u
 
 reads_known : (old : Reached) (piece : ReadPiece) (cut : Bool) (t : Recording) (front : StandsInFront old piece) → piece.whole ≡ true → (known : Option (List ℕ))
     → Batches old.place.limit (lines_left old.place known) (lines_left (past_piece old piece cut).place known) (progress old t)

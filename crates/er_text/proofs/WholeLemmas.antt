@@ -2,7 +2,7 @@
 use Rattle.std.proofs.Common.{◌≡◌, ℕ, ◌+◌, ◌<◌, Bool, true, false, ◌&&◌, List, [], ◌∷◌, ◌++◌, length, take, get_or, refl, sym, ap, ◌∙◌, subst, arith}
 use Rattle.std.specs.List.{list_all}
 use Rattle.std.proofs.lemmas.List.{take_more}
-use Rattle.er_text.specs.Lines.{Line, Placed, is_end, lines_of, onto_line, width, placed_from}
+use Rattle.er_text.specs.Lines.{Line, is_end, lines_of, onto_line, width}
 use Rattle.er_text.specs.Pieces.{AreWhole}
 
 abbrev all_ended : List Line → Bool
@@ -43,9 +43,6 @@ ended_append (line ∷ lines) more e = ended_step line.ended lines more (ended_a
 -- what follows whole lines has whole lines exactly where all of it has
 pub whole_rest : (a b : List ℕ) → AreWhole a → AreWhole (a ++ b) → AreWhole b
 whole_rest a b whole all = sym (ended_append (lines_of a) (lines_of b) whole) ∙ sym (ap all_ended (lines_append a b whole)) ∙ all
-
-pub whole_append : (a b : List ℕ) → AreWhole a → AreWhole b → AreWhole (a ++ b)
-whole_append a b whole rest = ap all_ended (lines_append a b whole) ∙ ended_append (lines_of a) (lines_of b) whole ∙ rest
 
 -- there are lines, and each has its LF
 abbrev some_ended : List Line → Bool
@@ -95,16 +92,3 @@ widths_step x a false e more = rw e (omega (arith, more, widths_onto x (lines_of
 pub widths_all : (a : List ℕ) → widths (lines_of a) ≡ length a
 widths_all [] = refl
 widths_all (x ∷ a) = widths_step x a (is_end x) refl (widths_all a)
-
-placed_same : (n m s t : ℕ) (lines : List Line) → n ≡ m → s ≡ t → placed_from n s lines ≡ placed_from m t lines
-placed_same n m s t lines e f = ap (λ k. placed_from k s lines) e ∙ ap (λ k. placed_from m k lines) f
-
--- lines behind others have the numbers and the places behind theirs
-pub placed_append : (number start : ℕ) (lines more : List Line)
-    → placed_from number start (lines ++ more) ≡ placed_from number start lines ++ placed_from (number + length lines) (start + widths lines) more
-placed_append number start [] more = placed_same number (number + 0) start (start + 0) more (omega arith) (omega arith)
-placed_append number start (line ∷ lines) more =
-    let behind = placed_same (number + 1 + length lines) (number + length (line ∷ lines)) (start + width line + widths lines) (start + widths (line ∷ lines)) more (omega arith) (omega arith) in
-    let first : Placed = record { number = number; start = start; line = line } in
-    ap (λ (ps : List Placed). first ∷ ps)
-    (placed_append (number + 1) (start + width line) lines more ∙ ap (λ (ps : List Placed). placed_from (number + 1) (start + width line) lines ++ ps) behind)
