@@ -30,8 +30,8 @@ const HINTS: u64 = 4096;
 pub struct WordBooks<A> {
     blocks: IndexMap<u64, Block<A>>,
     // Where the block of a number stood when it was accessed, by the lowest bits of the number. Another block may have the same bits, so whoever
-    // asks must check what it gets.
-    hints: Vec<usize>,
+    // asks must check what it gets. A block behind the first 2^32, which no memory holds, would be found by a hash.
+    hints: Vec<u32>,
     // Joinings that nobody needs, for words that are joined later. So a reuse of many words frees nothing and looks at no joining.
     spare: Vec<Joint<A>>,
     alloc: Global,
@@ -140,7 +140,7 @@ impl<A: Copy> WordBooks<A> {
 }
 
 // Makes room for all hints, unless it is there.
-fn make_room(alloc: Global, hints: &mut Vec<usize>) -> Result<(), AllocError> {
+fn make_room(alloc: Global, hints: &mut Vec<u32>) -> Result<(), AllocError> {
     if hints.is_empty() {
         *hints = vec![in alloc; 0; HINTS as usize]?;
     }
@@ -149,18 +149,18 @@ fn make_room(alloc: Global, hints: &mut Vec<usize>) -> Result<(), AllocError> {
 
 // Where the block of this number stands, as a rule.
 #[inline(always)]
-fn hint(hints: &[usize], number: u64) -> usize {
+fn hint(hints: &[u32], number: u64) -> usize {
     match hints.get((number % HINTS) as usize) {
-        Some(&index) => index,
+        Some(&index) => index as usize,
         None => 0,
     }
 }
 
 // Notes where the block of this number stands.
 #[inline(always)]
-fn note(hints: &mut [usize], number: u64, index: usize) {
+fn note(hints: &mut [u32], number: u64, index: usize) {
     if let Some(hint) = hints.get_mut((number % HINTS) as usize) {
-        *hint = index;
+        *hint = (index % (1 << 32)) as u32;
     }
 }
 
