@@ -13,8 +13,7 @@ use Rattle.er_event.specs.declared.addresses.PageRange.{PageRange}
 use Rattle.er_model.specs.Words.{is_within}
 use Rattle.er_explain.specs.Inner.Slots.{listed, slot_at, book_of, kept_books, AreApart}
 use Rattle.er_explain.specs.WordBooks.{Blocks, book_at_place, book_in_block, book_in, is_place_in}
-use Rattle.er_explain.specs.declared.book.Book.{Book}
-use Rattle.er_explain.specs.declared.book.Book.TheVariants.{Untouched}
+use Rattle.er_explain.specs.Book.{Book, Untouched}
 
 slice_get-within : (xs : List ℕ) (i : ℕ) → i < length xs → slice_get xs i ≡ Some (get_or xs i 0)
 slice_get-within [] i short = absurd (omega (arith, short))
@@ -28,6 +27,14 @@ number_at ks n i found =
     slice_get-within ks i at.0 ∙ ap Some (sym (eqb-true n (get_or ks i 0) at.1))
 
 module _ {V : Type 0} where
+  -- the number of an entry
+  pub key_at : (es : List (ℕ × V)) (i p : ℕ) (v : V) → Some (p, v) ≡ slice_get es i → slice_get (keys_of es) i ≡ Some p
+  key_at [] i p v entry = cc
+  key_at (e ∷ es) zero p v entry =
+      let number : p ≡ e.0 = cc in
+      λ k. Some (sym number k)
+  key_at (e ∷ es) (suc i) p v entry = key_at es i p v entry
+
   entry_at : (es : List (ℕ × V)) (i p : ℕ) (v : V) → slice_get (keys_of es) i ≡ Some p → slice_get (values_of es) i ≡ Some v → slice_get es i ≡ Some (p, v)
   entry_at [] i p v key value = absurd (none_is_some key)
     where

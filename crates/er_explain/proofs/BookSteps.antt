@@ -10,7 +10,7 @@ use Rattle.er_model.specs.Words.{Mark, Counted, Reused, Shown, Nothing, Reading,
 use Rattle.er_model.proofs.Search.{least_below-none}
 use Rattle.er_model.proofs.Words.{first-reused, first-step, first-kept, era-kept, era-below, join-below, counted-join-None}
 use Rattle.er_explain.specs.declared.book.Pair.{Pair}
-use Rattle.er_explain.specs.declared.book.Book.TheVariants.{Untouched, Joined}
+use Rattle.er_explain.specs.Book.{Untouched, Joined}
 use Rattle.er_explain.specs.Books.{or_this, pair_after, book_accessed, book_after, book_at}
 
 -- the searches from a joining go on by one position

@@ -15,8 +15,7 @@ use Rattle.er_explain.proofs.Explained.{listed-cover, race-explanation, explaine
 use Rattle.er_explain.specs.Books.{joining_at, book_by, book_at, joining_of}
 use Rattle.er_explain.specs.Explaining.{explanation_where, explanation_at}
 use Rattle.er_explain.specs.Joined.{Joining}
-use Rattle.er_explain.specs.declared.book.Book.{Book}
-use Rattle.er_explain.specs.declared.book.Book.TheVariants.{Joined}
+use Rattle.er_explain.specs.Book.{Book, Joined}
 use Rattle.er_explain.specs.declared.book.Pair.{Pair}
 
 -- a lock with what a search found for it

@@ -12,8 +12,7 @@ use Rattle.er_explain.specs.Books.{or_this, pair_after, book_accessed, book_afte
 use Rattle.er_explain.specs.Following.{AreHeldAt}
 use Rattle.er_explain.specs.Naming.{named_option, named_pair, named_book}
 use Rattle.er_explain.specs.declared.book.Pair.{Pair}
-use Rattle.er_explain.specs.declared.book.Book.{Book}
-use Rattle.er_explain.specs.declared.book.Book.TheVariants.{Untouched, Owned, Joined}
+use Rattle.er_explain.specs.Book.{Book, Untouched, Owned, Joined}
 use Rattle.er_explain.proofs.BookSteps.{book-step, book-start}
 use Rattle.er_explain.proofs.Passes.{mark-held}
 
@@ -42,7 +41,7 @@ module _ {A B : Type 0} (f : A → B) where
   named-accessed (Joined j) a t kind cover =
       λ i. Joined (record { first = f j.first; join = f j.join; write = named-or j.write (is_writing kind) a i; pairs = named-pairs a cover j.pairs i })
 
-  named-step : (b : Book A) (w : ℕ) (a : A) (m : Mark) → named_book f (book_after b w a m) ≡ book_after (named_book f b) w (f a) m
+  pub named-step : (b : Book A) (w : ℕ) (a : A) (m : Mark) → named_book f (book_after b w a m) ≡ book_after (named_book f b) w (f a) m
   named-step b w a (Counted t kind word cover) = by (word == w)
     where
       by : (same : Bool) → named_book f (cond same (book_accessed b a t kind cover) b) ≡ cond same (book_accessed (named_book f b) (f a) t kind cover) (named_book f b)

@@ -12,8 +12,7 @@ use Rattle.er_model.specs.Holdings.{Holdings, after_step, holdings_at}
 use Rattle.er_explain.proofs.BookSteps.{book-step, book-start}
 use Rattle.er_explain.specs.Books.{book_after, book_at}
 use Rattle.er_explain.specs.Following.{AreHeldAt, HasFollowed}
-use Rattle.er_explain.specs.declared.book.Book.{Book}
-use Rattle.er_explain.specs.declared.book.Book.TheVariants.{Untouched}
+use Rattle.er_explain.specs.Book.{Book, Untouched}
 
 pub held-start : (steps : List Step) (threads : List Holdings) → threads ≡ [] → AreHeldAt steps threads 0
 unfolding accepted

@@ -17,8 +17,7 @@ use Rattle.er_model.proofs.Search.{least_below-None, below_or_at}
 use Rattle.er_model.proofs.Words.{joined, state-Virgin, state-Exclusive, state-joined, state-reused}
 use Rattle.er_explain.proofs.BookSteps.{quiet-book, reused-book, counted-book}
 use Rattle.er_explain.specs.declared.book.Pair.{Pair}
-use Rattle.er_explain.specs.declared.book.Book.{Book}
-use Rattle.er_explain.specs.declared.book.Book.TheVariants.{Untouched, Owned, Joined}
+use Rattle.er_explain.specs.Book.{Book, Untouched, Owned, Joined}
 use Rattle.er_explain.specs.Books.{or_this, pair_after, book_accessed, book_at, joining_at}
 
 -- books by what was found

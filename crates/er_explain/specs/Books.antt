@@ -6,8 +6,7 @@ use Rattle.er_model.specs.Explanations.{Explanation, first_write, first_uncovere
 use Rattle.er_model.specs.Words.{Mark, Counted, Reused, Shown, Nothing, Reading, thread_of, is_writing, is_within, cover_of, first, join}
 use Rattle.er_explain.specs.declared.book.Pair.{Pair}
 use Rattle.er_explain.specs.Joined.{Joining}
-use Rattle.er_explain.specs.declared.book.Book.{Book}
-use Rattle.er_explain.specs.declared.book.Book.TheVariants.{Untouched, Owned, Joined}
+use Rattle.er_explain.specs.Book.{Book, Untouched, Owned, Joined}
 
 -- what was found, or else this one where it passes
 abbrev pub or_this : {A : Type 0} → Option A → Bool → A → Option A

@@ -4,7 +4,7 @@ use Rattle.er_event.specs.declared.steps.Step.{Step}
 use Rattle.er_held.specs.ThreadLocks.{held_by}
 use Rattle.er_model.specs.Answers.{reading_of}
 use Rattle.er_model.specs.Holdings.{Holdings, holdings_at}
-use Rattle.er_explain.specs.declared.book.Book.{Book}
+use Rattle.er_explain.specs.Book.{Book}
 use Rattle.er_explain.specs.Books.{book_at}
 
 -- what each thread holds after the first k steps

@@ -1,3 +1,4 @@
+pub mod Book
 pub mod Books
 pub mod Explaining
 pub mod Following

@@ -2,8 +2,7 @@
 use Rattle.std.specs.Prelude.{map, Option, Some, None}
 use Rattle.er_explain.specs.Joined.{Joining}
 use Rattle.er_explain.specs.declared.book.Pair.{Pair}
-use Rattle.er_explain.specs.declared.book.Book.{Book}
-use Rattle.er_explain.specs.declared.book.Book.TheVariants.{Untouched, Owned, Joined}
+use Rattle.er_explain.specs.Book.{Book, Untouched, Owned, Joined}
 
 -- what was found, by its other name
 abbrev pub named_option : {A B : Type 0} → (A → B) → Option A → Option B

@@ -2,8 +2,7 @@
 use Rattle.std.specs.Prelude.{ℕ, ◌/◌, ◌%◌, ◌&&◌, nat_eq, nat_le, Bool, List, slice_index_or, Option, Some, None}
 use Rattle.std.specs.Map.{lookup}
 use Rattle.er_explain.specs.Joined.{Joining}
-use Rattle.er_explain.specs.declared.book.Book.{Book}
-use Rattle.er_explain.specs.declared.book.Book.TheVariants.{Untouched, Owned, Joined}
+use Rattle.er_explain.specs.Book.{Book, Untouched, Owned, Joined}
 
 -- the blocks that are there, by number, with their books
 abbrev pub Blocks : Type 0 → Type 0

@@ -1,12 +1,13 @@
 //! `Block`, the books of words that lie side by side.
 ghost use Rattle.std.specs.Prelude.{◌≡◌, ◌<◌, ◌≤◌, ◌&&◌, ℕ, nat_eq, nat_le, nat_lt, cond, [], length, slice_set, slice_index_or, option_copied, OnOk};
+ghost use Rattle.er_explain.specs.Book.{Untouched, access_named};
 ghost use Rattle.er_explain.specs.Books.{book_accessed};
 ghost use Rattle.er_explain.specs.Inner.Slots.{book_of, slot_at, AreApart};
 ghost use Rattle.er_explain.specs.WordBooks.{book_at_place, joining_in};
 ghost use Rattle.er_held.specs.ThreadLocks.{held_by};
 ghost use Rattle.er_model.specs.Following.{locks_for};
 
-use crate::book::{Book, Joint};
+use crate::book::{Access, Book, Joint};
 use er_event::{Kind, ThreadId};
 use er_held::ThreadLocks;
 use std::alloc::{AllocError, Global};
@@ -28,9 +29,10 @@ pub(crate) struct Block<A> {
 
 impl<A> Model for Block<A> {
     ghost use Rattle.std.specs.Prelude.{List, length};
-    ghost use Rattle.er_explain.specs.declared.book.Book.{Book};
+    ghost use Rattle.er_explain.specs.Book.{Book as Kept};
+    ghost use Rattle.er_explain.specs.declared.book.Access.{Access};
 
-    ghost Value = { List (Book A) };
+    ghost Value = { List (Kept (Access A)) };
 
     ghost use Rattle.er_explain.specs.Inner.Slots.{kept_books, AreApart};
 
@@ -42,7 +44,7 @@ impl<A> Model for Block<A> {
 impl<A: Copy> Block<A> {
     /// No word was accessed yet.
     pub(crate) fn new(alloc: Global) -> Block<A>
-        ensures { (i : ℕ) → book_at_place result i ≡ Book.Untouched }
+        ensures { (i : ℕ) → book_at_place result i ≡ Untouched }
     {
         Block {
             books: Vec::new(alloc),
@@ -54,7 +56,7 @@ impl<A: Copy> Block<A> {
     pub(crate) fn access(
         &mut self,
         alloc: Global,
-        spare: &mut Vec<Joint<A>>,
+        spare: &mut Vec<Joint<Access<A>>>,
         locks: &ThreadLocks,
         place: usize,
         at: A,
@@ -62,7 +64,7 @@ impl<A: Copy> Block<A> {
         kind: Kind,
     ) -> Result<(), AllocError>
         requires { place < 128 }
-        ensures { OnOk result ((i : ℕ) → book_at_place self.new i ≡ cond (nat_eq place i) (book_accessed (book_at_place self.old place) at thread kind (locks_for (held_by locks.now thread) kind)) (book_at_place self.old i)) }
+        ensures { OnOk result ((i : ℕ) → book_at_place self.new i ≡ cond (nat_eq place i) (book_accessed (book_at_place self.old place) (access_named at thread kind) thread kind (locks_for (held_by locks.now thread) kind)) (book_at_place self.old i)) }
     {
         let number = number_at(&self.slots, place);
         let count = self.books.len();
@@ -73,15 +75,15 @@ impl<A: Copy> Block<A> {
         if count >= 128 {
             return Err(AllocError);
         }
-        self.books.push(Book::Owned(thread, at))?;
+        self.books.push(Book::begin(at, thread, kind))?;
         put(&mut self.slots, place, count as u8);
         Ok(())
     }
 
     /// Empties the books from `lo` to `hi`, both included. If these are all books, their joinings are spare.
-    pub(crate) fn empty(&mut self, spare: &mut Vec<Joint<A>>, lo: usize, hi: usize)
+    pub(crate) fn empty(&mut self, spare: &mut Vec<Joint<Access<A>>>, lo: usize, hi: usize)
         requires { hi < 128 }
-        ensures { (i : ℕ) → book_at_place self.new i ≡ cond (nat_le lo i && nat_le i hi) Book.Untouched (book_at_place self.old i) }
+        ensures { (i : ℕ) → book_at_place self.new i ≡ cond (nat_le lo i && nat_le i hi) Untouched (book_at_place self.old i) }
     {
         if lo == 0 && hi == 127 {
             let_go(&mut self.books, spare);
@@ -92,7 +94,7 @@ impl<A: Copy> Block<A> {
     }
 
     /// The joining of the word at a place, if a second thread has joined.
-    pub(crate) fn joining(&self, place: usize) -> Option<&Joint<A>>
+    pub(crate) fn joining(&self, place: usize) -> Option<&Joint<Access<A>>>
         requires { place < 128 }
         ensures { option_copied result ≡ joining_in (book_at_place self.now place) }
     {
@@ -101,21 +103,21 @@ impl<A: Copy> Block<A> {
 }
 
 // The joining that a book says.
-fn joining_at<A>(books: &[Book<A>], number: usize) -> Option<&Joint<A>>
+fn joining_at<A>(books: &[Book<A>], number: usize) -> Option<&Joint<Access<A>>>
     ensures { option_copied result ≡ joining_in (book_at_place books.now number) }
 {
     match books.get(number) {
-        Some(Book::Joined(joint)) => Some(joint),
-        _ => None,
+        Some(book) => book.joining(),
+        None => None,
     }
 }
 
 // Lets go of all books, and keeps their joinings for others. It doesn't look at what a joining says.
-fn let_go<A: Copy>(books: &mut Vec<Book<A>>, spare: &mut Vec<Joint<A>>)
+fn let_go<A: Copy>(books: &mut Vec<Book<A>>, spare: &mut Vec<Joint<Access<A>>>)
     ensures { books.new.items ≡ [] }
 {
     while let Some(book) = books.pop() {
-        if let Book::Joined(joint) = book {
+        if let Some(joint) = book.into_joining() {
             // Without memory for it, it is dropped.
             let _ = spare.push(joint);
         }
@@ -152,7 +154,7 @@ fn empty_books<A: Copy>(books: &mut Vec<Book<A>>, slots: &[u8; 128], start: usiz
     requires within { end ≤ 128 }
     requires apart { AreApart slots.now (length books.old.items) }
     ensures length { length books.new.items ≡ length books.old.items }
-    ensures books { (i : ℕ) → book_of slots.now books.new.items i ≡ cond (nat_le start i && nat_lt i end) Book.Untouched (book_of slots.now books.old.items i) }
+    ensures books { (i : ℕ) → book_of slots.now books.new.items i ≡ cond (nat_le start i && nat_lt i end) Untouched (book_of slots.now books.old.items i) }
 {
     for place in start..end {
         empty_book(books, number_at(slots, place));
@@ -162,10 +164,10 @@ fn empty_books<A: Copy>(books: &mut Vec<Book<A>>, slots: &[u8; 128], start: usiz
 // Empties the book of this number, if there is one.
 fn empty_book<A: Copy>(books: &mut Vec<Book<A>>, number: usize)
     ensures length { length books.new.items ≡ length books.old.items }
-    ensures book { (n : ℕ) → slice_index_or books.new.items n Book.Untouched ≡ cond (nat_eq number n) Book.Untouched (slice_index_or books.old.items n Book.Untouched) }
+    ensures book { (n : ℕ) → slice_index_or books.new.items n Untouched ≡ cond (nat_eq number n) Untouched (slice_index_or books.old.items n Untouched) }
 {
     if number < books.len() {
-        set(books, number, Book::Untouched);
+        set(books, number, Book::new());
     }
 }
 

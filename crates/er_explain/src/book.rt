@@ -1,6 +1,9 @@
 //! `Book`, what one pass over a list of steps keeps of a word.
-ghost use Rattle.std.specs.Prelude.{◌≡◌, ◌<◌, ◌≤◌, ◌↔◌, ℕ, length, map, IfOk, OnOk, None, Some};
+ghost use Rattle.std.specs.Prelude.{◌≡◌, ◌<◌, ◌≤◌, ◌↔◌, ℕ, length, map, IfOk, OnOk, None, Some, option_copied};
+ghost use Rattle.er_explain.specs.Book.{Joined, Owned, Untouched, access_named, access_of, name_of};
 ghost use Rattle.er_explain.specs.Books.{begun, gone_on, pair_after, book_accessed, book_after, joining_of};
+ghost use Rattle.er_explain.specs.Naming.{named_book, named_joining};
+ghost use Rattle.er_explain.specs.WordBooks.{joining_in};
 ghost use Rattle.er_held.specs.ThreadLocks.{held_by};
 ghost use Rattle.er_model.specs.Explanations.{Explanation as Explained};
 ghost use Rattle.er_model.specs.Following.{locks_for, marked};
@@ -10,6 +13,17 @@ use er_event::{Event, Kind, LockId, Lockset, Step, ThreadId, Word};
 use er_held::ThreadLocks;
 use std::alloc::{AllocError, Global};
 use std::marker::Model;
+
+/// A counted access, as a book names it.
+#[derive(Clone, Copy)]
+pub struct Access<A> {
+    /// What its caller names it: its place in a list, or its line.
+    pub at: A,
+    /// The thread.
+    pub thread: ThreadId,
+    /// Whether it is a read or a write.
+    pub kind: Kind,
+}
 
 /// A lock of the joining, and the first later access that it doesn't cover, if there is one.
 #[derive(Clone, Copy)]
@@ -45,16 +59,33 @@ impl<A> Model for Joint<A> {
     ghost view = { λ j. record { first = j.parts.value.first; join = j.parts.value.join; write = j.parts.value.write; pairs = j.parts.value.pairs.items } };
 }
 
+// What is kept of a word since it was last reused. The kind stands before the thread, and both before the name: so they fill the space beside
+// the tag.
+#[derive(Drop)]
+enum Packed<A> {
+    // No access counts yet.
+    Empty,
+    // The first access, whose thread alone has accessed the word.
+    Alone(Kind, ThreadId, A),
+    // A second thread has joined.
+    Together(Joint<Access<A>>),
+}
+
 /// What is kept of a word since it was last reused.
 #[derive(Drop)]
-pub(crate) enum Book<A> {
-    /// No access counts yet.
-    Untouched,
-    /// The thread that alone has accessed the word, and its first access. The thread stands first, beside the book's tag: so the book is
-    /// smaller.
-    Owned(ThreadId, A),
-    /// A second thread has joined.
-    Joined(Joint<A>),
+pub(crate) struct Book<A> {
+    packed: Packed<A>,
+}
+
+impl<A> Model for Book<A> {
+    ghost use Rattle.er_explain.specs.Book.{Book as Kept};
+    ghost use Rattle.er_explain.specs.declared.book.Access.{Access};
+
+    ghost Value = { Kept (Access A) };
+
+    ghost use Rattle.er_explain.specs.Inner.Packing.{unpacked};
+
+    ghost view = { λ b. unpacked b.packed };
 }
 
 impl<A: Copy> Joint<A> {
@@ -186,27 +217,58 @@ fn pair_after<A: Copy>(
 }
 
 impl<A: Copy> Book<A> {
+    /// No access counts yet.
+    pub(crate) fn new() -> Book<A>
+        ensures { result ≡ Untouched }
+    {
+        Book {
+            packed: Packed::Empty,
+        }
+    }
+
+    /// One access counts.
+    pub(crate) fn begin(at: A, thread: ThreadId, kind: Kind) -> Book<A>
+        ensures { result ≡ Owned thread (access_named at thread kind) }
+    {
+        Book {
+            packed: Packed::Alone(kind, thread, at),
+        }
+    }
+
     /// Goes on by a counted access of the word. A joining may be a spare one.
     pub(crate) fn access(
         &mut self,
         alloc: Global,
-        spare: &mut Vec<Joint<A>>,
+        spare: &mut Vec<Joint<Access<A>>>,
         locks: &ThreadLocks,
         at: A,
         thread: ThreadId,
         kind: Kind,
     ) -> Result<(), AllocError>
-        ensures { OnOk result (self.new ≡ book_accessed self.old at thread kind (locks_for (held_by locks.now thread) kind)) }
+        ensures { OnOk result (self.new ≡ book_accessed self.old (access_named at thread kind) thread kind (locks_for (held_by locks.now thread) kind)) }
     {
-        match self {
-            Book::Untouched => *self = Book::Owned(thread, at),
-            Book::Owned(owner, first) => {
+        match &mut self.packed {
+            Packed::Empty => self.packed = Packed::Alone(kind, thread, at),
+            Packed::Alone(first_kind, owner, first) => {
                 if *owner != thread {
+                    let first = Access {
+                        at: *first,
+                        thread: *owner,
+                        kind: *first_kind,
+                    };
+                    let join = Access { at, thread, kind };
                     let cover = locks.cover_of(alloc, thread, kind)?;
-                    *self = Book::Joined(Joint::begin(alloc, spare, *first, at, kind, &cover)?);
+                    self.packed = Packed::Together(Joint::begin(
+                        alloc, spare, first, join, kind, &cover,
+                    )?);
                 }
             }
-            Book::Joined(joint) => joint.go_on(locks, at, thread, kind),
+            Packed::Together(joint) => joint.go_on(
+                locks,
+                Access { at, thread, kind },
+                thread,
+                kind,
+            ),
         }
         Ok(())
     }
@@ -215,13 +277,13 @@ impl<A: Copy> Book<A> {
     pub(crate) fn follow(
         &mut self,
         alloc: Global,
-        spare: &mut Vec<Joint<A>>,
+        spare: &mut Vec<Joint<Access<A>>>,
         locks: &ThreadLocks,
         word: Word,
         at: A,
         step: &Step,
     ) -> Result<(), AllocError>
-        ensures { OnOk result (self.new ≡ book_after self.old word at (marked (held_by locks.now step.now.thread) step.now.thread step.now.event)) }
+        ensures { OnOk result (self.new ≡ book_after self.old word (access_of at step.now) (marked (held_by locks.now step.now.thread) step.now.thread step.now.event)) }
     {
         match step.event {
             Event::Access(kind, accessed, _) => {
@@ -231,53 +293,71 @@ impl<A: Copy> Book<A> {
             }
             Event::Reuse(range) => {
                 if range.contains(word) {
-                    *self = Book::Untouched;
+                    self.packed = Packed::Empty;
                 }
             }
             _ => {}
         }
         Ok(())
     }
+
+    /// The joining of a book that nobody needs, if it has one.
+    pub(crate) fn into_joining(self) -> Option<Joint<Access<A>>> {
+        match self.packed {
+            Packed::Together(joint) => Some(joint),
+            Packed::Empty | Packed::Alone(..) => None,
+        }
+    }
 }
 
-impl Joint<u64> {
-    // What it says of a race, if it has found all that an explanation needs.
-    fn explanation(&self, alloc: Global) -> Result<Option<Explanation>, AllocError>
-        ensures { IfOk result (λ found. (e : Explained) → (found ≡ Some e) ↔ (self.now ≡ joining_of e)) }
+impl<A> Book<A> {
+    /// The joining, if a second thread has joined.
+    pub(crate) fn joining(&self) -> Option<&Joint<Access<A>>>
+        ensures { option_copied result ≡ joining_in self.now }
     {
-        let Some(write) = self.write() else {
+        match &self.packed {
+            Packed::Together(joint) => Some(joint),
+            Packed::Empty | Packed::Alone(..) => None,
+        }
+    }
+}
+
+// What a joining says of a race, if it has found all that an explanation needs.
+fn told_by(alloc: Global, joint: &Joint<Access<u64>>) -> Result<Option<Explanation>, AllocError>
+    ensures { IfOk result (λ found. (e : Explained) → (found ≡ Some e) ↔ (named_joining name_of joint.now ≡ joining_of e)) }
+{
+    let Some(write) = joint.write() else {
+        return Ok(None);
+    };
+    let mut uncovered = Vec::with_capacity(alloc, joint.pairs().len())?;
+    for pair in joint.pairs() {
+        let Some(access) = pair.at else {
             return Ok(None);
         };
-        let mut uncovered = Vec::with_capacity(alloc, self.pairs().len())?;
-        for pair in self.pairs() {
-            let Some(at) = pair.at else {
-                return Ok(None);
-            };
-            uncovered.push(Uncovered {
-                lock: pair.lock,
-                at,
-            })?;
-        }
-        Ok(Some(Explanation {
-            first: self.first(),
-            join: self.join(),
-            write,
-            uncovered,
-        }))
+        uncovered.push(Uncovered {
+            lock: pair.lock,
+            at: access.at,
+        })?;
     }
+    Ok(Some(Explanation {
+        first: joint.first().at,
+        join: joint.join().at,
+        write: write.at,
+        uncovered,
+    }))
 }
 
 impl Book<u64> {
     /// What explains a race, if the book has found all that it takes.
     pub(crate) fn explanation(&self, alloc: Global) -> Result<Option<Explanation>, AllocError>
-        ensures { IfOk result (λ found. (e : Explained) → (found ≡ Some e) ↔ (self.now ≡ Book.Joined (joining_of e))) }
+        ensures { IfOk result (λ found. (e : Explained) → (found ≡ Some e) ↔ (named_book name_of self.now ≡ Joined (joining_of e))) }
     {
-        match self {
-            Book::Joined(joint) => joint.explanation(alloc),
-            Book::Untouched | Book::Owned(..) => Ok(None),
+        match self.joining() {
+            Some(joint) => told_by(alloc, joint),
+            None => Ok(None),
         }
     }
 }
 
-// An access that is named by 16 bytes, as in a report, leaves a book of 24.
-const _: () = prove!(size_of::<Book<[u64; 2]>>() == 24);
+// An access that is named by 8 bytes, as in a report, leaves a book of 16.
+const _: () = prove!(size_of::<Book<u64>>() == 16);

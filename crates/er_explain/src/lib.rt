@@ -25,7 +25,7 @@
 //! ```
 #![tactic(auto)]
 
-pub use book::{Joint, Pair};
+pub use book::{Access, Joint, Pair};
 pub use er_journal::{Explanation, Uncovered};
 pub use laws::{a_kept_state_keeps_the_book, an_explanation_explains};
 pub use one_access::explain;

@@ -1,8 +1,10 @@
 //! The explanation of one access.
 ghost use Rattle.std.specs.Prelude.{◌≡◌, ◌<◌, ◌≤◌, ◌↔◌, ℕ, IfOk, IfSome, IsNone, IsSome, Ok, Some, length, slice_get};
 ghost use Rattle.er_event.specs.Lockset.{IsRising};
+ghost use Rattle.er_explain.specs.Book.{name_of};
 ghost use Rattle.er_explain.specs.Books.{book_at};
 ghost use Rattle.er_explain.specs.Explaining.{explanation_at};
+ghost use Rattle.er_explain.specs.Naming.{named_book};
 ghost use Rattle.er_model.specs.Answers.{answer, reading_of};
 ghost use Rattle.er_model.specs.Explanations.{Explanation as Explained, Explains, latest, locks_listed, word_in, word_of};
 
@@ -63,11 +65,11 @@ fn ending_at(found: Option<Explanation>, place: u64) -> Option<Explanation>
 // The book of a word after the first `end` steps.
 fn book_of(alloc: Global, steps: &[Step], end: usize, word: Word) -> Result<Book<u64>, AllocError>
     requires { end ≤ length steps.now }
-    ensures { IfOk result (λ book. book ≡ book_at (reading_of steps.now) word end) }
+    ensures { IfOk result (λ book. named_book name_of book ≡ book_at (reading_of steps.now) word end) }
 {
     let mut locks = ThreadLocks::new(alloc);
     let mut spare = Vec::new(alloc);
-    let mut book = Book::Untouched;
+    let mut book = Book::new();
     for (at, step) in steps[..end].iter().enumerate() {
         book.follow(alloc, &mut spare, &locks, word, at as u64, step)?;
         locks.follow(alloc, step)?;

@@ -1,6 +1,7 @@
 //! `WordBooks`, the books of all words.
 ghost use Rattle.std.specs.Prelude.{◌≡◌, ◌==◌, ◌<◌, ◌≤◌, ◌/◌, ◌%◌, ℕ, nat_eq, nat_le, cond, slice_get, option_copied, Some, None, IfSome, IfNone, OnOk};
 ghost use Rattle.indexmap.specs.IndexMap.{get, keys, index_map_len, IsUnique};
+ghost use Rattle.er_explain.specs.Book.{Untouched, access_named, access_of};
 ghost use Rattle.er_explain.specs.Books.{book_accessed, book_after};
 ghost use Rattle.er_explain.specs.WordBooks.{book_in, is_place_in, joining_in};
 ghost use Rattle.er_held.specs.ThreadLocks.{held_by};
@@ -8,7 +9,7 @@ ghost use Rattle.er_model.specs.Following.{locks_for, marked};
 ghost use Rattle.er_model.specs.Words.{is_within, Reused};
 
 use crate::block::Block;
-use crate::book::{Book, Joint};
+use crate::book::{Access, Joint};
 use er_event::{Event, Kind, PageRange, Step, ThreadId, Word};
 use er_held::ThreadLocks;
 use indexmap::IndexMap;
@@ -21,8 +22,8 @@ const WORDS: u64 = 128;
 /// How many blocks are found without a hash.
 const HINTS: u64 = 4096;
 
-/// A book for each word, as steps go by. An access is named as the caller likes: by its place in a list, or by what is to be said of
-/// it. Contracts see the books by `book_in`.
+/// A book for each word, as steps go by. An access is named as the caller likes, by its place in a list or by its line, and by its thread and its
+/// kind. Contracts see the books by `book_in`.
 ///
 /// The books of 128 words that lie side by side are kept in one block, which is made at the first access of one of them. A step takes one look
 /// at them, and a reuse one look for each block of its range.
@@ -33,14 +34,15 @@ pub struct WordBooks<A> {
     // asks must check what it gets. A block behind the first 2^32, which no memory holds, would be found by a hash.
     hints: Vec<u32>,
     // Joinings that nobody needs, for words that are joined later. So a reuse of many words frees nothing and looks at no joining.
-    spare: Vec<Joint<A>>,
+    spare: Vec<Joint<Access<A>>>,
     alloc: Global,
 }
 
 impl<A> Model for WordBooks<A> {
     ghost use Rattle.er_explain.specs.WordBooks.{Blocks};
+    ghost use Rattle.er_explain.specs.declared.book.Access.{Access};
 
-    ghost Value = { Blocks A };
+    ghost Value = { Blocks (Access A) };
 
     ghost view = { λ b. b.blocks.entries };
 }
@@ -48,7 +50,7 @@ impl<A> Model for WordBooks<A> {
 impl<A: Copy> WordBooks<A> {
     /// Empty books of all words.
     pub fn new(alloc: Global) -> WordBooks<A>
-        ensures { (w : ℕ) → book_in result w ≡ Book.Untouched }
+        ensures { (w : ℕ) → book_in result w ≡ Untouched }
     {
         WordBooks {
             blocks: IndexMap::new(alloc),
@@ -58,9 +60,9 @@ impl<A: Copy> WordBooks<A> {
         }
     }
 
-    /// Goes on by a step, if these are the locks that each thread holds before it. Its access is named so.
+    /// Goes on by a step, if these are the locks that each thread holds before it. Its access is named so, and by its thread and its kind.
     pub fn follow(&mut self, locks: &ThreadLocks, at: A, step: &Step) -> Result<(), AllocError>
-        ensures { OnOk result ((w : ℕ) → book_in self.new w ≡ book_after (book_in self.old w) w at (marked (held_by locks.now step.now.thread) step.now.thread step.now.event)) }
+        ensures { OnOk result ((w : ℕ) → book_in self.new w ≡ book_after (book_in self.old w) w (access_of at step.now) (marked (held_by locks.now step.now.thread) step.now.thread step.now.event)) }
     {
         match step.event {
             Event::Access(kind, word, _) => {
@@ -83,7 +85,7 @@ impl<A: Copy> WordBooks<A> {
         thread: ThreadId,
         kind: Kind,
     ) -> Result<(), AllocError>
-        ensures { OnOk result ((w : ℕ) → book_in self.new w ≡ cond (word == w) (book_accessed (book_in self.old word) at thread kind (locks_for (held_by locks.now thread) kind)) (book_in self.old w)) }
+        ensures { OnOk result ((w : ℕ) → book_in self.new w ≡ cond (word == w) (book_accessed (book_in self.old word) (access_named at thread kind) thread kind (locks_for (held_by locks.now thread) kind)) (book_in self.old w)) }
     {
         let number = block_of(word);
         let place = place_of(word);
@@ -107,7 +109,7 @@ impl<A: Copy> WordBooks<A> {
 
     // Empties the books of a range.
     fn reuse(&mut self, range: PageRange)
-        ensures { (w : ℕ) → book_in self.new w ≡ cond (is_within w range) Book.Untouched (book_in self.old w) }
+        ensures { (w : ℕ) → book_in self.new w ≡ cond (is_within w range) Untouched (book_in self.old w) }
     {
         let PageRange { lo, hi } = range;
         let first = block_of(lo);
@@ -120,7 +122,7 @@ impl<A: Copy> WordBooks<A> {
     // Empties books of a block, both ends included.
     fn empty(&mut self, number: u64, from: usize, to: usize)
         requires { to < 128 }
-        ensures { (w : ℕ) → book_in self.new w ≡ cond (is_place_in number from to w) Book.Untouched (book_in self.old w) }
+        ensures { (w : ℕ) → book_in self.new w ≡ cond (is_place_in number from to w) Untouched (book_in self.old w) }
     {
         if let Some(index) = index_of_block(&self.blocks, hint(&self.hints, number), number) {
             self.blocks[index].empty(&mut self.spare, from, to);
@@ -128,7 +130,7 @@ impl<A: Copy> WordBooks<A> {
     }
 
     /// The joining of a word, if a second thread has joined since its last reuse.
-    pub fn joining(&self, word: Word) -> Option<&Joint<A>>
+    pub fn joining(&self, word: Word) -> Option<&Joint<Access<A>>>
         ensures { option_copied result ≡ joining_in (book_in self.now word) }
     {
         let number = block_of(word);

@@ -14,6 +14,7 @@ use Rattle.er_explain.proofs.FoundLemmas.{race-told}
 use Rattle.er_explain.proofs.NamingLemmas.{named-follows, named-start}
 use Rattle.er_explain.proofs.Passes.{held-start, held-next}
 use Rattle.er_explain.proofs.RaceLemmas.{explanations_at, race-is}
+use Rattle.er_explain.specs.Book.{Book, Untouched}
 use Rattle.er_explain.specs.Books.{book_after, joining_of}
 use Rattle.er_explain.specs.Explaining.{explanation_at}
 use Rattle.er_explain.specs.Joined.{Joining}
@@ -21,8 +22,6 @@ use Rattle.er_explain.specs.Naming.{named_pair, named_joining, named_book}
 use Rattle.er_explain.specs.Racing.{is_race, places_below}
 use Rattle.er_explain.specs.WordBooks.{Blocks, book_in, joining_in}
 use Rattle.er_explain.specs.declared.book.Pair.{Pair}
-use Rattle.er_explain.specs.declared.book.Book.{Book}
-use Rattle.er_explain.specs.declared.book.Book.TheVariants.{Untouched}
 use Rattle.er_held.specs.ThreadLocks.{held_by}
 use Rattle.er_model.proofs.Explanations.{race-rising}
 use Rattle.er_model.proofs.Meaning.{join-counted}
@@ -36,11 +35,10 @@ use Rattle.std.specs.Prelude.{nat_le}
 use Rattle.er_report.proofs.LawLemmas.{counted-step, least-counted, uncovered-counted}
 use Rattle.er_report.proofs.ReasonLemmas.{found_below, lines-explained}
 use Rattle.er_report.specs.Inner.Explained.{line_with, left_after, with_reasons, line_told, told_left, with_told, lines_kept}
-use Rattle.er_report.specs.Kept.{Kept, Follows, access_at, told_access, told_found, joining_reasons, found_reasons, word_reasons, line_access, line_book, told_below}
+use Rattle.er_report.specs.Kept.{LineAccess, Kept, Follows, access_at, told_access, told_found, joining_reasons, found_reasons, word_reasons, line_access, line_book, told_below}
 use Rattle.er_report.specs.Lines.{LineView, RaceView, RefusedView, ShownView}
 use Rattle.er_report.specs.Reasons.{reason_at, reasons_of}
 use Rattle.er_report.specs.Report.{is_printed, lines_below, matching_rule_at}
-use Rattle.er_report.specs.declared.explainer.LineAccess.{LineAccess}
 use Rattle.er_report.specs.declared.report.Because.{Because}
 use Rattle.er_report.specs.declared.report.Label.{Label}
 use Rattle.er_report.specs.declared.report.Label.TheVariants as label

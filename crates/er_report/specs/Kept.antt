@@ -1,36 +1,32 @@
 -- What is kept of the steps so far for the reasons of races.
 use Rattle.std.specs.Prelude.{◌≡◌, ◌++◌, ℕ, zero, suc, cond, flat_map, List, [], ◌∷◌, slice_get, slice_index, Option, Some, None}
-use Rattle.er_event.specs.declared.steps.Event.{Event}
-use Rattle.er_event.specs.declared.steps.Event.TheVariants.{Access}
-use Rattle.er_event.specs.declared.steps.Kind.{Kind}
 use Rattle.er_event.specs.declared.steps.Kind.TheVariants.{Read}
 use Rattle.er_event.specs.declared.steps.Step.{Step}
+use Rattle.er_explain.specs.Book.{Book, access_named, access_of}
 use Rattle.er_explain.specs.Books.{book_at}
 use Rattle.er_explain.specs.Following.{AreHeldAt}
 use Rattle.er_explain.specs.Joined.{Joining}
 use Rattle.er_explain.specs.Naming.{named_book}
 use Rattle.er_explain.specs.WordBooks.{Blocks, book_in, joining_in}
-use Rattle.er_explain.specs.declared.book.Book.{Book}
+use Rattle.er_explain.specs.declared.book.Access.{Access}
 use Rattle.er_model.specs.Answers.{reading_of}
 use Rattle.er_model.specs.Explanations.{word_of}
 use Rattle.er_model.specs.Holdings.{Holdings}
 use Rattle.er_report.specs.Report.{is_printed}
-use Rattle.er_report.specs.declared.explainer.LineAccess.{LineAccess}
 use Rattle.er_report.specs.declared.report.Because.{Because}
 use Rattle.er_report.specs.declared.report.Label.{Label}
 use Rattle.er_report.specs.declared.report.Label.TheVariants as label
 use Rattle.er_rules.specs.Rules.{Target}
 use Rattle.er_trace.specs.Trace.{Recording}
 
--- the kind of an access; of another event it says nothing
-abbrev pub event_kind : Event → Kind
-event_kind (Access kind word site) = kind
-event_kind event = Read
+-- an access, as a report tells it: by its line in the text
+abbrev pub LineAccess : Type 0
+LineAccess = Access ℕ
 
--- a step on this line of the text, as a report tells an access
+-- a step on this line
 abbrev pub line_access : ℕ → Option Step → LineAccess
-line_access number None = record { line = number; thread = 0; kind = Read }
-line_access number (Some step) = record { line = number; thread = step.thread; kind = event_kind step.event }
+line_access number None = access_named number 0 Read
+line_access number (Some step) = access_of number step
 
 -- the step at position i, so
 unfoldable pub access_at : Recording → ℕ → LineAccess
@@ -38,7 +34,7 @@ access_at r i = line_access (slice_index r.lines i) (slice_get r.steps i)
 
 -- an access with its label
 abbrev pub told_access : Label → LineAccess → Because
-told_access name a = record { label = name; line = a.line; thread = a.thread; kind = a.kind }
+told_access name a = record { label = name; line = a.at; thread = a.thread; kind = a.kind }
 
 -- and where none was found nothing
 abbrev pub told_found : Label → Option LineAccess → List Because

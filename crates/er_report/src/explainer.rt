@@ -6,31 +6,24 @@ ghost use Rattle.er_held.specs.ThreadLocks.{held_by};
 ghost use Rattle.er_model.specs.Explanations.{word_in};
 ghost use Rattle.er_model.specs.Following.{marked};
 ghost use Rattle.er_model.specs.Holdings.{after_step};
-ghost use Rattle.er_report.specs.Kept.{Follows, event_kind, joining_reasons, line_access, told_found, word_reasons};
+ghost use Rattle.er_report.specs.Kept.{Follows, joining_reasons, line_access, told_found, word_reasons};
 ghost use Rattle.er_report.specs.Report.{is_printed};
 ghost use Rattle.er_rules.specs.Rules.{Target};
 ghost use Rattle.er_trace.specs.Trace.{Recording};
 
 use crate::{Because, Label};
-use er_event::{Event, Kind, Step, ThreadId, Word};
-use er_explain::{Joint, WordBooks};
+use er_event::{Event, Step, Word};
+use er_explain::{Access, Joint, WordBooks};
 use er_held::ThreadLocks;
 use std::alloc::{AllocError, Global};
 use std::marker::Model;
-
-/// An access, as a report tells it.
-#[derive(Clone, Copy)]
-pub(crate) struct LineAccess {
-    pub(crate) line: u64,
-    pub(crate) thread: ThreadId,
-    pub(crate) kind: Kind,
-}
 
 /// The reasons of the printed races so far, and the books that later ones will need. It keeps no step.
 #[derive(Drop)]
 pub(crate) struct Explainer {
     locks: ThreadLocks,
-    books: WordBooks<LineAccess>,
+    // An access is named by its line.
+    books: WordBooks<u64>,
     told: Vec<Vec<Because>>,
     alloc: Global,
 }
@@ -79,12 +72,7 @@ impl Explainer {
         ensures held { OnOk result ((t : ℕ) → held_by self.new.threads t ≡ after_step (held_by self.old.threads t) t step.now) }
         ensures told { OnOk result (self.new.told ≡ self.old.told) }
     {
-        let access = LineAccess {
-            line,
-            thread: step.thread,
-            kind: kind_of(step.event),
-        };
-        self.books.follow(&self.locks, access, step)?;
+        self.books.follow(&self.locks, line, step)?;
         self.locks.follow(self.alloc, step)?;
         Ok(())
     }
@@ -130,16 +118,6 @@ impl Explainer {
     }
 }
 
-// The kind of an access; of another event it says nothing.
-fn kind_of(event: Event) -> Kind
-    ensures { result ≡ event_kind event }
-{
-    match event {
-        Event::Access(kind, _, _) => kind,
-        _ => Kind::Read,
-    }
-}
-
 // The word that an event accesses, if it is an access.
 fn word_in(event: Event) -> Option<Word>
     ensures { result ≡ word_in event }
@@ -151,7 +129,7 @@ fn word_in(event: Event) -> Option<Word>
 }
 
 // The accesses that a joining names, in the order of a report.
-fn reasons_of(alloc: Global, joint: &Joint<LineAccess>) -> Result<Vec<Because>, AllocError>
+fn reasons_of(alloc: Global, joint: &Joint<Access<u64>>) -> Result<Vec<Because>, AllocError>
     ensures { IfOk result (λ reasons. reasons.items ≡ joining_reasons joint.now) }
 {
     let mut reasons = Vec::with_capacity(alloc, joint.pairs().len() + 3)?;
@@ -168,14 +146,14 @@ fn reasons_of(alloc: Global, joint: &Joint<LineAccess>) -> Result<Vec<Because>, 
 fn put_found(
     reasons: &mut Vec<Because>,
     label: Label,
-    found: Option<LineAccess>,
+    found: Option<Access<u64>>,
 ) -> Result<(), AllocError>
     ensures { OnOk result (reasons.new.items ≡ reasons.old.items ++ told_found label found) }
 {
-    if let Some(LineAccess { line, thread, kind }) = found {
+    if let Some(Access { at, thread, kind }) = found {
         reasons.push(Because {
             label,
-            line,
+            line: at,
             thread,
             kind,
         })?;

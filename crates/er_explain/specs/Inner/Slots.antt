@@ -1,7 +1,6 @@
 -- Where a block keeps the books of its words.
 use Rattle.std.specs.Prelude.{◌≡◌, ℕ, zero, suc, ◌<◌, ◌≤◌, List, [], ◌∷◌, slice_index_or, ◌⊎◌}
-use Rattle.er_explain.specs.declared.book.Book.{Book}
-use Rattle.er_explain.specs.declared.book.Book.TheVariants.{Untouched}
+use Rattle.er_explain.specs.Book.{Book, Untouched}
 
 -- the values from a place on, this many
 unfoldable pub listed : {A : Type 0} → (ℕ → A) → ℕ → ℕ → List A

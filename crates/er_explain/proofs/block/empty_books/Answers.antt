@@ -1,6 +1,6 @@
 -- At each place the books so far are empty, and one more is.
 use Rattle.std.proofs.Common.{◌∙◌, cond, nat_eq, slice_index_or, ap, arith}
-use Rattle.er_explain.specs.declared.book.Book.TheVariants.{Untouched}
+use Rattle.er_explain.specs.Book.{Untouched}
 use Rattle.er_explain.proofs.BlockLemmas.{emptied-more}
 use Rattle.er_explain.proofs.block.empty_books.Goals as goal
 

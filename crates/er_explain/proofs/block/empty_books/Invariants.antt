@@ -1,6 +1,6 @@
 use Rattle.std.proofs.Common.{◌≡◌, ◌≤◌, ℕ, ◌&&◌, nat_le, nat_lt, cond, length}
 use Rattle.er_explain.specs.Inner.Slots.{book_of}
-use Rattle.er_explain.specs.declared.book.Book.TheVariants.{Untouched}
+use Rattle.er_explain.specs.Book.{Untouched}
 use Rattle.er_explain.proofs.block.empty_books.Given as goal
 
 abbrev pub invariant-loop-place : goal.invariant-loop-place

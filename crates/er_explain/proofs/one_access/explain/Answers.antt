@@ -1,6 +1,8 @@
 use Rattle.std.proofs.Common.{◌≡◌, sym}
 use Rattle.er_explain.proofs.FoundLemmas.{found-at, unfound-at, found-explains, found-none}
+use Rattle.er_explain.specs.Book.{name_of}
 use Rattle.er_explain.specs.Explaining.{explanation_at}
+use Rattle.er_explain.specs.Naming.{named_book}
 use Rattle.er_explain.proofs.one_access.explain.Goals as goal
 
 pub returns-in_default-clause-none : goal.returns-in_default-clause-none
@@ -12,7 +14,7 @@ returns-in_default-clause-value c = unfound-at c.args.steps.now c.args.k (sym c.
 -- what is found is the step's explanation
 found : (c : goal.Joined-book-2) → c.ending_at.result ≡ explanation_at c.args.steps.now c.args.k
 found c =
-    found-at c.args.steps.now c.args.k c.in-Some.word (sym c.in-Some.ensures.word) c.in_ok-book.book c.in_ok-book.ensures c.ending_at.result
+    found-at c.args.steps.now c.args.k c.in-Some.word (sym c.in-Some.ensures.word) (named_book name_of c.in_ok-book.book) c.in_ok-book.ensures c.ending_at.result
     (λ e.
     let last = c.ending_at.ensures e in
     let told = c.in_ok-found.ensures e in

@@ -2,8 +2,7 @@
 use Rattle.std.proofs.Common.{◌++◌, List, flat_map, ◌∙◌, ap}
 use Rattle.std.proofs.lemmas.List.{take_all}
 use Rattle.er_explain.specs.declared.book.Pair.{Pair}
-use Rattle.er_report.specs.Kept.{told_found}
-use Rattle.er_report.specs.declared.explainer.LineAccess.{LineAccess}
+use Rattle.er_report.specs.Kept.{LineAccess, told_found}
 use Rattle.er_report.specs.declared.report.Label.TheVariants as label
 use Rattle.er_report.proofs.KeptLemmas.{all-told}
 use Rattle.er_report.proofs.explainer.reasons_of.Goals as goal

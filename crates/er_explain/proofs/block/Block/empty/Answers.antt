@@ -1,7 +1,7 @@
 use Rattle.std.proofs.Common.{◌∙◌, ◌≡◌, ℕ, ◌+◌, ◌&&◌, Bool, cond, nat_le, nat_lt, length, ap, refl, arith}
 use Rattle.std.proofs.lemmas.Bool.Decides.{nat_tests}
 use Rattle.er_explain.specs.Inner.Slots.{book_of}
-use Rattle.er_explain.specs.declared.book.Book.TheVariants.{Untouched}
+use Rattle.er_explain.specs.Book.{Untouched}
 use Rattle.er_explain.proofs.BlockLemmas.{apart-free, emptied_books, all_emptied}
 use Rattle.er_explain.proofs.block.Block.empty.Goals as goal
 

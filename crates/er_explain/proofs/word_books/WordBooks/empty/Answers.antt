@@ -2,7 +2,7 @@ use Rattle.std.proofs.Common.{◌≡◌, ℕ, cond, subst}
 use Rattle.er_explain.specs.WordBooks.{book_in, is_place_in}
 use Rattle.indexmap.specs.IndexMap.{with_value_at}
 use Rattle.er_explain.proofs.BlockLemmas.{block_found, block_put, emptied_block, absent_block}
-use Rattle.er_explain.specs.declared.book.Book.TheVariants.{Untouched}
+use Rattle.er_explain.specs.Book.{Untouched}
 use Rattle.er_explain.proofs.word_books.WordBooks.empty.Goals as goal
 
 pub returns-in-Some : goal.returns-in-Some
