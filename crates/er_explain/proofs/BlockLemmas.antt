@@ -1,5 +1,5 @@
 -- One book, or some that lie side by side, change in one block: what that makes of the books of all words.
-use Rattle.std.proofs.Common.{◌≡◌, ◌≢◌, ◌∙◌, ◌==◌, ℕ, zero, suc, ◌+◌, ◌<◌, ◌≤◌, ◌/◌, ◌%◌, ◌&&◌, nat_eq, nat_le, nat_lt, Bool, true, false, cond, List, [], ◌∷◌, ◌++◌, length, get_or, position, replicate, slice_get, slice_index_or, slice_set, Option, Some, None, ◌⊎◌, inl, inr, ⊎_elim, refl, sym, ap, subst, arith}
+use Rattle.std.proofs.Common.{◌≡◌, ◌≢◌, ◌∙◌, ◌==◌, ℕ, zero, suc, ◌+◌, ◌<◌, ◌≤◌, ◌/◌, ◌%◌, ◌&&◌, nat_eq, nat_le, nat_lt, Bool, true, false, cond, List, [], ◌∷◌, ◌++◌, length, get_or, position, slice_get, slice_index_or, slice_set, Option, Some, None, refl, sym, ap, arith}
 use Rattle.std.specs.Cmp.{nat_eq_equiv}
 use Rattle.std.specs.Map.{lookup, keys_of, values_of}
 use Rattle.std.proofs.lemmas.Bool.Decides.{nat_tests}
@@ -11,7 +11,7 @@ use Rattle.indexmap.proofs.CallerLemmas.{updates-with_value_at}
 use borrow.Author.Tests.{eqb-true, eqb-false, eq-eqb, lt-ltb}
 use Rattle.er_event.specs.declared.addresses.PageRange.{PageRange}
 use Rattle.er_model.specs.Words.{is_within}
-use Rattle.er_explain.specs.Inner.Slots.{listed, slot_at, book_of, kept_books, AreApart}
+use Rattle.er_explain.specs.Inner.Places.{listed, book_of, kept_books}
 use Rattle.er_explain.specs.WordBooks.{Blocks, book_at_place, book_in_block, book_in, is_place_in}
 use Rattle.er_explain.specs.Book.{Book, Untouched}
 
@@ -74,71 +74,6 @@ outside number w b there = by (nat_eq number (w / 128)) refl
 -- the blocks with these books in block p
 abbrev pub PutsBlock : {A : Type 0} → Blocks A → Blocks A → ℕ → List (Book A) → Type 0
 PutsBlock old new p books = (q : ℕ) → lookup (nat_eq q) new ≡ cond (nat_eq p q) (Some books) (lookup (nat_eq q) old)
-
--- a value that is there already
-pub put_before : {V : Type 0} (f : ℕ → V) (place : ℕ) (v : V) → f place ≡ v → (i : ℕ) → f i ≡ cond (nat_eq place i) v (f i)
-put_before f place v is i = by (nat_eq place i) refl
-  where
-    by : (at : Bool) → nat_eq place i ≡ at → f i ≡ cond at v (f i)
-    by true e = ap f (sym (eqb-true place i e)) ∙ is
-    by false e = refl
-
--- Slots
-
-free_at : (n i : ℕ) → slot_at (replicate n 255) i ≡ 255
-free_at zero i = refl
-free_at (suc n) zero = refl
-free_at (suc n) (suc i) = free_at n i
-
-all_free : (slots : List ℕ) → slots ≡ replicate 128 255 → (i : ℕ) → slot_at slots i ≡ 255
-all_free slots free i = ap (λ all. slot_at all i) free ∙ free_at 128 i
-
--- no slot has a book
-pub apart-free : (slots : List ℕ) (count : ℕ) → slots ≡ replicate 128 255 → count ≡ 0 → AreApart slots count
-apart-free slots count free none = record { few = omega (arith, none); within = λ i. inr (all_free slots free i); apart = λ i j is same. absurd (never (slot_at slots i) is) }
-  where
-    never : (n : ℕ) → n < count → ⊥
-    never n below = omega (arith, none, below)
-
--- there are as many books as before
-pub apart-same : (slots : List ℕ) (count more : ℕ) → AreApart slots count → count ≡ more → AreApart slots more
-apart-same slots count more was long = subst (λ n. AreApart slots n) long was
-
--- a slot gets a new book
-pub apart-more : (slots left : List ℕ) (place number more : ℕ) → AreApart slots number → number < 128 → more ≡ number + 1
-    → ((i : ℕ) → slot_at left i ≡ cond (nat_eq place i) number (slot_at slots i)) → AreApart left more
-apart-more slots left place number more was small long put = record {
-  few = omega (arith, small, long);
-  within = λ i. near i (found i);
-  apart = λ i j is same. meet i j is same (found i) (found j);
-}
-  where
-    -- the slot is the new one, or as it was
-    found : (i : ℕ) → ((place ≡ i) × (slot_at left i ≡ number)) ⊎ (slot_at left i ≡ slot_at slots i)
-    found i = by (nat_eq place i) refl (put i)
-      where
-        by : (at : Bool) → nat_eq place i ≡ at → slot_at left i ≡ cond at number (slot_at slots i)
-            → ((place ≡ i) × (slot_at left i ≡ number)) ⊎ (slot_at left i ≡ slot_at slots i)
-        by true e is = inl (eqb-true place i e, is)
-        by false e is = inr is
-
-    near : (i : ℕ) → ((place ≡ i) × (slot_at left i ≡ number)) ⊎ (slot_at left i ≡ slot_at slots i) → (slot_at left i < more) ⊎ (slot_at left i ≡ 255)
-    near i (inl new) = let same = new.1 in inl (omega (arith, long, same))
-    near i (inr old) = ⊎_elim (λ below. inl (omega (arith, long, below, old))) (λ free. inr (old ∙ free)) (was.within i)
-
-    -- an old slot whose number is below the new count has an old book
-    below_of : (i : ℕ) → slot_at left i < more → slot_at left i ≡ slot_at slots i → slot_at slots i < number
-    below_of i is old = ⊎_elim (λ below. below) (λ free. absurd (omega (arith, small, long, is, old, free))) (was.within i)
-
-    past : (n m : ℕ) → n ≡ number → n ≡ m → m < number → ⊥
-    past n m new same below = omega (arith, new, same, below)
-
-    meet : (i j : ℕ) → slot_at left i < more → slot_at left i ≡ slot_at left j → ((place ≡ i) × (slot_at left i ≡ number)) ⊎ (slot_at left i ≡ slot_at slots i)
-        → ((place ≡ j) × (slot_at left j ≡ number)) ⊎ (slot_at left j ≡ slot_at slots j) → i ≡ j
-    meet i j is same (inl this) (inl that) = sym this.0 ∙ that.0
-    meet i j is same (inl this) (inr that) = absurd (past (slot_at left i) (slot_at slots j) this.1 (same ∙ that) (below_of j (subst (λ n. n < more) same is) that))
-    meet i j is same (inr this) (inl that) = absurd (past (slot_at left j) (slot_at slots i) that.1 (sym same ∙ this) (below_of i is this))
-    meet i j is same (inr this) (inr that) = was.apart i j (below_of i is this) (sym this ∙ same ∙ that)
 
 module _ {A : Type 0} where
   -- the books of block p for which `here` holds of their places are those for which `changes` holds, and they become s
@@ -370,34 +305,34 @@ module _ {A : Type 0} where
       by true e = ap (λ k. slice_index_or (slice_set books slot b) k Untouched) (sym (eqb-true slot i e)) ∙ get_or-set_same books slot b Untouched within
       by false e = get_or-set_other books slot i b Untouched (λ at. eqb-false slot i e (sym at))
 
-  -- the book of a place is that of its slot
-  pub own_book : (slots : List ℕ) (books now : List (Book A)) (place : ℕ) → kept_books slots books ≡ now → place < 128 → book_at_place now place ≡ book_of slots books place
+  -- the book of a place is the one that has its number
+  pub own_book : (places : List ℕ) (books now : List (Book A)) (place : ℕ) → kept_books places books ≡ now → place < 128 → book_at_place now place ≡ book_of places books place
   unfolding kept_books
-  own_book slots books now place seen within = kept_at _ now place seen within
+  own_book places books now place seen within = kept_at _ now place seen within
 
-  past_block : (slots : List ℕ) (books now : List (Book A)) (place : ℕ) → kept_books slots books ≡ now → nat_lt place 128 ≡ false → book_at_place now place ≡ Untouched
+  past_block : (places : List ℕ) (books now : List (Book A)) (place : ℕ) → kept_books places books ≡ now → nat_lt place 128 ≡ false → book_at_place now place ≡ Untouched
   unfolding kept_books
-  past_block slots books now place seen past =
+  past_block places books now place seen past =
       ap (λ bs. book_at_place bs place) (sym seen)
-      ∙ (listed-from (book_of slots books) 128 place
-      ∙ ap (λ b. cond b (book_of slots books place) Untouched) past)
+      ∙ (listed-from (book_of places books) 128 place
+      ∙ ap (λ b. cond b (book_of places books place) Untouched) past)
 
   -- the books of a block without books
-  pub nothing_kept : (slots : List ℕ) (books : List (Book A)) → books ≡ [] → (i : ℕ) → book_at_place (kept_books slots books) i ≡ Untouched
+  pub nothing_kept : (places : List ℕ) (books : List (Book A)) → books ≡ [] → (i : ℕ) → book_at_place (kept_books places books) i ≡ Untouched
   unfolding kept_books
-  nothing_kept slots books none i = no_books (book_of slots books) (λ k. ap (λ bs. book_of slots bs k) none) i
+  nothing_kept places books none i = no_books (book_of places books) (λ k. ap (λ bs. book_of places bs k) none) i
 
   -- some books are empty now
-  pub emptied_books : (slots : List ℕ) (books left now : List (Book A)) (test : ℕ → Bool) → kept_books slots books ≡ now
-      → ((i : ℕ) → book_of slots left i ≡ cond (test i) Untouched (book_of slots books i))
-      → (i : ℕ) → book_at_place (kept_books slots left) i ≡ cond (test i) Untouched (book_at_place now i)
+  pub emptied_books : (places left : List ℕ) (books fewer now : List (Book A)) (test : ℕ → Bool) → kept_books places books ≡ now
+      → ((i : ℕ) → book_of left fewer i ≡ cond (test i) Untouched (book_of places books i))
+      → (i : ℕ) → book_at_place (kept_books left fewer) i ≡ cond (test i) Untouched (book_at_place now i)
   unfolding kept_books
-  emptied_books slots books left now test seen fewer = some_emptied (book_of slots books) (book_of slots left) now test seen fewer
+  emptied_books places left books fewer now test seen less = some_emptied (book_of places books) (book_of left fewer) now test seen less
 
   -- a whole block is emptied
-  pub all_emptied : (slots left : List ℕ) (books none now : List (Book A)) (lo hi : ℕ) → kept_books slots books ≡ now → none ≡ [] → lo ≡ 0 → hi ≡ 127
+  pub all_emptied : (places left : List ℕ) (books none now : List (Book A)) (lo hi : ℕ) → kept_books places books ≡ now → none ≡ [] → lo ≡ 0 → hi ≡ 127
       → (i : ℕ) → book_at_place (kept_books left none) i ≡ cond (nat_le lo i && nat_le i hi) Untouched (book_at_place now i)
-  all_emptied slots left books none now lo hi seen gone low high i = nothing_kept left none gone i ∙ by (nat_lt i 128) refl
+  all_emptied places left books none now lo hi seen gone low high i = nothing_kept left none gone i ∙ by (nat_lt i 128) refl
     where
       within : nat_lt i 128 ≡ true → (nat_le lo i && nat_le i hi) ≡ true
       within e = grind (arith, nat_tests)
@@ -408,103 +343,20 @@ module _ {A : Type 0} where
 
       by : (b : Bool) → nat_lt i 128 ≡ b → Untouched ≡ cond (nat_le lo i && nat_le i hi) Untouched (book_at_place now i)
       by true e = ap (λ b. cond b Untouched (book_at_place now i)) (sym (within e))
-      by false e = still (nat_le lo i && nat_le i hi) (book_at_place now i) (past_block slots books now i seen e)
+      by false e = still (nat_le lo i && nat_le i hi) (book_at_place now i) (past_block places books now i seen e)
 
-  -- one book of a block goes on: no other place has its number
-  one_on : (slots1 slots2 : List ℕ) (books1 books2 : List (Book A)) (place number : ℕ) (after : Book A)
-      → ((i : ℕ) → slot_at slots2 i ≡ cond (nat_eq place i) number (slot_at slots1 i))
-      → ((n : ℕ) → slice_index_or books2 n Untouched ≡ cond (nat_eq number n) after (slice_index_or books1 n Untouched))
-      → ((i : ℕ) → nat_eq place i ≡ false → number ≡ slot_at slots1 i → ⊥)
-      → (i : ℕ) → book_of slots2 books2 i ≡ cond (nat_eq place i) after (book_of slots1 books1 i)
-  one_on slots1 slots2 books1 books2 place number after ss ks free i = ap (λ n. slice_index_or books2 n Untouched) (ss i) ∙ by (nat_eq place i) refl
-    where
-      stays : (n : ℕ) (same : Bool) → nat_eq number n ≡ same → (number ≡ n → ⊥) → cond same after (slice_index_or books1 n Untouched) ≡ slice_index_or books1 n Untouched
-      stays n true e other = absurd (other (eqb-true number n e))
-      stays n false e other = refl
-
-      by : (at : Bool) → nat_eq place i ≡ at → slice_index_or books2 (cond at number (slot_at slots1 i)) Untouched ≡ cond at after (book_of slots1 books1 i)
-      by true e = ks number ∙ ap (λ same. cond same after (slice_index_or books1 number Untouched)) (eq-eqb number number refl)
-      by false e = ks (slot_at slots1 i) ∙ stays (slot_at slots1 i) (nat_eq number (slot_at slots1 i)) refl (free i e)
-
-  pub goes_on : (slots1 slots2 : List ℕ) (books1 books2 now : List (Book A)) (place number : ℕ) (after : Book A) (f : Book A → Book A)
-      → kept_books slots1 books1 ≡ now → place < 128
-      → ((i : ℕ) → slot_at slots2 i ≡ cond (nat_eq place i) number (slot_at slots1 i))
-      → ((n : ℕ) → slice_index_or books2 n Untouched ≡ cond (nat_eq number n) after (slice_index_or books1 n Untouched))
-      → ((i : ℕ) → nat_eq place i ≡ false → number ≡ slot_at slots1 i → ⊥)
-      → after ≡ f (book_at_place now place)
-      → (i : ℕ) → book_at_place (kept_books slots2 books2) i ≡ cond (nat_eq place i) (f (book_at_place now place)) (book_at_place now i)
+  -- one book of a block goes on
+  pub goes_on : (places left : List ℕ) (books more now : List (Book A)) (place : ℕ) (after : Book A) (f : Book A → Book A)
+      → kept_books places books ≡ now → place < 128
+      → ((i : ℕ) → book_of left more i ≡ cond (nat_eq place i) after (book_of places books i))
+      → after ≡ f (book_of places books place)
+      → (i : ℕ) → book_at_place (kept_books left more) i ≡ cond (nat_eq place i) (f (book_at_place now place)) (book_at_place now i)
   unfolding kept_books
-  goes_on slots1 slots2 books1 books2 now place number after f seen within ss ks free goes i =
-      one_changed _ _ now place after seen within (one_on slots1 slots2 books1 books2 place number after ss ks free) i
-      ∙ ap (λ b. cond (nat_eq place i) b (book_at_place now i)) goes
-
-  -- and so it does where the place has a book
-  pub goes_on_here : (slots : List ℕ) (books now : List (Book A)) (place number : ℕ) (after : Book A) (f : Book A → Book A)
-      → kept_books slots books ≡ now → place < 128 → AreApart slots (length books)
-      → number ≡ slot_at slots place → number < length books
-      → after ≡ f (book_at_place now place)
-      → (i : ℕ) → book_at_place (kept_books slots (slice_set books number after)) i ≡ cond (nat_eq place i) (f (book_at_place now place)) (book_at_place now i)
-  goes_on_here slots books now place number after f seen within was own below goes =
-      goes_on slots slots books (slice_set books number after) now place number after f seen within (put_before (λ i. slot_at slots i) place number (sym own))
-      (set_at books number after below)
-      (λ i e that. eqb-false place i e (was.apart place i (subst (λ n. n < length books) own below) (sym own ∙ that))) goes
-
-  -- or gets a new one
-  pub goes_on_behind : (slots1 slots2 : List ℕ) (books now : List (Book A)) (place number : ℕ) (after : Book A) (f : Book A → Book A)
-      → kept_books slots1 books ≡ now → place < 128 → AreApart slots1 (length books) → number ≡ length books → number < 128
-      → ((i : ℕ) → slot_at slots2 i ≡ cond (nat_eq place i) number (slot_at slots1 i))
-      → after ≡ f (book_at_place now place)
-      → (i : ℕ) → book_at_place (kept_books slots2 (books ++ (after ∷ []))) i ≡ cond (nat_eq place i) (f (book_at_place now place)) (book_at_place now i)
-  goes_on_behind slots1 slots2 books now place number after f seen within was last small ss goes =
-      goes_on slots1 slots2 books (books ++ (after ∷ [])) now place number after f seen within ss
-      (λ n. appended_at books after n ∙ ap (λ l. cond (nat_eq l n) after (slice_index_or books n Untouched)) (sym last))
-      (λ i e that. ⊎_elim (λ below. past (slot_at slots1 i) that below) (λ free. big (slot_at slots1 i) that free) (was.within i)) goes
-    where
-      past : (n : ℕ) → number ≡ n → n < length books → ⊥
-      past n that below = omega (arith, last, that, below)
-
-      big : (n : ℕ) → number ≡ n → n ≡ 255 → ⊥
-      big n that free = omega (arith, small, that, free)
+  goes_on places left books more now place after f seen within changes goes i =
+      one_changed (book_of places books) (book_of left more) now place after seen within changes i
+      ∙ ap (λ b. cond (nat_eq place i) b (book_at_place now i)) (goes ∙ ap f (sym (own_book places books now place seen within)))
 
   pub past_end : (books : List (Book A)) (n : ℕ) → length books ≤ n → slice_index_or books n Untouched ≡ Untouched
   past_end [] n past = refl
   past_end (x ∷ books) zero past = absurd (omega (arith, past))
   past_end (x ∷ books) (suc n) past = past_end books n (omega (arith, past))
-
-  -- one place more is emptied
-  pub emptied-more : (slots : List ℕ) (old so_far left : List (Book A)) (start place : ℕ) → AreApart slots (length old) → length so_far ≡ length old → start ≤ place
-      → ((i : ℕ) → book_of slots so_far i ≡ cond (nat_le start i && nat_lt i place) Untouched (book_of slots old i))
-      → ((n : ℕ) → slice_index_or left n Untouched ≡ cond (nat_eq (slot_at slots place) n) Untouched (slice_index_or so_far n Untouched))
-      → (i : ℕ) → book_of slots left i ≡ cond (nat_le start i && nat_lt i (place + 1)) Untouched (book_of slots old i)
-  emptied-more slots old so_far left start place was long ordered before now i =
-      now (slot_at slots i) ∙ ap (λ b. cond (nat_eq (slot_at slots place) (slot_at slots i)) Untouched b) (before i) ∙ by (nat_eq place i) refl
-    where
-      at_place : place ≡ i → (nat_le start i && nat_lt i (place + 1)) ≡ true
-      at_place e = grind (arith, nat_tests)
-
-      same : place ≢ i → (nat_le start i && nat_lt i place) ≡ (nat_le start i && nat_lt i (place + 1))
-      same differs = ap (λ b. nat_le start i && b) (bound differs)
-        where
-          bound : place ≢ i → nat_lt i place ≡ nat_lt i (place + 1)
-          bound apart = grind (arith, nat_tests)
-
-      -- a place with the same number has no book
-      other : (e : Bool) (t : Bool) → nat_eq (slot_at slots place) (slot_at slots i) ≡ e → place ≢ i
-          → cond e Untouched (cond t Untouched (book_of slots old i)) ≡ cond t Untouched (book_of slots old i)
-      other false t is differs = refl
-      other true true is differs = refl
-      other true false is differs = ⊎_elim (λ below. absurd (differs (was.apart place i below (eqb-true _ _ is)))) (λ free. sym (nothing (sym (eqb-true _ _ is) ∙ free))) (was.within place)
-        where
-          nothing : slot_at slots i ≡ 255 → book_of slots old i ≡ Untouched
-          nothing free = ap (λ n. slice_index_or old n Untouched) free ∙ past_end old 255 (let few = was.few in omega (arith, few))
-
-      by : (at : Bool) → nat_eq place i ≡ at
-          → cond (nat_eq (slot_at slots place) (slot_at slots i)) Untouched (cond (nat_le start i && nat_lt i place) Untouched (book_of slots old i))
-          ≡ cond (nat_le start i && nat_lt i (place + 1)) Untouched (book_of slots old i)
-      by true e =
-          let here : place ≡ i = eqb-true place i e in
-          ap (λ b. cond b Untouched (cond (nat_le start i && nat_lt i place) Untouched (book_of slots old i))) (eq-eqb _ _ (ap (λ k. slot_at slots k) here))
-          ∙ ap (λ b. cond b Untouched (book_of slots old i)) (sym (at_place here))
-      by false e =
-          other (nat_eq (slot_at slots place) (slot_at slots i)) (nat_le start i && nat_lt i place) refl (eqb-false place i e)
-          ∙ ap (λ b. cond b Untouched (book_of slots old i)) (same (eqb-false place i e))

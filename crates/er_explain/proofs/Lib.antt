@@ -4,6 +4,7 @@ pub mod BookSteps
 pub mod Explained
 pub mod NamingLemmas
 pub mod Passes
+pub mod PlaceLemmas
 pub mod RaceLemmas
 pub mod FoundLemmas
 pub mod SettledLemmas

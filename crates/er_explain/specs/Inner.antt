@@ -1,3 +1,3 @@
 -- What keeps the books in order inside.
 pub mod Packing
-pub mod Slots
+pub mod Places

@@ -35,4 +35,5 @@ mod block;
 mod book;
 mod laws;
 mod one_access;
+mod places;
 mod word_books;

@@ -2,13 +2,14 @@
 use Rattle.std.proofs.Common.{◌≡◌, ◌∙◌, ◌<◌, ◌≤◌, ℕ, ◌+◌, List, [], ◌∷◌, ◌++◌, length, slice_index_or, sym, ap, arith, length-append}
 use Rattle.std.proofs.lemmas.List.{get_or_default}
 use Rattle.std.proofs.lemmas.Result.{on_ok_weaker}
-use Rattle.er_explain.specs.Books.{book_accessed}
 use Rattle.er_explain.specs.Book.{Book, Untouched, access_named}
-use Rattle.er_explain.specs.Inner.Slots.{kept_books}
+use Rattle.er_explain.specs.Books.{book_accessed}
+use Rattle.er_explain.specs.Inner.Places.{number_at, kept_books}
 use Rattle.er_explain.specs.WordBooks.{book_at_place}
 use Rattle.er_held.specs.ThreadLocks.{held_by}
 use Rattle.er_model.specs.Following.{locks_for}
-use Rattle.er_explain.proofs.BlockLemmas.{apart-same, apart-more, own_book, goes_on_here, goes_on_behind, past_end}
+use Rattle.er_explain.proofs.BlockLemmas.{goes_on, past_end}
+use Rattle.er_explain.proofs.PlaceLemmas.{apart-as, apart-more, book_more, book_on}
 use Rattle.er_explain.proofs.block.Block.access.Goals as goal
 
 -- one book more
@@ -18,31 +19,34 @@ one_longer books book n long = omega (arith, long, length-append books (book ∷
 pub returns-then-number-count : goal.returns-then-number-count
 returns-then-number-count g c =
     let below : c.number_at-number.result < length c.self.inside.books.items = omega (arith, c.if-number-count.true, c.len-count.ensures) in
+    let own : c.number_at-number.result ≡ number_at c.self.inside.places c.args.place = c.number_at-number.ensures.found c.if-number-count.true in
     on_ok_weaker c.access.result
-    (λ went. goes_on_here c.self.inside.slots c.self.inside.books.items c.args.self.now c.args.place c.number_at-number.result c.access.new.self
+    (λ went. goes_on c.self.inside.places c.self.inside.places c.self.inside.books.items _ c.args.self.now c.args.place c.access.new.self
     (λ b. book_accessed b (access_named c.args.at c.args.thread c.args.kind) c.args.thread c.args.kind (locks_for (held_by c.args.locks.now c.args.thread) c.args.kind))
-    c.self.view_is c.requires c.self.invariant c.number_at-number.ensures below
+    c.self.view_is c.requires
+    (book_on c.self.inside.places c.self.inside.books.items c.args.place c.number_at-number.result c.access.new.self c.self.invariant own below)
     (went ∙ ap (λ b. book_accessed b (access_named c.args.at c.args.thread c.args.kind) c.args.thread c.args.kind (locks_for (held_by c.args.locks.now c.args.thread) c.args.kind))
-    (sym (own_book c.self.inside.slots c.self.inside.books.items c.args.self.now c.args.place c.self.view_is c.requires
-    ∙ (ap (λ n. slice_index_or c.self.inside.books.items n Untouched) (sym c.number_at-number.ensures)
-    ∙ (get_or_default c.self.inside.books.items c.number_at-number.result Untouched c.index_mut.result.now below ∙ sym c.index_mut.ensures.value))))))
+    (sym (ap (λ n. slice_index_or c.self.inside.books.items n Untouched) (sym own)
+    ∙ (get_or_default c.self.inside.books.items c.number_at-number.result Untouched c.index_mut.result.now below ∙ sym c.index_mut.ensures.value)))))
     c.access.ensures
 
 pub invariant_of-self-2 : goal.invariant_of-self-2
 invariant_of-self-2 g c =
-    apart-more c.self.inside.slots c.put.new.slots c.args.place c.len-count.result (length c.push.new.self.items)
-    (apart-same c.self.inside.slots (length c.self.inside.books.items) c.len-count.result c.self.invariant (omega (arith, c.len-count.ensures)))
-    (omega (arith, c.if-count-ge128.false))
-    (ap (λ bs. length bs) c.in_ok-push.ensures.items ∙ one_longer c.self.inside.books.items c.begin.result c.len-count.result (omega (arith, c.len-count.ensures))) c.put.ensures
+    let count : c.len-count.result ≡ length c.self.inside.books.items = omega (arith, c.len-count.ensures) in
+    apart-as c.put.new.places (c.len-count.result + 1) (length c.push.new.self.items)
+    (sym (ap (λ bs. length bs) c.in_ok-push.ensures.items ∙ one_longer c.self.inside.books.items c.begin.result c.len-count.result (sym count)))
+    (apart-more c.self.inside.places c.put.new.places c.args.place c.len-count.result (apart-as c.self.inside.places _ c.len-count.result (sym count) c.self.invariant)
+    (omega (arith, c.if-count-ge128.false)) c.put.ensures (c.number_at-number.ensures.none (omega (arith, c.if-number-count.false))))
 
 pub returns : goal.returns
 returns g c i =
-    let past : length c.self.inside.books.items ≤ c.number_at-number.result = omega (arith, c.if-number-count.false, c.len-count.ensures) in
-    ap (λ bs. book_at_place (kept_books c.put.new.slots bs) i) c.in_ok-push.ensures.items
-    ∙ goes_on_behind c.self.inside.slots c.put.new.slots c.self.inside.books.items c.args.self.now c.args.place c.len-count.result c.begin.result
+    let count : c.len-count.result ≡ length c.self.inside.books.items = omega (arith, c.len-count.ensures) in
+    let none : c.len-count.result ≤ number_at c.self.inside.places c.args.place = c.number_at-number.ensures.none (omega (arith, c.if-number-count.false)) in
+    ap (λ bs. book_at_place (kept_books c.put.new.places bs) i) c.in_ok-push.ensures.items
+    ∙ goes_on c.self.inside.places c.put.new.places c.self.inside.books.items (c.self.inside.books.items ++ (c.begin.result ∷ [])) c.args.self.now c.args.place c.begin.result
     (λ b. book_accessed b (access_named c.args.at c.args.thread c.args.kind) c.args.thread c.args.kind (locks_for (held_by c.args.locks.now c.args.thread) c.args.kind))
-    c.self.view_is c.requires c.self.invariant (omega (arith, c.len-count.ensures)) (omega (arith, c.if-count-ge128.false)) c.put.ensures
+    c.self.view_is c.requires
+    (book_more c.self.inside.places c.put.new.places c.args.place c.len-count.result (apart-as c.self.inside.places _ c.len-count.result (sym count) c.self.invariant)
+    (omega (arith, c.if-count-ge128.false)) c.put.ensures none c.self.inside.books.items c.begin.result (sym count))
     (c.begin.ensures ∙ ap (λ b. book_accessed b (access_named c.args.at c.args.thread c.args.kind) c.args.thread c.args.kind (locks_for (held_by c.args.locks.now c.args.thread) c.args.kind))
-    (sym (own_book c.self.inside.slots c.self.inside.books.items c.args.self.now c.args.place c.self.view_is c.requires
-    ∙ (ap (λ n. slice_index_or c.self.inside.books.items n Untouched) (sym c.number_at-number.ensures)
-    ∙ past_end c.self.inside.books.items c.number_at-number.result past)))) i
+    (sym (past_end c.self.inside.books.items (number_at c.self.inside.places c.args.place) (omega (arith, none, count))))) i
