@@ -7,16 +7,16 @@
 //! equal numbers (the law `equal_names_alone_share_a_number`), each number of a step has a name (`named`), and a call that found no
 //! memory changed nothing (`err`).
 //!
-//! Names are hashed by [`NameKeys`]. A program that reads traces of strangers makes them at random ([`Trace::keyed`]).
+//! Names are hashed by [`NameKeys`], the `HashKeys` of `er_keys`. A program that reads traces of strangers makes them at random
+//! ([`Trace::keyed`]).
 #![tactic(auto)]
 
-pub use keys::NameKeys;
+pub use er_keys::HashKeys as NameKeys;
 pub use names::{Names, equal_names_alone_share_a_number};
 pub use trace::Trace;
 
 mod appending;
 mod hints;
-mod keys;
 mod names;
 mod recent;
 mod trace;

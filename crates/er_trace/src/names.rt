@@ -8,9 +8,9 @@ ghost use Rattle.er_trace.specs.Names.{is_known, number_of, with_name, no_names,
 use crate::NameKeys;
 use crate::appending::{NewNumbers, NewTable};
 use crate::hints::NameHints;
-use crate::keys::NameHasher;
 use crate::recent::{RecentNames, ShortName};
 use er_event::{LockId, Site, ThreadId};
+use er_keys::KeyedHasher;
 use indexmap::IndexSet;
 use std::alloc::{AllocError, Global};
 use std::marker::Model;
@@ -18,7 +18,7 @@ use std::marker::Model;
 /// Names of one sort, in the order of their first appearance.
 #[derive(Drop)]
 struct NameList {
-    names: IndexSet<String, NameHasher>,
+    names: IndexSet<String, KeyedHasher>,
 }
 
 impl Model for NameList {
@@ -41,7 +41,7 @@ impl NameList {
         ensures { result ≡ [] }
     {
         NameList {
-            names: IndexSet::with_hasher(alloc, NameHasher::new(keys)),
+            names: IndexSet::with_hasher(alloc, KeyedHasher::new(keys)),
         }
     }
 

@@ -1,51 +1,57 @@
-//! `NameKeys`, by which the names of a trace are hashed.
+//! `HashKeys`, and `KeyedHasher` for maps whose keys are texts.
 use std::hash::{BuildHasher, DefaultHasher, Hasher};
 use std::io;
 use std::random::RandomSource;
 
-/// Two numbers by which names are hashed. Whoever makes a trace and doesn't know them can't choose names that collide. They change no
-/// number of a name.
+/// Two numbers by which the keys of a map are hashed. Whoever makes a trace and doesn't know them can't choose names or pages that collide.
+/// They change nothing that a map answers.
 #[derive(Clone, Copy, Debug, PartialEq, Eq)]
-pub struct NameKeys {
+pub struct HashKeys {
     first: u64,
     second: u64,
 }
 
-impl NameKeys {
+impl HashKeys {
     /// Keys that everybody knows: for traces that weren't made to be slow.
-    pub const KNOWN: NameKeys = NameKeys {
+    pub const KNOWN: HashKeys = HashKeys {
         first: 0,
         second: 0,
     };
 
     /// Keys that nobody can foretell. The error is the source's.
-    pub fn random(source: &impl RandomSource) -> io::Result<NameKeys> {
+    pub fn random(source: &impl RandomSource) -> io::Result<HashKeys> {
         let mut bytes = [0; 16];
         source.fill_bytes(&mut bytes)?;
         let both = u128::from_le_bytes(bytes);
-        Ok(NameKeys {
+        Ok(HashKeys {
             first: (both & 0xFFFF_FFFF_FFFF_FFFF) as u64,
             second: (both >> 64) as u64,
         })
     }
-}
 
-/// Begins the hash of each name by the keys.
-#[derive(Clone, Copy)]
-pub(crate) struct NameHasher {
-    begun: DefaultHasher,
-}
-
-impl NameHasher {
-    pub(crate) fn new(keys: NameKeys) -> NameHasher {
-        let mut begun = DefaultHasher::new();
-        begun.write_u64(keys.first);
-        begun.write_u64(keys.second);
-        NameHasher { begun }
+    // The two numbers.
+    pub(crate) fn numbers(self) -> (u64, u64) {
+        (self.first, self.second)
     }
 }
 
-impl BuildHasher for NameHasher {
+/// For maps with keys of any type. It is SipHash, and begins each hash by the two numbers.
+#[derive(Clone, Copy)]
+pub struct KeyedHasher {
+    begun: DefaultHasher,
+}
+
+impl KeyedHasher {
+    /// The hasher of these keys.
+    pub fn new(keys: HashKeys) -> KeyedHasher {
+        let mut begun = DefaultHasher::new();
+        begun.write_u64(keys.first);
+        begun.write_u64(keys.second);
+        KeyedHasher { begun }
+    }
+}
+
+impl BuildHasher for KeyedHasher {
     type Hasher = DefaultHasher;
 
     ghost build_hasher = { λ h. h.begun };
