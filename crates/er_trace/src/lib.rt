@@ -10,6 +10,7 @@
 //! Names are hashed by [`NameKeys`]. A program that reads traces of strangers makes them at random ([`Trace::keyed`]).
 #![tactic(auto)]
 
+pub use appending::{NewNumbers, NewTable};
 pub use keys::NameKeys;
 pub use names::{Names, equal_names_alone_share_a_number};
 pub use trace::Trace;
