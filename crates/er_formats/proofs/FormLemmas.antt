@@ -19,7 +19,7 @@ use Rattle.er_run.specs.Replays.{IsReportOfRun, WritesNothing, is_stopped}
 use Rattle.er_run.specs.Reports.{IsReportOfText}
 use Rattle.er_run.specs.declared.fault.RunFault.{RunFault}
 use Rattle.er_run.specs.declared.fault.RunFault.TheVariants.{Read, Write, Replay, Memory, Damaged}
-use Rattle.er_run.specs.declared.fault.Verdict.{Verdict}
+use Rattle.er_batch.specs.declared.verdict.Verdict.{Verdict}
 use Rattle.er_sarif.specs.Document.{sarif_text}
 use Rattle.er_sites.specs.Text.{sites_text}
 use Rattle.er_sites.specs.Written.{WritesSites}

@@ -12,7 +12,7 @@ use Rattle.er_report.specs.declared.report.Report.{Report}
 use Rattle.er_rules.specs.Rules.{Target}
 use Rattle.er_run.specs.Replays.{IsReportOfRun, IsFailedBy, is_verdict_of}
 use Rattle.er_run.specs.declared.fault.RunFault.{RunFault}
-use Rattle.er_run.specs.declared.fault.Verdict.{Verdict}
+use Rattle.er_batch.specs.declared.verdict.Verdict.{Verdict}
 use Rattle.er_sarif.specs.Document.{sarif_text}
 use Rattle.er_sites.specs.Table.{IsTable}
 use Rattle.er_sites.specs.Text.{sites_text}

@@ -7,7 +7,7 @@ ghost use Rattle.er_formats.specs.Inner.Writes.{WritesForm, WritesFound, WritesP
 ghost use Rattle.er_print.specs.Written.{FailsWriting};
 ghost use Rattle.er_report.specs.Names.{HasNames};
 ghost use Rattle.er_rules.specs.Rules.{targets_of};
-ghost use Rattle.er_run.specs.Limits.{bytes_past_limit};
+ghost use Rattle.er_batch.specs.Limits.{bytes_past_limit};
 ghost use Rattle.er_run.specs.Replays.{IsNoDamage, WritesNothing, FailsBy, is_stopped};
 
 use er_device::Device;

@@ -15,9 +15,9 @@ use Rattle.er_run.specs.Replays.{IsReplayed, IsFailed, IsFailedBy, FailsBy, Writ
 use Rattle.er_run.specs.Reports.{IsReportOfText, IsFaultOfText}
 use Rattle.er_run.specs.declared.fault.RunFault.{RunFault}
 use Rattle.er_run.specs.declared.fault.RunFault.TheVariants.{Read, Write, Replay, Memory, Damaged}
-use Rattle.er_run.specs.declared.fault.Verdict.{Verdict}
+use Rattle.er_batch.specs.declared.verdict.Verdict.{Verdict}
 use Rattle.er_text.specs.declared.faults.ReadFault.TheVariants as reading
-use Rattle.er_run.specs.declared.fault.Verdict.TheVariants as verdict
+use Rattle.er_batch.specs.declared.verdict.Verdict.TheVariants as verdict
 
 -- the verdict by the report's numbers
 verdict_from : (recording : Recording) (rules : List Target) (explain : Bool) (stop : Option Stopped) (s : Summary) → s ≡ report_of recording rules explain stop

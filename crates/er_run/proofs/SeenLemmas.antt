@@ -18,7 +18,7 @@ use Rattle.er_text.specs.declared.endings.Ending.{Ending}
 use Rattle.er_text.specs.declared.reading.Batch.{Batch}
 use Rattle.er_text.specs.declared.reading.Batch.TheVariants.{More, End}
 use Rattle.er_trace.specs.Trace.{Recording, no_steps, without_steps}
-use Rattle.er_run.proofs.PassLemmas.{read-whole, read-part}
+use Rattle.er_batch.proofs.BatchLemmas.{read-whole, read-part}
 
 -- a batch
 module _ (told : Option (List ℕ)) (old new : Reached) (known rest : Option (List ℕ)) (t u : Recording) (batch : Batch) (seen after_it : Option Inspected)

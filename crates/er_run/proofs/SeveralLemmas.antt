@@ -29,9 +29,9 @@ use Rattle.er_report.proofs.GrowthLemmas.{reported-on}
 use Rattle.er_report.specs.Builder.{Built, GoesOn, IsReported, IsStepAt, KeepsState, is_plain}
 use Rattle.er_report.specs.Report.{answered_steps, report_of, stop_line, told as summary}
 use Rattle.er_report.specs.declared.report.Report.{Report}
-use Rattle.er_run.proofs.PassLemmas.{all-named, read-part, read-whole}
+use Rattle.er_batch.proofs.BatchLemmas.{all-named, read-part, read-whole}
 use Rattle.er_run.specs.Faults.{fault_of}
-use Rattle.er_run.specs.Inner.Passes.{recorded}
+use Rattle.er_batch.specs.Runs.{recorded}
 use Rattle.er_run.specs.Inner.Reports.{IsFaultOfText, IsReportOfText}
 use Rattle.er_run.specs.Inner.Several.{AreItems, BeginsWith, HasMore, HasReadAll, HasReadOn, HasReportedAll, IsNext, IsReadFault, Pending}
 use Rattle.er_run.specs.declared.fault.RunFault.TheVariants.{Read}

@@ -1,5 +1,4 @@
 pub mod Faults
-pub mod Limits
 pub mod Replays
 pub mod Reports
 pub mod Inner

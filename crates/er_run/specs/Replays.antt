@@ -1,6 +1,9 @@
 -- What a whole replay comes to, from the bytes read to the bytes written.
 use Rattle.std.specs.Prelude.{◌≡◌, ℕ, ◌<◌, nat_lt, Bool, true, false, cond, List, [], length, take, Option, Some, None, IfSome, Result, Ok, Err}
 use Rattle.std.specs.Io.KnownBytes.{Appends, Keeps}
+use Rattle.er_batch.specs.Runs.{IsRunOf}
+use Rattle.er_batch.specs.declared.verdict.Verdict.{Verdict}
+use Rattle.er_batch.specs.declared.verdict.Verdict.TheVariants as verdict
 use Rattle.er_damage.specs.Damaged.{IsDamageOf, has_damage}
 use Rattle.er_damage.specs.declared.damage.Damage.{Damage}
 use Rattle.er_event.specs.declared.refusals.NoRoom.{NoRoom}
@@ -17,16 +20,8 @@ use Rattle.er_report.specs.declared.report.Report.{Report}
 use Rattle.er_rules.specs.Rules.{Target}
 use Rattle.er_run.specs.declared.fault.RunFault.{RunFault}
 use Rattle.er_run.specs.declared.fault.RunFault.TheVariants.{Read, Write, Replay, Memory, Damaged}
-use Rattle.er_run.specs.declared.fault.Verdict.{Verdict}
-use Rattle.er_run.specs.declared.fault.Verdict.TheVariants as verdict
 use Rattle.er_text.specs.Trace.{IsTrace, IsFault}
 use Rattle.er_text.specs.declared.faults.ReadFault.TheVariants as reading
-
--- a run of the text's trace, which stopped at one of its steps for want of room that it may want, or not at all
-pub record IsRunOf (text : List ℕ) (limit : ℕ) (recording : Recording) (stop : Option Stopped) : Type 0 where
-  pub trace : IsTrace text limit recording
-  pub within : IfSome stop (λ s. s.at < length recording.steps)
-  pub cause : IfSome stop (λ s. MayStop [] recording.steps s)
 
 -- stopped where the run stopped, and else whether a race is printed
 abbrev pub verdict_of : Recording → List Target → Bool → Option Stopped → Verdict

@@ -4,7 +4,8 @@ use Rattle.er_journal.specs.declared.answers.Stopped.{Stopped}
 use Rattle.er_report.specs.Report.{report_of, told as summary}
 use Rattle.er_report.specs.declared.report.Report.{Report}
 use Rattle.er_rules.specs.Rules.{Target}
-use Rattle.er_run.specs.Replays.{IsRunOf, IsReplayFault, IsFoundDamage}
+use Rattle.er_batch.specs.Runs.{IsRunOf}
+use Rattle.er_run.specs.Replays.{IsReplayFault, IsFoundDamage}
 use Rattle.er_run.specs.declared.fault.RunFault.{RunFault}
 use Rattle.er_run.specs.declared.fault.RunFault.TheVariants.{Read, Write, Replay, Memory, Damaged}
 use Rattle.er_text.specs.Trace.{IsFault}

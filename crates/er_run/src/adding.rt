@@ -7,7 +7,8 @@ ghost use Rattle.er_parallel.specs.Found.{usual};
 ghost use Rattle.er_replay.specs.Wants.{is_access};
 ghost use Rattle.er_report.specs.Builder.{IsBuilt, IsReported};
 ghost use Rattle.er_report.specs.Names.{HasSiteName};
-ghost use Rattle.er_run.specs.Inner.Passes.{Lags, recorded};
+ghost use Rattle.er_batch.specs.Inner.Answering.{Lags};
+ghost use Rattle.er_batch.specs.Runs.{recorded};
 ghost use Rattle.er_run.specs.Inner.Several.{AreItems, IsNext};
 ghost use Rattle.er_trace.specs.Trace.{IsNamed};
 

@@ -11,17 +11,6 @@ use std::alloc::AllocError;
 use std::error::Error;
 use std::fmt;
 
-/// What a replay came to.
-#[derive(Clone, Copy, Debug, PartialEq, Eq)]
-pub enum Verdict {
-    /// The whole trace was replayed, and no race is printed.
-    Clean,
-    /// The whole trace was replayed, and some race is printed.
-    Races,
-    /// The replay stopped for want of room.
-    Stopped,
-}
-
 /// Why a replay gave no report, or not all of it.
 #[derive(Clone, Copy, Debug, PartialEq, Eq)]
 pub enum RunFault {

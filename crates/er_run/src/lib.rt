@@ -22,16 +22,13 @@
 //! limit and 1,025 bytes were taken from the reader (`taken`).
 #![tactic(auto)]
 
-pub use fault::{RunFault, Verdict};
-pub use options::Options;
-pub use passes::answer_batch;
+pub use er_batch::{Options, Progress, Unwatched, Verdict, Watch, answer_batch};
+pub use fault::RunFault;
 pub use replay::{ReplayedTrace, replay_report, replay_text, replay_text_watched, verdict_of};
-pub use watching::{Progress, Unwatched, Watch};
 
 mod adding;
 mod fault;
 mod inspecting;
-mod options;
 mod passes;
 mod replay;
 mod rest;

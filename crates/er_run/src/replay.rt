@@ -7,7 +7,7 @@ ghost use Rattle.er_report.specs.Names.{HasNames};
 ghost use Rattle.er_report.specs.Report.{told};
 ghost use Rattle.er_rules.specs.Rules.{targets_of};
 ghost use Rattle.er_run.specs.Inner.Reports.{WritesFound};
-ghost use Rattle.er_run.specs.Limits.{bytes_past_limit};
+ghost use Rattle.er_batch.specs.Limits.{bytes_past_limit};
 ghost use Rattle.er_run.specs.Replays.{IsReplayed, IsFailed, IsNoDamage, WritesNothing, FailsBy, is_stopped, is_verdict_of};
 ghost use Rattle.er_run.specs.Reports.{IsReportOfText, IsFaultOfText};
 

@@ -6,7 +6,7 @@ ghost use Rattle.er_parallel.specs.Faults.{MayFail};
 ghost use Rattle.er_run.specs.Inner.Reports.{IsFaultOfText};
 ghost use Rattle.er_run.specs.Inner.Several.{BeginsWith, FailsReader, HasMore, IsReadFault};
 ghost use Rattle.er_run.specs.Replays.{IsNoDamage};
-ghost use Rattle.er_run.specs.Limits.{bytes_past_limit};
+ghost use Rattle.er_batch.specs.Limits.{bytes_past_limit};
 ghost use Rattle.er_text.specs.Batches.{GivesBatch, HasRead};
 ghost use Rattle.er_text.specs.Inner.Lending.{taken_by};
 ghost use Rattle.er_text.specs.Trace.{HasFailedBy};

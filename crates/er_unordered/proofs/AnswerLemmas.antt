@@ -24,7 +24,7 @@ use Rattle.er_order.proofs.StepLemmas.{clocks-front, held-front, some-at}
 use Rattle.er_order.specs.Races.{order_answer, order_answer_to, order_reply}
 use Rattle.er_order.specs.Reasons.{unordered_with}
 use Rattle.er_report.specs.Names.{HaveStateNames}
-use Rattle.er_run.proofs.StepLemmas.{past-next}
+use Rattle.er_batch.proofs.StepLemmas.{past-next}
 use Rattle.er_trace.specs.Names.{NameTable}
 use Rattle.er_unordered.specs.Answers.{done_if_show, unordered_answer}
 

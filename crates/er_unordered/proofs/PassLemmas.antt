@@ -18,13 +18,13 @@ use Rattle.er_explain.proofs.RaceLemmas.{race-is}
 use Rattle.er_model.specs.Holdings.{holdings_end}
 use Rattle.er_order.specs.Races.{order_answer}
 use Rattle.er_report.specs.Builder.{ArePlainBy, Built, IsBuiltBy, IsStepBy, GoesOn, is_plain, report_below_by}
-use Rattle.er_run.proofs.PassLemmas.{all-named}
+use Rattle.er_batch.proofs.BatchLemmas.{all-named}
 use Rattle.er_text.specs.Batches.{joined, HasRead}
 use Rattle.er_text.specs.Places.{Reached}
 use Rattle.er_text.specs.Named.{KeepsNames}
 use Rattle.er_trace.specs.Names.{NameTable, no_names}
 use Rattle.er_trace.specs.Trace.{Recording, IsNamed, no_steps}
-use Rattle.er_run.proofs.StepLemmas.{past-next}
+use Rattle.er_batch.proofs.StepLemmas.{past-next}
 use Rattle.er_unordered.proofs.AnswerLemmas.{answer-here, locks-here, race-accesses, show-done, unordered-front}
 use Rattle.er_unordered.specs.Answers.{unordered_answer}
 use Rattle.er_unordered.proofs.ReasonLemmas.{kept-there}

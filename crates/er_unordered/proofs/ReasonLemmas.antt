@@ -35,7 +35,7 @@ use Rattle.er_report.specs.Report.{AreAccesses, is_printed_by, matching_rule_by}
 use Rattle.er_report.specs.declared.report.Because.{Because}
 use Rattle.er_report.specs.declared.report.Label.TheVariants as label
 use Rattle.er_rules.specs.Rules.{Target}
-use Rattle.er_run.proofs.StepLemmas.{past-next}
+use Rattle.er_batch.proofs.StepLemmas.{past-next}
 use Rattle.er_trace.specs.Names.{NameTable}
 use Rattle.er_trace.specs.Trace.{Recording, IsNamed}
 use Rattle.er_unordered.proofs.AnswerLemmas.{long, order-here, with-here}

@@ -9,7 +9,7 @@ use Rattle.er_journal.specs.declared.answers.Stopped.{Stopped}
 use Rattle.er_order.specs.Clocks.{own_count}
 use Rattle.er_order.specs.Order.{acts_of}
 use Rattle.er_print.specs.declared.fault.WriteFault.TheVariants as writing
-use Rattle.er_run.specs.Replays.{IsRunOf}
+use Rattle.er_batch.specs.Runs.{IsRunOf}
 use Rattle.er_text.specs.Trace.{IsTrace, IsFault}
 use Rattle.er_text.specs.declared.faults.ReadFault.TheVariants as reading
 use Rattle.er_trace.specs.Trace.{Recording}

@@ -5,8 +5,8 @@ use Rattle.er_print.specs.Printed.{output_of}
 use Rattle.er_print.specs.declared.fault.WriteFault.TheVariants as writing
 use Rattle.er_report.specs.Report.{report_of}
 use Rattle.er_rules.specs.Rules.{Target}
-use Rattle.er_run.specs.declared.fault.Verdict.{Verdict}
-use Rattle.er_run.specs.declared.fault.Verdict.TheVariants.{Clean, Races}
+use Rattle.er_batch.specs.declared.verdict.Verdict.{Verdict}
+use Rattle.er_batch.specs.declared.verdict.Verdict.TheVariants.{Clean, Races}
 use Rattle.er_text.specs.Trace.{IsTrace}
 use Rattle.er_trace.specs.Trace.{Recording}
 use Rattle.er_unordered.specs.Faults.{IsFaultOf}

@@ -6,8 +6,8 @@ use Rattle.er_request.specs.declared.request.Format.TheVariants.{Text}
 use Rattle.er_request.specs.declared.request.Replay.{Replay}
 use Rattle.er_rules.specs.Rules.{Target}
 use Rattle.er_run.specs.Replays.{IsReplayed}
-use Rattle.er_run.specs.declared.fault.Verdict.{Verdict}
-use Rattle.er_run.specs.declared.fault.Verdict.TheVariants.{Clean, Races, Stopped}
+use Rattle.er_batch.specs.declared.verdict.Verdict.{Verdict}
+use Rattle.er_batch.specs.declared.verdict.Verdict.TheVariants.{Clean, Races, Stopped}
 use Rattle.er_unordered.specs.Replays.{IsReplayedBy}
 use Rattle.er_unordered.specs.declared.replay.Analysis.{Analysis as Order}
 use Rattle.er_unordered.specs.declared.replay.Analysis.TheVariants as order

@@ -12,7 +12,7 @@ use Rattle.er_rules.specs.Rules.{Target}
 use Rattle.er_run.specs.Replays.{is_verdict_of}
 use Rattle.er_run.specs.declared.fault.RunFault.{RunFault}
 use Rattle.er_run.specs.declared.fault.RunFault.TheVariants.{Read, Write, Replay, Memory, Damaged}
-use Rattle.er_run.specs.declared.fault.Verdict.{Verdict}
+use Rattle.er_batch.specs.declared.verdict.Verdict.{Verdict}
 use Rattle.er_text.specs.declared.faults.ReadFault.{ReadFault}
 use Rattle.er_trace.specs.Names.{NameTable}
 

@@ -5,7 +5,7 @@ use Rattle.er_event.specs.declared.refusals.NoRoom.{NoRoom}
 use Rattle.er_event.specs.declared.steps.Step.{Step}
 use Rattle.er_replay.specs.Standing.{Replayed}
 use Rattle.er_report.specs.Builder.{Built, IsBuiltBy}
-use Rattle.er_run.specs.Inner.Passes.{HasRun}
+use Rattle.er_batch.specs.Runs.{HasRun}
 use Rattle.er_text.specs.Batches.{HasRead}
 use Rattle.er_text.specs.Places.{Reached}
 use Rattle.er_text.specs.Trace.{IsTrace}

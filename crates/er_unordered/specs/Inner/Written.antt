@@ -2,7 +2,7 @@
 use Rattle.std.specs.Prelude.{ℕ, List, Option, Result, Ok, Err, take}
 use Rattle.std.specs.Io.KnownBytes.{Appends, Keeps}
 use Rattle.er_print.specs.declared.fault.WriteFault.TheVariants as writing
-use Rattle.er_run.specs.declared.fault.Verdict.{Verdict}
+use Rattle.er_batch.specs.declared.verdict.Verdict.{Verdict}
 use Rattle.er_unordered.specs.declared.fault.OrderFault.{OrderFault}
 use Rattle.er_unordered.specs.declared.fault.OrderFault.TheVariants.{Read, Write, TableFull, CountFull, Memory}
 

@@ -2,10 +2,11 @@
 use Rattle.std.proofs.Common.{◌≡◌, ◌∙◌, ◌+◌, ◌++◌, ℕ, List, length, slice_get, slice_index, Some, refl, sym, subst, arith}
 use Rattle.std.proofs.lemmas.Option.{slice_get_read}
 use Rattle.er_event.specs.declared.steps.Step.{Step}
-use Rattle.er_run.specs.Inner.Passes.{Lags, recorded}
+use Rattle.er_batch.specs.Inner.Answering.{Lags}
+use Rattle.er_batch.specs.Runs.{recorded}
 use Rattle.er_trace.specs.Trace.{Recording}
-use Rattle.er_run.proofs.LagLemmas.{lags-more, lags-none}
-use Rattle.er_run.proofs.PassLemmas.{number-behind}
+use Rattle.er_batch.proofs.LagLemmas.{lags-more, lags-none}
+use Rattle.er_batch.proofs.BatchLemmas.{number-behind}
 use Rattle.er_run.proofs.SeveralLemmas.{unnoted, usual-plain}
 use Rattle.er_run.proofs.adding.add_batch.Goals as goal
 use Rattle.er_run.proofs.adding.add_batch.Goals.{then-says_nothing, else-says_nothing+in_ok-next}

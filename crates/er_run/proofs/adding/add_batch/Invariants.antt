@@ -2,7 +2,8 @@ use Rattle.std.proofs.Common.{◌≡◌, ◌++◌, ◌+◌, ◌≤◌, ℕ, List
 use Rattle.er_event.specs.declared.steps.Step.{Step as Steps}
 use Rattle.er_parallel.specs.Crews.{Rise}
 use Rattle.er_report.specs.Builder.{IsReported}
-use Rattle.er_run.specs.Inner.Passes.{Lags, recorded}
+use Rattle.er_batch.specs.Inner.Answering.{Lags}
+use Rattle.er_batch.specs.Runs.{recorded}
 use Rattle.er_run.specs.Inner.Several.{AreItems, IsNext}
 use Rattle.er_run.proofs.adding.add_batch.Given as goal
 

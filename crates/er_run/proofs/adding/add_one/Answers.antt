@@ -3,7 +3,7 @@ use Rattle.std.proofs.Common.{◌+◌, ◌++◌, ℕ, Result, length, sym, subst
 use Rattle.er_event.specs.declared.refusals.Refusal.{Refusal}
 use Rattle.er_event.specs.declared.steps.Reply.{Reply}
 use Rattle.er_report.specs.Builder.{IsStepAt}
-use Rattle.er_run.specs.Inner.Passes.{recorded}
+use Rattle.er_batch.specs.Runs.{recorded}
 use Rattle.er_run.proofs.SeveralLemmas.{with-item, as-usual}
 use Rattle.er_run.proofs.adding.add_one.Goals as goal
 

@@ -6,7 +6,7 @@ use Rattle.er_event.proofs.Lists.{get_behind}
 use Rattle.er_event.specs.declared.steps.Step.{Step}
 use Rattle.er_model.specs.Holdings.{Holdings}
 use Rattle.er_replay.proofs.ThreadsLemmas.{err_from}
-use Rattle.er_run.proofs.PassLemmas.{number-behind}
+use Rattle.er_batch.proofs.BatchLemmas.{number-behind}
 use Rattle.er_text.specs.Batches.{joined}
 use Rattle.er_unordered.specs.Answers.{unordered_answer}
 use Rattle.er_trace.specs.Trace.{Recording}

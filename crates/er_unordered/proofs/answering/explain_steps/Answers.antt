@@ -4,7 +4,7 @@ use Rattle.std.proofs.lemmas.Option.{slice_get_read}
 use Rattle.er_before.specs.Standing.{Ordered}
 use Rattle.er_event.proofs.Lists.{get_behind}
 use Rattle.er_event.specs.declared.steps.Step.{Step}
-use Rattle.er_run.proofs.PassLemmas.{number-behind}
+use Rattle.er_batch.proofs.BatchLemmas.{number-behind}
 use Rattle.er_text.specs.Batches.{joined}
 use Rattle.er_trace.specs.Trace.{Recording}
 use Rattle.er_unordered.specs.Inner.Passes.{HasExplainedTo}

@@ -1,7 +1,7 @@
 -- A batch goes on behind the steps that are forgotten, and with the last one they are the text's.
 use Rattle.std.proofs.Common.{◌++◌, sym, subst}
 use Rattle.er_device.specs.Device.{inner_of}
-use Rattle.er_run.proofs.PassLemmas.{read-whole, read-part}
+use Rattle.er_batch.proofs.BatchLemmas.{read-whole, read-part}
 use Rattle.er_text.specs.Batches.{joined}
 use Rattle.er_trace.specs.Trace.{Recording}
 use Rattle.er_unordered.specs.Inner.Stopping.{ReadsOn}

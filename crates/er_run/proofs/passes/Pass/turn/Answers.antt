@@ -6,7 +6,7 @@ use Rattle.er_text.specs.Batches.{joined}
 use Rattle.er_trace.specs.Trace.{Recording}
 use Rattle.er_run.specs.Inner.Inspected.{HasSeen}
 use Rattle.er_run.proofs.SeenLemmas.{seen-part, seen-whole}
-use Rattle.er_run.proofs.PassLemmas.{read-whole, read-part}
+use Rattle.er_batch.proofs.BatchLemmas.{read-whole, read-part}
 use Rattle.er_run.proofs.passes.Pass.turn.Goals as goal
 
 pub returns-in-End-clause-ended : goal.returns-in-End-clause-ended

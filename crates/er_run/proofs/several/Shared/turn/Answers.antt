@@ -5,7 +5,7 @@ use Rattle.er_event.specs.declared.steps.Step.{Step}
 use Rattle.er_parallel.specs.Crews.{AreNoted, AreUnusual, HaveAnswered}
 use Rattle.er_parallel.specs.Faults.{MayFail}
 use Rattle.er_parallel.specs.declared.faults.ReplayFault.{ReplayFault}
-use Rattle.er_run.proofs.PassLemmas.{all-named}
+use Rattle.er_batch.proofs.BatchLemmas.{all-named}
 use Rattle.er_run.proofs.SeveralLemmas.{given-of, reads-all, reads-on}
 use Rattle.er_run.proofs.SeenLemmas.{seen-part, seen-whole}
 use Rattle.er_run.specs.Inner.Inspected.{HasSeen}

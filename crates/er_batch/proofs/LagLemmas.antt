@@ -8,8 +8,8 @@ use Rattle.er_model.specs.Answers.{answer, answer_next, state_end}
 use Rattle.er_replay.specs.Standing.{Replayed, Stands}
 use Rattle.er_replay.specs.Wants.{is_access}
 use Rattle.er_report.specs.Builder.{Built, ArePlain, IsReported, KeepsState, KeepStates, is_plain}
-use Rattle.er_run.proofs.StepLemmas.{answer-here, keeps-here, past-next}
-use Rattle.er_run.specs.Inner.Passes.{HasComeTo, Lags}
+use Rattle.er_batch.proofs.StepLemmas.{answer-here, keeps-here, past-next}
+use Rattle.er_batch.specs.Inner.Answering.{HasComeTo, Lags}
 use Rattle.er_trace.specs.Trace.{Recording}
 
 -- by none

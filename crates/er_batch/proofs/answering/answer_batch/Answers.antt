@@ -1,9 +1,9 @@
 -- A run that has stopped stays where it is, and one that hasn't goes on to the end of the batch or to a stop in it.
 use Rattle.std.proofs.Common.{◌≡◌, ◌∙◌, Option, None, is_some, length, refl, sym, ap, subst}
-use Rattle.er_run.specs.Inner.Passes.{Answers, HasAnswered}
+use Rattle.er_batch.specs.Inner.Answering.{Answers, HasAnswered}
 use Rattle.er_text.specs.Batches.{joined}
-use Rattle.er_run.proofs.PassLemmas.{stays, goes, whole, part, none-by}
-use Rattle.er_run.proofs.passes.answer_batch.Goals as goal
+use Rattle.er_batch.proofs.BatchLemmas.{stays, goes, whole, part, none-by}
+use Rattle.er_batch.proofs.answering.answer_batch.Goals as goal
 
 pub returns-then-is_some-clause-run : goal.returns-then-is_some-clause-run
 returns-then-is_some-clause-run g c = λ past lines names kept run.

@@ -1,6 +1,6 @@
 //! How a replay is run.
 ghost use Rattle.std.specs.Prelude.{◌≡◌, ◌≤◌, ◌<◌, ◌⊎◌, false, IsSome, IsNone, IfSome};
-ghost use Rattle.er_run.specs.Limits.{AreInLimits, most_bytes, most_sets, most_shards, most_workers, usual_bytes, usual_shards};
+ghost use Rattle.er_batch.specs.Limits.{AreInLimits, most_bytes, most_sets, most_shards, most_workers, usual_bytes, usual_shards};
 
 use er_trace::NameKeys;
 

@@ -5,7 +5,7 @@ use Rattle.er_event.specs.declared.steps.Reply.{Reply}
 use Rattle.er_event.specs.declared.steps.Step.{Step}
 use Rattle.er_model.specs.Answers.{answer}
 use Rattle.er_report.specs.Builder.{is_plain, ArePlain}
-use Rattle.er_run.proofs.passes.add_answer.Goals as goal
+use Rattle.er_batch.proofs.answering.add_answer.Goals as goal
 use Rattle.std.proofs.Common.{List}
 
 -- a plain answer of one step

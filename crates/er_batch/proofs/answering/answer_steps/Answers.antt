@@ -8,14 +8,14 @@ use Rattle.er_model.specs.Holdings.{Holdings}
 use Rattle.er_replay.proofs.StopsLemmas.{lacks}
 use Rattle.er_replay.specs.Standing.{Replayed, Stands, holding, states}
 use Rattle.er_report.specs.Builder.{IsReported}
-use Rattle.er_run.specs.Inner.Passes.{HasComeTo}
+use Rattle.er_batch.specs.Inner.Answering.{HasComeTo}
 use Rattle.er_text.specs.Batches.{joined}
 use Rattle.er_trace.specs.Trace.{Recording}
-use Rattle.er_run.proofs.LagLemmas.{come-plain, come-told, lags-end}
-use Rattle.er_run.proofs.PassLemmas.{number-behind}
-use Rattle.er_run.proofs.StepLemmas.{step-at}
-use Rattle.er_run.proofs.passes.answer_steps.Goals as goal
-use Rattle.er_run.proofs.passes.answer_steps.Goals.{then-says_nothing, else-says_nothing+in_ok-add_behind}
+use Rattle.er_batch.proofs.LagLemmas.{come-plain, come-told, lags-end}
+use Rattle.er_batch.proofs.BatchLemmas.{number-behind}
+use Rattle.er_batch.proofs.StepLemmas.{step-at}
+use Rattle.er_batch.proofs.answering.answer_steps.Goals as goal
+use Rattle.er_batch.proofs.answering.answer_steps.Goals.{then-says_nothing, else-says_nothing+in_ok-add_behind}
 
 pub returns-in-Some-clause-run : goal.returns-in-Some-clause-run
 returns-in-Some-clause-run g c = λ past lines long before.

@@ -1,8 +1,8 @@
 use Rattle.std.proofs.Common.{◌≡◌, ◌+◌, ℕ, List, length, is_some}
 use Rattle.er_event.specs.declared.steps.Step.{Step}
-use Rattle.er_run.specs.Inner.Passes.{HasAnswered, HasComeTo}
+use Rattle.er_batch.specs.Inner.Answering.{HasAnswered, HasComeTo}
 use Rattle.er_text.specs.Batches.{joined}
-use Rattle.er_run.proofs.passes.answer_steps.Given as goal
+use Rattle.er_batch.proofs.answering.answer_steps.Given as goal
 
 -- behind any steps that were answered, the machine stands for these and the first k steps of the trace, and the report lags behind by the
 -- steps that are counted

@@ -1,0 +1,185 @@
+-- A run that forgets its steps is a run over all of them: a batch goes on behind what was answered, and the names may have grown.
+use Rattle.std.proofs.Common.{◌≡◌, ◌<◌, ◌≤◌, ◌+◌, ℕ, zero, suc, List, [], ◌++◌, length, length-append, take, slice_index, get_or, Option, Some, None, is_some, false, IfSome, Ok, refl, sym, ap, subst, ◌∙◌, inl, inr, arith}
+use Rattle.std.specs.List.{All}
+use Rattle.std.proofs.lemmas.List.{take-append-le, length-take-le, get_or_append_left, get_or-append-add}
+use Rattle.std.proofs.Math.Seq.{take-append_seam, take-length}
+use Rattle.std.proofs.lemmas.List.Elements.{All-append}
+use Rattle.std.proofs.lemmas.Option.{slice_get_within, slice_get-get_or}
+use Rattle.er_batch.specs.Inner.Answering.{Answers, HasAnswered}
+use Rattle.er_batch.specs.Runs.{HasRun, recorded}
+use Rattle.er_event.proofs.Lists.{get_front}
+use Rattle.er_event.specs.declared.refusals.NoRoom.{NoRoom}
+use Rattle.er_event.specs.declared.steps.Event.{Event}
+use Rattle.er_event.specs.declared.steps.Event.TheVariants.{Acquire, Release, Access, Reuse, IgnoreOn, IgnoreOff, Show, Level, Sync}
+use Rattle.er_event.specs.declared.steps.Sync.{Sync as SyncEvent}
+use Rattle.er_event.specs.declared.steps.Sync.TheVariants.{Start, Join, Signal, Await}
+use Rattle.er_event.specs.declared.steps.Step.{Step}
+use Rattle.er_journal.specs.declared.answers.Stopped.{Stopped}
+use Rattle.er_replay.specs.Standing.{Replayed, Stands}
+use Rattle.er_replay.specs.Stops.{MayStop}
+use Rattle.er_report.proofs.GrowthLemmas.{reported-on}
+use Rattle.er_report.specs.Builder.{Built, IsReported, GoesOn}
+use Rattle.er_report.specs.Report.{stop_line}
+use Rattle.er_text.proofs.BatchLaws.{forgotten}
+use Rattle.er_text.specs.Batches.{joined, HasRead, GivesBatch}
+use Rattle.er_text.specs.Places.{Reached}
+use Rattle.er_text.specs.Trace.{IsTrace}
+use Rattle.er_text.specs.declared.reading.Batch.{Batch}
+use Rattle.er_text.specs.declared.reading.Batch.TheVariants.{More, End}
+use Rattle.er_text.specs.Named.{KeepsNumbers, KeepsNames}
+use Rattle.er_trace.specs.Names.{NameTable}
+use Rattle.er_trace.specs.Trace.{Recording, IsNamed, HasNames, HasOrderNames, without_steps}
+
+-- numbers that have names still have them
+still : (old new : List (List ℕ)) (n : ℕ) → KeepsNumbers old new → n < length old → n < length new
+still old new n kept within =
+    slice_get_within new n (get_or old n []) (kept n (get_or old n []) (slice_get-get_or old n [] within))
+
+still-site : (old new : List (List ℕ)) (n : ℕ) → KeepsNumbers old new → n ≤ length old → n ≤ length new
+still-site old new zero kept within = omega arith
+still-site old new (suc n) kept within = (let there : n < length new = still old new n kept (omega arith) in omega arith)
+
+order-named : (old new : NameTable) → KeepsNames old new → (sync : SyncEvent) → HasOrderNames old sync → HasOrderNames new sync
+order-named old new kept (Start thread) named = still old.threads new.threads thread kept.threads named
+order-named old new kept (Join thread) named = still old.threads new.threads thread kept.threads named
+order-named old new kept (Signal object) named = still old.locks new.locks object kept.locks named
+order-named old new kept (Await object) named = still old.locks new.locks object kept.locks named
+
+event-named : (old new : NameTable) → KeepsNames old new → (event : Event) → HasNames old event → HasNames new event
+event-named old new kept (Acquire l m) named = still old.locks new.locks l kept.locks named
+event-named old new kept (Release l m) named = still old.locks new.locks l kept.locks named
+event-named old new kept (Access kind word site) named = still-site old.sites new.sites site kept.sites named
+event-named old new kept (Reuse range) named = tt
+event-named old new kept IgnoreOn named = tt
+event-named old new kept IgnoreOff named = tt
+event-named old new kept (Show w) named = tt
+event-named old new kept (Level n) named = tt
+event-named old new kept (Sync sync) named = order-named old new kept sync named
+
+step-named : (old new : NameTable) → KeepsNames old new → (step : Step) → IsNamed old step → IsNamed new step
+step-named old new kept step named =
+    record { thread = still old.threads new.threads step.thread kept.threads named.thread; event = event-named old new kept step.event named.event }
+
+pub all-named : (old new : NameTable) → KeepsNames old new → (steps : List Step) → All (IsNamed old) steps → All (IsNamed new) steps
+all-named old new kept steps all = λ k x within. step-named old new kept _ (all k x within)
+
+-- the line of a step in a batch
+pub number-behind : (lines more : List ℕ) (n k : ℕ) → length lines ≡ n → slice_index more k ≡ slice_index (lines ++ more) (n + k)
+number-behind lines more n k long = sym (ap (λ (m : ℕ). slice_index (lines ++ more) (m + k)) (sym long) ∙ get_or-append-add lines more k 0)
+
+-- a stop in front of later steps is one of the longer list
+stop-front : (steps more : List Step) (s : Stopped) → s.at < length steps → MayStop [] steps s → MayStop [] (steps ++ more) s
+stop-front steps more s within (inl none) = inl none
+stop-front steps more s within (inr lacks) =
+    inr (rw (get_front steps more s.at within, take-append-le s.at steps more (omega arith)) lacks)
+
+-- a batch of steps behind those that are past
+module _ (past : List Step) (lines : List ℕ) (names : NameTable) (trace : Recording) (kept : KeepsNames names trace.names)
+    (told : All (IsNamed trace.names) trace.steps) (even : length trace.lines ≡ length trace.steps)
+    (old : Replayed) (oldest : Built) (stop : Option (ℕ × NoRoom)) (run : HasRun old oldest stop (recorded past lines names)) where
+  abbrev after : Recording
+  after = joined past lines trace
+
+  on : GoesOn (recorded past lines names) after
+  on = record { named = run.named; long = run.long; more = trace.steps; others = trace.lines; steps = refl; lines = refl; sites = kept.sites }
+
+  named : All (IsNamed trace.names) (past ++ trace.steps)
+  named = All-append (IsNamed trace.names) past trace.steps (all-named names trace.names kept past run.named) told
+
+  long : length (lines ++ trace.lines) ≡ length (past ++ trace.steps)
+  long = (let a : length lines ≡ length past = run.long in omega (arith, length-append lines trace.lines, length-append past trace.steps, even))
+
+  -- a run that has stopped stays where it is
+  stays-by : (o : Option Stopped) → run.stopped ≡ o → (stop ≡ None → ⊥) → HasRun old oldest stop after
+  stays-by None is some = absurd (some (run.line ∙ ap (stop_line (recorded past lines names)) is))
+  stays-by (Some s) is some =
+      let within : s.at < length past = rw is at run.within in
+      let same : length lines ≡ length past = run.long in
+      let front : take s.at (past ++ trace.steps) ≡ take s.at past = take-append-le s.at past trace.steps (omega arith) in
+      let most : length (take s.at past) ≤ length past = omega (arith, length-take-le s.at past (omega arith)) in
+      record {
+        stopped = Some s;
+        line = run.line ∙ ap (stop_line (recorded past lines names)) is
+            ∙ ap (λ (n : ℕ). Some (n, s.cause)) (sym (get_or_append_left lines trace.lines 0 s.at (omega arith)));
+        within = omega (arith, length-append past trace.steps);
+        cause = stop-front past trace.steps s within (rw is at run.cause);
+        reported = subst (λ (steps : List Step). IsReported oldest after (length steps)) (sym front)
+            (reported-on oldest _ after (length (take s.at past)) on most (rw is at run.reported));
+        stands = λ none. absurd (cc);
+        named = named;
+        long = long;
+      }
+
+  pub stays : (stop ≡ None → ⊥) → HasRun old oldest stop after
+  stays = stays-by run.stopped refl
+
+  -- one that hasn't has answered what is past
+  goes-by : (o : Option Stopped) → run.stopped ≡ o → stop ≡ None → HasAnswered old oldest after (length past)
+  goes-by None is none =
+      record {
+        stands = subst (Stands old) (sym (take-append_seam past trace.steps)) (run.stands is);
+        reported = reported-on oldest _ after (length past) on (omega arith) (rw is at run.reported);
+      }
+  goes-by (Some s) is none = absurd (let clash = sym none ∙ run.line ∙ ap (stop_line (recorded past lines names)) is in cc)
+
+  pub goes : stop ≡ None → HasAnswered old oldest after (length past)
+  goes = goes-by run.stopped refl
+
+  pub long-past : length lines ≡ length past
+  long-past = run.long
+
+  -- and goes on to the end of the batch, or stops in it
+  pub whole : (machine : Replayed) (builder : Built) → Answers machine builder after (length past) None → HasRun machine builder None after
+  whole machine builder answered =
+      record {
+        stopped = None;
+        line = refl;
+        within = tt;
+        cause = tt;
+        reported = answered.reported;
+        stands = λ none. subst (Stands machine) (take-length (past ++ trace.steps)) answered.stands;
+        named = named;
+        long = long;
+      }
+
+  pub part : (machine : Replayed) (builder : Built) (s : Stopped) (number : ℕ) → number ≡ slice_index trace.lines s.at → Answers machine builder after (length past) (Some s)
+      → HasRun machine builder (Some (number, s.cause)) after
+  part machine builder s number is answered =
+      record {
+        stopped = Some (record { at = length past + s.at; cause = s.cause });
+        line = ap (λ (n : ℕ). Some (n, s.cause)) (is ∙ number-behind lines trace.lines (length past) s.at run.long);
+        within = answered.1;
+        cause = answered.2;
+        reported = subst (IsReported builder after) (sym (length-take-le (length past + s.at) (past ++ trace.steps) (omega (arith, answered.1)))) answered.0;
+        stands = λ none. absurd (cc);
+        named = named;
+        long = long;
+      }
+
+pub none-by : {X : Type 0} (o : Option X) → is_some o ≡ false → o ≡ None
+none-by None none = refl
+none-by (Some x) none = absurd (cc)
+
+-- what a batch gives of the text, if the text is known
+module _ (told : Option (List ℕ)) (past : List Step) (lines : List ℕ) (old new : Reached) (known rest : Option (List ℕ)) (t u : Recording) (batch : Batch) where
+  abbrev Gives : Type 0
+  Gives = (text : List ℕ) (steps : List Step) (numbers : List ℕ) → HasRead text steps numbers old known t → GivesBatch text steps numbers new rest u (Ok batch)
+
+  pub read-whole : batch ≡ End → new.place.limit ≡ old.place.limit → Gives → IfSome told (λ text. HasRead text past lines old known t)
+      → IfSome told (λ text. IsTrace text old.place.limit (joined past lines u))
+  read-whole is limit gives read = by told read
+    where
+      by : (o : Option (List ℕ)) → IfSome o (λ text. HasRead text past lines old known t) → IfSome o (λ text. IsTrace text old.place.limit (joined past lines u))
+      by None read = tt
+      by (Some text) read =
+          subst (λ (n : ℕ). IsTrace text n (joined past lines u)) limit
+          (subst (λ (b : Batch). GivesBatch text past lines new rest u (Ok b)) is (gives text past lines read))
+
+  pub read-part : batch ≡ More → Gives → IfSome told (λ text. HasRead text past lines old known t)
+      → IfSome told (λ text. HasRead text (past ++ u.steps) (lines ++ u.lines) new rest (without_steps u))
+  read-part is gives read = by told read
+    where
+      by : (o : Option (List ℕ)) → IfSome o (λ text. HasRead text past lines old known t) → IfSome o (λ text. HasRead text (past ++ u.steps) (lines ++ u.lines) new rest (without_steps u))
+      by None read = tt
+      by (Some text) read =
+          forgotten text past lines new rest u (subst (λ (b : Batch). GivesBatch text past lines new rest u (Ok b)) is (gives text past lines read))

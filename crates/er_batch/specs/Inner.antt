@@ -1,0 +1,2 @@
+-- How far the answers to a batch have come.
+pub mod Answering

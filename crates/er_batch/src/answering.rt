@@ -1,0 +1,163 @@
+//! Answers the steps of a batch by one machine, and adds them to a report.
+ghost use Rattle.std.specs.Prelude.{◌≡◌, ◌+◌, ◌<◌, ◌^◌, ℕ, List, length, is_some, IfSome, IfOk, IsTrue, OnOk, false, true};
+ghost use Rattle.er_batch.specs.Inner.Answering.{Answers, HasAnswered, Lags};
+ghost use Rattle.er_batch.specs.Runs.{HasRun, recorded};
+ghost use Rattle.er_event.specs.declared.steps.Step.{Step as Steps};
+ghost use Rattle.er_replay.specs.Wants.{is_access};
+ghost use Rattle.er_report.specs.Builder.{IsBuilt, IsReported, IsStepAt, is_plain};
+ghost use Rattle.er_report.specs.Names.{HasSiteName};
+ghost use Rattle.er_text.specs.Batches.{joined};
+ghost use Rattle.er_text.specs.Named.{KeepsNames};
+ghost use Rattle.er_trace.specs.Names.{NameTable};
+ghost use Rattle.er_trace.specs.Trace.{Recording};
+
+use er_event::{Event, Lockset, NoRoom, Refusal, Reply, Step};
+use er_journal::Stopped;
+use er_replay::{Machine, no_room};
+use er_report::ReportBuilder;
+use er_trace::{Names, Trace};
+use std::alloc::AllocError;
+use std::sync::Wait;
+
+/// Answers the steps of a batch and adds them to the report, and says where the run has stopped. Once it has stopped nothing is added.
+/// Another analysis of the same batches can be made beside it.
+pub fn answer_batch<R: Wait>(
+    rt: &R,
+    machine: &mut Machine<'_>,
+    trace: &Trace,
+    builder: &mut ReportBuilder<'_>,
+    stop: Option<(u64, NoRoom)>,
+) -> Result<Option<(u64, NoRoom)>, AllocError>
+    ensures rules { OnOk result (builder.new.rules ≡ builder.old.rules) }
+    ensures explains { OnOk result (is_some builder.new.kept ≡ is_some builder.old.kept) }
+    ensures run { (past : List Steps) (lines : List ℕ) (names : NameTable) → KeepsNames names trace.now.names → HasRun machine.old builder.old stop (recorded past lines names)
+        → IfOk result (λ stop. HasRun machine.new builder.new stop (joined past lines trace.now)) }
+{
+    let steps = trace.steps();
+    let lines = trace.lines();
+    prove!(steps.len() == lines.len());
+    if stop.is_some() {
+        return Ok(stop);
+    }
+    Ok(match answer_steps(rt, machine, trace, builder)? {
+        Some(Stopped { at, cause }) => Some((lines[at as usize], cause)),
+        None => None,
+    })
+}
+
+// Whether the report says nothing of an answer.
+#[inline(always)]
+fn is_plain(answer: &Result<Reply, Refusal>) -> bool
+    ensures { result ≡ is_plain answer.now }
+{
+    matches!(answer, Ok(Reply::Quiet | Reply::Done | Reply::Ignored))
+}
+
+// Whether the report says nothing of a step that is answered so: it needs no line, and if reasons are wanted it is an access that has not
+// changed its word.
+#[inline(always)]
+fn says_nothing(
+    explains: bool,
+    event: Event,
+    answer: &Result<Reply, Refusal>,
+    changed: bool,
+) -> bool
+    ensures plain { IsTrue result → is_plain answer.now ≡ true }
+    ensures keeps { IsTrue result → explains ≡ true → (is_access event ≡ true) × (changed ≡ false) }
+{
+    let plain = is_plain(answer);
+    if explains {
+        plain && !changed && matches!(event, Event::Access(..))
+    } else {
+        plain
+    }
+}
+
+// Adds the next step to the report. If it has nothing to say, it is counted and makes no line.
+fn add_answer(
+    builder: &mut ReportBuilder<'_>,
+    names: &Names,
+    line: u64,
+    step: &Step,
+    answer: &Result<Reply, Refusal>,
+    held: &Lockset,
+) -> Result<(), AllocError>
+    requires room { builder.old.report.steps + 1 < 2 ^ 64 }
+    requires site { HasSiteName names.now step.now.event }
+    ensures rules { OnOk result (builder.new.rules ≡ builder.old.rules) }
+    ensures steps { OnOk result (builder.new.report.steps ≡ builder.old.report.steps + 1) }
+    ensures built { (r : Recording) (k : ℕ) → IsBuilt builder.old r k → IsStepAt r k names.now line step.now answer.now held.now → OnOk result (IsBuilt builder.new r (k + 1)) }
+    ensures kept { OnOk result (builder.new.kept ≡ builder.old.kept) }
+{
+    if is_plain(answer) {
+        builder.add_plain(1);
+        return Ok(());
+    }
+    builder.add(names, line, step, answer, held)
+}
+
+// Adds so many steps that have nothing to say, and then one that has.
+fn add_behind(
+    builder: &mut ReportBuilder<'_>,
+    plain: u64,
+    names: &Names,
+    line: u64,
+    step: &Step,
+    answer: &Result<Reply, Refusal>,
+    held: &Lockset,
+) -> Result<(), AllocError>
+    requires room { builder.old.report.steps + plain + 1 < 2 ^ 64 }
+    requires site { HasSiteName names.now step.now.event }
+    ensures rules { OnOk result (builder.new.rules ≡ builder.old.rules) }
+    ensures steps { OnOk result (builder.new.report.steps ≡ builder.old.report.steps + plain + 1) }
+    ensures explains { OnOk result (is_some builder.new.kept ≡ is_some builder.old.kept) }
+    ensures reported { (r : Recording) (n : ℕ) → Lags builder.old r n plain → IsStepAt r n names.now line step.now answer.now held.now → OnOk result (IsReported builder.new r (n + 1)) }
+{
+    builder.add_plain(plain);
+    add_answer(builder, names, line, step, answer, held)?;
+    builder.explain(line, step)?;
+    Ok(())
+}
+
+// Answers each step and adds it to the report, up to the first that finds no room. Steps that have nothing to say are counted and added
+// before the next one that has. So many steps that they can't be counted any more are reported as a want of memory.
+fn answer_steps<R: Wait>(
+    rt: &R,
+    machine: &mut Machine<'_>,
+    trace: &Trace,
+    builder: &mut ReportBuilder<'_>,
+) -> Result<Option<Stopped>, AllocError>
+    ensures rules { OnOk result (builder.new.rules ≡ builder.old.rules) }
+    ensures explains { OnOk result (is_some builder.new.kept ≡ is_some builder.old.kept) }
+    ensures within { IfOk result (λ stopped. IfSome stopped (λ stop. stop.at < length trace.now.steps)) }
+    ensures run { (past : List Steps) (lines : List ℕ) → length lines ≡ length past → HasAnswered machine.old builder.old (joined past lines trace.now) (length past)
+        → IfOk result (λ stopped. Answers machine.new builder.new (joined past lines trace.now) (length past) stopped) }
+{
+    let steps = trace.steps();
+    if steps.len() as u64 > u64::MAX - builder.steps() {
+        return Err(AllocError);
+    }
+    let explains = builder.explains();
+    let mut plain = 0;
+    for (k, step) in steps.iter().enumerate() {
+        machine.look_ahead(steps, k);
+        let (answer, changed) = machine.step_noting(rt, *step);
+        if let Some(cause) = no_room(&answer) {
+            builder.add_plain(plain);
+            return Ok(Some(Stopped {
+                at: k as u64,
+                cause,
+            }));
+        }
+        if says_nothing(explains, step.event, &answer, changed) {
+            plain += 1;
+        } else {
+            let held = machine.held(step.thread).held();
+            let line = trace.lines()[k];
+            add_behind(builder, plain, trace.names(), line, step, &answer, held)?;
+            plain = 0;
+        }
+    }
+    builder.add_plain(plain);
+    Ok(None)
+}
