@@ -1,24 +1,83 @@
 //! Pieces added to a trace, in their order.
-ghost use Rattle.std.specs.Prelude.{◌≡◌, ◌+◌, ◌≤◌, ℕ, List, Option, OnOk};
+ghost use Rattle.std.specs.Prelude.{◌≡◌, ◌+◌, ◌≤◌, ◌<◌, ◌^◌, ℕ, All, List, Option, OnOk, length, take, true};
 ghost use Rattle.er_event.specs.declared.steps.Step.{Step};
-ghost use Rattle.er_reading.specs.Inner.Adding.{StandInFront};
+ghost use Rattle.er_reading.specs.Inner.Adding.{AreEntered, AreReady, FitBehind, IsWhole, MayAllBeAdded, StandInFront, names_behind};
 ghost use Rattle.er_text.specs.Batches.{HasRead};
 ghost use Rattle.er_text.specs.Inner.Lending.{taken_by};
 ghost use Rattle.er_text.specs.Lines.{bytes_past_limit};
 ghost use Rattle.er_text.specs.Named.{Grows};
+ghost use Rattle.er_text.specs.Pieces.{ReadPiece};
+ghost use Rattle.er_trace.specs.Names.{NameTable};
 
+use crate::cutting::number_pieces;
 use er_text::{Piece, TraceReader};
 use er_trace::Trace;
 use std::alloc::AllocError;
+use std::thread::Threads;
 
-/// Adds the pieces of the lines in front of a reader, and passes over these lines. It stops at the first piece of which not all was read,
-/// and says whether there was none.
-pub(crate) fn add_pieces(
+/// How many pieces stand before the first of which not all was read.
+fn whole_count(pieces: &[Piece]) -> usize
+    ensures within { result ≤ length pieces.now }
+    ensures whole { All IsWhole (take result pieces.now) }
+{
+    for at in 0..pieces.len() {
+        if !pieces[at].is_whole() {
+            return at;
+        }
+    }
+    pieces.len()
+}
+
+/// Adds the names of the pieces to a trace, in their order, and notes in each their numbers there and how many lines stand before it.
+fn enter_pieces(trace: &mut Trace, before: u64, pieces: &mut [Piece]) -> Result<(), AllocError>
+    requires { FitBehind before pieces.old }
+    ensures names { OnOk result (trace.new ≡ record trace.old { names = names_behind trace.old.names pieces.old }) }
+    ensures entered { OnOk result (AreEntered before trace.old.names pieces.old pieces.new) }
+{
+    let Some((first, others)) = pieces.split_first_mut() else {
+        return Ok(());
+    };
+    let lines = first.lines();
+    first.enter(trace, before)?;
+    enter_pieces(trace, before + lines, others)
+}
+
+/// Adds the steps of pieces that were numbered, and passes over their lines.
+fn add_numbered(
     lines: &mut TraceReader,
     trace: &mut Trace,
     pieces: &[Piece],
+) -> Result<(), AllocError>
+    requires front { MayAllBeAdded lines.old trace.old pieces.now }
+    requires within { lines.old.place.start ≤ lines.old.place.limit }
+    requires most { taken_by lines.old.place ≤ lines.old.place.limit + bytes_past_limit }
+    ensures told { (text : List ℕ) (steps : List Step) (numbers : List ℕ) (known : Option (List ℕ)) (names : NameTable) (read : List ReadPiece)
+        → StandInFront lines.old read → All IsWhole read → AreReady lines.old.place.number names read pieces.now → trace.old.names ≡ names_behind names read
+        → HasRead text steps numbers lines.old known (record trace.old { names = names })
+        → OnOk result (HasRead text steps numbers lines.new known trace.new) }
+    ensures grows { OnOk result (Grows trace.old trace.new) }
+    ensures limit { lines.new.place.limit ≡ lines.old.place.limit }
+    ensures start { OnOk result (lines.old.place.start ≤ lines.new.place.start) }
+    ensures within { lines.new.place.start ≤ lines.new.place.limit }
+    ensures taken { taken_by lines.new.place ≡ taken_by lines.old.place }
+    ensures most { taken_by lines.new.place ≤ lines.new.place.limit + bytes_past_limit }
+{
+    let Some((first, others)) = pieces.split_first() else {
+        return Ok(());
+    };
+    lines.add_piece(trace, first)?;
+    add_numbered(lines, trace, others)
+}
+
+/// Adds the pieces of the lines in front of a reader, and passes over these lines. Their names are added one piece after another, and then each
+/// thread gives the steps of some of them their numbers. It stops at the first piece of which not all was read, and says whether there was none.
+pub(crate) fn add_pieces<R: Threads + Sync>(
+    rt: &R,
+    lines: &mut TraceReader,
+    trace: &mut Trace,
+    pieces: &mut [Piece],
 ) -> Result<bool, AllocError>
-    requires front { StandInFront lines.old pieces.now }
+    requires front { StandInFront lines.old pieces.old }
     requires within { lines.old.place.start ≤ lines.old.place.limit }
     requires most { taken_by lines.old.place ≤ lines.old.place.limit + bytes_past_limit }
     ensures told { (text : List ℕ) (steps : List Step) (numbers : List ℕ) (known : Option (List ℕ))
@@ -31,11 +90,12 @@ pub(crate) fn add_pieces(
     ensures taken { taken_by lines.new.place ≡ taken_by lines.old.place }
     ensures most { taken_by lines.new.place ≤ lines.new.place.limit + bytes_past_limit }
 {
-    for piece in pieces {
-        if !piece.is_whole() {
-            return Ok(false);
-        }
-        lines.add_piece(trace, piece)?;
-    }
-    Ok(true)
+    let count = whole_count(pieces);
+    let all = count == pieces.len();
+    let before = lines.lines_before();
+    let (whole, _broken) = pieces.split_at_mut(count);
+    enter_pieces(trace, before, whole)?;
+    number_pieces(rt, whole);
+    add_numbered(lines, trace, whole)?;
+    Ok(all)
 }

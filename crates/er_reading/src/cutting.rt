@@ -1,8 +1,9 @@
-//! Lines cut into pieces, and each piece read in a thread of its own.
-ghost use Rattle.std.specs.Prelude.{◌≡◌, ◌+◌, ◌<◌, ◌≤◌, length, take, drop};
+//! Lines cut into pieces, and each piece read and numbered in a thread of its own.
+ghost use Rattle.std.specs.Prelude.{◌≡◌, ◌+◌, ◌<◌, ◌≤◌, All, length, take, drop};
 ghost use Rattle.std.specs.Thread.{IsSync};
+ghost use Rattle.er_reading.specs.Inner.Adding.{AreNumbered};
 ghost use Rattle.er_reading.specs.Pieces.{ArePiecesOf};
-ghost use Rattle.er_text.specs.Pieces.{AreWhole};
+ghost use Rattle.er_text.specs.Pieces.{AreWhole, CanBeNumbered};
 
 use er_text::{Piece, Version};
 use memchr::memchr;
@@ -51,5 +52,32 @@ pub(crate) fn read_pieces<R: Threads + Sync>(
             requires { IsSync R.row × (1 ≤ length second.now) × (length second.now ≤ 16) × AreWhole back.now }
             ensures { ArePiecesOf version back.entry.now second.exit.now }
         { read_pieces(rt, version, back, second) },
+    );
+}
+
+/// Gives the steps of these pieces their numbers, each in a thread of its own if one can be started.
+pub(crate) fn number_pieces<R: Threads + Sync>(rt: &R, pieces: &mut [Piece])
+    requires { All CanBeNumbered pieces.old }
+    ensures { AreNumbered pieces.old pieces.new }
+{
+    let count = pieces.len();
+    if count == 0 {
+        return;
+    }
+    if count == 1 {
+        pieces[0].number();
+        return;
+    }
+    let (first, second) = pieces.split_at_mut(count / 2);
+    join_mut(
+        rt,
+        &mut ||
+            requires { IsSync R.row × All CanBeNumbered first.now }
+            ensures { AreNumbered first.entry.now first.exit.now }
+        { number_pieces(rt, first) },
+        &mut ||
+            requires { IsSync R.row × All CanBeNumbered second.now }
+            ensures { AreNumbered second.entry.now second.exit.now }
+        { number_pieces(rt, second) },
     );
 }

@@ -105,7 +105,7 @@ impl PieceReader {
             return Ok(false);
         }
         read_pieces(rt, version, bytes, self.pieces.as_mut_slice());
-        add_pieces(&mut self.lines, trace, self.pieces.as_slice())
+        add_pieces(rt, &mut self.lines, trace, self.pieces.as_mut_slice())
     }
 
     /// Reads some of the next lines, or those up to the end of the text, and adds their steps to the trace.

@@ -1,12 +1,13 @@
 -- A piece of the lines in front gives what a reading of these lines gives.
-use Rattle.std.proofs.Common.{◌≡◌, ℕ, ◌+◌, ◌^◌, ◌&&◌, nat_eq, ◌<◌, ◌≤◌, Bool, true, false, List, [], ◌∷◌, ◌++◌, append_assoc, length, take, drop, Option, Some, None, Ok, refl, subst, sym, ap, ◌∙◌, arith}
+use Rattle.std.proofs.Common.{◌≡◌, ℕ, ◌+◌, ◌^◌, ◌&&◌, nat_eq, ◌<◌, ◌≤◌, Bool, true, false, List, [], ◌∷◌, ◌++◌, append_assoc, length, map, take, drop, Option, Some, None, Ok, refl, subst, sym, ap, ◌∙◌, arith}
 use Rattle.std.proofs.lemmas.Bool.Decides.{nat_tests}
 use Rattle.std.proofs.lemmas.List.{take-append-drop, length-take-le}
 use Rattle.std.proofs.lemmas.List.Elements.{All-nil}
 use Rattle.std.specs.List.{All}
 use Rattle.er_event.specs.declared.steps.Step.{Step}
-use Rattle.er_trace.specs.Appended.{appended}
-use Rattle.er_trace.specs.Trace.{Recording, IsNamed, no_steps}
+use Rattle.er_trace.specs.Appended.{appended, renumbered_step, with_table}
+use Rattle.er_trace.specs.Names.{NameTable}
+use Rattle.er_trace.specs.Trace.{Recording, IsNamed, no_steps, with_steps}
 use Rattle.er_text.specs.declared.reading.Batch.TheVariants.{More}
 use Rattle.er_text.specs.declared.stages.Stage.{Stage}
 use Rattle.er_text.specs.declared.stages.Stage.TheVariants.{Events}
@@ -14,7 +15,7 @@ use Rattle.er_text.specs.declared.verbs.Version.{Version}
 use Rattle.er_text.specs.Batches.{HasRead}
 use Rattle.er_text.specs.Ending.{is_cut_after}
 use Rattle.er_text.specs.Lines.{Line, lines_of, placed_from}
-use Rattle.er_text.specs.Pieces.{ReadPiece, StandsInFront, AreWhole}
+use Rattle.er_text.specs.Pieces.{ReadPiece, StandsInFront, AreWhole, IsReady}
 use Rattle.er_text.specs.Places.{Place, Reached}
 use Rattle.er_text.specs.Inner.Endings.{BatchesCut}
 use Rattle.er_text.specs.Inner.Lending.{lines_left, past_lines}
@@ -150,3 +151,17 @@ piece_fits old piece before front whole number limit i d h =
     let few = piece_few old piece front whole in
     let within = front.within in
     omega (arith, small, few, within, number, limit)
+
+-- steps, their lines and names
+abbrev parts : List Step → List ℕ → NameTable → Recording
+parts steps lines names = record { steps = steps; lines = lines; names = names }
+
+-- a trace to which the steps of a piece were added, under the names that were there before and those of the piece
+pub ready_appended : (before : ℕ) (t u : Recording) (names : NameTable) (read piece : ReadPiece) (steps : List Step) (lines : List ℕ)
+    → u ≡ with_steps t steps lines → steps ≡ piece.steps → lines ≡ piece.places → IsReady before (with_table names read.told.names) read piece
+    → record u { names = with_table names read.told.names } ≡ appended before (record t { names = names }) read.told
+ready_appended before t u names read piece steps lines added stepped lined ready =
+    let all : NameTable = with_table names read.told.names in
+    ap (λ (r : Recording). record r { names = all }) added
+    ∙ ap (λ (s : List Step). parts (t.steps ++ s) (t.lines ++ lines) all) (stepped ∙ ready.steps)
+    ∙ ap (λ (l : List ℕ). parts (t.steps ++ map (renumbered_step read.told.names all) read.told.steps) (t.lines ++ l) all) (lined ∙ ready.places)

@@ -1,7 +1,11 @@
 -- Pieces of a text, which are read apart from what stands before them.
-use Rattle.std.specs.Prelude.{◌≡◌, ℕ, ◌+◌, ◌≤◌, Bool, true, List, [], length, take}
-use Rattle.std.specs.List.{list_all}
-use Rattle.er_trace.specs.Trace.{Recording, no_steps}
+use Rattle.std.specs.Prelude.{◌≡◌, ℕ, ◌+◌, ◌<◌, ◌≤◌, ◌^◌, Bool, true, List, [], length, map, take}
+use Rattle.std.specs.List.{All, list_all}
+use Rattle.er_event.specs.declared.steps.Step.{Step}
+use Rattle.er_trace.specs.Appended.{AreNumbers, renumbered_step}
+use Rattle.er_trace.specs.Names.{NameTable}
+use Rattle.er_trace.specs.Trace.{Recording, IsNamed, no_steps}
+use Rattle.er_trace.specs.declared.appending.NewTable.{NewTable}
 use Rattle.er_text.specs.declared.verbs.Version.{Version}
 use Rattle.er_text.specs.declared.stages.Stage.TheVariants.{Events}
 use Rattle.er_text.specs.Lines.{lines_of}
@@ -21,12 +25,18 @@ pub record StaysAt (old new : Reached) : Type 0 where
   pub idle : new.idle ≡ old.idle
   pub cut : new.cut ≡ old.cut
 
--- what was read of a piece: its steps under names of its own, their lines counted from 0, how many lines and bytes it has, and whether all of it was read
+-- what was read of a piece: its steps under names of its own, their lines counted from 0, how many lines and bytes it has, and whether all of it was
+-- read; then the numbers that its names have in the trace that it is added to, how many lines of that text stand before its own, and its steps and lines
+-- by these numbers
 pub record ReadPiece : Type 0 where
   pub told : Recording
   pub lines : ℕ
   pub len : ℕ
   pub whole : Bool
+  pub numbers : NewTable
+  pub before : ℕ
+  pub steps : List Step
+  pub places : List ℕ
 
 -- the piece is these bytes, and if all of it was read, it says what they say
 abbrev pub IsPieceOf : Version → List ℕ → ReadPiece → Type 0
@@ -41,3 +51,44 @@ pub record StandsInFront (reader : Reached) (piece : ReadPiece) : Type 0 where
   pub lines : AreWhole (take piece.len reader.place.ahead)
   pub within : reader.place.start + piece.len ≤ reader.place.limit
   pub read : IsPieceOf version (take piece.len reader.place.ahead) piece
+
+-- the piece knows the numbers that its names have among these, and how many lines stand before its own
+pub record IsEntered (before : ℕ) (names : NameTable) (old new : ReadPiece) : Type 0 where
+  pub numbers : AreNumbers new.numbers old.told.names names
+  pub before_is : new.before ≡ before
+  pub told : new.told ≡ old.told
+  pub lines : new.lines ≡ old.lines
+  pub len : new.len ≡ old.len
+
+-- it can be numbered by what it knows
+pub record CanBeNumbered (piece : ReadPiece) : Type 0 where
+  pub names : NameTable
+  pub numbers : AreNumbers piece.numbers piece.told.names names
+  pub fits : All (λ line. piece.before + line < 2 ^ 64) piece.told.lines
+
+-- its steps have the numbers that it knows, and its lines are counted from behind those before
+pub record IsNumbered (old new : ReadPiece) : Type 0 where
+  pub steps : (names : NameTable) → AreNumbers old.numbers old.told.names names → new.steps ≡ map (renumbered_step old.told.names names) old.told.steps
+  pub places : new.places ≡ map (λ line. old.before + line) old.told.lines
+  pub level : length new.places ≡ length new.steps
+  pub named : All (IsNamed old.told.names) old.told.steps
+  pub lines : new.lines ≡ old.lines
+  pub len : new.len ≡ old.len
+
+-- a piece that was read has come to this one, whose steps have their numbers among these names
+pub record IsReady (before : ℕ) (names : NameTable) (old new : ReadPiece) : Type 0 where
+  pub steps : new.steps ≡ map (renumbered_step old.told.names names) old.told.steps
+  pub places : new.places ≡ map (λ line. before + line) old.told.lines
+  pub level : length new.places ≡ length new.steps
+  pub named : All (IsNamed old.told.names) old.told.steps
+  pub lines : new.lines ≡ old.lines
+  pub len : new.len ≡ old.len
+
+-- it stands in front of a reader, all of it was read, and the trace that it is added to has names for its steps
+pub record MayBeAdded (reader : Reached) (trace : Recording) (piece : ReadPiece) : Type 0 where
+  pub read : ReadPiece
+  pub names : NameTable
+  pub front : StandsInFront reader read
+  pub whole : read.whole ≡ true
+  pub ready : IsReady reader.place.number names read piece
+  pub named : All (IsNamed trace.names) piece.steps

@@ -1,18 +1,21 @@
 //! Pieces of a text: lines that are read apart from those before them, over names of their own.
-ghost use Rattle.std.specs.Prelude.{◌≡◌, ◌+◌, ◌≤◌, ◌&&◌, nat_eq, ℕ, List, Option, drop, length, OnOk, IfSome, IsTrue, []};
-ghost use Rattle.er_event.specs.declared.steps.Step.{Step};
+ghost use Rattle.std.specs.Prelude.{◌≡◌, ◌+◌, ◌≤◌, ◌^◌, ◌&&◌, nat_eq, ℕ, List, Option, drop, length, OnOk, IfSome, IsTrue, [], true};
+ghost use Rattle.er_event.specs.declared.steps.Step.{Step as Steps};
 ghost use Rattle.er_text.specs.Batches.{HasRead};
 ghost use Rattle.er_text.specs.Inner.Lending.{taken_by};
 ghost use Rattle.er_text.specs.Inner.Pieces.{AreRead, IsReadInFront};
 ghost use Rattle.er_text.specs.Lines.{bytes_past_limit, lines_of};
-ghost use Rattle.er_text.specs.Named.{Grows};
-ghost use Rattle.er_text.specs.Pieces.{IsPieceOf, StandsInFront};
+ghost use Rattle.er_text.specs.Pieces.{ReadPiece, CanBeNumbered, IsEntered, IsNumbered, IsPieceOf, IsReady, MayBeAdded, StandsInFront};
+ghost use Rattle.er_trace.specs.Appended.{with_table};
+ghost use Rattle.er_trace.specs.Names.{NameTable};
+ghost use Rattle.er_trace.specs.Trace.{with_steps};
 
 use crate::bytes::line_len;
 use crate::reading::{Header, TraceReader};
 use crate::stages::Stage;
 use crate::verbs::Version;
-use er_trace::{NameKeys, Trace};
+use er_event::Step;
+use er_trace::{NameKeys, NewTable, Trace};
 use std::alloc::{AllocError, Global};
 use std::marker::Model;
 
@@ -21,7 +24,9 @@ const LINE: usize = 1024;
 
 /// Event lines that are read apart from those before them, over names of their own.
 ///
-/// Several threads can read pieces of one text side by side. [`TraceReader::add_piece`] then adds each to the trace, in their order.
+/// Several threads can read pieces of one text side by side. Then one thread adds their names to the trace, in their order
+/// ([`enter`](Piece::enter)), each thread gives the steps of its piece their numbers there ([`number`](Piece::number)), and
+/// [`TraceReader::add_piece`] adds them.
 #[derive(Drop)]
 pub struct Piece {
     alloc: Global,
@@ -30,6 +35,10 @@ pub struct Piece {
     lines: u64,
     len: usize,
     whole: bool,
+    numbers: NewTable,
+    before: u64,
+    steps: Vec<Step>,
+    places: Vec<u64>,
 }
 
 impl Model for Piece {
@@ -37,7 +46,7 @@ impl Model for Piece {
 
     ghost Value = { ReadPiece };
 
-    ghost view = { λ p. record { told = p.trace; lines = p.lines; len = p.len; whole = p.whole } };
+    ghost view = { λ p. record { told = p.trace; lines = p.lines; len = p.len; whole = p.whole; numbers = p.numbers; before = p.before; steps = p.steps.items; places = p.places.items } };
 }
 
 impl Piece {
@@ -50,14 +59,18 @@ impl Piece {
             lines: 0,
             len: 0,
             whole: false,
+            numbers: NewTable::none(alloc),
+            before: 0,
+            steps: Vec::new(alloc),
+            places: Vec::new(alloc),
         }
     }
 
-    /// How many bytes it has.
-    pub fn len(&self) -> usize
-        ensures { result ≡ self.now.len }
+    /// How many lines it has.
+    pub fn lines(&self) -> u64
+        ensures { result ≡ self.now.lines }
     {
-        self.len
+        self.lines
     }
 
     /// Whether all of its lines were read. If one of them has a fault, or can't be read apart, or memory was refused, the answer is no.
@@ -74,7 +87,7 @@ impl Piece {
         ensures { IsPieceOf version bytes.now self.new }
     {
         let mut header = Header::behind(self.alloc, version);
-        self.trace = Trace::keyed(self.alloc, self.keys);
+        self.trace.restart(self.alloc, self.keys);
         self.len = bytes.len();
         match read_lines(&mut header, version, &mut self.trace, bytes) {
             Some(lines) => {
@@ -83,6 +96,27 @@ impl Piece {
             }
             None => self.whole = false,
         }
+    }
+
+    /// Adds the names of the piece to a trace, and notes their numbers there, and how many lines of the text stand before its own.
+    ///
+    /// `AllocError`: memory was refused, or there are 2^30 names of one sort and a new one. Then only some of the names are there.
+    pub fn enter(&mut self, trace: &mut Trace, before: u64) -> Result<(), AllocError>
+        ensures names { OnOk result (trace.new ≡ record trace.old { names = with_table trace.old.names self.old.told.names }) }
+        ensures entered { OnOk result (IsEntered before trace.new.names self.old self.new) }
+    {
+        self.numbers = trace.add_names(self.trace.names())?;
+        self.before = before;
+        Ok(())
+    }
+
+    /// Gives its steps the numbers that were noted, and counts its lines from behind those before. What was read is no longer there then.
+    pub fn number(&mut self)
+        requires { CanBeNumbered self.old }
+        ensures { IsNumbered self.old self.new }
+    {
+        self.trace
+            .take_numbered(&self.numbers, self.before, &mut self.steps, &mut self.places);
     }
 }
 
@@ -148,18 +182,29 @@ impl TraceReader {
         }
     }
 
-    /// Adds the steps of a piece that was read of the lines in front, and passes over these.
+    /// How many lines of the text stand before the piece in front: the number of its first line, since a piece counts from 0.
+    pub fn lines_before(&self) -> u64
+        ensures value { result ≡ self.now.place.number }
+        ensures bound { result ≤ self.now.place.limit + 1 }
+        ensures most_limit { self.now.place.limit ≤ 2 ^ 62 }
+    {
+        self.lines.number()
+    }
+
+    /// Adds the steps of a piece that was read of the lines in front and numbered, and passes over these lines.
     ///
-    /// `AllocError`: memory was refused, and nothing is known of the trace.
+    /// `AllocError`: memory was refused, and the trace is as it was.
     pub fn add_piece(&mut self, trace: &mut Trace, piece: &Piece) -> Result<(), AllocError>
-        requires whole { IsTrue piece.now.whole }
-        requires front { StandsInFront self.old piece.now }
+        requires { MayBeAdded self.old trace.old piece.now }
 
-        // Of a text that was read so far it gives the steps of the piece behind the others.
-        ensures told { (text : List ℕ) (steps : List Step) (lines : List ℕ) (known : Option (List ℕ))
-            → HasRead text steps lines self.old known trace.old → OnOk result (HasRead text steps lines self.new known trace.new) }
+        // Of a text that was read so far under some names it gives the steps of the piece behind the others, under its names too.
+        ensures told { (text : List ℕ) (steps : List Steps) (lines : List ℕ) (known : Option (List ℕ)) (names : NameTable) (read : ReadPiece)
+            → StandsInFront self.old read → read.whole ≡ true → IsReady self.old.place.number (with_table names read.told.names) read piece.now
+            → HasRead text steps lines self.old known (record trace.old { names = names })
+            → OnOk result (HasRead text steps lines self.new known (record trace.new { names = with_table names read.told.names })) }
 
-        ensures grows { OnOk result (Grows trace.old trace.new) }
+        ensures trace { OnOk result (trace.new ≡ with_steps trace.old piece.now.steps piece.now.places) }
+        ensures number { OnOk result (self.new.place.number ≡ self.old.place.number + piece.now.lines) }
         ensures start { OnOk result (self.new.place.start ≡ self.old.place.start + piece.now.len) }
         ensures ahead { OnOk result (self.new.place.ahead ≡ drop piece.now.len self.old.place.ahead) }
         ensures stage { (self.new.stage ≡ self.old.stage) × (self.new.idle ≡ self.old.idle) }
@@ -168,8 +213,8 @@ impl TraceReader {
         ensures taken { taken_by self.new.place ≡ taken_by self.old.place }
         ensures most { taken_by self.new.place ≤ self.new.place.limit + bytes_past_limit }
     {
-        let before = self.lines.number();
-        trace.append(&piece.trace, before)?;
+        let _line = self.lines.number();
+        trace.add_steps(piece.steps.as_slice(), piece.places.as_slice())?;
         self.lines.pass_lines(piece.lines, piece.len);
         self.cut = cut_behind(self.cut, piece.len);
         Ok(())

@@ -2,7 +2,7 @@
 use Rattle.std.proofs.Common.{◌≡◌, ℕ, zero, suc, ◌+◌, ◌<◌, ◌≤◌, List, [], ◌∷◌, ◌++◌, map, length, get_or, append_assoc, append-nil, refl, ap, sym, ◌∙◌, subst, arith}
 use Rattle.std.specs.List.{All, AllByRecursion}
 use Rattle.std.proofs.lemmas.List.{map-append}
-use Rattle.std.proofs.lemmas.List.Elements.{All-weaker, recursion_from_All}
+use Rattle.std.proofs.lemmas.List.Elements.{All-map, All-weaker, recursion_from_All}
 use Rattle.er_event.specs.declared.steps.Event.{Event}
 use Rattle.er_event.specs.declared.steps.Event.TheVariants.{Acquire, Release, Access, Reuse, IgnoreOn, IgnoreOff, Show, Level, Sync}
 use Rattle.er_event.specs.declared.steps.Step.{Step}
@@ -11,7 +11,7 @@ use Rattle.er_event.specs.declared.steps.Sync.TheVariants.{Start, Join, Signal, 
 use Rattle.er_trace.specs.Names.{NameTable}
 use Rattle.er_trace.specs.Trace.{Recording, no_steps, HasOrderNames, HasNames, IsNamed, with_thread_name, with_lock_name, with_site_name}
 use Rattle.er_trace.specs.Appended.{with_names, with_table, renumbered, renumbered_site, renumbered_order, renumbered_event, renumbered_step, appended}
-use Rattle.er_trace.proofs.AppendedLemmas.{with_more, renumbered_below, same_number, more_names}
+use Rattle.er_trace.proofs.AppendedLemmas.{with_more, renumbered_below, same_number, more_names, all_more}
 
 -- new numbers have names
 site_below : (a b : List (List ℕ)) (site : ℕ) → site ≤ length b → renumbered_site b (with_names a b) site ≤ length (with_names a b)
@@ -35,7 +35,7 @@ event_named a b (Show word) is = tt
 event_named a b (Level level) is = tt
 event_named a b (Sync sync) is = order_named a b sync is
 
-pub step_named : (a b : NameTable) (s : Step) → IsNamed b s → IsNamed (with_table a b) (renumbered_step b (with_table a b) s)
+step_named : (a b : NameTable) (s : Step) → IsNamed b s → IsNamed (with_table a b) (renumbered_step b (with_table a b) s)
 step_named a b s is = record { thread = renumbered_below a.threads b.threads s.thread is.thread; event = event_named a b s.event is.event }
 
 -- what has a number keeps its new number from one pair of names to another
@@ -169,10 +169,12 @@ module _ (q : Recording) (named : All (IsNamed q.names) q.steps) (x : List ℕ) 
   pub named_with_site : All (IsNamed (with_site_name q x).names) q.steps
   named_with_site = steps_still q.names (with_site_name q x).names q.steps (omega arith) (omega arith) (more_names q.names.sites x) named
 
--- a step of the other recording has names, and so has its new form here
-pub push_named : (a b now : NameTable) (steps : List Step) (i : ℕ) (s t : Step) → All (IsNamed b) steps → i < length steps → s ≡ get_or steps i s → now ≡ with_table a b
-    → (IsNamed b s → t ≡ renumbered_step b (with_table a b) s) → IsNamed now t
-push_named a b now steps i s t all below at names does =
-    let P : Step → Type 0 = λ x. IsNamed b x in
-    let named : IsNamed b s = subst P (sym at) (all i s below) in
-    rw (names, does named) (step_named a b s named)
+-- steps keep their names once those of another trace have come behind
+pub still_named : (a b : NameTable) (steps : List Step) → All (IsNamed a) steps → All (IsNamed (with_table a b)) steps
+still_named a b steps named = steps_still a (with_table a b) steps (all_more a.threads b.threads) (all_more a.locks b.locks) (all_more a.sites b.sites) named
+
+-- and the steps of that trace have names by their new numbers
+pub new_named : (a b : NameTable) (steps : List Step) → All (IsNamed b) steps → All (IsNamed (with_table a b)) (map (renumbered_step b (with_table a b)) steps)
+new_named a b steps named =
+    let P : Step → Type 0 = λ s. IsNamed (with_table a b) (renumbered_step b (with_table a b) s) in
+    All-map (IsNamed (with_table a b)) (renumbered_step b (with_table a b)) steps (All-weaker (IsNamed b) P (step_named a b) steps named)

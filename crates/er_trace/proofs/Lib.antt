@@ -4,4 +4,5 @@ pub mod NumberLemmas
 pub mod AppendedLemmas
 pub mod AppendedSteps
 pub mod RenumberingLemmas
+pub mod InPlaceLemmas
 pub mod RecentLemmas

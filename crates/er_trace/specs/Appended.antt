@@ -1,5 +1,6 @@
 -- A recording that is appended to another one: its names are numbered again behind those that are there.
-use Rattle.std.specs.Prelude.{ℕ, zero, suc, ◌+◌, ◌++◌, List, [], ◌∷◌, map, get_or}
+use Rattle.std.specs.Prelude.{◌≡◌, ℕ, zero, suc, ◌+◌, ◌++◌, List, [], ◌∷◌, map, get_or}
+use Rattle.er_trace.specs.declared.appending.NewTable.{NewTable}
 use Rattle.er_trace.specs.Names.{NameTable, number_of, with_name}
 use Rattle.er_trace.specs.Trace.{Recording}
 use Rattle.er_event.specs.declared.steps.Event.{Event}
@@ -61,3 +62,9 @@ appended before r q = record {
   lines = r.lines ++ map (λ line. before + line) q.lines;
   names = with_table r.names q.names;
 }
+
+-- the numbers of the old names among the new ones
+pub record AreNumbers (numbers : NewTable) (old new : NameTable) : Type 0 where
+  pub threads : numbers.threads ≡ map (number_of new.threads) old.threads
+  pub locks : numbers.locks ≡ map (number_of new.locks) old.locks
+  pub sites : numbers.sites ≡ map (number_of new.sites) old.sites

@@ -44,6 +44,10 @@ pub record IsNamed (names : NameTable) (step : Step) : Type 0 where
 abbrev pub with_step : Recording → Step → ℕ → Recording
 with_step r step line = record r { steps = r.steps ++ step ∷ []; lines = r.lines ++ line ∷ [] }
 
+-- the recording with more steps, and the line of each
+abbrev pub with_steps : Recording → List Step → List ℕ → Recording
+with_steps r steps lines = record r { steps = r.steps ++ steps; lines = r.lines ++ lines }
+
 -- the recording without its steps, under the same names
 abbrev pub without_steps : Recording → Recording
 without_steps r = record r { steps = []; lines = [] }

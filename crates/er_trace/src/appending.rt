@@ -1,7 +1,7 @@
 //! Numbers of one trace's names in another, and its steps with these numbers.
-ghost use Rattle.std.specs.Prelude.{◌≡◌, ◌+◌, ◌-◌, ◌<◌, ◌≤◌, ◌++◌, ℕ, [], ◌∷◌, get_or, length, OnOk, OnErr};
-ghost use Rattle.er_trace.specs.Appended.{renumbered_order, renumbered_event, renumbered_step};
-ghost use Rattle.er_trace.specs.Inner.Renumbering.{AreNumbers, new_site};
+ghost use Rattle.std.specs.Prelude.{◌≡◌, ◌+◌, ◌-◌, ◌<◌, ◌≤◌, ◌^◌, ◌++◌, ℕ, [], ◌∷◌, All, get_or, length, map, OnOk, OnErr};
+ghost use Rattle.er_trace.specs.Appended.{AreNumbers, renumbered_order, renumbered_event, renumbered_step};
+ghost use Rattle.er_trace.specs.Inner.Renumbering.{new_site};
 ghost use Rattle.er_trace.specs.Names.{NameTable, most_names};
 ghost use Rattle.er_trace.specs.Trace.{HasOrderNames, HasNames, IsNamed};
 
@@ -11,7 +11,7 @@ use std::marker::Model;
 
 /// The new number of each name of one sort, by its old one.
 #[derive(Drop)]
-pub(crate) struct NewNumbers {
+pub struct NewNumbers {
     numbers: Vec<u32>,
 }
 
@@ -56,15 +56,37 @@ impl NewNumbers {
     }
 }
 
-/// The new numbers of all names of a trace.
+/// The numbers that the names of one trace have in another.
 #[derive(Drop)]
-pub(crate) struct NewTable {
-    pub(crate) threads: NewNumbers,
-    pub(crate) locks: NewNumbers,
-    pub(crate) sites: NewNumbers,
+pub struct NewTable {
+    /// Those of threads.
+    pub threads: NewNumbers,
+    /// Those of locks.
+    pub locks: NewNumbers,
+    /// Those of sites, counted from 0.
+    pub sites: NewNumbers,
 }
 
 impl NewTable {
+    /// Those of no names.
+    pub fn none(alloc: Global) -> NewTable {
+        NewTable {
+            threads: NewNumbers::new(alloc),
+            locks: NewNumbers::new(alloc),
+            sites: NewNumbers::new(alloc),
+        }
+    }
+
+    /// Gives each of these steps its new numbers.
+    pub(crate) fn number_steps(&self, steps: &mut [Step])
+        requires { (old : NameTable) × (new : NameTable) × AreNumbers self.now old new × All (IsNamed old) steps.old }
+        ensures { (old new : NameTable) → AreNumbers self.now old new → All (IsNamed old) steps.old → steps.new ≡ map (renumbered_step old new) steps.old }
+    {
+        for at in 0..steps.len() {
+            steps[at] = self.step(steps[at]);
+        }
+    }
+
     /// The step with the new numbers.
     #[inline(always)]
     pub(crate) fn step(&self, step: Step) -> Step
@@ -133,5 +155,15 @@ impl NewTable {
             0 => site,
             number => Site::new(self.sites.get(number - 1) + 1),
         }
+    }
+}
+
+/// Counts each of these lines from behind so many lines.
+pub(crate) fn count_behind(before: u64, lines: &mut [u64])
+    requires { All (λ line. before + line < 2 ^ 64) lines.old }
+    ensures { lines.new ≡ map (λ line. before + line) lines.old }
+{
+    for at in 0..lines.len() {
+        lines[at] = before + lines[at];
     }
 }

@@ -11,6 +11,7 @@
 //! ([`Trace::keyed`]).
 #![tactic(auto)]
 
+pub use appending::{NewNumbers, NewTable};
 pub use er_keys::HashKeys as NameKeys;
 pub use names::{Names, equal_names_alone_share_a_number};
 pub use trace::Trace;

@@ -1,8 +1,8 @@
 //! Numbers for the names of threads, locks and sites.
 ghost use Rattle.std.specs.Prelude.{◌≡◌, ◌+◌, ◌-◌, ◌<◌, ◌≤◌, ℕ, List, [], length, map, Some, slice_get, IsTrue, IsOk, IsErr, IfOk, IfSome, IfNone, OnOk, OnErr, true, false};
-ghost use Rattle.er_trace.specs.Appended.{with_names, with_table};
+ghost use Rattle.er_trace.specs.Appended.{AreNumbers, with_names, with_table};
 ghost use Rattle.er_trace.specs.Inner.Recent.{bytes_of, Knows};
-ghost use Rattle.er_trace.specs.Inner.Renumbering.{AreNumbers, HasMore};
+ghost use Rattle.er_trace.specs.Inner.Renumbering.{HasMore};
 ghost use Rattle.er_trace.specs.Names.{is_known, number_of, with_name, no_names, most_names};
 
 use crate::NameKeys;

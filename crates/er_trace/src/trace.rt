@@ -1,15 +1,15 @@
 //! `Trace`, steps with their lines and names.
-ghost use Rattle.std.specs.Prelude.{◌≡◌, ◌+◌, ◌^◌, ◌<◌, ◌≤◌, All, length, IsTrue, IsOk, IsErr, IfOk, OnOk, OnErr, false};
-ghost use Rattle.er_trace.specs.Appended.{with_table, appended};
-ghost use Rattle.er_trace.specs.Inner.Renumbering.{AreNumbers};
-ghost use Rattle.er_trace.specs.Names.{is_known, number_of, most_names};
-ghost use Rattle.er_trace.specs.Trace.{IsNamed, no_steps, with_step, without_steps, with_thread_name, with_lock_name, with_site_name};
+ghost use Rattle.std.specs.Prelude.{◌≡◌, ◌+◌, ◌^◌, ◌<◌, ◌≤◌, All, length, map, IsTrue, IsOk, IsErr, IfOk, OnOk, OnErr, false};
+ghost use Rattle.er_trace.specs.Appended.{AreNumbers, renumbered_step, with_table};
+ghost use Rattle.er_trace.specs.Names.{NameTable, is_known, number_of, most_names};
+ghost use Rattle.er_trace.specs.Trace.{IsNamed, no_steps, with_step, with_steps, without_steps, with_thread_name, with_lock_name, with_site_name};
 
-use crate::appending::NewTable;
+use crate::appending::{NewTable, count_behind};
 use crate::{NameKeys, Names};
 use er_event::{LockId, Site, Step, ThreadId};
 use std::alloc::{AllocError, Global};
 use std::marker::Model;
+use std::mem;
 
 /// Steps in order, the line of text that each came from, and the names that they use.
 #[derive(Drop)]
@@ -86,26 +86,72 @@ impl Trace {
         Ok(())
     }
 
-    /// Adds the steps of another trace, under the names here: those of its names that are new come behind, in their order. Each of its
-    /// lines is counted from behind so many lines. `AllocError`: memory was refused, or there are 2^30 names of one sort and a new one. Then
-    /// only some of the names and steps are there.
-    pub fn append(&mut self, more: &Trace, before: u64) -> Result<(), AllocError>
-        requires { All (λ line. before + line < 2 ^ 64) more.now.lines }
-        ensures ok { OnOk result (self.new ≡ appended before self.old more.now) }
-    {
-        let numbers = self.add_names(&more.names)?;
-        for at in 0..more.steps.len() {
-            self.push(numbers.step(more.steps[at]), before + more.lines[at])?;
-        }
-        Ok(())
-    }
-
-    /// The numbers here of all those names. Those of them that are new come behind.
-    fn add_names(&mut self, others: &Names) -> Result<NewTable, AllocError>
+    /// Adds the names of another trace: those that are new come behind, in their order. Returns the numbers here of all of them.
+    ///
+    /// `AllocError`: memory was refused, or there are 2^30 names of one sort and a new one. Then only some of the names are there.
+    pub fn add_names(&mut self, others: &Names) -> Result<NewTable, AllocError>
         ensures names { OnOk result (self.new ≡ record self.old { names = with_table self.old.names others.now }) }
         ensures numbers { IfOk result (λ numbers. AreNumbers numbers others.now self.new.names) }
     {
         self.names.add(others)
+    }
+
+    /// Adds these steps, whose numbers have names already, and the line of each. `AllocError`: memory was refused, and the trace is as it
+    /// was.
+    pub fn add_steps(&mut self, steps: &[Step], lines: &[u64]) -> Result<(), AllocError>
+        requires level { length lines.now ≡ length steps.now }
+        requires named { All (IsNamed self.old.names) steps.now }
+        ensures ok { OnOk result (self.new ≡ with_steps self.old steps.now lines.now) }
+        ensures err { OnErr result (self.new ≡ self.old) }
+    {
+        self.steps.reserve(steps.len())?;
+        self.lines.extend_from_slice(lines)?;
+        let added: Result<(), AllocError> = self.steps.extend_from_slice(steps);
+        added.unwrap();
+        Ok(())
+    }
+
+    /// Takes out the steps and their lines, and puts these two lists in their place, whose room it keeps. The names stay.
+    pub fn take_steps(&mut self, steps: &mut Vec<Step>, lines: &mut Vec<u64>)
+        ensures trace { self.new ≡ without_steps self.old }
+        ensures steps { steps.new.items ≡ self.old.steps }
+        ensures lines { lines.new.items ≡ self.old.lines }
+        ensures named { All (IsNamed self.old.names) self.old.steps }
+        ensures level { length self.old.lines ≡ length self.old.steps }
+    {
+        steps.clear();
+        lines.clear();
+        mem::swap(&mut self.steps, steps);
+        mem::swap(&mut self.lines, lines);
+    }
+
+    /// The same, and gives the steps the numbers that their names have in another trace, and counts their lines from behind so many lines.
+    pub fn take_numbered(
+        &mut self,
+        numbers: &NewTable,
+        before: u64,
+        steps: &mut Vec<Step>,
+        lines: &mut Vec<u64>,
+    )
+        requires numbers { (new : NameTable) × AreNumbers numbers.now self.old.names new }
+        requires lines { All (λ line. before + line < 2 ^ 64) self.old.lines }
+        ensures trace { self.new ≡ without_steps self.old }
+        ensures steps { (new : NameTable) → AreNumbers numbers.now self.old.names new → steps.new.items ≡ map (renumbered_step self.old.names new) self.old.steps }
+        ensures lines { lines.new.items ≡ map (λ line. before + line) self.old.lines }
+        ensures level { length self.old.lines ≡ length self.old.steps }
+    {
+        self.take_steps(steps, lines);
+        numbers.number_steps(steps.as_mut_slice());
+        count_behind(before, lines.as_mut_slice());
+    }
+
+    /// Forgets the steps, their lines and all names. It keeps the room for as many steps. Names are hashed by these keys from then on.
+    pub fn restart(&mut self, alloc: Global, keys: NameKeys)
+        ensures { self.new ≡ no_steps }
+    {
+        self.steps.clear();
+        self.lines.clear();
+        self.names = Names::keyed(alloc, keys);
     }
 
     /// Forgets the steps and their lines. It keeps the names, and the room for as many steps.

@@ -1,44 +1,35 @@
--- One piece after another.
-use Rattle.std.proofs.Common.{◌≡◌, ◌+◌, ◌∷◌, drop, refl, sym, ap, ◌∙◌, subst, arith}
-use Rattle.std.proofs.lemmas.List.{drop_more}
-use Rattle.er_text.specs.Pieces.{ReadPiece}
-use Rattle.er_text.proofs.GrowthLemmas.{grows_not, grows_on}
-use Rattle.er_reading.specs.Inner.Adding.{StandInFront}
-use Rattle.er_reading.proofs.PieceLemmas.{first_in_front, others_in_front}
+-- The pieces up to the first broken one: their names, their numbers, their steps.
+use Rattle.er_text.proofs.GrowthLemmas.{grows_on}
+use Rattle.er_text.specs.Batches.{HasRead}
+use Rattle.er_reading.proofs.AddedLemmas.{all_can, may_add, names_grow, some_fit, told_some}
 use Rattle.er_reading.proofs.adding.add_pieces.Goals as goal
 
-pub loop-piece-init : goal.loop-piece-init
-loop-piece-init c = record {
-  front = c.requires.front;
-  told = λ text steps numbers known read. read;
-  grows = grows_not c.args.trace.now;
-  limit = refl;
-  start = omega arith;
-  within = c.requires.within;
-  taken = refl;
-  most = c.requires.most;
-}
+pub enter_pieces-requires : goal.enter_pieces-requires
+enter_pieces-requires g c =
+    some_fit c.args.lines.now c.args.pieces.now c.split_at_mut-whole.result.0.now c.whole_count-count.result c.lines_before-before.result c.requires.front
+    c.split_at_mut-whole.ensures.front c.whole_count-count.ensures.whole c.lines_before-before.ensures.bound c.lines_before-before.ensures.most_limit
 
-pub add_piece-requires-clause-front : goal.add_piece-requires-clause-front
-add_piece-requires-clause-front c =
-    let e : drop c.loop-piece.piece-index c.args.pieces.now ≡ c.piece-item.result ∷ drop (c.loop-piece.piece-index + 1) c.args.pieces.now =
-    drop_more c.args.pieces.now c.loop-piece.piece-index c.piece-item.result (omega (arith, c.loop-piece-test.true)) ∙ ap (λ (p : ReadPiece). p ∷ drop (c.loop-piece.piece-index + 1) c.args.pieces.now) (sym c.piece-item.is) in
-    first_in_front c.loop-piece.lines c.piece-item.result (drop (c.loop-piece.piece-index + 1) c.args.pieces.now) (subst (StandInFront c.loop-piece.lines) e c.loop-piece.invariant.front)
+pub number_pieces-requires-after_bounds : goal.number_pieces-requires-after_bounds
+number_pieces-requires-after_bounds g c κs within =
+    all_can c.lines_before-before.result c.args.trace.now.names c.split_at_mut-whole.result.0.now c.enter_pieces.new.pieces c.in_ok-enter_pieces.ensures.entered
+    (some_fit c.args.lines.now c.args.pieces.now c.split_at_mut-whole.result.0.now c.whole_count-count.result c.lines_before-before.result c.requires.front
+    c.split_at_mut-whole.ensures.front c.whole_count-count.ensures.whole c.lines_before-before.ensures.bound c.lines_before-before.ensures.most_limit)
 
-pub loop-piece-preserved : goal.loop-piece-preserved
-loop-piece-preserved c =
-    let old = c.loop-piece.invariant in
-    let step = c.in_ok-add_piece.ensures in
-    let e : drop c.loop-piece.piece-index c.args.pieces.now ≡ c.piece-item.result ∷ drop (c.loop-piece.piece-index + 1) c.args.pieces.now =
-    drop_more c.args.pieces.now c.loop-piece.piece-index c.piece-item.result (omega (arith, c.loop-piece-test.true)) ∙ ap (λ (p : ReadPiece). p ∷ drop (c.loop-piece.piece-index + 1) c.args.pieces.now) (sym c.piece-item.is) in
-    let all = subst (StandInFront c.loop-piece.lines) e old.front in
-    record {
-      front = others_in_front c.loop-piece.lines c.add_piece.new.self c.piece-item.result (drop (c.loop-piece.piece-index + 1) c.args.pieces.now) all step.stage.0 step.stage.1 step.start step.limit step.ahead;
-      told = λ text steps numbers known read. step.told text steps numbers known (old.told text steps numbers known read);
-      grows = grows_on _ _ _ old.grows step.grows;
-      limit = step.limit ∙ old.limit;
-      start = omega (arith, old.start, step.start);
-      within = step.within;
-      taken = step.taken ∙ old.taken;
-      most = step.most;
-    }
+pub add_numbered-requires-clause-front : goal.add_numbered-requires-clause-front
+add_numbered-requires-clause-front g c =
+    may_add c.args.lines.now c.args.pieces.now c.split_at_mut-whole.result.0.now c.whole_count-count.result c.lines_before-before.result c.requires.front
+    c.split_at_mut-whole.ensures.front c.whole_count-count.ensures.whole c.args.trace.now c.enter_pieces.new.trace c.enter_pieces.new.pieces c.number_pieces.new.pieces
+    c.lines_before-before.ensures.value c.in_ok-enter_pieces.ensures.entered c.number_pieces.ensures c.in_ok-enter_pieces.ensures.names
+
+pub returns-clause-told : goal.returns-clause-told
+returns-clause-told g c = λ text steps numbers known read.
+    told_some c.args.lines.now c.args.pieces.now c.split_at_mut-whole.result.0.now c.whole_count-count.result c.lines_before-before.result c.requires.front
+    c.split_at_mut-whole.ensures.front c.whole_count-count.ensures.whole text steps numbers known c.args.trace.now c.enter_pieces.new.trace c.enter_pieces.new.pieces
+    c.number_pieces.new.pieces (HasRead text steps numbers c.add_numbered.new.lines known c.add_numbered.new.trace) c.lines_before-before.ensures.value
+    c.in_ok-enter_pieces.ensures.entered c.number_pieces.ensures c.in_ok-enter_pieces.ensures.names
+    (λ names read front whole ready named had. c.in_ok-add_numbered.ensures.told text steps numbers known names read front whole ready named had) read
+
+pub returns-clause-grows : goal.returns-clause-grows
+returns-clause-grows g c =
+    grows_on c.args.trace.now c.enter_pieces.new.trace c.add_numbered.new.trace
+    (names_grow c.args.trace.now c.enter_pieces.new.trace c.split_at_mut-whole.result.0.now c.in_ok-enter_pieces.ensures.names) c.in_ok-add_numbered.ensures.grows

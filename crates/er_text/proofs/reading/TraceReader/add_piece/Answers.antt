@@ -1,42 +1,44 @@
 -- The piece comes behind what was read.
-use Rattle.std.proofs.Common.{◌≡◌, true, subst, sym}
+use Rattle.std.proofs.Common.{◌≡◌, ℕ, ◌≤◌, ◌&&◌, nat_eq, Bool, refl, subst, sym, ap, ◌∙◌, arith}
 use Rattle.er_text.specs.Batches.{HasRead}
-use Rattle.er_text.specs.Pieces.{ReadPiece, StandsInFront}
-use Rattle.er_text.specs.Places.{Reached}
+use Rattle.er_text.specs.Inner.Lending.{past_lines}
+use Rattle.er_text.specs.Pieces.{ReadPiece, StandsInFront, IsReady}
+use Rattle.er_text.specs.Places.{Place, Reached}
+use Rattle.er_trace.specs.Appended.{with_table}
 use Rattle.er_trace.specs.Trace.{Recording}
-use Rattle.er_text.specs.Named.{Grows}
-use Rattle.er_text.proofs.AppendedLemmas.{appended_grows}
-use Rattle.er_text.proofs.PieceGives.{added_gives, piece_few, piece_fits}
+use Rattle.er_text.proofs.PieceGives.{added_gives, piece_few, ready_appended}
 use Rattle.er_text.proofs.reading.TraceReader.add_piece.Goals as goal
-
-pub append-requires : goal.append-requires
-append-requires c =
-    let inside : Reached = record { place = c.self.inside.lines; stage = c.self.inside.header.stage; idle = c.self.inside.header.idle; cut = c.self.inside.cut } in
-    let piece : ReadPiece = record { told = c.piece.inside.trace; lines = c.piece.inside.lines; len = c.piece.inside.len; whole = c.piece.inside.whole } in
-    let front : StandsInFront inside piece = subst (λ (r : Reached). StandsInFront r piece) (sym c.self.view_is) (subst (λ (p : ReadPiece). StandsInFront c.args.self.now p) (sym c.piece.view_is) c.requires.front) in
-    let whole : piece.whole ≡ true = subst (λ (p : ReadPiece). p.whole ≡ true) (sym c.piece.view_is) c.requires.whole in
-    let bound = c.number-before.ensures.bound in
-    let limit = c.number-before.ensures.most_limit in
-    piece_fits inside piece c.number-before.result front whole bound limit
 
 pub pass_lines-requires-clause-lines : goal.pass_lines-requires-clause-lines
 pass_lines-requires-clause-lines c =
-    let inside : Reached = record { place = c.self.inside.lines; stage = c.self.inside.header.stage; idle = c.self.inside.header.idle; cut = c.self.inside.cut } in
-    let piece : ReadPiece = record { told = c.piece.inside.trace; lines = c.piece.inside.lines; len = c.piece.inside.len; whole = c.piece.inside.whole } in
-    let front : StandsInFront inside piece = subst (λ (r : Reached). StandsInFront r piece) (sym c.self.view_is) (subst (λ (p : ReadPiece). StandsInFront c.args.self.now p) (sym c.piece.view_is) c.requires.front) in
-    let whole : piece.whole ≡ true = subst (λ (p : ReadPiece). p.whole ≡ true) (sym c.piece.view_is) c.requires.whole in
-    piece_few inside piece front whole
+    let few = piece_few c.args.self.now c.requires.read c.requires.front c.requires.whole in
+    let ready = c.requires.ready in
+    let same : c.args.piece.now.lines ≤ c.args.piece.now.len = omega (arith, few, ready.lines, ready.len) in
+    subst (λ (p : ReadPiece). p.lines ≤ p.len) (sym c.piece.view_is) same
 
 pub returns-clause-told : goal.returns-clause-told
-returns-clause-told c = λ text steps lines known read.
+returns-clause-told c = λ text steps lines known names read front whole ready had.
     let inside : Reached = record { place = c.self.inside.lines; stage = c.self.inside.header.stage; idle = c.self.inside.header.idle; cut = c.self.inside.cut } in
-    let piece : ReadPiece = record { told = c.piece.inside.trace; lines = c.piece.inside.lines; len = c.piece.inside.len; whole = c.piece.inside.whole } in
-    let front : StandsInFront inside piece = subst (λ (r : Reached). StandsInFront r piece) (sym c.self.view_is) (subst (λ (p : ReadPiece). StandsInFront c.args.self.now p) (sym c.piece.view_is) c.requires.front) in
-    let whole : piece.whole ≡ true = subst (λ (p : ReadPiece). p.whole ≡ true) (sym c.piece.view_is) c.requires.whole in
-    let had : HasRead text steps lines inside known c.args.trace.now = subst (λ (r : Reached). HasRead text steps lines r known c.args.trace.now) (sym c.self.view_is) read in
-    added_gives text steps lines inside c.pass_lines.new.self piece c.number-before.result _ known c.args.trace.now c.append.new.self front whole
-    c.number-before.ensures.value c.in_ok-append.ensures.ok c.pass_lines.ensures c.cut_behind-self-inside.ensures had
-
-pub returns-clause-grows : goal.returns-clause-grows
-returns-clause-grows c =
-    subst (λ (r : Recording). Grows c.args.trace.now r) (sym c.in_ok-append.ensures.ok) (appended_grows c.number-before.result c.args.trace.now c.piece.inside.trace)
+    let t : Recording = record c.args.trace.now { names = names } in
+    let u : Recording = record c.add_steps.new.self { names = with_table names read.told.names } in
+    let piece : ReadPiece = record {
+      told = c.piece.inside.trace;
+      lines = c.piece.inside.lines;
+      len = c.piece.inside.len;
+      whole = c.piece.inside.whole;
+      numbers = c.piece.inside.numbers;
+      before = c.piece.inside.before;
+      steps = c.piece.inside.steps.items;
+      places = c.piece.inside.places.items;
+    } in
+    let known_ready : IsReady inside.place.number (with_table names read.told.names) read piece =
+    subst (λ (r : Reached). IsReady r.place.number (with_table names read.told.names) read piece) (sym c.self.view_is)
+    (subst (λ (p : ReadPiece). IsReady c.args.self.now.place.number (with_table names read.told.names) read p) (sym c.piece.view_is) ready) in
+    let told = ready_appended inside.place.number c.args.trace.now c.add_steps.new.self names read piece c.as_slice.result.now c.as_slice-2.result.now
+    c.in_ok-add_steps.ensures.ok c.as_slice.ensures.value c.as_slice-2.ensures.value known_ready in
+    let passed : c.pass_lines.new.self ≡ past_lines inside.place read.lines read.len =
+    c.pass_lines.ensures ∙ ap (λ (n : ℕ). past_lines inside.place n piece.len) known_ready.lines ∙ ap (λ (n : ℕ). past_lines inside.place read.lines n) known_ready.len in
+    let cut : c.cut_behind-self-inside.result ≡ (inside.cut && nat_eq read.len 0) = c.cut_behind-self-inside.ensures ∙ ap (λ (n : ℕ). inside.cut && nat_eq n 0) known_ready.len in
+    added_gives text steps lines inside c.pass_lines.new.self read inside.place.number c.cut_behind-self-inside.result known t u
+    (subst (λ (r : Reached). StandsInFront r read) (sym c.self.view_is) front) whole refl told passed cut
+    (subst (λ (r : Reached). HasRead text steps lines r known t) (sym c.self.view_is) had)

@@ -1,0 +1,43 @@
+-- What was read is numbered by what the piece knows.
+use Rattle.std.proofs.Common.{◌≡◌, ℕ, ◌+◌, ◌∙◌, length, map, refl, subst, sym, ap}
+use Rattle.std.proofs.lemmas.List.{length-map}
+use Rattle.er_text.specs.Pieces.{ReadPiece, IsNumbered, CanBeNumbered}
+use Rattle.er_trace.specs.Appended.{renumbered_step}
+use Rattle.er_text.proofs.pieces.Piece.number.Goals as goal
+
+pub returns : goal.returns
+returns c =
+    let inside : ReadPiece = record {
+      told = c.self.inside.trace;
+      lines = c.self.inside.lines;
+      len = c.self.inside.len;
+      whole = c.self.inside.whole;
+      numbers = c.self.inside.numbers;
+      before = c.self.inside.before;
+      steps = c.self.inside.steps.items;
+      places = c.self.inside.places.items;
+    } in
+    let can : CanBeNumbered inside = subst CanBeNumbered (sym c.self.view_is) c.requires in
+    let is = c.take_numbered.ensures in
+    let numbered : ReadPiece = record {
+      told = c.take_numbered.new.self;
+      lines = c.self.inside.lines;
+      len = c.self.inside.len;
+      whole = c.self.inside.whole;
+      numbers = c.self.inside.numbers;
+      before = c.self.inside.before;
+      steps = c.take_numbered.new.steps.items;
+      places = c.take_numbered.new.lines.items;
+    } in
+    let all : IsNumbered inside numbered = record {
+      steps = is.steps;
+      places = is.lines;
+      level = ap length is.lines
+          ∙ length-map c.self.inside.trace.lines (λ (line : ℕ). c.self.inside.before + line)
+          ∙ is.level
+          ∙ sym (ap length (is.steps can.names can.numbers) ∙ length-map c.self.inside.trace.steps (renumbered_step c.self.inside.trace.names can.names));
+      named = is.named;
+      lines = refl;
+      len = refl;
+    } in
+    subst (λ (p : ReadPiece). IsNumbered p numbered) c.self.view_is all
