@@ -11,10 +11,10 @@
 //! One book is kept of a word: its first access and thread, and once a second thread has joined the locks of the joining, each with
 //! the access that was found for it. A reuse empties the book. `explain` keeps the book of one word, in one pass over the steps.
 //!
-//! [`WordBooks`] keeps the books of all words while the steps are answered, and no step. An access is named there as the caller likes,
-//! by its place or by what is to be said of it. It promises that each word's book goes on as the definitions say (`follow`), and what
-//! a book says of the joining (`joining`). A step that leaves the state of each word as it was needs not be followed
-//! ([`a_kept_state_keeps_the_book`]).
+//! [`WordBooks`] keeps the books of all words while the steps are answered, and no step. An [`Access`] is named there as the caller
+//! likes, by its place or by its line, and by its thread and its kind. It promises that each word's book goes on as the definitions
+//! say (`follow`), and what a book says of the joining (`joining`). A step that leaves the state of each word as it was needs not be
+//! followed ([`a_kept_state_keeps_the_book`]).
 //!
 //! ```
 //! // The steps are `t1 write 0x1000` and `t2 write 0x1000`.
