@@ -1,10 +1,10 @@
-//! `HashKeys`, by which names and numbers of a trace are hashed.
+//! `HashKeys`, and `KeyedHasher` for maps whose keys are texts.
 use std::hash::{BuildHasher, DefaultHasher, Hasher};
 use std::io;
 use std::random::RandomSource;
 
-/// Two numbers by which the keys of a map are hashed. Whoever makes a trace and doesn't know them can't choose names, pages or locksets that
-/// collide. They change nothing that a map answers.
+/// Two numbers by which the keys of a map are hashed. Whoever makes a trace and doesn't know them can't choose names or pages that collide.
+/// They change nothing that a map answers.
 #[derive(Clone, Copy, Debug, PartialEq, Eq)]
 pub struct HashKeys {
     first: u64,
@@ -28,9 +28,14 @@ impl HashKeys {
             second: (both >> 64) as u64,
         })
     }
+
+    // The two numbers.
+    pub(crate) fn numbers(self) -> (u64, u64) {
+        (self.first, self.second)
+    }
 }
 
-/// Begins each hash of a map by the keys.
+/// For maps with keys of any type. It is SipHash, and begins each hash by the two numbers.
 #[derive(Clone, Copy)]
 pub struct KeyedHasher {
     begun: DefaultHasher,

@@ -1,10 +1,12 @@
 //! Keys by which maps hash what a stranger chose.
 //!
-//! Begin with [`HashKeys`]: a program that reads traces of strangers makes them at random, once. A map that is made with a
-//! [`KeyedHasher`] of these keys finds each of its keys as any other map does. Who doesn't know the hash keys can't choose keys that
-//! collide. This is not proved: no clause speaks of a hash.
+//! Begin with [`HashKeys`]: a program that reads traces of strangers makes them at random, once. A map with a [`KeyedHasher`] or a
+//! [`NumberHasher`] of these keys finds each of its keys as any other map does. Whoever doesn't know the hash keys can't choose keys of the
+//! map that collide. That is not proved: the clauses say of a hash how it is computed, and nothing more.
 #![tactic(auto)]
 
 pub use keys::{HashKeys, KeyedHasher};
+pub use number_hasher::NumberHasher;
 
 mod keys;
+mod number_hasher;

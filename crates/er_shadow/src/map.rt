@@ -12,6 +12,7 @@ use crate::page::{Page, WORDS};
 use crate::refining::{is_settled, named, step};
 use er_event::{Kind, Lockset, NoRoom, PageRange, Reply, ThreadId, Word, WordState};
 use er_journal::Stamp;
+use er_keys::{HashKeys, NumberHasher};
 use er_owner::Shadow;
 use er_table::{Known, LocksetTable};
 use indexmap::IndexMap;
@@ -22,7 +23,7 @@ use std::sync::Wait;
 /// The state of every word, by pages of 1,024 words that are made at their first access. Contracts see the `states` of its words.
 #[derive(Drop)]
 pub struct ShadowMap<'t> {
-    pages: IndexMap<u64, Page>,
+    pages: IndexMap<u64, Page, NumberHasher>,
     // Where the page of a number stands.
     places: Hints,
     known: Known<'t>,
@@ -47,11 +48,23 @@ impl<'t> ShadowMap<'t> {
     ghost use Rattle.er_owner.specs.Numbering.{IsNumbered};
     ghost use Rattle.er_shadow.specs.Shadows.{numbered_state, states, needs_set};
 
-    /// A map whose words are all virgin. Its sets of locks go into the table.
+    /// A map whose words are all virgin. Its sets of locks go into the table. Whoever chooses the pages that are accessed can make it slow: see
+    /// [`keyed`](ShadowMap::keyed).
     pub fn new(alloc: Global, table: &'t LocksetTable) -> Result<ShadowMap<'t>, AllocError>
         ensures { IfOk result (λ map. (w : ℕ) → states map w ≡ Virgin) }
     {
-        let pages = IndexMap::new(alloc);
+        ShadowMap::keyed(alloc, table, HashKeys::KNOWN)
+    }
+
+    /// A map whose words are all virgin, and whose pages are hashed by these keys. Its sets of locks go into the table.
+    pub fn keyed(
+        alloc: Global,
+        table: &'t LocksetTable,
+        keys: HashKeys,
+    ) -> Result<ShadowMap<'t>, AllocError>
+        ensures { IfOk result (λ map. (w : ℕ) → states map w ≡ Virgin) }
+    {
+        let pages = IndexMap::with_hasher(alloc, NumberHasher::new(keys));
         let known = Known::new(alloc, table)?;
         let places = Hints::new(alloc)?;
         let covers = Hints::new(alloc)?;
@@ -242,7 +255,11 @@ impl<'t> ShadowMap<'t> {
 
 // Where the page of this number stands. It looks at the page at `hint` first, and needs no hash if that is the one.
 #[inline]
-fn index_of_page(pages: &IndexMap<u64, Page>, hint: usize, number: u64) -> Option<usize>
+fn index_of_page(
+    pages: &IndexMap<u64, Page, NumberHasher>,
+    hint: usize,
+    number: u64,
+) -> Option<usize>
     ensures key { IfSome result (λ index. slice_get (keys pages.now) index ≡ Some number) }
     ensures within { IfSome result (λ index. index < index_map_len pages.now) }
     ensures none { IfNone result (get nat_eq pages.now number ≡ None) }
@@ -256,7 +273,7 @@ fn index_of_page(pages: &IndexMap<u64, Page>, hint: usize, number: u64) -> Optio
 
 // Where the page of this number stands, if it stands at `hint`.
 #[inline(always)]
-fn index_near(pages: &IndexMap<u64, Page>, hint: usize, number: u64) -> Option<usize>
+fn index_near(pages: &IndexMap<u64, Page, NumberHasher>, hint: usize, number: u64) -> Option<usize>
     ensures key { IfSome result (λ index. slice_get (keys pages.now) index ≡ Some number) }
     ensures within { IfSome result (λ index. index < index_map_len pages.now) }
     ensures unique { IsUnique nat_eq pages.now }
