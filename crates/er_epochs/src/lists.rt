@@ -10,6 +10,7 @@ use crate::reads::Reads;
 use crate::word::OrderWord;
 use er_clocks::ThreadClock;
 use er_event::Kind;
+use er_keys::{HashKeys, NumberHasher};
 use indexmap::IndexMap;
 use std::alloc::{AllocError, Global};
 use std::marker::Model;
@@ -18,7 +19,7 @@ use std::marker::Model;
 /// up, so memory goes by the words that have them now. Contracts see the lists by `list_of`.
 #[derive(Drop)]
 pub(crate) struct ReadLists {
-    lists: IndexMap<u64, Reads>,
+    lists: IndexMap<u64, Reads, NumberHasher>,
     alloc: Global,
 }
 
@@ -31,12 +32,12 @@ impl Model for ReadLists {
 }
 
 impl ReadLists {
-    /// No word has a list.
-    pub(crate) fn new(alloc: Global) -> Self
+    /// No word has a list. Their numbers are hashed by these keys.
+    pub(crate) fn new(alloc: Global, keys: HashKeys) -> Self
         ensures { result ≡ [] }
     {
         ReadLists {
-            lists: IndexMap::new(alloc),
+            lists: IndexMap::with_hasher(alloc, NumberHasher::new(keys)),
             alloc,
         }
     }
@@ -100,7 +101,7 @@ impl ReadLists {
 // Where the list of the word of this number stands. If there was none, it is made.
 fn reach(
     alloc: Global,
-    lists: &mut IndexMap<u64, Reads>,
+    lists: &mut IndexMap<u64, Reads, NumberHasher>,
     hint: usize,
     number: u64,
 ) -> Result<usize, AllocError>

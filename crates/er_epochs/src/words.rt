@@ -10,6 +10,7 @@ use crate::hints::index_of;
 use crate::lists::ReadLists;
 use er_clocks::ThreadClock;
 use er_event::{Kind, PageRange, Word};
+use er_keys::{HashKeys, NumberHasher};
 use indexmap::IndexMap;
 use std::alloc::{AllocError, Global};
 use std::marker::Model;
@@ -27,7 +28,7 @@ const HINTS: u64 = 4096;
 /// besides, until it is written or reset. A reset takes one look at each block of its range.
 #[derive(Drop)]
 pub struct OrderWords {
-    blocks: IndexMap<u64, Block>,
+    blocks: IndexMap<u64, Block, NumberHasher>,
     // Where the block of a number stood when it was accessed, by the lowest bits of the number. Another block may have the same bits, so
     // whoever asks must check what it gets.
     hints: Vec<usize>,
@@ -46,14 +47,21 @@ impl Model for OrderWords {
 }
 
 impl OrderWords {
-    /// No word was accessed.
+    /// No word was accessed. Whoever chooses the words that are accessed can make it slow: see [`keyed`](OrderWords::keyed).
     pub fn new(alloc: Global) -> Self
         ensures { (w : ℕ) → kept_among result w ≡ fresh }
     {
+        OrderWords::keyed(alloc, HashKeys::KNOWN)
+    }
+
+    /// No word was accessed, and each word will be found by these keys.
+    pub fn keyed(alloc: Global, keys: HashKeys) -> Self
+        ensures { (w : ℕ) → kept_among result w ≡ fresh }
+    {
         OrderWords {
-            blocks: IndexMap::new(alloc),
+            blocks: IndexMap::with_hasher(alloc, NumberHasher::new(keys)),
             hints: Vec::new(alloc),
-            lists: ReadLists::new(alloc),
+            lists: ReadLists::new(alloc, keys),
             ahead: 0,
             alloc,
         }

@@ -1,5 +1,0 @@
-use Rattle.er_epochs.proofs.Blocks.{no_words}
-use Rattle.er_epochs.proofs.words.OrderWords.new.Goals as goal
-
-pub returns : goal.returns
-returns c = no_words _ c.new.ensures.empty
