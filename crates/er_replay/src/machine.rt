@@ -13,6 +13,7 @@ ghost use Rattle.er_replay.specs.Wants.{is_access, asks_by, may_want, wants_memo
 use crate::threads::Threads;
 use er_event::{Event, Kind, Lockset, Refusal, Reply, Step, ThreadId, Word, WordState};
 use er_held::Held;
+use er_keys::HashKeys;
 use er_shadow::ShadowMap;
 use er_table::LocksetTable;
 use std::alloc::{AllocError, Global};
@@ -40,12 +41,24 @@ impl<'t> Machine<'t> {
     // How many steps are looked at together.
     const AHEAD: usize = 16;
 
-    /// A machine that has taken no step. The sets of locks that its words need go into the table.
+    /// A machine that has taken no step. The sets of locks that its words need go into the table. Whoever chooses the pages that are accessed
+    /// can make it slow: see [`keyed`](Machine::keyed).
     pub fn new(alloc: Global, table: &'t LocksetTable) -> Result<Machine<'t>, AllocError>
         ensures { IfOk result (λ machine. Stands machine []) }
     {
+        Machine::keyed(alloc, table, HashKeys::KNOWN)
+    }
+
+    /// A machine that has taken no step, and finds each page by these keys. The sets of locks that its words need go into the table.
+    pub fn keyed(
+        alloc: Global,
+        table: &'t LocksetTable,
+        keys: HashKeys,
+    ) -> Result<Machine<'t>, AllocError>
+        ensures { IfOk result (λ machine. Stands machine []) }
+    {
         let threads = Threads::new(alloc)?;
-        let words = ShadowMap::new(alloc, table)?;
+        let words = ShadowMap::keyed(alloc, table, keys)?;
         Ok(Machine { threads, words })
     }
 
