@@ -2,6 +2,8 @@
 ghost use Rattle.std.specs.Prelude.{◌≡◌, IsSome, IfSome};
 ghost use Rattle.er_parallel.specs.Limits.{IsShardCount, IsSetCount};
 
+use er_keys::HashKeys;
+
 /// How a parallel replay is made. The numbers are in their limits.
 #[derive(Clone, Copy, Debug, PartialEq, Eq)]
 pub struct ReplayConfig {
@@ -9,6 +11,8 @@ pub struct ReplayConfig {
     pub shards: u32,
     /// How many sets of locks the table takes, 1 to 1,048,576.
     pub max_sets: u32,
+    /// By which keys each worker finds its pages. They change no answer.
+    pub keys: HashKeys,
     pub ghost shard_count: { IsShardCount shards },
     pub ghost set_count: { IsSetCount max_sets },
 }
@@ -20,7 +24,8 @@ impl ReplayConfig {
     /// The greatest number of sets of locks.
     pub const MAX_SETS: u32 = 1_048_576;
 
-    /// The configuration with these numbers, or none where one is out of its limits.
+    /// The configuration with these numbers, or none where one is out of its limits. Whoever chooses the pages that are accessed can make a
+    /// replay slow: see [`with_keys`](ReplayConfig::with_keys).
     pub fn new(shards: u32, max_sets: u32) -> Option<ReplayConfig>
         ensures some { IsShardCount shards → IsSetCount max_sets → IsSome result }
         ensures some_only { IsSome result → IsShardCount shards × IsSetCount max_sets }
@@ -32,6 +37,21 @@ impl ReplayConfig {
         if max_sets < 1 || max_sets > ReplayConfig::MAX_SETS {
             return None;
         }
-        Some(ReplayConfig { shards, max_sets })
+        Some(ReplayConfig {
+            shards,
+            max_sets,
+            keys: HashKeys::KNOWN,
+        })
+    }
+
+    /// The same configuration, by which each worker finds its pages by these keys.
+    pub fn with_keys(self, keys: HashKeys) -> ReplayConfig
+        ensures { (result.shards ≡ self.shards) × (result.max_sets ≡ self.max_sets) }
+    {
+        ReplayConfig {
+            shards: self.shards,
+            max_sets: self.max_sets,
+            keys,
+        }
     }
 }

@@ -16,6 +16,7 @@ use crate::worked::{WorkFault, lesser};
 use crate::worker::{Fresh, Worker};
 use crate::{ReplayConfig, ReplayFault, Unusual};
 use er_event::Step;
+use er_keys::HashKeys;
 use er_table::LocksetTable;
 use std::alloc::{AllocError, Global};
 use std::marker::Model;
@@ -60,8 +61,8 @@ impl<'t> Crew<'t> {
         ensures none { IfOk result (λ crew. HaveAnswered crew []) }
         ensures fault { IfErr result (λ why. (why ≡ ReplayFault.Memory) ⊎ (why ≡ ReplayFault.WorkerNotStarted)) }
     {
-        let ReplayConfig { shards, .. } = config;
-        match start(rt, alloc, table, workers) {
+        let ReplayConfig { shards, keys, .. } = config;
+        match start(rt, alloc, table, keys, workers) {
             Ok(workers) => Ok(Crew {
                 alloc,
                 shards,
@@ -131,6 +132,7 @@ fn start<'t, R: Threads + Wait + Sync>(
     rt: &R,
     alloc: Global,
     table: &'t LocksetTable,
+    keys: HashKeys,
     workers: u32,
 ) -> Result<Vec<Worker<'t>>, ReplayFault>
     requires { (1 ≤ workers) × (workers ≤ 16) }
@@ -153,7 +155,7 @@ fn start<'t, R: Threads + Wait + Sync>(
                     Fresh,
                     move || -> Result<Worker, AllocError>
                         ensures { IfOk result (λ worker. Stands worker.machine []) }
-                    { Worker::new(alloc, table) },
+                    { Worker::new(alloc, table, keys) },
                 );
                 let Ok(handle) = started else {
                     // Those that were started are waited for all the same.

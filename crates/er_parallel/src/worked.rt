@@ -12,6 +12,7 @@ ghost use Rattle.er_replay.specs.Standing.{holding, states};
 use crate::task::{Task, shard_for, worker_for};
 use er_event::{Event, NoRoom, Refusal, Reply, Step};
 use er_journal::{Answer, Answers};
+use er_keys::HashKeys;
 use er_replay::{Machine, no_room};
 use er_table::LocksetTable;
 use std::alloc::{AllocError, Global};
@@ -107,17 +108,18 @@ pub(crate) fn is_usual(step: &Step, answer: &Result<Reply, Refusal>) -> bool
 }
 
 impl<'s> Worked<'s> {
-    /// Answers the steps of a task.
+    /// Answers the steps of a task. Pages are found by these keys.
     pub(crate) fn of<R: Wait>(
         rt: &R,
         alloc: Global,
         table: &LocksetTable,
+        keys: HashKeys,
         task: Task<'s>,
     ) -> Result<Worked<'s>, WorkFault>
         requires { IsTask task }
         ensures { MatchResult result (λ worked. IsWork task.entry worked) (λ fault. IsFault task.entry fault) }
     {
-        let Ok(mut machine) = Machine::new(alloc, table) else {
+        let Ok(mut machine) = Machine::keyed(alloc, table, keys) else {
             return Err(WorkFault {
                 shard: task.worker,
                 cause: NoRoom::OutOfMemory,

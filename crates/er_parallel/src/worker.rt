@@ -16,6 +16,7 @@ use crate::Unusual;
 use crate::task::{Share, shard_for, worker_for};
 use crate::worked::{WorkFault, is_usual};
 use er_event::{Event, Lockset, NoRoom, Refusal, Reply, Step, ThreadId};
+use er_keys::HashKeys;
 use er_replay::{Machine, no_room};
 use er_table::LocksetTable;
 use std::alloc::{AllocError, Global};
@@ -43,12 +44,16 @@ pub(crate) struct Worker<'t> {
 }
 
 impl<'t> Worker<'t> {
-    /// A worker that has answered no step.
-    pub(crate) fn new(alloc: Global, table: &'t LocksetTable) -> Result<Worker<'t>, AllocError>
+    /// A worker that has answered no step, and finds its pages by these keys.
+    pub(crate) fn new(
+        alloc: Global,
+        table: &'t LocksetTable,
+        keys: HashKeys,
+    ) -> Result<Worker<'t>, AllocError>
         ensures { IfOk result (λ worker. Stands worker.machine []) }
     {
         Ok(Worker {
-            machine: Machine::new(alloc, table)?,
+            machine: Machine::keyed(alloc, table, keys)?,
             found: VecDeque::new(alloc),
             fault: None,
         })

@@ -13,6 +13,7 @@ use crate::{ReplayConfig, ReplayFault};
 use er_event::Step;
 use er_gate::Gate;
 use er_journal::Answers;
+use er_keys::HashKeys;
 use er_table::LocksetTable;
 use std::alloc::{AllocError, Global};
 use std::sync::Wait;
@@ -32,6 +33,7 @@ fn work<'s, R: Wait, G: Gate>(
     rt: &R,
     alloc: Global,
     table: &LocksetTable,
+    keys: HashKeys,
     task: Task<'s>,
     gate: &G,
 ) -> Result<Worked<'s>, WorkFault>
@@ -43,7 +45,7 @@ fn work<'s, R: Wait, G: Gate>(
             gate.enter(shard);
         }
     }
-    Worked::of(rt, alloc, table, task)
+    Worked::of(rt, alloc, table, keys, task)
 }
 
 /// The usual answers to all steps, and what each worker found beside them. All workers that were started are joined, whatever they answer.
@@ -61,7 +63,7 @@ pub(crate) fn work_all<'s, R: Threads + Wait + Sync, G: Gate>(
     ensures worked { IfOk result (λ r. AllWorked steps.entry.now config.shards workers r.1.items) }
     ensures fault { IfErr result (λ fault. MayFail steps.entry.now fault) }
 {
-    let ReplayConfig { shards, .. } = config;
+    let ReplayConfig { shards, keys, .. } = config;
     thread::scope(
         thread::scope_env(),
         rt,
@@ -90,7 +92,7 @@ pub(crate) fn work_all<'s, R: Threads + Wait + Sync, G: Gate>(
                             worker,
                             workers,
                         };
-                        work(rt, alloc, table, task, gate)
+                        work(rt, alloc, table, keys, task, gate)
                     },
                 );
                 let Ok(handle) = started else {
