@@ -13,6 +13,7 @@ use er_clocks::{Clocks, ThreadClock};
 use er_epochs::OrderWords;
 use er_event::{Event, Kind, LockId, Mode, PageRange, Refusal, Reply, Step, Sync, ThreadId, Word};
 use er_held::Held;
+use er_keys::HashKeys;
 use std::alloc::Global;
 use std::marker::Model;
 
@@ -38,14 +39,21 @@ impl OrderMachine {
     // How many steps are looked at together.
     const AHEAD: usize = 16;
 
-    /// A machine that has taken no step.
+    /// A machine that has taken no step. Whoever chooses the words that are accessed can make it slow: see [`keyed`](OrderMachine::keyed).
     pub fn new(alloc: Global) -> Self
+        ensures { Stands result [] }
+    {
+        OrderMachine::keyed(alloc, HashKeys::KNOWN)
+    }
+
+    /// A machine that has taken no step, and finds each word by these keys.
+    pub fn keyed(alloc: Global, keys: HashKeys) -> Self
         ensures { Stands result [] }
     {
         OrderMachine {
             holders: Holders::new(alloc),
             clocks: Clocks::new(alloc),
-            words: OrderWords::new(alloc),
+            words: OrderWords::keyed(alloc, keys),
         }
     }
 

@@ -12,6 +12,7 @@ use crate::block::Block;
 use crate::book::{Access, Joint};
 use er_event::{Event, Kind, PageRange, Step, ThreadId, Word};
 use er_held::ThreadLocks;
+use er_keys::{HashKeys, NumberHasher};
 use indexmap::IndexMap;
 use std::alloc::{AllocError, Global};
 use std::marker::Model;
@@ -29,7 +30,7 @@ const HINTS: u64 = 4096;
 /// at them, and a reuse one look for each block of its range.
 #[derive(Drop)]
 pub struct WordBooks<A> {
-    blocks: IndexMap<u64, Block<A>>,
+    blocks: IndexMap<u64, Block<A>, NumberHasher>,
     // Where the block of a number stood when it was accessed, by the lowest bits of the number. Another block may have the same bits, so whoever
     // asks must check what it gets. A block behind the first 2^32, which no memory holds, would be found by a hash.
     hints: Vec<u32>,
@@ -48,12 +49,19 @@ impl<A> Model for WordBooks<A> {
 }
 
 impl<A: Copy> WordBooks<A> {
-    /// Empty books of all words.
+    /// Empty books of all words. Whoever chooses the words that are accessed can make it slow: see [`keyed`](WordBooks::keyed).
     pub fn new(alloc: Global) -> WordBooks<A>
         ensures { (w : ℕ) → book_in result w ≡ Untouched }
     {
+        WordBooks::keyed(alloc, HashKeys::KNOWN)
+    }
+
+    /// Empty books of all words, and each word will be found by these keys.
+    pub fn keyed(alloc: Global, keys: HashKeys) -> WordBooks<A>
+        ensures { (w : ℕ) → book_in result w ≡ Untouched }
+    {
         WordBooks {
-            blocks: IndexMap::new(alloc),
+            blocks: IndexMap::with_hasher(alloc, NumberHasher::new(keys)),
             hints: Vec::new(alloc),
             spare: Vec::new(alloc),
             alloc,
@@ -168,7 +176,11 @@ fn note(hints: &mut [u32], number: u64, index: usize) {
 
 // Where the block of this number stands. It looks at the one at `hint` first, and needs no hash if that is the one.
 #[inline]
-fn index_of_block<A>(blocks: &IndexMap<u64, Block<A>>, hint: usize, number: u64) -> Option<usize>
+fn index_of_block<A>(
+    blocks: &IndexMap<u64, Block<A>, NumberHasher>,
+    hint: usize,
+    number: u64,
+) -> Option<usize>
     ensures key { IfSome result (λ index. slice_get (keys blocks.now) index ≡ Some number) }
     ensures within { IfSome result (λ index. index < index_map_len blocks.now) }
     ensures none { IfNone result (get nat_eq blocks.now number ≡ None) }

@@ -11,6 +11,7 @@ ghost use Rattle.er_latest.specs.Latest.{tagged, untouched};
 use crate::block::Block;
 use er_clocks::ThreadClock;
 use er_event::{Kind, PageRange, Word};
+use er_keys::{HashKeys, NumberHasher};
 use indexmap::IndexMap;
 use std::alloc::{AllocError, Global};
 use std::marker::Model;
@@ -27,7 +28,7 @@ const HINTS: u64 = 4096;
 /// An access takes one look at its block and one at its word. A reset takes one look at each block of its range.
 #[derive(Drop)]
 pub(crate) struct WordBlocks<A> {
-    blocks: IndexMap<u64, Block<A>>,
+    blocks: IndexMap<u64, Block<A>, NumberHasher>,
     // Where the block of a number stood when it was accessed, by the lowest bits of the number. Another block may have the same bits, so
     // whoever asks must check what it gets.
     hints: Vec<usize>,
@@ -45,12 +46,12 @@ impl<A> Model for WordBlocks<A> {
 }
 
 impl<A: Copy> WordBlocks<A> {
-    /// No word was accessed.
-    pub(crate) fn new(alloc: Global) -> WordBlocks<A>
+    /// No word was accessed. Blocks are hashed by these keys.
+    pub(crate) fn new(alloc: Global, keys: HashKeys) -> WordBlocks<A>
         ensures { (w : ℕ) → word_in result w ≡ untouched }
     {
         WordBlocks {
-            blocks: IndexMap::new(alloc),
+            blocks: IndexMap::with_hasher(alloc, NumberHasher::new(keys)),
             hints: Vec::new(alloc),
             spare: Vec::new(alloc),
             alloc,
@@ -137,7 +138,11 @@ fn take_block<A: Copy>(alloc: Global, spare: &mut Vec<Block<A>>) -> Block<A>
 }
 
 // Takes the block of this number away, and keeps it for other words.
-fn let_go<A: Copy>(blocks: &mut IndexMap<u64, Block<A>>, spare: &mut Vec<Block<A>>, number: u64)
+fn let_go<A: Copy>(
+    blocks: &mut IndexMap<u64, Block<A>, NumberHasher>,
+    spare: &mut Vec<Block<A>>,
+    number: u64,
+)
     ensures { (q : ℕ) → lookup (nat_eq q) blocks.new.entries ≡ cond (nat_eq number q) None (lookup (nat_eq q) blocks.old.entries) }
 {
     if let Some(block) = blocks.swap_remove(&number) {
@@ -173,7 +178,11 @@ fn note(hints: &mut [usize], number: u64, index: usize) {
 
 // Where the block of this number stands. It looks at the one at `hint` first, and needs no hash if that is the one.
 #[inline]
-fn index_of_block<A>(blocks: &IndexMap<u64, Block<A>>, hint: usize, number: u64) -> Option<usize>
+fn index_of_block<A>(
+    blocks: &IndexMap<u64, Block<A>, NumberHasher>,
+    hint: usize,
+    number: u64,
+) -> Option<usize>
     ensures key { IfSome result (λ index. slice_get (keys blocks.now) index ≡ Some number) }
     ensures within { IfSome result (λ index. index < index_map_len blocks.now) }
     ensures none { IfNone result (get nat_eq blocks.now number ≡ None) }

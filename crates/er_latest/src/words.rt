@@ -13,6 +13,7 @@ ghost use Rattle.er_latest.specs.Standing.{latest_among, Follows, IsClockAfter, 
 use crate::blocks::WordBlocks;
 use er_clocks::ThreadClock;
 use er_event::{Event, Kind, PageRange, Refusal, Reply, Step, Word};
+use er_keys::HashKeys;
 use std::alloc::{AllocError, Global};
 use std::marker::Model;
 
@@ -33,12 +34,19 @@ impl<A> Model for LatestWords<A> {
 }
 
 impl<A: Copy> LatestWords<A> {
-    /// No step was taken.
+    /// No step was taken. Whoever chooses the words that are accessed can make it slow: see [`keyed`](LatestWords::keyed).
     pub fn new(alloc: Global) -> Self
         ensures { (tags : ℕ → A) → Follows tags result [] }
     {
+        LatestWords::keyed(alloc, HashKeys::KNOWN)
+    }
+
+    /// No step was taken, and each word will be found by these keys.
+    pub fn keyed(alloc: Global, keys: HashKeys) -> Self
+        ensures { (tags : ℕ → A) → Follows tags result [] }
+    {
         LatestWords {
-            blocks: WordBlocks::new(alloc),
+            blocks: WordBlocks::new(alloc, keys),
         }
     }
 

@@ -20,6 +20,7 @@ use crate::rules::first_rule;
 use crate::{Because, Line, Report};
 use er_event::{Event, Lockset, NoRoom, Refusal, Reply, Step};
 use er_journal::{Answer, Stopped};
+use er_keys::HashKeys;
 use er_rules::Suppressions;
 use er_trace::{Names, Trace};
 use std::alloc::{AllocError, Global};
@@ -73,11 +74,26 @@ impl<'r> ReportBuilder<'r> {
         })
     }
 
-    /// The same, for races that get reasons if `explain` is set.
+    /// The same, for races that get reasons if `explain` is set. Whoever chooses the words that are accessed can then make it slow: see
+    /// [`explaining_keyed`](ReportBuilder::explaining_keyed).
     pub fn explaining(
         alloc: Global,
         rules: &'r Suppressions,
         explain: bool,
+    ) -> Result<ReportBuilder<'r>, AllocError>
+        ensures rules { IfOk result (λ builder. builder.rules ≡ targets_of rules.now) }
+        ensures explains { IfOk result (λ builder. is_some builder.kept ≡ explain) }
+        ensures built { IfOk result (λ builder. (r : Recording) → IsReported builder r 0) }
+    {
+        ReportBuilder::explaining_keyed(alloc, rules, explain, HashKeys::KNOWN)
+    }
+
+    /// The same, where reasons find each word by these keys.
+    pub fn explaining_keyed(
+        alloc: Global,
+        rules: &'r Suppressions,
+        explain: bool,
+        keys: HashKeys,
     ) -> Result<ReportBuilder<'r>, AllocError>
         ensures rules { IfOk result (λ builder. builder.rules ≡ targets_of rules.now) }
         ensures explains { IfOk result (λ builder. is_some builder.kept ≡ explain) }
@@ -88,7 +104,7 @@ impl<'r> ReportBuilder<'r> {
             rules,
             report,
             races: Vec::new(alloc),
-            explainer: explainer_if(alloc, explain),
+            explainer: explainer_if(alloc, explain, keys),
             alloc,
         })
     }
@@ -272,12 +288,12 @@ fn count(races: &[u64]) -> usize
 }
 
 // What finds reasons, if they are wanted.
-fn explainer_if(alloc: Global, explain: bool) -> Option<Explainer>
+fn explainer_if(alloc: Global, explain: bool, keys: HashKeys) -> Option<Explainer>
     ensures some { is_some result ≡ explain }
     ensures start { (r : Recording) (rules : List Target) → IfSome result (λ kept. Follows kept r rules 0) }
 {
     if explain {
-        Some(Explainer::new(alloc))
+        Some(Explainer::new(alloc, keys))
     } else {
         None
     }

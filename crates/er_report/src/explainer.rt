@@ -15,6 +15,7 @@ use crate::{Because, Label};
 use er_event::{Event, Step, Word};
 use er_explain::{Access, Joint, WordBooks};
 use er_held::ThreadLocks;
+use er_keys::HashKeys;
 use std::alloc::{AllocError, Global};
 use std::marker::Model;
 
@@ -38,13 +39,13 @@ impl Model for Explainer {
 }
 
 impl Explainer {
-    /// Nothing is kept before any step.
-    pub(crate) fn new(alloc: Global) -> Explainer
+    /// Nothing is kept before any step. The books find each word by these keys.
+    pub(crate) fn new(alloc: Global, keys: HashKeys) -> Explainer
         ensures { (r : Recording) (rules : List Target) → Follows result r rules 0 }
     {
         Explainer {
             locks: ThreadLocks::new(alloc),
-            books: WordBooks::new(alloc),
+            books: WordBooks::keyed(alloc, keys),
             told: Vec::new(alloc),
             alloc,
         }

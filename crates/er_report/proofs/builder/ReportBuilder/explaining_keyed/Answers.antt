@@ -1,6 +1,6 @@
 use Rattle.er_report.specs.Builder.{IsBuilt}
 use Rattle.er_report.proofs.BuilderLemmas.{built-start}
-use Rattle.er_report.proofs.builder.ReportBuilder.explaining.Goals as goal
+use Rattle.er_report.proofs.builder.ReportBuilder.explaining_keyed.Goals as goal
 
 pub returns-clause-built : goal.returns-clause-built
 unfolding IsBuilt

@@ -1,5 +1,0 @@
-use Rattle.er_before.proofs.StandingLemmas.{stands-start}
-use Rattle.er_before.proofs.machine.OrderMachine.new.Goals as goal
-
-pub returns : goal.returns
-returns c = stands-start _ c.new.ensures c.new-2.ensures c.new-3.ensures
