@@ -9,7 +9,7 @@ use Rattle.er_text.specs.declared.faults.ReadFault.{ReadFault}
 use Rattle.er_text.specs.declared.lines.FrontLine.{FrontLine}
 use Rattle.er_text.specs.Places.{Place}
 use Rattle.er_text.specs.Lines.{Line, Placed, placed_from, is_end, lines_of, width}
-use Rattle.er_text.specs.Inner.Lending.{lines_from, lines_left, front_width, front_line, past, limit_fault, LineThen, IsOver, IsNothing, IsWithin, Finds}
+use Rattle.er_text.specs.Inner.Lending.{is_ended, lines_from, lines_left, front_width, front_line, past, limit_fault, LineThen, IsOver, IsNothing, IsWithin, Finds}
 use Rattle.er_text.proofs.LineLemmas.{lines_whole, lines_last, lines_long, BeginsLong}
 
 -- lines that begin with this one, of this width
@@ -18,7 +18,7 @@ split : (number start w : ℕ) (lines rest : List Line) (line : Line) → lines 
 split number start w lines rest line e size = ap (placed_from number start) e ∙ ap (λ n. record { number = number; start = start; line = line } ∷ placed_from (number + 1) (start + n) rest) size
 
 pub whole_first : (at : Place) (old known : Option (List ℕ)) (n : ℕ) → Keeps old (prepend_known at.ahead known) → n ≡ position_or_len is_end at.ahead → n < length at.ahead
-    → LineThen (lines_from at.number at.start old) (front_line at (record { len = n; ended = true })) (lines_left (past at (record { len = n; ended = true })) known)
+    → LineThen (lines_from at.number at.start old) (front_line at (record { len = n; breaks = 1 })) (lines_left (past at (record { len = n; breaks = 1 })) known)
 whole_first at None known n keeps place within = tt
 whole_first at (Some text) None n keeps place within = keeps
 whole_first at (Some text) (Some ys) n keeps place within =
@@ -35,7 +35,7 @@ at_end text xs ys keeps end = sym (append-nil xs) ∙ ap (λ (t : List ℕ). xs 
 
 pub last_first : (at : Place) (old known : Option (List ℕ)) (n : ℕ) → Keeps old (prepend_known at.ahead known) → IsAtEnd known → n ≡ position_or_len is_end at.ahead
     → n ≡ length at.ahead → 0 < n
-    → LineThen (lines_from at.number at.start old) (front_line at (record { len = n; ended = false })) (lines_left (past at (record { len = n; ended = false })) known)
+    → LineThen (lines_from at.number at.start old) (front_line at (record { len = n; breaks = 0 })) (lines_left (past at (record { len = n; breaks = 0 })) known)
 last_first at None known n keeps end place all some = tt
 last_first at (Some text) None n keeps end place all some = keeps
 last_first at (Some text) (Some ys) n keeps end place all some =
@@ -76,7 +76,7 @@ short_line : (at : Place) (front : FrontLine) → front.len ≤ 1024 → front.l
 short_line at front short fits = let size = length-take-le front.len at.ahead fits in grind (arith, nat_tests, short, size)
 
 line_width : (at : Place) (front : FrontLine) → front.len ≤ length at.ahead → width (front_line at front).line ≡ front_width front
-line_width at front fits = ap (λ k. k + cond front.ended 1 0) (length-take-le front.len at.ahead fits)
+line_width at front fits = ap (λ k. k + cond (is_ended front) 1 0) (length-take-le front.len at.ahead fits)
 
 over_limit : (at : Place) (front : FrontLine) (left rest : Option (List Placed)) → front.len ≤ 1024 → front.len ≤ length at.ahead → at.limit < at.start + front_width front
     → LineThen left (front_line at front) rest → IsOver at.limit left (record { line = at.number; kind = TextTooLong })

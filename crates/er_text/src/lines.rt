@@ -6,7 +6,7 @@ ghost use Rattle.er_text.specs.Lines.{bytes_past_limit};
 ghost use Rattle.er_text.specs.Pieces.{AreWhole};
 ghost use Rattle.er_text.specs.Trace.{HasFailedBy};
 ghost use Rattle.er_text.specs.Inner.Windows.{items};
-ghost use Rattle.er_text.specs.Inner.Lending.{taken_by, lines_left, front_width, past, past_lines, IsInFront, IsWithin, Finds};
+ghost use Rattle.er_text.specs.Inner.Lending.{taken_by, lines_left, is_ended, front_width, past, past_lines, IsInFront, IsWithin, Finds};
 
 use crate::bytes::whole_len;
 use crate::faults::{ReadFault, TextKind, fault_at};
@@ -16,11 +16,13 @@ use std::alloc::{AllocError, Global};
 use std::io::Read;
 use std::marker::Model;
 
-/// A line in front of a reader: how many bytes it has, and whether an LF follows it.
+/// A line in front of a reader: how many bytes it has, and how many LFs follow it, one or none.
+///
+/// It has no Boolean, since that would leave 7 bytes of padding. They are copied in pieces that overlap, and each copy waits for the one before.
 #[derive(Clone, Copy)]
 pub(crate) struct FrontLine {
     len: usize,
-    ended: bool,
+    breaks: usize,
 }
 
 /// A reader of lines: the next line has this number, and `start` bytes of the text stand before it.
@@ -169,9 +171,9 @@ impl LineReader {
         let most = (self.limit + 1025 - self.start) as usize;
         match self.window.find(reader, most)? {
             LineEnd::Long => Err(fault_at(self.number, TextKind::LineTooLong)),
-            LineEnd::Whole(len) => self.within(FrontLine { len, ended: true }),
+            LineEnd::Whole(len) => self.within(FrontLine { len, breaks: 1 }),
             LineEnd::Last(0) => Ok(None),
-            LineEnd::Last(len) => self.within(FrontLine { len, ended: false }),
+            LineEnd::Last(len) => self.within(FrontLine { len, breaks: 0 }),
         }
     }
 
@@ -213,13 +215,13 @@ impl FrontLine {
         requires { self.len < 2 ^ 63 }
         ensures { result ≡ front_width self }
     {
-        self.len as u64 + u64::from(self.ended)
+        self.len as u64 + u64::from(self.breaks > 0)
     }
 
     /// Whether an LF follows it.
     pub(crate) fn is_ended(self) -> bool
-        ensures { result ≡ self.ended }
+        ensures { result ≡ is_ended self }
     {
-        self.ended
+        self.breaks > 0
     }
 }

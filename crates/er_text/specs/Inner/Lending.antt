@@ -1,5 +1,5 @@
 -- What a reader of lines shows of the text that it is in.
-use Rattle.std.specs.Prelude.{◌≡◌, ℕ, ◌+◌, ◌<◌, ◌≤◌, List, [], ◌∷◌, Option, Some, None, Result, Ok, Err, length, take, drop, nat_lt, option_map, if◌then◌else◌}
+use Rattle.std.specs.Prelude.{◌≡◌, ℕ, Bool, ◌+◌, ◌<◌, ◌≤◌, List, [], ◌∷◌, Option, Some, None, Result, Ok, Err, length, take, drop, nat_lt, option_map, if◌then◌else◌}
 use Rattle.std.specs.Io.KnownBytes.{prepend_known}
 use Rattle.er_text.specs.declared.faults.TextKind.{TextKind}
 use Rattle.er_text.specs.declared.faults.TextKind.TheVariants.{LineTooLong, TextTooLong}
@@ -21,13 +21,17 @@ lines_from number start bytes = option_map (λ text. placed_from number start (l
 abbrev pub lines_left : Place → Option (List ℕ) → Option (List Placed)
 lines_left at known = lines_from at.number at.start (prepend_known at.ahead known)
 
+-- whether an LF follows a line in front
+abbrev pub is_ended : FrontLine → Bool
+is_ended front = nat_lt 0 front.breaks
+
 -- how many bytes of the text a line in front takes, its LF included
 abbrev pub front_width : FrontLine → ℕ
-front_width front = front.len + (if front.ended then 1 else 0)
+front_width front = front.len + (if is_ended front then 1 else 0)
 
 -- the line in front
 abbrev pub front_line : Place → FrontLine → Placed
-front_line at front = record { number = at.number; start = at.start; line = record { bytes = take front.len at.ahead; ended = front.ended } }
+front_line at front = record { number = at.number; start = at.start; line = record { bytes = take front.len at.ahead; ended = is_ended front } }
 
 -- past the line in front
 abbrev pub past : Place → FrontLine → Place

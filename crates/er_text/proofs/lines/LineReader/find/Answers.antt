@@ -21,7 +21,7 @@ returns-in-Whole-clause-found g c =
     let front = rw c.in-Whole.is at c.in_ok-find.ensures.front in
     let at : Place = record { limit = c.self.inside.limit; number = c.self.inside.number; start = c.self.inside.start; ahead = items c.find.new.self } in
     let known = g.R.Read.remaining (inner_of c.find.new.reader) in
-    let line : FrontLine = record { len = c.in-Whole.len; ended = true } in
+    let line : FrontLine = record { len = c.in-Whole.len; breaks = 1 } in
     let fits : c.in-Whole.len ≤ length at.ahead = omega (arith, front.1) in
     let P : Place → Type 0 = λ p. Finds (lines_left p (g.R.Read.remaining (inner_of c.args.reader.now))) at known c.within.result in
     subst P c.self.view_is (first_found at line _ known c.within.result front.2 fits (whole_first at _ known c.in-Whole.len c.in_ok-find.ensures.same front.0 front.1) c.within.ensures)
@@ -31,7 +31,7 @@ returns-in-Last-clause-found g c =
     let front = rw c.in-Last.is at c.in_ok-find.ensures.front in
     let at : Place = record { limit = c.self.inside.limit; number = c.self.inside.number; start = c.self.inside.start; ahead = items c.find.new.self } in
     let known = g.R.Read.remaining (inner_of c.find.new.reader) in
-    let line : FrontLine = record { len = c.in-Last.len; ended = false } in
+    let line : FrontLine = record { len = c.in-Last.len; breaks = 0 } in
     let fits : c.in-Last.len ≤ length at.ahead = omega (arith, front.1) in
     let some : 0 < c.in-Last.len = omega (arith, c.in-Last.len-test.1) in
     let P : Place → Type 0 = λ p. Finds (lines_left p (g.R.Read.remaining (inner_of c.args.reader.now))) at known c.within-in-Last.result in
