@@ -267,11 +267,17 @@ impl<'t> Machine<'t> {
         ensures { self.new ≡ self.old }
     {
         let end = at.saturating_add(Machine::AHEAD).min(steps.len());
+        let mut words = [Word::new(0); Machine::AHEAD];
+        let mut count = 0;
         for place in at..end {
-            if let Event::Access(_, word, _) = steps[place].event {
-                self.words.look_ahead(word);
+            if let Event::Access(_, word, _) = steps[place].event
+                && count < Machine::AHEAD
+            {
+                words[count] = word;
+                count += 1;
             }
         }
+        self.words.look_ahead(&words[..count]);
     }
 
     /// What a thread holds after the steps so far.

@@ -20,6 +20,9 @@ use std::alloc::{AllocError, Global};
 use std::marker::Model;
 use std::sync::Wait;
 
+/// How many words `look_ahead` reads.
+const MOST_AHEAD: usize = 16;
+
 /// The state of every word, by pages of 1,024 words that are made at their first access. Contracts see the `states` of its words.
 #[derive(Drop)]
 pub struct ShadowMap<'t> {
@@ -207,17 +210,41 @@ impl<'t> ShadowMap<'t> {
         self.access(rt, stamp.thread(), stamp.word(), stamp.kind(), locks)
     }
 
-    /// Reads what stands for a word that will be accessed soon. Nothing waits for what is read, so several words of several pages come
-    /// from memory side by side, and are at hand at their accesses.
+    /// Reads what stands for some words that will be accessed soon, 16 at most. Nothing waits for what is read, so words of several pages come
+    /// from memory side by side, and are at hand at their accesses. All pages are found first: so no look for a page keeps a word waiting.
     #[inline]
-    pub fn look_ahead(&mut self, word: Word)
+    pub fn look_ahead(&mut self, words: &[Word])
+        ensures { self.new ≡ self.old }
+    {
+        let count = words.len().min(MOST_AHEAD);
+        let mut places = [0; MOST_AHEAD];
+        for i in 0..count {
+            places[i] = self.find_page(words[i]);
+        }
+        self.read_ahead(&places, words);
+    }
+
+    // Where the page of a word stands, or some other place if it has none.
+    #[inline(always)]
+    fn find_page(&mut self, word: Word) -> usize
         ensures { self.new ≡ self.old }
     {
         let number = word.page();
-        if let Some(index) = index_of_page(&self.pages, self.places.hint(number), number) {
-            self.places.note(number, index);
-            self.ahead ^= self.pages[index].get(place_of(word)).bits();
+        match index_of_page(&self.pages, self.places.hint(number), number) {
+            Some(index) => {
+                self.places.note(number, index);
+                index
+            }
+            None => 0,
         }
+    }
+
+    // Reads a word of each of these pages.
+    #[inline(always)]
+    fn read_ahead(&mut self, places: &[usize; MOST_AHEAD], words: &[Word])
+        ensures { self.new ≡ self.old }
+    {
+        self.ahead ^= bits_of(&self.pages, places, words);
     }
 
     /// Makes the words of a range virgin. It takes no memory.
@@ -251,6 +278,22 @@ impl<'t> ShadowMap<'t> {
             None => Shadow::virgin(),
         }
     }
+}
+
+// What stands for a word on each of these pages, all in one.
+#[inline(always)]
+fn bits_of(
+    pages: &IndexMap<u64, Page, NumberHasher>,
+    places: &[usize; MOST_AHEAD],
+    words: &[Word],
+) -> u32 {
+    let mut bits = 0;
+    for (place, word) in places.iter().zip(words) {
+        if let Some((_, page)) = pages.as_slice().get_index(*place) {
+            bits ^= page.get(place_of(*word)).bits();
+        }
+    }
+    bits
 }
 
 // Where the page of this number stands. It looks at the page at `hint` first, and needs no hash if that is the one.
