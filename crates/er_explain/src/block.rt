@@ -24,6 +24,9 @@ pub(crate) struct Block<A> {
     // The place of each book, in the same order. What stands behind them says nothing. They stand beside the books' address: so a look at a
     // block's few books reads one piece of memory to find them.
     places: [u8; 128],
+    // Says nothing. With it a block takes three lines of memory of 64 bytes, so that a look at a few books reads one of them: where the list of blocks
+    // begins at the start of a line or 16 bytes behind it, the books' address and the first places are in the same line in each block.
+    gap: [u8; 40],
 }
 
 impl<A> Model for Block<A> {
@@ -48,6 +51,7 @@ impl<A: Copy> Block<A> {
         Block {
             books: Vec::new(alloc),
             places: [0; 128],
+            gap: [0; 40],
         }
     }
 
@@ -191,3 +195,5 @@ fn remove<A: Copy>(
     put(places, number, moved);
     keep(book, spare);
 }
+
+const _: () = prove!(size_of::<Block<u64>>() == 192);
