@@ -118,7 +118,43 @@ fn count<'a>(alloc: Global, name: &'a str, most: i64, default: &'a str, help: &'
         .help(help)
 }
 
-// Each option is made by a function of its own, so that nothing else is let go of if there is no memory. Split for the prover.
+// An option without a value.
+fn flag<'a>(alloc: Global, name: &'a str, help: &'a str) -> Arg<'a> {
+    Arg::new(alloc, name)
+        .long(name)
+        .action(ArgAction::SetTrue)
+        .help(help)
+}
+
+// The path of a file or a folder.
+fn path<'a>(alloc: Global, name: &'a str, value_name: &'a str, help: &'a str) -> Arg<'a> {
+    Arg::new(alloc, name)
+        .long(name)
+        .value_name(value_name)
+        .help(help)
+}
+
+// A word that must be there, and has no name before it.
+fn word<'a>(alloc: Global, name: &'a str, value_name: &'a str, help: &'a str) -> Arg<'a> {
+    Arg::new(alloc, name)
+        .value_name(value_name)
+        .required(true)
+        .help(help)
+}
+
+// Each option is made in the call that adds it, and those that may find no memory are added by a function of their own. So nothing but the
+// command is let go of if there is none. Split for the prover.
+
+// Adds an option, if there was memory for it.
+fn with_option<'a>(
+    command: Command<'a>,
+    option: Result<Arg<'a>, AllocError>,
+) -> Result<Command<'a>, AllocError> {
+    match option {
+        Ok(option) => command.arg(option),
+        Err(refused) => Err(refused),
+    }
+}
 
 fn suppress_option<'a>(alloc: Global) -> Arg<'a> {
     Arg::new(alloc, "suppress")
@@ -128,78 +164,59 @@ fn suppress_option<'a>(alloc: Global) -> Arg<'a> {
         .help("Count the races that this file's rules take, and leave their lines out")
 }
 
-fn write_rules_option<'a>(alloc: Global) -> Arg<'a> {
-    Arg::new(alloc, "write-rules")
-        .long("write-rules")
-        .value_name("FILE")
-        .help("Write rules to this file that take each race of the report")
-}
-
-fn unused_rules_option<'a>(alloc: Global) -> Arg<'a> {
-    Arg::new(alloc, "unused-rules")
-        .long("unused-rules")
-        .action(ArgAction::SetTrue)
-        .help("Name each rule that took no race, on standard error")
-}
-
 fn max_races_option<'a>(alloc: Global) -> Result<Arg<'a>, AllocError> {
-    let option = Arg::new(alloc, "max-races")
+    Arg::new(alloc, "max-races")
         .long("max-races")
         .value_name("COUNT")
         .value_parser(value_parser!(u64))
-        .conflicts_with("by-site")?;
-    Ok(option.help("Write the lines of the first races alone, and how many were left out"))
+        .help("Write the lines of the first races alone, and how many were left out")
+        .conflicts_with("by-site")
 }
 
 // The options that say which races get lines, and what is made of them besides.
 fn with_rules<'a>(alloc: Global, command: Command<'a>) -> Result<Command<'a>, AllocError> {
     let command = command.arg(suppress_option(alloc))?;
-    let command = command.arg(write_rules_option(alloc))?;
-    let command = command.arg(unused_rules_option(alloc))?;
-    command.arg(max_races_option(alloc)?)
-}
-
-fn explain_option<'a>(alloc: Global) -> Arg<'a> {
-    Arg::new(alloc, "explain")
-        .long("explain")
-        .action(ArgAction::SetTrue)
-        .help("Name the accesses that make each race")
-}
-
-fn by_site_option<'a>(alloc: Global) -> Arg<'a> {
-    Arg::new(alloc, "by-site")
-        .long("by-site")
-        .action(ArgAction::SetTrue)
-        .help("Write a table of the sites with races, most words first, and explain a race of each")
+    let command = command.arg(path(
+        alloc,
+        "write-rules",
+        "FILE",
+        "Write rules to this file that take each race of the report",
+    ))?;
+    let command = command.arg(flag(
+        alloc,
+        "unused-rules",
+        "Name each rule that took no race, on standard error",
+    ))?;
+    with_option(command, max_races_option(alloc))
 }
 
 fn format_option<'a>(alloc: Global) -> Result<Arg<'a>, AllocError> {
-    let option = Arg::new(alloc, "format")
+    Arg::new(alloc, "format")
         .long("format")
         .value_name("FORM")
         .value_parser(FORMS.as_slice())
         .default_value("text")
-        .conflicts_with("by-site")?;
-    Ok(option.help(
-        "How the report is written: as text for scripts, as JSON for programs, as SARIF for code hosts, or as one page of HTML for people",
-    ))
-}
-
-fn source_option<'a>(alloc: Global) -> Arg<'a> {
-    Arg::new(alloc, "source")
-        .long("source")
-        .value_name("DIR")
         .help(
-            "With --format html, show the lines around each site, from the files below this folder",
+            "How the report is written: as text for scripts, as JSON for programs, as SARIF for code hosts, or as one page of HTML for people",
         )
+        .conflicts_with("by-site")
 }
 
 // The options that say how the races are written.
 fn with_forms<'a>(alloc: Global, command: Command<'a>) -> Result<Command<'a>, AllocError> {
-    let command = command.arg(explain_option(alloc))?;
-    let command = command.arg(by_site_option(alloc))?;
-    let command = command.arg(format_option(alloc)?)?;
-    command.arg(source_option(alloc))
+    let command = command.arg(flag(alloc, "explain", "Name the accesses that make each race"))?;
+    let command = command.arg(flag(
+        alloc,
+        "by-site",
+        "Write a table of the sites with races, most words first, and explain a race of each",
+    ))?;
+    let command = with_option(command, format_option(alloc))?;
+    command.arg(path(
+        alloc,
+        "source",
+        "DIR",
+        "With --format html, show the lines around each site, from the files below this folder",
+    ))
 }
 
 fn analysis_option<'a>(alloc: Global) -> Arg<'a> {
@@ -213,47 +230,42 @@ fn analysis_option<'a>(alloc: Global) -> Arg<'a> {
         )
 }
 
-fn strict_option<'a>(alloc: Global) -> Arg<'a> {
-    Arg::new(alloc, "strict")
-        .long("strict")
-        .action(ArgAction::SetTrue)
-        .help("End with 2 if the trace is damaged, and write no report")
+// The options that say how far the trace is replayed.
+fn with_ends<'a>(alloc: Global, command: Command<'a>) -> Result<Command<'a>, AllocError> {
+    let command = command.arg(flag(
+        alloc,
+        "strict",
+        "End with 2 if the trace is damaged, and write no report",
+    ))?;
+    let command = command.arg(flag(
+        alloc,
+        "until-fault",
+        "Report the steps before the first faulty line of the trace, and then its fault",
+    ))?;
+    command.arg(flag(
+        alloc,
+        "progress",
+        "Show on standard error, about twice a second, how far the replay has come",
+    ))
 }
 
-fn until_fault_option<'a>(alloc: Global) -> Arg<'a> {
-    Arg::new(alloc, "until-fault")
-        .long("until-fault")
-        .action(ArgAction::SetTrue)
-        .help("Report the steps before the first faulty line of the trace, and then its fault")
-}
-
-fn progress_option<'a>(alloc: Global) -> Arg<'a> {
-    Arg::new(alloc, "progress")
-        .long("progress")
-        .action(ArgAction::SetTrue)
-        .help("Show on standard error, about twice a second, how far the replay has come")
-}
-
-// The options that say how the trace is replayed.
+// The options that say by how many workers the trace is replayed, and how large it may be.
 fn with_limits<'a>(alloc: Global, command: Command<'a>) -> Result<Command<'a>, AllocError> {
-    let workers = count(
+    let command = command.arg(count(
         alloc,
         "workers",
         16,
         "1",
         "How many threads replay the trace, 1 to 16",
-    );
-    let shards = count(
+    ))?;
+    let command = command.arg(count(
         alloc,
         "shards",
         64,
         "8",
         "Into how many parts several workers cut the words, 1 to 64",
-    );
-    let command = command.arg(strict_option(alloc))?;
-    let command = command.arg(until_fault_option(alloc))?;
-    let command = command.arg(progress_option(alloc))?;
-    command.arg(workers)?.arg(shards)?.arg(byte_limit(alloc))
+    ))?;
+    command.arg(byte_limit(alloc))
 }
 
 fn byte_limit<'a>(alloc: Global) -> Arg<'a> {
@@ -270,28 +282,38 @@ fn replay_command<'a>(alloc: Global) -> Result<Command<'a>, AllocError> {
     let command = command.arg(analysis_option(alloc))?;
     let command = with_rules(alloc, command)?;
     let command = with_forms(alloc, command)?;
+    let command = with_ends(alloc, command)?;
     let command = with_limits(alloc, command)?;
-    let trace = Arg::new(alloc, "trace")
-        .value_name("TRACE")
-        .required(true)
-        .help("The trace to replay, or - for standard input");
-    command.arg(trace)
+    command.arg(word(
+        alloc,
+        "trace",
+        "TRACE",
+        "The trace to replay, or - for standard input",
+    ))
+}
+
+fn line_word<'a>(alloc: Global) -> Arg<'a> {
+    word(
+        alloc,
+        "line",
+        "LINE",
+        "The line of the trace that the step stands on, from 1",
+    )
+    .value_parser(value_parser!(u64))
 }
 
 fn explain_command<'a>(alloc: Global) -> Result<Command<'a>, AllocError> {
     let command = Command::new(alloc, "explain")
         .about("Say why one step is a race or not, by the story of its word")
         .after_help(EXPLAIN_HELP);
-    let line = Arg::new(alloc, "line")
-        .value_name("LINE")
-        .required(true)
-        .value_parser(value_parser!(u64))
-        .help("The line of the trace that the step stands on, from 1");
-    let trace = Arg::new(alloc, "trace")
-        .value_name("TRACE")
-        .required(true)
-        .help("The trace, or - for standard input");
-    command.arg(byte_limit(alloc))?.arg(line)?.arg(trace)
+    let command = command.arg(byte_limit(alloc))?;
+    let command = command.arg(line_word(alloc))?;
+    command.arg(word(
+        alloc,
+        "trace",
+        "TRACE",
+        "The trace, or - for standard input",
+    ))
 }
 
 const EXPLAIN_HELP: &str = "\
@@ -320,28 +342,38 @@ const NAMES: [&str; 6] = [
     "ignored-stats",
 ];
 
+fn name_word<'a>(alloc: Global) -> Arg<'a> {
+    word(alloc, "name", "NAME", "What the threads do").value_parser(NAMES.as_slice())
+}
+
 fn demo_command<'a>(alloc: Global) -> Result<Command<'a>, AllocError> {
-    let name = Arg::new(alloc, "name")
-        .value_name("NAME")
-        .required(true)
-        .value_parser(NAMES.as_slice())
-        .help("What the threads do");
     Command::new(alloc, "demo")
         .about("Run threads that call the detector, and print how many steps and races they made")
-        .arg(name)
+        .arg(name_word(alloc))
+}
+
+// Adds a command, if there was memory for it.
+fn with_command<'a>(
+    command: Command<'a>,
+    other: Result<Command<'a>, AllocError>,
+) -> Result<Command<'a>, AllocError> {
+    match other {
+        Ok(other) => command.subcommand(other),
+        Err(refused) => Err(refused),
+    }
 }
 
 /// The command line of the program.
 pub fn eraser_command<'a>(alloc: Global) -> Result<Command<'a>, AllocError> {
-    Command::new(alloc, "eraser")
+    let command = Command::new(alloc, "eraser")
         .version("0.1.0")
         .about("Finds data races by the locks that are held at each access")
         .after_help(AFTER_HELP)
         .subcommand_required(true)
-        .arg_required_else_help(true)
-        .subcommand(replay_command(alloc)?)?
-        .subcommand(explain_command(alloc)?)?
-        .subcommand(demo_command(alloc)?)
+        .arg_required_else_help(true);
+    let command = with_command(command, replay_command(alloc))?;
+    let command = with_command(command, explain_command(alloc))?;
+    with_command(command, demo_command(alloc))
 }
 
 const AFTER_HELP: &str = "\
@@ -416,7 +448,20 @@ fn values_of<'a>(
     }
 }
 
-fn replay_of<'a>(found: &ArgMatches<'a>, suppressions: Vec<&'a str>) -> Option<Replay<'a>> {
+// How many workers replay a trace, in how many shards, and how many bytes it may have.
+#[derive(Clone, Copy)]
+struct Limits {
+    shards: u32,
+    workers: u32,
+    byte_limit: u64,
+    ghost some_shards: { 1 ≤ shards },
+    ghost few_shards: { shards ≤ 64 },
+    ghost some_workers: { 1 ≤ workers },
+    ghost few_workers: { workers ≤ 16 },
+    ghost few_bytes: { byte_limit ≤ 2 ^ 62 },
+}
+
+fn limits_of(found: &ArgMatches<'_>) -> Option<Limits> {
     let shards = found.get_one::<u32>("shards")?;
     let workers = found.get_one::<u32>("workers")?;
     let byte_limit = found.get_one::<u64>("byte-limit")?;
@@ -426,25 +471,50 @@ fn replay_of<'a>(found: &ArgMatches<'a>, suppressions: Vec<&'a str>) -> Option<R
     if byte_limit > MOST_BYTES {
         return None;
     }
-    let analysis = analysis_of(found.get_str("analysis")?)?;
-    let format = format_of(found.get_flag("by-site"), found.get_str("format")?)?;
-    Some(Replay {
-        suppressions,
-        write_rules: found.get_str("write-rules"),
-        unused_rules: found.get_flag("unused-rules"),
-        max_races: found.get_one::<u64>("max-races"),
-        trace: found.get_str("trace")?,
-        analysis,
-        format,
-        source: found.get_str("source"),
-        explain: has_reasons(format) || found.get_flag("explain"),
-        strict: found.get_flag("strict"),
-        until_fault: found.get_flag("until-fault"),
-        progress: found.get_flag("progress"),
+    Some(Limits {
         shards,
         workers,
         byte_limit,
     })
+}
+
+// Which trace is replayed, by which analysis, and how its report is written.
+#[derive(Clone, Copy)]
+struct Way<'a> {
+    trace: &'a str,
+    analysis: Analysis,
+    format: Format,
+    limits: Limits,
+}
+
+fn way_of<'a>(found: &ArgMatches<'a>) -> Option<Way<'a>> {
+    Some(Way {
+        trace: found.get_str("trace")?,
+        analysis: analysis_of(found.get_str("analysis")?)?,
+        format: format_of(found.get_flag("by-site"), found.get_str("format")?)?,
+        limits: limits_of(found)?,
+    })
+}
+
+// The replay that is asked for in this way. Split for the prover.
+fn replay_of<'a>(found: &ArgMatches<'a>, way: Way<'a>, suppressions: Vec<&'a str>) -> Replay<'a> {
+    Replay {
+        suppressions,
+        write_rules: found.get_str("write-rules"),
+        unused_rules: found.get_flag("unused-rules"),
+        max_races: found.get_one::<u64>("max-races"),
+        trace: way.trace,
+        analysis: way.analysis,
+        format: way.format,
+        source: found.get_str("source"),
+        explain: has_reasons(way.format) || found.get_flag("explain"),
+        strict: found.get_flag("strict"),
+        until_fault: found.get_flag("until-fault"),
+        progress: found.get_flag("progress"),
+        shards: way.limits.shards,
+        workers: way.limits.workers,
+        byte_limit: way.limits.byte_limit,
+    }
 }
 
 // None if a value is out of its range.
@@ -453,18 +523,22 @@ fn request_of<'a>(
     matches: &ArgMatches<'a>,
 ) -> Result<Option<Request<'a>>, AllocError> {
     Ok(match matches.subcommand() {
-        Some(("replay", found)) => {
-            let suppressions = values_of(alloc, found, "suppress")?;
-            replay_request(found, suppressions)
-        }
+        Some(("replay", found)) => replay_request(alloc, found)?,
         Some(("explain", found)) => explain_request(found),
         Some(("demo", found)) => demo_request(found),
         _ => None,
     })
 }
 
-fn replay_request<'a>(found: &ArgMatches<'a>, suppressions: Vec<&'a str>) -> Option<Request<'a>> {
-    Some(Request::Replay(replay_of(found, suppressions)?))
+fn replay_request<'a>(
+    alloc: Global,
+    found: &ArgMatches<'a>,
+) -> Result<Option<Request<'a>>, AllocError> {
+    let Some(way) = way_of(found) else {
+        return Ok(None);
+    };
+    let suppressions = values_of(alloc, found, "suppress")?;
+    Ok(Some(Request::Replay(replay_of(found, way, suppressions))))
 }
 
 fn explain_request<'a>(found: &ArgMatches<'a>) -> Option<Request<'a>> {
@@ -536,28 +610,71 @@ fn overwrites_rules(request: &Request<'_>) -> bool {
     }
 }
 
+// What is wrong with a request whose words are right one by one.
+fn conflict_of(request: &Request<'_>) -> Option<&'static str> {
+    if lacks_page(request) {
+        return Some("--source goes with --format html alone");
+    }
+    if lacks_form(request) {
+        return Some(
+            "--format and --strict go with --analysis lockset alone, and --by-site with lockset or both",
+        );
+    }
+    if asks_more_of_both(request) {
+        return Some("--write-rules, --unused-rules and --max-races do not go with --analysis both");
+    }
+    if overwrites_rules(request) {
+        return Some("--write-rules would replace a file of --suppress: give it another path");
+    }
+    None
+}
+
+// An error with this text, or the want of memory for it.
+fn refusal(command: &mut Command<'_>, kind: ErrorKind, text: &str) -> Error {
+    match command.error(kind, text) {
+        Ok(error) => error,
+        Err(refused) => Error::from(refused),
+    }
+}
+
+// Returns the request that was found, unless something is wrong with it.
+fn checked<'a>(
+    command: &mut Command<'_>,
+    found: Option<Request<'a>>,
+) -> Result<Request<'a>, Error> {
+    let Some(request) = found else {
+        return Err(refusal(
+            command,
+            ErrorKind::InvalidValue,
+            "a value is out of its range",
+        ));
+    };
+    match conflict_of(&request) {
+        None => Ok(request),
+        Some(text) => Err(refusal(command, ErrorKind::ArgumentConflict, text)),
+    }
+}
+
+// Reads the words by the command.
+fn read_by<'a>(
+    alloc: Global,
+    command: &mut Command<'a>,
+    words: &'a [String],
+) -> Result<Request<'a>, Error> {
+    let matches = match command.try_get_matches_from_mut(words) {
+        Ok(matches) => matches,
+        Err(error) => return Err(error),
+    };
+    match request_of(alloc, &matches) {
+        Ok(found) => checked(command, found),
+        Err(refused) => Err(Error::from(refused)),
+    }
+}
+
 /// Reads a command line, of which the first word is the program's name.
 pub(crate) fn read_request<'a>(alloc: Global, words: &'a [String]) -> Result<Request<'a>, Error> {
-    let mut command = eraser_command(alloc)?;
-    let matches = command.try_get_matches_from_mut(words)?;
-    match request_of(alloc, &matches)? {
-        Some(request) if lacks_page(&request) => Err(command.error(
-            ErrorKind::ArgumentConflict,
-            "--source goes with --format html alone",
-        )?),
-        Some(request) if lacks_form(&request) => Err(command.error(
-            ErrorKind::ArgumentConflict,
-            "--format and --strict go with --analysis lockset alone, and --by-site with lockset or both",
-        )?),
-        Some(request) if asks_more_of_both(&request) => Err(command.error(
-            ErrorKind::ArgumentConflict,
-            "--write-rules, --unused-rules and --max-races do not go with --analysis both",
-        )?),
-        Some(request) if overwrites_rules(&request) => Err(command.error(
-            ErrorKind::ArgumentConflict,
-            "--write-rules would replace a file of --suppress: give it another path",
-        )?),
-        Some(request) => Ok(request),
-        None => Err(command.error(ErrorKind::InvalidValue, "a value is out of its range")?),
+    match eraser_command(alloc) {
+        Ok(mut command) => read_by(alloc, &mut command, words),
+        Err(refused) => Err(Error::from(refused)),
     }
 }

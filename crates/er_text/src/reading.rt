@@ -1,5 +1,5 @@
 //! Traces, line by line, and batch by batch.
-ghost use Rattle.std.specs.Prelude.{◌≡◌, ◌+◌, ◌++◌, ◌<◌, ◌≤◌, ◌^◌, length, OnOk, IfOk, IfSome, IfErr, IsErrOf, IsTrue, Ok, true, false, Option, ℕ, List, [], Some};
+ghost use Rattle.std.specs.Prelude.{◌≡◌, ◌+◌, ◌++◌, ◌<◌, ◌≤◌, ◌^◌, length, OnOk, IfOk, IfSome, IfErr, IsErrOf, IsTrue, Ok, Err, true, false, Option, ℕ, List, [], Some};
 ghost use Rattle.er_device.specs.Device.{inner_of, has_failed, taken_of};
 ghost use Rattle.er_text.specs.Lines.{bytes_past_limit};
 ghost use Rattle.er_text.specs.Trace.{Tells, HasFailedBy};
@@ -10,12 +10,12 @@ ghost use Rattle.er_text.specs.Batches.{HasRead, GivesBatch};
 ghost use Rattle.er_text.specs.Pieces.{AreWhole, StaysAt};
 ghost use Rattle.er_text.specs.Ending.{KnowsEnd, IsEndingOf};
 ghost use Rattle.er_text.specs.Inner.Endings.{PassesCut, BatchesCut};
-ghost use Rattle.er_text.specs.Inner.Lending.{taken_by, lines_left};
-ghost use Rattle.er_text.specs.Inner.Reading.{Reads, Turns};
+ghost use Rattle.er_text.specs.Inner.Lending.{taken_by, lines_from, lines_left};
+ghost use Rattle.er_text.specs.Inner.Reading.{Continues, Reads, Turns};
 ghost use Rattle.er_text.specs.Inner.FastPath.{ReadsUsual};
 ghost use Rattle.er_text.specs.Verbs.{version_of};
 ghost use Rattle.er_text.specs.Inner.Parsing.{event_line};
-ghost use Rattle.er_text.specs.Inner.Traces.{progress, at_line, open_with, add_parsed, read_at, plain_at, read_content, read_text, IsOutcome, Batches};
+ghost use Rattle.er_text.specs.Inner.Traces.{progress, at_front, at_line, open_with, add_parsed, read_at, plain_at, read_content, read_text, IsOutcome, Batches};
 
 use crate::adding::add_steps;
 use crate::bytes::{is_ascii, says_something};
@@ -313,6 +313,25 @@ impl TraceReader {
         }
     }
 
+    /// Reads all lines that are left of a text.
+    fn read_left<R: Read>(
+        &mut self,
+        reader: &mut Device<R>,
+        trace: &mut Trace,
+    ) -> Result<(), ReadFault>
+        requires open { has_failed reader.old ≡ false }
+        requires goes_on { Continues self.old.place.limit read_content (lines_from 1 0 (R.remaining (inner_of reader.old)))
+            (lines_left self.old.place (R.remaining (inner_of reader.old))) at_front (progress self.old trace.old) }
+        requires within { self.old.place.start ≤ self.old.place.limit }
+        ensures read { OnOk result (IfSome (R.remaining (inner_of reader.old)) (λ text. read_text self.old.place.limit text ≡ Ok trace.new)) }
+        ensures fault { IfErr result (λ why. IfSome (R.remaining (inner_of reader.old)) (λ text. IsOutcome (read_text self.old.place.limit text) (Err why))) }
+        ensures failed { HasFailedBy (has_failed reader.new) result }
+        ensures taken { taken_of reader.new + taken_by self.old.place ≤ taken_of reader.old + self.old.place.limit + bytes_past_limit }
+    {
+        while self.next_line(reader, trace)? {}
+        self.finish()
+    }
+
     /// Reads up to so many lines.
     fn read_batch<R: Read>(
         &mut self,
@@ -393,7 +412,28 @@ impl TraceReader {
     }
 }
 
-/// Reads a text to its end, in whatever pieces it comes.
+// Reads a text to its end, in whatever pieces it comes, into an empty trace. Split for the prover.
+fn read_into<R: Read>(
+    alloc: Global,
+    reader: &mut Device<R>,
+    byte_limit: u64,
+    trace: &mut Trace,
+) -> Result<(), ReadFault>
+    requires open { has_failed reader.old ≡ false }
+    requires limit { byte_limit ≤ 2 ^ 62 }
+    requires empty { trace.old ≡ no_steps }
+    ensures read { OnOk result (IfSome (R.remaining (inner_of reader.old)) (λ text. read_text byte_limit text ≡ Ok trace.new)) }
+    ensures fault { IfErr result (λ why. IfSome (R.remaining (inner_of reader.old)) (λ text. IsOutcome (read_text byte_limit text) (Err why))) }
+    ensures failed { HasFailedBy (has_failed reader.new) result }
+    ensures taken { taken_of reader.new ≤ taken_of reader.old + byte_limit + bytes_past_limit }
+{
+    let mut lines = TraceReader::new(alloc, byte_limit)?;
+    let read = lines.read_left(reader, trace);
+    drop(lines);
+    read
+}
+
+// Reads a text to its end.
 fn read_all<R: Read>(
     alloc: Global,
     reader: &mut Device<R>,
@@ -406,11 +446,14 @@ fn read_all<R: Read>(
     ensures failed { HasFailedBy (has_failed reader.new) result }
     ensures taken { taken_of reader.new ≤ taken_of reader.old + byte_limit + bytes_past_limit }
 {
-    let mut lines = TraceReader::new(alloc, byte_limit)?;
     let mut trace = Trace::keyed(alloc, keys);
-    while lines.next_line(reader, &mut trace)? {}
-    lines.finish()?;
-    Ok(trace)
+    match read_into(alloc, reader, byte_limit, &mut trace) {
+        Ok(()) => Ok(trace),
+        Err(why) => {
+            drop(trace);
+            Err(why)
+        }
+    }
 }
 
 /// Reads a trace text to its end, or to its first faulty line, in whatever pieces it comes.
