@@ -71,9 +71,28 @@ impl<'t, 'r> BothPass<'t, 'r> {
         ensures taken { IfOk result (λ pass. taken_by pass.lines.place ≡ 0) }
     {
         let lines = TraceReader::new(alloc, byte_limit)?;
-        let machine = Machine::new(alloc, table)?;
-        let builder = ReportBuilder::explaining(alloc, suppressions, explain)?;
-        let unordered = OrderBuilder::new(alloc, suppressions, explain)?;
+        let machine = match Machine::new(alloc, table) {
+            Ok(machine) => machine,
+            Err(refused) => {
+                drop(lines);
+                return Err(refused);
+            }
+        };
+        let builder = match ReportBuilder::explaining(alloc, suppressions, explain) {
+            Ok(builder) => builder,
+            Err(refused) => {
+                drop(lines);
+                drop(machine);
+                return Err(refused);
+            }
+        };
+        let unordered = match OrderBuilder::new(alloc, suppressions, explain) {
+            Ok(unordered) => unordered,
+            Err(refused) => {
+                close_early(lines, machine, builder);
+                return Err(refused);
+            }
+        };
         Ok(BothPass {
             lines,
             trace: Trace::keyed(alloc, keys),
@@ -210,10 +229,25 @@ impl<'t, 'r> BothPass<'t, 'r> {
 }
 
 // Lets go of what has read and answered the steps. Split for the prover.
-fn close(_lines: TraceReader, _machine: Machine<'_>, _ordering: OrderMachine) {}
+fn close(lines: TraceReader, machine: Machine<'_>, ordering: OrderMachine) {
+    drop(lines);
+    drop(machine);
+    drop(ordering);
+}
+
+// Lets go of what was to read, to answer and to report. Split for the prover.
+fn close_early(lines: TraceReader, machine: Machine<'_>, builder: ReportBuilder<'_>) {
+    drop(lines);
+    drop(machine);
+    drop(builder);
+}
 
 // Lets go of what was to report. Split for the prover.
-fn abandon(_trace: Trace, _builder: ReportBuilder<'_>, _unordered: OrderBuilder<'_>) {}
+fn abandon(trace: Trace, builder: ReportBuilder<'_>, unordered: OrderBuilder<'_>) {
+    drop(trace);
+    drop(builder);
+    drop(unordered);
+}
 
 /// Reads a trace text and reports its races by the lockset rule and its unordered accesses, without those that the rules take. Of the
 /// options it takes how many sets and bytes may be, and whether races and unordered accesses are explained.
@@ -241,9 +275,32 @@ pub fn report_both<R: Wait, D: Read, V: Watch>(
     ensures taken { taken_of reader.new ≤ taken_of reader.old + options.now.byte_limit + bytes_past_limit }
 {
     let table = LocksetTable::new(alloc, options.max_sets)?;
+    let found = report_with(rt, alloc, &table, reader, suppressions, options, watcher);
+    drop(table);
+    found
+}
+
+// The same over this table. Split for the prover.
+fn report_with<R: Wait, D: Read, V: Watch>(
+    rt: &R,
+    alloc: Global,
+    table: &LocksetTable,
+    reader: &mut Device<D>,
+    suppressions: &Suppressions,
+    options: &Options,
+    watcher: &mut V,
+) -> Result<BothReports, OrderFault>
+    requires { has_failed reader.old ≡ false }
+    ensures reports { IfOk result (λ found. IfSome (D.remaining (inner_of reader.old)) (λ text. AreReportsOfText text options.now.byte_limit (targets_of suppressions.now) options.now.explain found.trace.names found.lockset found.unordered)) }
+    ensures named { IfOk result (λ found. All (HasNames found.trace.names) found.lockset.lines.items) }
+    ensures named_too { IfOk result (λ found. All (HasNames found.trace.names) found.unordered.lines.items) }
+    ensures fault { IfErr result (λ why. IsFaultOf Both (D.remaining (inner_of reader.old)) options.now.byte_limit why) }
+    ensures failed { FailsBy (has_failed reader.new) false result }
+    ensures taken { taken_of reader.new ≤ taken_of reader.old + options.now.byte_limit + bytes_past_limit }
+{
     let mut pass = BothPass::new(
         alloc,
-        &table,
+        table,
         suppressions,
         options.byte_limit,
         options.explain,
@@ -253,6 +310,9 @@ pub fn report_both<R: Wait, D: Read, V: Watch>(
     watcher.end();
     match ran {
         Ok(()) => pass.finish(),
-        Err(why) => Err(why),
+        Err(why) => {
+            drop(pass);
+            Err(why)
+        }
     }
 }

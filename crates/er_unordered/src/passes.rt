@@ -59,7 +59,13 @@ impl<'r> Pass<'r> {
         ensures taken { IfOk result (λ pass. taken_by pass.lines.place ≡ 0) }
     {
         let lines = TraceReader::new(alloc, byte_limit)?;
-        let builder = OrderBuilder::new(alloc, suppressions, explain)?;
+        let builder = match OrderBuilder::new(alloc, suppressions, explain) {
+            Ok(builder) => builder,
+            Err(refused) => {
+                drop(lines);
+                return Err(refused);
+            }
+        };
         Ok(Pass {
             lines,
             trace: Trace::keyed(alloc, keys),
@@ -164,7 +170,10 @@ impl<'r> Pass<'r> {
 }
 
 // Lets go of what has read and answered the steps. Split for the prover.
-fn close(_lines: TraceReader, _machine: OrderMachine) {}
+fn close(lines: TraceReader, machine: OrderMachine) {
+    drop(lines);
+    drop(machine);
+}
 
 /// Reads a trace text of at most so many bytes, and reports its unordered accesses, without those that the rules take. If `explain` is
 /// set, each has the earlier access that it is unordered with. Its names are hashed by the keys. The watcher is told how far it has come,
@@ -195,6 +204,9 @@ pub fn report_unordered<D: Read, V: Watch>(
     watcher.end();
     match ran {
         Ok(()) => Ok(pass.finish()),
-        Err(why) => Err(why),
+        Err(why) => {
+            drop(pass);
+            Err(why)
+        }
     }
 }

@@ -99,7 +99,11 @@ fn replay_unordered<D: Read, W: Write, V: Watch>(
         options.keys,
         watcher,
     ) {
-        Ok(found) => write_found(alloc, writer, &found),
+        Ok(found) => {
+            let written = write_found(alloc, writer, &found);
+            drop(found);
+            written
+        }
         Err(why) => Err(why),
     }
 }
@@ -127,7 +131,11 @@ where
     ensures taken { taken_of reader.new ≤ taken_of reader.old + options.now.byte_limit + bytes_past_limit }
 {
     match report_both(rt, rt.alloc(), reader, suppressions, options, watcher) {
-        Ok(found) => write_both_found(rt.alloc(), writer, &found),
+        Ok(found) => {
+            let written = write_both_found(rt.alloc(), writer, &found);
+            drop(found);
+            written
+        }
         Err(why) => Err(why),
     }
 }

@@ -16,8 +16,8 @@ returns-in-Ok-clause-report g c =
     let rules : List Target = targets_of c.args.suppressions.now in
     let explain : Bool = c.args.options.now.explain in
     let found = c.in-Ok.found in
-    whole-of Both told limit rules explain _ _ (report_text found.trace.names (summary found.lockset) ++ unordered_text found.trace.names (summary found.unordered)) (nat_lt 0 found.lockset.races || nat_lt 0 found.unordered.races) c.write_both_found.result
-    (output-both told limit rules explain found.trace.names found.lockset found.unordered c.in-Ok.ensures.reports) c.write_both_found.ensures.verdict c.write_both_found.ensures.bytes
+    whole-of Both told limit rules explain _ _ (report_text found.trace.names (summary found.lockset) ++ unordered_text found.trace.names (summary found.unordered)) (nat_lt 0 found.lockset.races || nat_lt 0 found.unordered.races) c.write_both_found-written.result
+    (output-both told limit rules explain found.trace.names found.lockset found.unordered c.in-Ok.ensures.reports) c.write_both_found-written.ensures.verdict c.write_both_found-written.ensures.bytes
 
 pub returns-in-Ok-clause-fault : goal.returns-in-Ok-clause-fault
 returns-in-Ok-clause-fault g c =
@@ -26,11 +26,11 @@ returns-in-Ok-clause-fault g c =
     let rules : List Target = targets_of c.args.suppressions.now in
     let explain : Bool = c.args.options.now.explain in
     let found = c.in-Ok.found in
-    part Both told limit rules explain _ _ (report_text found.trace.names (summary found.lockset) ++ unordered_text found.trace.names (summary found.unordered)) (nat_lt 0 found.lockset.races || nat_lt 0 found.unordered.races) c.write_both_found.result
-    (output-both told limit rules explain found.trace.names found.lockset found.unordered c.in-Ok.ensures.reports) c.write_both_found.ensures.bytes
+    part Both told limit rules explain _ _ (report_text found.trace.names (summary found.lockset) ++ unordered_text found.trace.names (summary found.unordered)) (nat_lt 0 found.lockset.races || nat_lt 0 found.unordered.races) c.write_both_found-written.result
+    (output-both told limit rules explain found.trace.names found.lockset found.unordered c.in-Ok.ensures.reports) c.write_both_found-written.ensures.bytes
 
 pub returns-in-Ok-clause-nothing : goal.returns-in-Ok-clause-nothing
-returns-in-Ok-clause-nothing g c = nothing _ _ _ c.write_both_found.result c.write_both_found.ensures.bytes
+returns-in-Ok-clause-nothing g c = nothing _ _ _ c.write_both_found-written.result c.write_both_found-written.ensures.bytes
 
 pub returns-in-Err-clause-fault : goal.returns-in-Err-clause-fault
 returns-in-Err-clause-fault g c =

@@ -15,8 +15,8 @@ returns-in-Ok-clause-report g c =
     let rules : List Target = targets_of c.args.suppressions.now in
     let explain : Bool = c.args.options.now.explain in
     let found = c.in-Ok.found in
-    whole-of HappensBefore told limit rules explain _ _ (unordered_text found.trace.names (summary found.report)) (nat_lt 0 found.report.races) c.write_found.result
-    (output-alone told limit rules explain found.trace.names found.report c.in-Ok.ensures.report) c.write_found.ensures.verdict c.write_found.ensures.bytes
+    whole-of HappensBefore told limit rules explain _ _ (unordered_text found.trace.names (summary found.report)) (nat_lt 0 found.report.races) c.write_found-written.result
+    (output-alone told limit rules explain found.trace.names found.report c.in-Ok.ensures.report) c.write_found-written.ensures.verdict c.write_found-written.ensures.bytes
 
 pub returns-in-Ok-clause-fault : goal.returns-in-Ok-clause-fault
 returns-in-Ok-clause-fault g c =
@@ -25,11 +25,11 @@ returns-in-Ok-clause-fault g c =
     let rules : List Target = targets_of c.args.suppressions.now in
     let explain : Bool = c.args.options.now.explain in
     let found = c.in-Ok.found in
-    part HappensBefore told limit rules explain _ _ (unordered_text found.trace.names (summary found.report)) (nat_lt 0 found.report.races) c.write_found.result
-    (output-alone told limit rules explain found.trace.names found.report c.in-Ok.ensures.report) c.write_found.ensures.bytes
+    part HappensBefore told limit rules explain _ _ (unordered_text found.trace.names (summary found.report)) (nat_lt 0 found.report.races) c.write_found-written.result
+    (output-alone told limit rules explain found.trace.names found.report c.in-Ok.ensures.report) c.write_found-written.ensures.bytes
 
 pub returns-in-Ok-clause-nothing : goal.returns-in-Ok-clause-nothing
-returns-in-Ok-clause-nothing g c = nothing _ _ _ c.write_found.result c.write_found.ensures.bytes
+returns-in-Ok-clause-nothing g c = nothing _ _ _ c.write_found-written.result c.write_found-written.ensures.bytes
 
 pub returns-in-Err-clause-fault : goal.returns-in-Err-clause-fault
 returns-in-Err-clause-fault g c =

@@ -5,7 +5,7 @@ use Rattle.er_rules.specs.Rules.{targets_of}
 use Rattle.er_unordered.specs.Faults.{IsFaultOf}
 use Rattle.er_unordered.specs.Reports.{AreReportsOfText}
 use Rattle.er_unordered.specs.declared.replay.Analysis.TheVariants.{Both}
-use Rattle.er_unordered.proofs.both.report_both.Goals as goal
+use Rattle.er_unordered.proofs.both.report_with.Goals as goal
 
 pub returns-in-Ok-clause-reports : goal.returns-in-Ok-clause-reports
 returns-in-Ok-clause-reports g c =
@@ -34,7 +34,7 @@ returns-in-Ok-clause-fault g c =
     subst (λ (n : ℕ). IfErr c.finish.result (λ why. IsFaultOf Both told n why)) c.in_ok-pass.ensures.limit
     (c.finish.ensures.fault told c.in_ok-pass.pass.lines.place.limit (c.in-Ok.ensures.ended told (c.in_ok-pass.ensures.come told)))
 
-pub returns-clause-fault : goal.returns-clause-fault
-returns-clause-fault g c =
+pub returns-in-Err-clause-fault : goal.returns-in-Err-clause-fault
+returns-in-Err-clause-fault g c =
     let told : Option (List ℕ) = g.D.Read.remaining (inner_of c.args.reader.now) in
     subst (λ (n : ℕ). IsFaultOf Both told n c.in-Err.why) c.in_ok-pass.ensures.limit (c.in-Err.ensures.fault told (c.in_ok-pass.ensures.come told))
