@@ -71,16 +71,16 @@ impl<'t, 'r> BothPass<'t, 'r> {
         ensures taken { IfOk result (λ pass. taken_by pass.lines.place ≡ 0) }
     {
         let lines = TraceReader::new(alloc, byte_limit)?;
-        let machine = Machine::new(alloc, table)?;
-        let builder = ReportBuilder::explaining(alloc, suppressions, explain)?;
-        let unordered = OrderBuilder::new(alloc, suppressions, explain)?;
+        let machine = Machine::keyed(alloc, table, keys)?;
+        let builder = ReportBuilder::explaining_keyed(alloc, suppressions, explain, keys)?;
+        let unordered = OrderBuilder::new(alloc, suppressions, explain, keys)?;
         Ok(BothPass {
             lines,
             trace: Trace::keyed(alloc, keys),
             machine,
             builder,
             stop: None,
-            ordering: OrderMachine::new(alloc),
+            ordering: OrderMachine::keyed(alloc, keys),
             unordered,
         })
     }

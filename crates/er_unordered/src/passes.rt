@@ -59,11 +59,11 @@ impl<'r> Pass<'r> {
         ensures taken { IfOk result (λ pass. taken_by pass.lines.place ≡ 0) }
     {
         let lines = TraceReader::new(alloc, byte_limit)?;
-        let builder = OrderBuilder::new(alloc, suppressions, explain)?;
+        let builder = OrderBuilder::new(alloc, suppressions, explain, keys)?;
         Ok(Pass {
             lines,
             trace: Trace::keyed(alloc, keys),
-            machine: OrderMachine::new(alloc),
+            machine: OrderMachine::keyed(alloc, keys),
             builder,
         })
     }
