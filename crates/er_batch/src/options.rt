@@ -19,7 +19,7 @@ pub struct Options {
     pub workers: u32,
     /// Whether a damaged trace is a fault.
     pub strict: bool,
-    /// By which keys the names of the trace are hashed. They change no report.
+    /// By which keys the names and the pages of the trace are hashed. They change no report.
     pub keys: NameKeys,
     pub ghost some_sets: { 1 ≤ max_sets },
     pub ghost few_sets: { max_sets ≤ most_sets },
@@ -131,7 +131,7 @@ impl Options {
         }
     }
 
-    /// The same options, by which the names of the trace are hashed by these keys.
+    /// The same options, by which the names and the pages of the trace are hashed by these keys.
     pub fn with_keys(self, keys: NameKeys) -> Options
         ensures sets { result.max_sets ≡ self.max_sets }
         ensures bytes { result.byte_limit ≡ self.byte_limit }

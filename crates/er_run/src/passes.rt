@@ -66,8 +66,13 @@ impl<'t, 'r> Pass<'t, 'r> {
         ensures taken { IfOk result (λ pass. taken_by pass.lines.place ≡ 0) }
     {
         let lines = TraceReader::new(alloc, options.byte_limit)?;
-        let machine = Machine::new(alloc, table)?;
-        let builder = ReportBuilder::explaining(alloc, suppressions, options.explain)?;
+        let machine = Machine::keyed(alloc, table, options.keys)?;
+        let builder = ReportBuilder::explaining_keyed(
+            alloc,
+            suppressions,
+            options.explain,
+            options.keys,
+        )?;
         Ok(Pass {
             lines,
             trace: Trace::keyed(alloc, options.keys),

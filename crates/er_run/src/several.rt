@@ -143,11 +143,17 @@ impl<'t, 'r> Shared<'t, 'r> {
         ensures taken { taken_of reader.new ≤ taken_of reader.old + options.now.byte_limit + bytes_past_limit }
     {
         let mut lines = TraceReader::new(alloc, options.byte_limit)?;
-        let builder = ReportBuilder::explaining(alloc, suppressions, options.explain)?;
+        let builder = ReportBuilder::explaining_keyed(
+            alloc,
+            suppressions,
+            options.explain,
+            options.keys,
+        )?;
         let mut trace = Trace::keyed(alloc, options.keys);
         let config = ReplayConfig {
             shards: options.shards,
             max_sets: options.max_sets,
+            keys: options.keys,
         };
         match Crew::new(rt, alloc, table, config, options.workers) {
             Ok(crew) => Ok(Shared {

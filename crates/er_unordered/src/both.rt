@@ -71,14 +71,14 @@ impl<'t, 'r> BothPass<'t, 'r> {
         ensures taken { IfOk result (λ pass. taken_by pass.lines.place ≡ 0) }
     {
         let lines = TraceReader::new(alloc, byte_limit)?;
-        let machine = match Machine::new(alloc, table) {
+        let machine = match Machine::keyed(alloc, table, keys) {
             Ok(machine) => machine,
             Err(refused) => {
                 drop(lines);
                 return Err(refused);
             }
         };
-        let builder = match ReportBuilder::explaining(alloc, suppressions, explain) {
+        let builder = match ReportBuilder::explaining_keyed(alloc, suppressions, explain, keys) {
             Ok(builder) => builder,
             Err(refused) => {
                 drop(lines);
@@ -86,7 +86,7 @@ impl<'t, 'r> BothPass<'t, 'r> {
                 return Err(refused);
             }
         };
-        let unordered = match OrderBuilder::new(alloc, suppressions, explain) {
+        let unordered = match OrderBuilder::new(alloc, suppressions, explain, keys) {
             Ok(unordered) => unordered,
             Err(refused) => {
                 close_early(lines, machine, builder);
@@ -99,7 +99,7 @@ impl<'t, 'r> BothPass<'t, 'r> {
             machine,
             builder,
             stop: None,
-            ordering: OrderMachine::new(alloc),
+            ordering: OrderMachine::keyed(alloc, keys),
             unordered,
         })
     }

@@ -21,7 +21,7 @@ use crate::reasons::Reasons;
 use er_before::OrderMachine;
 use er_report::{Report, ReportBuilder};
 use er_rules::Suppressions;
-use er_trace::Trace;
+use er_trace::{NameKeys, Trace};
 use std::alloc::{AllocError, Global};
 use std::marker::Model;
 
@@ -41,11 +41,12 @@ impl<'r> Model for OrderBuilder<'r> {
 }
 
 impl<'r> OrderBuilder<'r> {
-    /// The report before any step.
+    /// The report before any step. Reasons find each word by these keys.
     pub(crate) fn new(
         alloc: Global,
         suppressions: &'r Suppressions,
         explain: bool,
+        keys: NameKeys,
     ) -> Result<OrderBuilder<'r>, AllocError>
         ensures rules { IfOk result (λ builder. builder.built.rules ≡ targets_of suppressions.now) }
         ensures explains { IfOk result (λ builder. is_some builder.reasons ≡ explain) }
@@ -55,7 +56,7 @@ impl<'r> OrderBuilder<'r> {
         let report = ReportBuilder::new(alloc, suppressions)?;
         Ok(OrderBuilder {
             report,
-            reasons: reasons_if(alloc, explain),
+            reasons: reasons_if(alloc, explain, keys),
         })
     }
 
@@ -109,12 +110,12 @@ impl<'r> OrderBuilder<'r> {
 }
 
 // What finds reasons, if they are wanted.
-fn reasons_if(alloc: Global, explain: bool) -> Option<Reasons>
+fn reasons_if(alloc: Global, explain: bool, keys: NameKeys) -> Option<Reasons>
     ensures some { is_some result ≡ explain }
     ensures start { (r : Recording) (rules : List Target) → IfSome result (λ kept. HasReasons kept r rules 0) }
 {
     if explain {
-        Some(Reasons::new(alloc))
+        Some(Reasons::new(alloc, keys))
     } else {
         None
     }

@@ -59,7 +59,7 @@ impl<'r> Pass<'r> {
         ensures taken { IfOk result (λ pass. taken_by pass.lines.place ≡ 0) }
     {
         let lines = TraceReader::new(alloc, byte_limit)?;
-        let builder = match OrderBuilder::new(alloc, suppressions, explain) {
+        let builder = match OrderBuilder::new(alloc, suppressions, explain, keys) {
             Ok(builder) => builder,
             Err(refused) => {
                 drop(lines);
@@ -69,7 +69,7 @@ impl<'r> Pass<'r> {
         Ok(Pass {
             lines,
             trace: Trace::keyed(alloc, keys),
-            machine: OrderMachine::new(alloc),
+            machine: OrderMachine::keyed(alloc, keys),
             builder,
         })
     }

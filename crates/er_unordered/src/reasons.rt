@@ -14,6 +14,7 @@ use er_clocks::ThreadClock;
 use er_event::{Event, Kind, Refusal, Reply, Step};
 use er_latest::LatestWords;
 use er_report::{Because, Label};
+use er_trace::NameKeys;
 use std::alloc::{AllocError, Global};
 use std::marker::Model;
 
@@ -35,12 +36,12 @@ impl Model for Reasons {
 }
 
 impl Reasons {
-    /// Nothing is kept before any step.
-    pub(crate) fn new(alloc: Global) -> Reasons
+    /// Nothing is kept before any step. Words are found by these keys.
+    pub(crate) fn new(alloc: Global, keys: NameKeys) -> Reasons
         ensures { (r : Recording) (rules : List Target) → HasReasons result r rules 0 }
     {
         Reasons {
-            latest: LatestWords::new(alloc),
+            latest: LatestWords::keyed(alloc, keys),
             told: Vec::new(alloc),
             alloc,
         }

@@ -250,7 +250,7 @@ where
     }
 }
 
-/// By which keys names are hashed: by those that nobody can foretell, if the system gives random bytes.
+/// By which keys names and pages are hashed: by those that nobody can foretell, if the system gives random bytes.
 pub(crate) fn keys_from<R: RandomSource>(rt: &R) -> NameKeys {
     match NameKeys::random(rt) {
         Ok(keys) => keys,
