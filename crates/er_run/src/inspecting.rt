@@ -2,9 +2,11 @@
 ghost use Rattle.std.specs.Prelude.{◌≡◌, ◌++◌, ℕ, List, Option, [], length, false, is_some, IsNone, IfSome, OnOk};
 ghost use Rattle.er_event.specs.declared.steps.Step.{Step as Steps};
 ghost use Rattle.er_run.specs.Inner.Inspected.{HaveSeen, HasSeenAll, HasFound};
+ghost use Rattle.er_text.specs.Ending.{KnowsEnd, IsEndingOf};
+ghost use Rattle.er_text.specs.Places.{Reached};
 
 use er_damage::{Damage, Inspector};
-use er_text::TraceReader;
+use er_text::Ending;
 use er_trace::Trace;
 use std::alloc::{AllocError, Global};
 
@@ -35,15 +37,15 @@ pub(crate) fn inspect(inspector: &mut Option<Inspector>, trace: &Trace) -> Resul
     }
 }
 
-/// The damage of a text that was read to its end, if the replay is strict and there is any.
-pub(crate) fn damage_of(inspector: &Option<Inspector>, lines: &TraceReader) -> Option<Damage>
-    ensures found { (told : Option (List ℕ)) (limit : ℕ) → IfSome told (λ text. HasSeenAll text limit lines.now inspector.now)
-        → HasFound told limit (is_some inspector.now) result }
+/// The damage of a text that was read to its end and ended so, if the replay is strict and there is any.
+pub(crate) fn damage_of(inspector: &Option<Inspector>, ending: Ending) -> Option<Damage>
+    ensures found { (told : Option (List ℕ)) (limit : ℕ) (reader : Reached) → ((text : List ℕ) → KnowsEnd text reader → IsEndingOf text ending)
+        → IfSome told (λ text. HasSeenAll text limit reader inspector.now) → HasFound told limit (is_some inspector.now) result }
     ensures lenient { is_some inspector.now ≡ false → IsNone result }
 {
     let Some(inspector) = inspector else {
         return None;
     };
-    let damage = inspector.damage(lines.ending());
+    let damage = inspector.damage(ending);
     if damage.is_any() { Some(damage) } else { None }
 }

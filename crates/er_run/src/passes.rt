@@ -159,7 +159,7 @@ impl<'t, 'r> Pass<'t, 'r> {
             → HasFound told limit (is_some self.now.inspector) result }
         ensures lenient { is_some self.now.inspector ≡ false → IsNone result }
     {
-        damage_of(&self.inspector, &self.lines)
+        damage_of(&self.inspector, self.lines.ending())
     }
 
     /// The report of the text that was read, or its damage, if the replay is strict and there is any.

@@ -14,16 +14,16 @@ ghost use Rattle.er_text.specs.Trace.{HasFailedBy};
 use crate::RunFault;
 use er_device::Device;
 use er_parallel::ReplayFault;
-use er_text::{Batch, ReadFault, TraceReader};
+use er_reading::PieceReader;
+use er_text::{Batch, ReadFault};
 use er_trace::Trace;
 use std::io::Read;
-
-/// How many lines are read at a time.
-const BATCH_LINES: u32 = 1024;
+use std::thread::Threads;
 
 // Forgets a batch and reads the next. Says whether lines may follow.
-fn read_more<D: Read>(
-    lines: &mut TraceReader,
+fn read_more<R: Threads + Sync, D: Read>(
+    rt: &R,
+    lines: &mut PieceReader,
     reader: &mut Device<D>,
     trace: &mut Trace,
 ) -> Result<bool, ReadFault>
@@ -42,7 +42,7 @@ fn read_more<D: Read>(
     ensures most { taken_by lines.new.place ≤ lines.new.place.limit + bytes_past_limit }
 {
     trace.clear();
-    let batch = match lines.next_batch(reader, trace, BATCH_LINES) {
+    let batch = match lines.next_batch(rt, reader, trace) {
         Ok(batch) => batch,
         Err(why) => return Err(why),
     };
@@ -53,8 +53,9 @@ fn read_more<D: Read>(
 }
 
 // Reads the text to its end and forgets what it says.
-fn read_out<D: Read>(
-    lines: &mut TraceReader,
+fn read_out<R: Threads + Sync, D: Read>(
+    rt: &R,
+    lines: &mut PieceReader,
     reader: &mut Device<D>,
     trace: &mut Trace,
 ) -> Result<(), ReadFault>
@@ -69,13 +70,14 @@ fn read_out<D: Read>(
     ensures taken { taken_of reader.new + taken_by lines.old.place ≤ taken_of reader.old + taken_by lines.new.place }
     ensures most { taken_by lines.new.place ≤ lines.new.place.limit + bytes_past_limit }
 {
-    while read_more(lines, reader, trace)? {}
+    while read_more(rt, lines, reader, trace)? {}
     Ok(())
 }
 
 /// The fault of a replay whose workers have failed so: that of the text, if it has one behind the lines that were read.
-pub(crate) fn fault_behind<D: Read>(
-    lines: &mut TraceReader,
+pub(crate) fn fault_behind<R: Threads + Sync, D: Read>(
+    rt: &R,
+    lines: &mut PieceReader,
     reader: &mut Device<D>,
     trace: &mut Trace,
     batch: Batch,
@@ -94,7 +96,7 @@ pub(crate) fn fault_behind<D: Read>(
 {
     match batch {
         Batch::End => RunFault::from(why),
-        Batch::More => match read_out(lines, reader, trace) {
+        Batch::More => match read_out(rt, lines, reader, trace) {
             Ok(()) => RunFault::from(why),
             Err(fault) => RunFault::Read(fault),
         },

@@ -1,5 +1,6 @@
-//! A replay by several workers, who answer one batch of lines while the next is read.
+//! A replay by several workers, who answer one batch of lines while threads read the next.
 ghost use Rattle.std.specs.Prelude.{◌≡◌, ◌+◌, ◌++◌, ◌<◌, ◌≤◌, ℕ, List, Option, All, None, [], false, true, length, is_some, IfSome, IfOk, IfErr, IsNone, IsTrue, IsFalse, OnOk};
+ghost use Rattle.std.specs.Thread.{IsSync};
 ghost use Rattle.er_damage.specs.Damaged.{IsDamageOf, no_damage};
 ghost use Rattle.er_device.specs.Device.{inner_of, has_failed, taken_of};
 ghost use Rattle.er_event.specs.declared.steps.Step.{Step as Steps};
@@ -19,7 +20,7 @@ ghost use Rattle.er_text.specs.Ending.{KnowsEnd};
 ghost use Rattle.er_text.specs.Inner.Lending.{taken_by};
 ghost use Rattle.er_text.specs.Named.{Grows};
 ghost use Rattle.er_text.specs.Trace.{HasFailedBy};
-ghost use Rattle.er_trace.specs.Trace.{IsNamed, without_steps};
+ghost use Rattle.er_trace.specs.Trace.{IsNamed};
 
 use crate::adding::add_batch;
 use crate::inspecting::{damage_of, inspect, start};
@@ -31,26 +32,24 @@ use er_damage::{Damage, Inspector};
 use er_device::Device;
 use er_event::Step;
 use er_parallel::{Crew, ReplayConfig, ReplayFault, Unusual};
+use er_reading::PieceReader;
 use er_report::ReportBuilder;
 use er_rules::Suppressions;
 use er_table::LocksetTable;
-use er_text::{Batch, ReadFault, TraceReader};
+use er_text::{Batch, ReadFault};
 use er_trace::Trace;
-use std::alloc::{AllocError, Global};
+use std::alloc::Global;
 use std::io::Read;
 use std::sync::Wait;
 use std::thread;
 use std::thread::Threads;
-
-/// How many lines a batch has.
-const BATCH_LINES: u32 = 131_072;
 
 /// A replay by several workers: what reads the lines, the workers, the report so far, and the steps that were read and aren't
 /// answered, with their lines. Between two batches the trace has names alone.
 #[derive(Drop)]
 struct Shared<'t, 'r> {
     alloc: Global,
-    lines: TraceReader,
+    lines: PieceReader,
     trace: Trace,
     crew: Crew<'t>,
     builder: ReportBuilder<'r>,
@@ -65,7 +64,7 @@ fn answer_and_read<R: Threads + Wait + Sync, D: Read>(
     crew: &mut Crew<'_>,
     steps: &[Step],
     noting: bool,
-    lines: &mut TraceReader,
+    lines: &mut PieceReader,
     reader: &mut Device<D>,
     trace: &mut Trace,
 ) -> (Result<Vec<Unusual>, ReplayFault>, Result<Batch, ReadFault>)
@@ -91,28 +90,10 @@ fn answer_and_read<R: Threads + Wait + Sync, D: Read>(
     thread::join_mut(
         rt,
         &mut || crew.take(rt, steps, noting),
-        &mut || { lines.next_batch(reader, trace, BATCH_LINES) },
+        &mut ||
+            requires { IsSync R.row × (has_failed reader.now ≡ false) }
+        { lines.next_batch(rt, reader, trace) },
     )
-}
-
-// Takes the steps that were read and their lines out of the trace, in place of those that were answered.
-fn move_batch(
-    trace: &mut Trace,
-    steps: &mut Vec<Step>,
-    numbers: &mut Vec<u64>,
-) -> Result<(), AllocError>
-    ensures trace { OnOk result (trace.new ≡ without_steps trace.old) }
-    ensures steps { OnOk result (steps.new.items ≡ trace.old.steps) }
-    ensures numbers { OnOk result (numbers.new.items ≡ trace.old.lines) }
-    ensures named { OnOk result (All (IsNamed trace.old.names) trace.old.steps) }
-    ensures level { OnOk result (length trace.old.lines ≡ length trace.old.steps) }
-{
-    steps.clear();
-    steps.extend_from_slice(trace.steps())?;
-    numbers.clear();
-    numbers.extend_from_slice(trace.lines())?;
-    trace.clear();
-    Ok(())
 }
 
 impl<'t, 'r> Shared<'t, 'r> {
@@ -142,7 +123,7 @@ impl<'t, 'r> Shared<'t, 'r> {
         ensures failed { FailsBy (has_failed reader.new) false result }
         ensures taken { taken_of reader.new ≤ taken_of reader.old + options.now.byte_limit + bytes_past_limit }
     {
-        let mut lines = TraceReader::new(alloc, options.byte_limit)?;
+        let mut lines = PieceReader::new(alloc, options.byte_limit, options.keys, options.workers)?;
         let builder = ReportBuilder::explaining_keyed(
             alloc,
             suppressions,
@@ -167,7 +148,7 @@ impl<'t, 'r> Shared<'t, 'r> {
                 inspector: start(alloc, options.strict),
             }),
             Err(why) => {
-                let fault = fault_behind(&mut lines, reader, &mut trace, Batch::More, why);
+                let fault = fault_behind(rt, &mut lines, reader, &mut trace, Batch::More, why);
                 abandon(lines, trace, builder);
                 Err(fault)
             }
@@ -222,7 +203,7 @@ impl<'t, 'r> Shared<'t, 'r> {
         let items = match answers {
             Ok(items) => items,
             Err(why) => {
-                return Err(fault_behind(&mut self.lines, reader, &mut self.trace, batch, why));
+                return Err(fault_behind(rt, &mut self.lines, reader, &mut self.trace, batch, why));
             }
         };
         add_batch(
@@ -234,7 +215,7 @@ impl<'t, 'r> Shared<'t, 'r> {
             items.as_slice(),
         )?;
         inspect(&mut self.inspector, &self.trace)?;
-        move_batch(&mut self.trace, &mut self.steps, &mut self.numbers)?;
+        self.trace.take_steps(&mut self.steps, &mut self.numbers);
         match batch {
             Batch::More => Ok(true),
             Batch::End => Ok(false),
@@ -310,7 +291,7 @@ impl<'t, 'r> Shared<'t, 'r> {
             → HasFound told limit (is_some self.now.inspector) result }
         ensures lenient { is_some self.now.inspector ≡ false → IsNone result }
     {
-        damage_of(&self.inspector, &self.lines)
+        damage_of(&self.inspector, self.lines.ending())
     }
 
     /// The report of the text that was read, or its damage, if the replay is strict and there is any.
@@ -360,11 +341,11 @@ impl<'t, 'r> Shared<'t, 'r> {
 }
 
 // Lets go of what was to read and to report. Split for the prover.
-fn abandon(_lines: TraceReader, _trace: Trace, _builder: ReportBuilder<'_>) {}
+fn abandon(_lines: PieceReader, _trace: Trace, _builder: ReportBuilder<'_>) {}
 
 // Lets go of what has read and answered the steps. Split for the prover.
 fn close(
-    _lines: TraceReader,
+    _lines: PieceReader,
     _crew: Crew<'_>,
     _steps: Vec<Step>,
     _numbers: Vec<u64>,

@@ -138,6 +138,7 @@ impl Trace {
         ensures trace { self.new ≡ without_steps self.old }
         ensures steps { (new : NameTable) → AreNumbers numbers.now self.old.names new → steps.new.items ≡ map (renumbered_step self.old.names new) self.old.steps }
         ensures lines { lines.new.items ≡ map (λ line. before + line) self.old.lines }
+        ensures named { All (IsNamed self.old.names) self.old.steps }
         ensures level { length self.old.lines ≡ length self.old.steps }
     {
         self.take_steps(steps, lines);

@@ -51,8 +51,8 @@ returns-in-More-clause-come g c = λ told state more.
     let u : Recording = c.answer_and_read-answers.new.trace in
     let grows : Grows t u = subst (λ (r : Result Batch ReadFault). OnOk r (Grows t u)) c.in-Ok.is c.answer_and_read-answers.ensures.grows in
     reads-on told known rest c.args.self.now.lines c.answer_and_read-answers.new.lines t u c.args.self.now.steps.items c.args.self.now.numbers.items c.args.self.now.crew
-    c.answer_and_read-answers.new.crew c.args.self.now.builder c.add_batch.new.builder c.in-Ok-answers.items.items c.in-Ok.batch grows.names c.in_ok-move_batch.ensures.named
-    c.in_ok-move_batch.ensures.level
+    c.answer_and_read-answers.new.crew c.args.self.now.builder c.add_batch.new.builder c.in-Ok-answers.items.items c.in-Ok.batch grows.names c.take_steps.ensures.named
+    c.take_steps.ensures.level
     (λ text past lines read. subst (λ (r : Result Batch ReadFault). GivesBatch text past lines c.answer_and_read-answers.new.lines rest u r) c.in-Ok.is
     (c.answer_and_read-answers.ensures.told text past lines read))
     (λ past answered. rw c.as_slice.ensures.value at (subst (λ (r : Result _ ReplayFault). OnOk r (HaveAnswered c.answer_and_read-answers.new.crew (past ++ c.as_slice.result.now))) c.in-Ok-answers.is
@@ -64,8 +64,8 @@ returns-in-More-clause-come g c = λ told state more.
           (c.answer_and_read-answers.ensures.noted past answered (c.explains.ensures ∙ wanted)));
     })
     (rw (c.as_slice-2.ensures.value, c.as_slice-3.ensures.value, c.as_slice-4.ensures.value, c.names.ensures) at c.in_ok-add_batch.ensures.reported)
-    state c.in-More.is c.move_batch.new.trace c.in_ok-move_batch.ensures.trace c.move_batch.new.steps.items c.in_ok-move_batch.ensures.steps c.move_batch.new.numbers.items
-    c.in_ok-move_batch.ensures.numbers
+    state c.in-More.is c.take_steps.new.self c.take_steps.ensures.trace c.take_steps.new.steps.items c.take_steps.ensures.steps c.take_steps.new.lines.items
+    c.take_steps.ensures.lines
 
 pub returns-clause-ended : goal.returns-clause-ended
 returns-clause-ended g c = λ told state ended.
@@ -75,8 +75,8 @@ returns-clause-ended g c = λ told state ended.
     let u : Recording = c.answer_and_read-answers.new.trace in
     let grows : Grows t u = subst (λ (r : Result Batch ReadFault). OnOk r (Grows t u)) c.in-Ok.is c.answer_and_read-answers.ensures.grows in
     reads-all told known rest c.args.self.now.lines c.answer_and_read-answers.new.lines t u c.args.self.now.steps.items c.args.self.now.numbers.items c.args.self.now.crew
-    c.answer_and_read-answers.new.crew c.args.self.now.builder c.add_batch.new.builder c.in-Ok-answers.items.items c.in-Ok.batch grows.names c.in_ok-move_batch.ensures.named
-    c.in_ok-move_batch.ensures.level
+    c.answer_and_read-answers.new.crew c.args.self.now.builder c.add_batch.new.builder c.in-Ok-answers.items.items c.in-Ok.batch grows.names c.take_steps.ensures.named
+    c.take_steps.ensures.level
     (λ text past lines read. subst (λ (r : Result Batch ReadFault). GivesBatch text past lines c.answer_and_read-answers.new.lines rest u r) c.in-Ok.is
     (c.answer_and_read-answers.ensures.told text past lines read))
     (λ past answered. rw c.as_slice.ensures.value at (subst (λ (r : Result _ ReplayFault). OnOk r (HaveAnswered c.answer_and_read-answers.new.crew (past ++ c.as_slice.result.now))) c.in-Ok-answers.is
@@ -88,15 +88,15 @@ returns-clause-ended g c = λ told state ended.
           (c.answer_and_read-answers.ensures.noted past answered (c.explains.ensures ∙ wanted)));
     })
     (rw (c.as_slice-2.ensures.value, c.as_slice-3.ensures.value, c.as_slice-4.ensures.value, c.names.ensures) at c.in_ok-add_batch.ensures.reported)
-    state c.in-End.is c.answer_and_read-answers.ensures.limit c.move_batch.new.trace.names (rw c.in_ok-move_batch.ensures.trace refl) c.move_batch.new.steps.items
-    c.in_ok-move_batch.ensures.steps c.move_batch.new.numbers.items c.in_ok-move_batch.ensures.numbers
+    state c.in-End.is c.answer_and_read-answers.ensures.limit c.take_steps.new.self.names (rw c.take_steps.ensures.trace refl) c.take_steps.new.steps.items
+    c.take_steps.ensures.steps c.take_steps.new.lines.items c.take_steps.ensures.lines
 
 pub returns-in-More-clause-seen : goal.returns-in-More-clause-seen
 returns-in-More-clause-seen g c = λ told state more.
     let known : Option (List ℕ) = g.D.Read.remaining (inner_of c.args.reader.now) in
     let rest : Option (List ℕ) = g.D.Read.remaining (inner_of c.answer_and_read-answers.new.reader) in
     let u : Recording = c.answer_and_read-answers.new.trace in
-    subst (λ (trace : Recording). HasSeen told rest c.answer_and_read-answers.new.lines trace c.inspect.new.inspector) (sym c.in_ok-move_batch.ensures.trace)
+    subst (λ (trace : Recording). HasSeen told rest c.answer_and_read-answers.new.lines trace c.inspect.new.inspector) (sym c.take_steps.ensures.trace)
     (seen-part told c.args.self.now.lines c.answer_and_read-answers.new.lines known rest c.args.self.now.trace u c.in-Ok.batch c.args.self.now.inspector c.inspect.new.inspector state
     (λ text past lines read. subst (λ (r : Result Batch ReadFault). GivesBatch text past lines c.answer_and_read-answers.new.lines rest u r) c.in-Ok.is
     (c.answer_and_read-answers.ensures.told text past lines read))
