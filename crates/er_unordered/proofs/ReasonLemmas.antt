@@ -28,7 +28,7 @@ use Rattle.er_order.specs.Races.{order_answer, order_answer_to, order_reply}
 use Rattle.er_order.specs.Reasons.{unordered_with}
 use Rattle.er_report.proofs.NamedLemmas.{named_step}
 use Rattle.er_report.specs.Builder.{GoesOn}
-use Rattle.er_report.specs.Kept.{event_kind}
+use Rattle.er_explain.specs.Book.{event_kind}
 use Rattle.er_report.specs.Names.{HasReasonNames}
 use Rattle.er_report.specs.Reasons.{access_reason, step_reason, reason_at}
 use Rattle.er_report.specs.Report.{AreAccesses, is_printed_by, matching_rule_by}

@@ -2,7 +2,7 @@
 ghost use Rattle.std.specs.Prelude.{◌≡◌, ◌+◌, ◌++◌, ◌∷◌, [], ℕ, cond, List, Option, Some, map, slice_get, slice_index, take, IfOk, OnOk};
 ghost use Rattle.std.specs.Option.{option_to_list};
 ghost use Rattle.er_latest.specs.Standing.{Follows, IsClockAfter};
-ghost use Rattle.er_report.specs.Kept.{event_kind};
+ghost use Rattle.er_explain.specs.Book.{event_kind};
 ghost use Rattle.er_report.specs.Report.{is_printed_by};
 ghost use Rattle.er_rules.specs.Rules.{Target};
 ghost use Rattle.er_trace.specs.Trace.{Recording};

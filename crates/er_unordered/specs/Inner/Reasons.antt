@@ -5,7 +5,7 @@ use Rattle.er_event.specs.declared.steps.Step.{Step}
 use Rattle.er_explain.specs.Racing.{places_below}
 use Rattle.er_latest.specs.Latest.{Latest}
 use Rattle.er_latest.specs.Standing.{Follows}
-use Rattle.er_report.specs.Kept.{event_kind}
+use Rattle.er_explain.specs.Book.{event_kind}
 use Rattle.er_report.specs.Report.{is_printed_by}
 use Rattle.er_report.specs.declared.report.Because.{Because}
 use Rattle.er_report.specs.declared.report.Label.TheVariants as label
