@@ -115,8 +115,12 @@ impl Piece {
         requires { CanBeNumbered self.old }
         ensures { IsNumbered self.old self.new }
     {
-        self.trace
-            .take_numbered(&self.numbers, self.before, &mut self.steps, &mut self.places);
+        self.trace.take_numbered(
+            &self.numbers,
+            self.before,
+            &mut self.steps,
+            &mut self.places,
+        );
     }
 }
 
