@@ -66,13 +66,26 @@ impl<'t, 'r> Pass<'t, 'r> {
         ensures taken { IfOk result (λ pass. taken_by pass.lines.place ≡ 0) }
     {
         let lines = TraceReader::new(alloc, options.byte_limit)?;
-        let machine = Machine::keyed(alloc, table, options.keys)?;
-        let builder = ReportBuilder::explaining_keyed(
+        let machine = match Machine::keyed(alloc, table, options.keys) {
+            Ok(machine) => machine,
+            Err(refused) => {
+                drop(lines);
+                return Err(refused);
+            }
+        };
+        let builder = match ReportBuilder::explaining_keyed(
             alloc,
             suppressions,
             options.explain,
             options.keys,
-        )?;
+        ) {
+            Ok(builder) => builder,
+            Err(refused) => {
+                drop(lines);
+                drop(machine);
+                return Err(refused);
+            }
+        };
         Ok(Pass {
             lines,
             trace: Trace::keyed(alloc, options.keys),
@@ -177,7 +190,10 @@ impl<'t, 'r> Pass<'t, 'r> {
     {
         match self.damage() {
             None => Ok(self.finish()),
-            Some(damage) => Err(RunFault::Damaged(damage)),
+            Some(damage) => {
+                drop(self);
+                Err(RunFault::Damaged(damage))
+            }
         }
     }
 
@@ -205,7 +221,11 @@ impl<'t, 'r> Pass<'t, 'r> {
 }
 
 // Lets go of what has read and answered the steps. Split for the prover.
-fn close(_lines: TraceReader, _machine: Machine<'_>, _inspector: Option<Inspector>) {}
+fn close(lines: TraceReader, machine: Machine<'_>, inspector: Option<Inspector>) {
+    drop(lines);
+    drop(machine);
+    drop(inspector);
+}
 
 /// The report of a replay by one worker that forgets the steps, with reasons if they are asked for.
 pub(crate) fn report_in_batches<R: Wait, D: Read, V: Watch>(
@@ -226,9 +246,36 @@ pub(crate) fn report_in_batches<R: Wait, D: Read, V: Watch>(
     ensures taken { taken_of reader.new ≤ taken_of reader.old + options.now.byte_limit + bytes_past_limit }
 {
     let table = LocksetTable::new(alloc, options.max_sets)?;
-    let mut pass = Pass::new(alloc, &table, suppressions, options)?;
+    let found = report_with(rt, alloc, &table, reader, suppressions, options, watcher);
+    drop(table);
+    found
+}
+
+// The same over this table. Split for the prover.
+fn report_with<R: Wait, D: Read, V: Watch>(
+    rt: &R,
+    alloc: Global,
+    table: &LocksetTable,
+    reader: &mut Device<D>,
+    suppressions: &Suppressions,
+    options: &Options,
+    watcher: &mut V,
+) -> Result<Reported, RunFault>
+    requires reader { has_failed reader.old ≡ false }
+    ensures report { IfOk result (λ found. IfSome (D.remaining (inner_of reader.old)) (λ text. IsReportOfText text options.now.byte_limit (targets_of suppressions.now) options.now.explain found.trace.names found.report)) }
+    ensures named { IfOk result (λ found. All (HasNames found.trace.names) found.report.lines.items) }
+    ensures fault { IfErr result (λ why. IsFaultOfText (D.remaining (inner_of reader.old)) options.now.byte_limit why) }
+    ensures undamaged { IsTrue options.now.strict → OnOk result (IfSome (D.remaining (inner_of reader.old)) (λ text. IsDamageOf text options.now.byte_limit no_damage)) }
+    ensures lenient { IsFalse options.now.strict → IfErr result IsNoDamage }
+    ensures failed { FailsBy (has_failed reader.new) false result }
+    ensures taken { taken_of reader.new ≤ taken_of reader.old + options.now.byte_limit + bytes_past_limit }
+{
+    let mut pass = Pass::new(alloc, table, suppressions, options)?;
     match pass.run(rt, reader, watcher) {
         Ok(()) => pass.end(),
-        Err(why) => Err(why),
+        Err(why) => {
+            drop(pass);
+            Err(why)
+        }
     }
 }

@@ -4,7 +4,7 @@ use Rattle.er_damage.specs.Damaged.{IsDamageOf, no_damage}
 use Rattle.er_device.specs.Device.{inner_of}
 use Rattle.er_rules.specs.Rules.{Target, targets_of}
 use Rattle.er_run.specs.Inner.Reports.{IsReportOfText, IsFaultOfText}
-use Rattle.er_run.proofs.passes.report_in_batches.Goals as goal
+use Rattle.er_run.proofs.passes.report_with.Goals as goal
 
 pub returns-in-Ok-clause-report : goal.returns-in-Ok-clause-report
 returns-in-Ok-clause-report g c =
@@ -37,7 +37,7 @@ returns-in-Ok-clause-undamaged g c = λ strict.
 pub returns-in-Ok-clause-lenient : goal.returns-in-Ok-clause-lenient
 returns-in-Ok-clause-lenient g c = λ lenient. c.end.ensures.lenient (c.in-Ok.ensures.strict ∙ (c.in_ok-pass.ensures.strict ∙ lenient))
 
-pub returns-clause-fault : goal.returns-clause-fault
-returns-clause-fault g c =
+pub returns-in-Err-clause-fault : goal.returns-in-Err-clause-fault
+returns-in-Err-clause-fault g c =
     let told : Option (List ℕ) = g.D.Read.remaining (inner_of c.args.reader.now) in
     subst (λ (n : ℕ). IsFaultOfText told n c.in-Err.why) c.in_ok-pass.ensures.limit (c.in-Err.ensures.fault told (c.in_ok-pass.ensures.come told))
