@@ -1,6 +1,7 @@
 -- A worker that has gone one step further in a batch.
-use Rattle.std.proofs.Common.{IsTrue, ◌≡◌, ℕ, suc, ◌+◌, ◌%◌, ◌<◌, ◌==◌, Bool, true, false, cond, List, [], ◌∷◌, ◌++◌, length, slice_get, Option, Some, None, Result, Ok, Err, refl, ap, sym, subst, ◌∙◌, arith, ⊎_elim, ◌⊎◌, inl, inr}
+use Rattle.std.proofs.Common.{IsTrue, ◌≡◌, ℕ, zero, suc, ◌+◌, ◌-◌, ◌%◌, ◌<◌, ◌≤◌, ◌==◌, Bool, true, false, cond, List, [], ◌∷◌, ◌++◌, length, slice_get, Option, Some, None, Result, Ok, Err, refl, ap, sym, subst, ◌∙◌, arith, ⊎_elim, ◌⊎◌, inl, inr}
 use Rattle.std.proofs.lemmas.List.{length-append}
+use Rattle.std.proofs.lemmas.Option.{same_Some}
 use Rattle.er_event.specs.Refusal.{refusal_of}
 use Rattle.er_event.specs.declared.refusals.NoRoom.{NoRoom}
 use Rattle.er_event.specs.declared.refusals.NoRoom.TheVariants.{TableFull}
@@ -27,7 +28,7 @@ use Rattle.er_model.proofs.Threads.{holdings-step}
 use Rattle.er_parallel.specs.Crews.{IsAmong, IsAnswered, HasFollowed, LeavesWord}
 use Rattle.er_parallel.specs.Faults.{AsksForSet}
 use Rattle.er_parallel.specs.Found.{usual}
-use Rattle.er_parallel.specs.Inner.Taking.{HasCome, HasDone, IsFoundSoFar, IsOwn}
+use Rattle.er_parallel.specs.Inner.Taking.{AreIdle, HasCome, HasDone, IsFoundSoFar, IsIdle, IsOwn}
 use Rattle.er_parallel.specs.Tasks.{worker_for}
 use Rattle.er_parallel.specs.declared.task.Share.{Share}
 use Rattle.er_parallel.specs.declared.unusual.Unusual.{Unusual}
@@ -287,3 +288,54 @@ module _ (past : List Step) (batch : List Step) (share : Share) (n : ℕ) (step 
                   ∙ held_at_race (past ++ batch) share.shards share.worker share.workers (length past + n) step placed before after come.held come.words follows a given race;
             }) mine);
       }
+
+-- an access leaves its thread's holdings as they are
+access_keeps : (h : Holdings) (e : Event) → is_access e ≡ true → changed_unless (refused_by h e) h e ≡ h
+access_keeps h (Access kind w site) is = refl
+access_keeps h (Acquire l m) is = cc
+access_keeps h (Release l m) is = cc
+access_keeps h (Reuse range) is = cc
+access_keeps h IgnoreOn is = cc
+access_keeps h IgnoreOff is = cc
+access_keeps h (Show w) is = cc
+access_keeps h (Level n) is = cc
+access_keeps h (Sync sync) is = cc
+
+-- a worker that has come so far has come past an access that another worker answers
+come-idle : (past batch : List Step) (share : Share) (n : ℕ) (step : Step) → slice_get batch n ≡ Some step → (items : List Unusual) (machine : Replayed) → IsIdle share step.event →
+    HasCome n past batch share items machine → HasCome (n + 1) past batch share items machine
+come-idle past batch share n step there items machine idle come =
+    come-past past batch share n step there items machine machine come
+    (λ t. sym (same_either (step.thread == t) (changed_unless (refused_by (holding machine t) step.event) (holding machine t) step.event) (holding machine t) (access_keeps (holding machine t) step.event idle.0)))
+    idle.1 (λ w. refl)
+
+-- a position within a list has an element
+some_within : {X : Type 0} (xs : List X) (k : ℕ) → k < length xs → (x : X) × (slice_get xs k ≡ Some x)
+some_within [] k below = absurd (omega arith)
+some_within (x ∷ xs) zero below = (x, refl)
+some_within (x ∷ xs) (suc k) below = some_within xs k (omega arith)
+
+-- and past several
+come-more : (past batch : List Step) (share : Share) (from more : ℕ) (items : List Unusual) (machine : Replayed) → from + more ≤ length batch → AreIdle share from (from + more) batch →
+    HasCome from past batch share items machine → HasCome (from + more) past batch share items machine
+come-more past batch share from zero items machine within idle come = subst (λ (k : ℕ). HasCome k past batch share items machine) (omega arith) come
+come-more past batch share from (suc more) items machine within idle come =
+    let (step, there) = some_within batch (from + more) (omega (arith, within)) in
+    let one_more : from + more + 1 ≡ from + suc more = omega arith in
+    subst (λ (k : ℕ). HasCome k past batch share items machine) one_more
+    (come-idle past batch share (from + more) step there items machine (idle (from + more) step (omega arith) (omega arith) there)
+    (come-more past batch share from more items machine (omega (arith, within)) (λ k s low high is. idle k s low (omega (arith, high)) is) come))
+
+pub come-to : (past batch : List Step) (share : Share) (from to : ℕ) (items : List Unusual) (machine : Replayed) → from ≤ to → to ≤ length batch → AreIdle share from to batch →
+    HasCome from past batch share items machine → HasCome to past batch share items machine
+come-to past batch share from to items machine behind within idle come =
+    let parts : from + (to - from) ≡ to = omega (arith, behind) in
+    subst (λ (k : ℕ). HasCome k past batch share items machine) parts
+    (come-more past batch share from (to - from) items machine (omega (arith, behind, within)) (λ k s low high is. idle k s low (omega (arith, high, behind)) is) come)
+
+-- one more that another worker answers
+pub idle-on : (share : Share) (from at : ℕ) (batch : List Step) (step : Step) → slice_get batch at ≡ Some step → IsIdle share step.event → AreIdle share from at batch → AreIdle share from (at + 1) batch
+idle-on share from at batch step there last idle = λ k other low high is.
+    ⊎_elim (λ below. idle k other low below is)
+    (λ same. subst (λ (s : Step). IsIdle share s.event) (same_Some step other (sym there ∙ rw (← same) is)) last)
+    (below_or_at k at (omega (arith, high)))

@@ -1,10 +1,10 @@
 //! A worker of a crew: it answers the steps of its shards, and follows what the other steps make of their threads' holdings.
-ghost use Rattle.std.specs.Prelude.{◌≡◌, ◌+◌, ◌++◌, [], ℕ, false, List, length, slice_get, IsTrue, IsFalse, IsSome, IfOk, OnOk, OnErr, IsErrOf, IfErr, MatchResult, Ok, Some};
+ghost use Rattle.std.specs.Prelude.{◌≡◌, ◌+◌, ◌≤◌, ◌++◌, [], ℕ, false, List, length, slice_get, IsTrue, IsFalse, IsSome, IfOk, OnOk, OnErr, IsErrOf, IfErr, MatchResult, Ok, Some};
 ghost use Rattle.er_event.specs.declared.steps.Step.{Step as Steps};
 ghost use Rattle.er_parallel.specs.Crews.{HasFollowed};
 ghost use Rattle.er_parallel.specs.Faults.{AsksForSet};
 ghost use Rattle.er_parallel.specs.Found.{usual};
-ghost use Rattle.er_parallel.specs.Inner.Taking.{HasCome, HasDone, HasTaken};
+ghost use Rattle.er_parallel.specs.Inner.Taking.{AreIdle, HasCome, HasDone, HasTaken, IsIdle, IsOwn};
 ghost use Rattle.er_parallel.specs.Tasks.{IsShare};
 ghost use Rattle.er_parallel.specs.Work.{MayBeFull};
 ghost use Rattle.er_model.specs.Following.{answered, state_after};
@@ -86,17 +86,59 @@ fn answer_all<R: Wait>(
     ensures done { (past : List Steps) → HasFollowed share.shards share.workers share.worker past machine.old → OnOk result (HasDone past steps.now share found.new.items machine.new) }
     ensures fault { (past : List Steps) → HasFollowed share.shards share.workers share.worker past machine.old → IfErr result (λ fault. MayBeFull (past ++ steps.now) fault) }
 {
-    for (at, step) in steps.iter().enumerate() {
+    let mut at = next_busy(steps, share, 0);
+    while at < steps.len() {
+        let step = &steps[at];
         if let Err(cause) = go_on(rt, alloc, steps, share, at, step, machine, found) {
             let Step { event, .. } = *step;
             let shard = shard_for(share.shards, event);
             return Err(WorkFault { shard, cause });
         }
+        at = next_busy(steps, share, at + 1);
     }
     Ok(())
 }
 
+// The first position from here on, in a batch, of a step that isn't an access of another worker's word, or the end of the batch. It is a loop of its own
+// that passes over what another worker answers, so that its few values stay in registers.
+#[inline(always)]
+fn next_busy(steps: &[Step], share: Share, from: usize) -> usize
+    requires share { IsShare share }
+    requires within { from ≤ length steps.now }
+    ensures behind { from ≤ result }
+    ensures within { result ≤ length steps.now }
+    ensures idle { AreIdle share from result steps.now }
+{
+    for at in from..steps.len() {
+        let Step { event, .. } = steps[at];
+        if !is_idle(share, event) {
+            return at;
+        }
+    }
+    steps.len()
+}
+
+// Whether the event is an access of another worker's word.
+#[inline(always)]
+fn is_idle(share: Share, event: Event) -> bool
+    requires { IsShare share }
+    ensures { IsTrue result → IsIdle share event }
+{
+    match event {
+        Event::Access(..) => worker_for(share.shards, share.workers, event) != share.worker,
+        Event::Acquire(..)
+        | Event::Release(..)
+        | Event::Reuse(_)
+        | Event::IgnoreOn
+        | Event::IgnoreOff
+        | Event::Show(_)
+        | Event::Level(_)
+        | Event::Sync(_) => false,
+    }
+}
+
 // Takes the next step of a batch, and keeps its answer unless it is another worker's step, or a plain one.
+#[inline(always)]
 fn go_on<R: Wait>(
     rt: &R,
     alloc: Global,
@@ -112,11 +154,33 @@ fn go_on<R: Wait>(
     ensures far { (past : List Steps) → HasCome at past steps.now share found.old.items machine.old → OnOk result (HasCome (at + 1) past steps.now share found.new.items machine.new) }
     ensures full { (past : List Steps) → HasCome at past steps.now share found.old.items machine.old → IsErrOf result NoRoom.TableFull → AsksForSet (past ++ steps.now) }
 {
-    let Step { thread, event } = *step;
+    let Step { event, .. } = *step;
     if worker_for(share.shards, share.workers, event) != share.worker {
         machine.pass(*step)?;
         return Ok(());
     }
+    answer_own(rt, alloc, steps, share, at, step, machine, found)
+}
+
+// Takes the next step of a batch, which is the worker's own, and keeps its answer unless it is a plain one. It is no part of the loop that passes over
+// the steps of the others: so that loop is short, and its values stay in registers.
+#[inline(never)]
+fn answer_own<R: Wait>(
+    rt: &R,
+    alloc: Global,
+    steps: &[Step],
+    share: Share,
+    at: usize,
+    step: &Step,
+    machine: &mut Machine<'_>,
+    found: &mut VecDeque<Unusual>,
+) -> Result<(), NoRoom>
+    requires there { slice_get steps.now at ≡ Some step.now }
+    requires own { IsOwn share step.now.event }
+    ensures far { (past : List Steps) → HasCome at past steps.now share found.old.items machine.old → OnOk result (HasCome (at + 1) past steps.now share found.new.items machine.new) }
+    ensures full { (past : List Steps) → HasCome at past steps.now share found.old.items machine.old → IsErrOf result NoRoom.TableFull → AsksForSet (past ++ steps.now) }
+{
+    let Step { thread, .. } = *step;
     let (answer, noted) = answer_one(rt, machine, step, share.noting);
     if is_plain(step, &answer, noted) {
         return Ok(());

@@ -23,13 +23,16 @@ use std::thread::Threads;
 /// How many bytes are read ahead, to be cut into pieces.
 const WINDOW_BYTES: usize = 4_194_304;
 
+/// How many bytes are read ahead if one thread reads them line by line.
+const LINE_WINDOW_BYTES: usize = 65_536;
+
 /// The least bytes of a piece: fewer aren't worth a thread.
 const PIECE_BYTES: usize = 65_536;
 
 /// How many lines are read before those that are cut into pieces. The header is mostly among them.
 const FIRST_LINES: u32 = 64;
 
-/// How many lines a batch has if they can't be read in pieces.
+/// How many lines a batch has if one thread reads them, or they can't be read in pieces.
 const BATCH_LINES: u32 = 131_072;
 
 /// A reader of a trace text that gives its steps batch by batch, and reads each batch by several threads.
@@ -70,7 +73,12 @@ impl PieceReader {
         ensures cut { IfOk result (λ r. r.cut ≡ false) }
         ensures starts { IfOk result (λ r. (text : List ℕ) → HasRead text [] [] r (Some text) no_steps) }
     {
-        let lines = TraceReader::with_window(alloc, limit, WINDOW_BYTES)?;
+        let size = if workers == 1 {
+            LINE_WINDOW_BYTES
+        } else {
+            WINDOW_BYTES
+        };
+        let lines = TraceReader::with_window(alloc, limit, size)?;
         let mut pieces = Vec::with_capacity(alloc, workers as usize)?;
         for _ in 0..workers {
             pieces.push_reserved(Piece::new(alloc, keys));
@@ -143,6 +151,9 @@ impl PieceReader {
         ensures taken { taken_of reader.new + taken_by self.old.place ≤ taken_of reader.old + taken_by self.new.place }
         ensures most { taken_by self.new.place ≤ self.new.place.limit + bytes_past_limit }
     {
+        if self.pieces.len() == 1 {
+            return self.lines.next_batch(reader, trace, BATCH_LINES);
+        }
         match self.lines.next_batch(reader, trace, FIRST_LINES)? {
             Batch::End => return Ok(Batch::End),
             Batch::More => {}

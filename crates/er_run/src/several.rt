@@ -1,4 +1,4 @@
-//! A replay by several workers, who answer one batch of lines while threads read the next.
+//! A replay by several workers: half of them answer one batch of lines while the others read the next.
 ghost use Rattle.std.specs.Prelude.{◌≡◌, ◌+◌, ◌++◌, ◌<◌, ◌≤◌, ℕ, List, Option, All, None, [], false, true, length, is_some, IfSome, IfOk, IfErr, IsNone, IsTrue, IsFalse, OnOk};
 ghost use Rattle.std.specs.Thread.{IsSync};
 ghost use Rattle.er_damage.specs.Damaged.{IsDamageOf, no_damage};
@@ -38,7 +38,7 @@ use er_rules::Suppressions;
 use er_table::LocksetTable;
 use er_text::{Batch, ReadFault};
 use er_trace::Trace;
-use std::alloc::Global;
+use std::alloc::{AllocError, Global};
 use std::io::Read;
 use std::sync::Wait;
 use std::thread;
@@ -56,6 +56,22 @@ struct Shared<'t, 'r> {
     steps: Vec<Step>,
     numbers: Vec<u64>,
     inspector: Option<Inspector>,
+}
+
+// Of so many workers, how many read lines.
+fn readers_of(workers: u32) -> u32
+    requires { (1 ≤ workers) × (workers ≤ 16) }
+    ensures { (1 ≤ result) × (result ≤ 16) }
+{
+    if workers == 1 { 1 } else { workers / 2 }
+}
+
+// Of so many workers, how many answer steps.
+fn crew_of(workers: u32) -> u32
+    requires { (1 ≤ workers) × (workers ≤ 16) }
+    ensures { (1 ≤ result) × (result ≤ 16) }
+{
+    workers.div_ceil(2)
 }
 
 // The workers answer the steps while the next batch is read.
@@ -123,20 +139,31 @@ impl<'t, 'r> Shared<'t, 'r> {
         ensures failed { FailsBy (has_failed reader.new) false result }
         ensures taken { taken_of reader.new ≤ taken_of reader.old + options.now.byte_limit + bytes_past_limit }
     {
-        let mut lines = PieceReader::new(alloc, options.byte_limit, options.keys, options.workers)?;
-        let builder = ReportBuilder::explaining_keyed(
+        let mut lines = PieceReader::new(
+            alloc,
+            options.byte_limit,
+            options.keys,
+            readers_of(options.workers),
+        )?;
+        let builder = match ReportBuilder::explaining_keyed(
             alloc,
             suppressions,
             options.explain,
             options.keys,
-        )?;
+        ) {
+            Ok(builder) => builder,
+            Err(AllocError) => {
+                drop(lines);
+                return Err(RunFault::Memory);
+            }
+        };
         let mut trace = Trace::keyed(alloc, options.keys);
         let config = ReplayConfig {
             shards: options.shards,
             max_sets: options.max_sets,
             keys: options.keys,
         };
-        match Crew::new(rt, alloc, table, config, options.workers) {
+        match Crew::new(rt, alloc, table, config, crew_of(options.workers)) {
             Ok(crew) => Ok(Shared {
                 alloc,
                 lines,
@@ -149,7 +176,9 @@ impl<'t, 'r> Shared<'t, 'r> {
             }),
             Err(why) => {
                 let fault = fault_behind(rt, &mut lines, reader, &mut trace, Batch::More, why);
-                abandon(lines, trace, builder);
+                drop(lines);
+                drop(trace);
+                drop(builder);
                 Err(fault)
             }
         }
@@ -310,7 +339,10 @@ impl<'t, 'r> Shared<'t, 'r> {
     {
         match self.damage() {
             None => Ok(self.finish()),
-            Some(damage) => Err(RunFault::Damaged(damage)),
+            Some(damage) => {
+                drop(self);
+                Err(RunFault::Damaged(damage))
+            }
         }
     }
 
@@ -340,17 +372,20 @@ impl<'t, 'r> Shared<'t, 'r> {
     }
 }
 
-// Lets go of what was to read and to report. Split for the prover.
-fn abandon(_lines: PieceReader, _trace: Trace, _builder: ReportBuilder<'_>) {}
-
 // Lets go of what has read and answered the steps. Split for the prover.
 fn close(
-    _lines: PieceReader,
-    _crew: Crew<'_>,
-    _steps: Vec<Step>,
-    _numbers: Vec<u64>,
-    _inspector: Option<Inspector>,
-) {}
+    lines: PieceReader,
+    crew: Crew<'_>,
+    steps: Vec<Step>,
+    numbers: Vec<u64>,
+    inspector: Option<Inspector>,
+) {
+    drop(lines);
+    drop(crew);
+    drop(steps);
+    drop(numbers);
+    drop(inspector);
+}
 
 /// The report of a replay by several workers, who answer one batch of lines while the next is read.
 pub(crate) fn report_by_crew<R, D, V>(
@@ -376,12 +411,44 @@ where
     ensures whole { IfOk result (λ found. found.report.stop ≡ None) }
 {
     let table = LocksetTable::new(alloc, options.max_sets)?;
-    let mut shared = match Shared::start(rt, alloc, &table, reader, suppressions, options) {
+    let found = report_over(rt, alloc, &table, reader, suppressions, options, watcher);
+    drop(table);
+    found
+}
+
+// The same over this table. Split for the prover.
+fn report_over<R, D, V>(
+    rt: &R,
+    alloc: Global,
+    table: &LocksetTable,
+    reader: &mut Device<D>,
+    suppressions: &Suppressions,
+    options: &Options,
+    watcher: &mut V,
+) -> Result<Reported, RunFault>
+where
+    R: Threads + Wait + Sync,
+    D: Read,
+    V: Watch,
+    requires reader { has_failed reader.old ≡ false }
+    ensures report { IfOk result (λ found. IfSome (D.remaining (inner_of reader.old)) (λ text. IsReportOfText text options.now.byte_limit (targets_of suppressions.now) options.now.explain found.trace.names found.report)) }
+    ensures named { IfOk result (λ found. All (HasNames found.trace.names) found.report.lines.items) }
+    ensures fault { IfErr result (λ why. IsFaultOfText (D.remaining (inner_of reader.old)) options.now.byte_limit why) }
+    ensures undamaged { IsTrue options.now.strict → OnOk result (IfSome (D.remaining (inner_of reader.old)) (λ text. IsDamageOf text options.now.byte_limit no_damage)) }
+    ensures lenient { IsFalse options.now.strict → IfErr result IsNoDamage }
+    ensures failed { FailsBy (has_failed reader.new) false result }
+    ensures taken { taken_of reader.new ≤ taken_of reader.old + options.now.byte_limit + bytes_past_limit }
+    ensures whole { IfOk result (λ found. found.report.stop ≡ None) }
+{
+    let mut shared = match Shared::start(rt, alloc, table, reader, suppressions, options) {
         Ok(shared) => shared,
         Err(why) => return Err(why),
     };
     match shared.run(rt, reader, watcher) {
         Ok(()) => shared.end(),
-        Err(why) => Err(why),
+        Err(why) => {
+            drop(shared);
+            Err(why)
+        }
     }
 }

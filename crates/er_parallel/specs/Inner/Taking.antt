@@ -1,5 +1,5 @@
 -- How far a worker has come in a batch.
-use Rattle.std.specs.Prelude.{IsTrue, ◌≡◌, ◌⊎◌, ◌<◌, ◌+◌, ◌%◌, ◌++◌, ℕ, List, length, slice_get, Some, MatchOption}
+use Rattle.std.specs.Prelude.{IsTrue, ◌≡◌, ◌⊎◌, ◌<◌, ◌≤◌, ◌+◌, ◌%◌, ◌++◌, ℕ, List, length, slice_get, Some, MatchOption}
 use Rattle.er_event.specs.declared.steps.Event.{Event}
 use Rattle.er_event.specs.declared.steps.Step.{Step}
 use Rattle.er_journal.specs.Merges.{shard_of}
@@ -13,10 +13,19 @@ use Rattle.er_parallel.specs.declared.task.Share.{Share}
 use Rattle.er_parallel.specs.declared.unusual.Unusual.{Unusual}
 use Rattle.er_parallel.specs.declared.worker.Worker.{Worker}
 use Rattle.er_replay.specs.Standing.{Replayed, holding, states}
+use Rattle.er_replay.specs.Wants.{is_access}
 
 -- the worker that has the share answers the event
 abbrev pub IsOwn : Share → Event → Type 0
 IsOwn share event = worker_for share.shards share.workers event ≡ share.worker
+
+-- the event is an access that another worker answers
+abbrev pub IsIdle : Share → Event → Type 0
+IsIdle share event = IsTrue (is_access event) × (IsOwn share event → ⊥)
+
+-- so are the batch's steps from one position up to another
+abbrev pub AreIdle : Share → ℕ → ℕ → List Step → Type 0
+AreIdle share from to batch = (k : ℕ) (step : Step) → from ≤ k → k < to → slice_get batch k ≡ Some step → IsIdle share step.event
 
 -- of some steps after this past, the positions of the items rise, and each has the answer to a step that passes the test
 pub record AreFound (own : Event → Type 0) (past batch : List Step) (items : List Unusual) : Type 0 where

@@ -6,12 +6,12 @@ use Rattle.er_run.proofs.SeveralLemmas.{start-may, start-read}
 use Rattle.er_run.proofs.SeenLemmas.{seen-begun}
 use Rattle.er_run.proofs.several.Shared.start.Goals as goal
 
-pub returns-in-Err-clause-fault : goal.returns-in-Err-clause-fault
-returns-in-Err-clause-fault g c =
+pub returns-in-Err-new-clause-fault : goal.returns-in-Err-new-clause-fault
+returns-in-Err-new-clause-fault g c =
     let told : Option (List ℕ) = g.D.Read.remaining (inner_of c.args.reader.now) in
     subst (λ (n : ℕ). IsFaultOfText told n c.fault_behind-fault.result) c.in_ok-lines.ensures.limit
-    (c.fault_behind-fault.ensures.fault told [] [] (start-may c.in-Err.why c.in-Err.ensures.fault)
+    (c.fault_behind-fault.ensures.fault told [] [] (start-may c.in-Err-new.why c.in-Err-new.ensures.fault)
     (start-read told c.in_ok-lines.lines c.keyed-trace.result c.keyed-trace.ensures c.in_ok-lines.ensures.starts))
 
-pub returns-in-Ok-clause-seen : goal.returns-in-Ok-clause-seen
-returns-in-Ok-clause-seen g c = seen-begun c.in_ok-lines.lines c.keyed-trace.result c.start.result c.keyed-trace.ensures c.in_ok-lines.ensures.starts c.start.ensures.seen
+pub returns-in-Ok-new-clause-seen : goal.returns-in-Ok-new-clause-seen
+returns-in-Ok-new-clause-seen g c = seen-begun c.in_ok-lines.lines c.keyed-trace.result c.start.result c.keyed-trace.ensures c.in_ok-lines.ensures.starts c.start.ensures.seen

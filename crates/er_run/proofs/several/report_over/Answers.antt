@@ -6,7 +6,7 @@ use Rattle.er_rules.specs.Rules.{Target, targets_of}
 use Rattle.er_run.specs.Inner.Inspected.{HasSeen}
 use Rattle.er_run.specs.Inner.Reports.{IsReportOfText, IsFaultOfText}
 use Rattle.er_run.specs.Inner.Several.{HasReadOn}
-use Rattle.er_run.proofs.several.report_by_crew.Goals as goal
+use Rattle.er_run.proofs.several.report_over.Goals as goal
 
 pub returns-in-Ok-run-clause-report : goal.returns-in-Ok-run-clause-report
 returns-in-Ok-run-clause-report g c =
@@ -50,8 +50,8 @@ returns-in-Ok-run-clause-undamaged g c = λ strict.
 pub returns-in-Ok-run-clause-lenient : goal.returns-in-Ok-run-clause-lenient
 returns-in-Ok-run-clause-lenient g c = λ lenient. c.end.ensures.lenient (c.in-Ok-run.ensures.strict ∙ (c.in-Ok.ensures.strict ∙ lenient))
 
-pub returns-clause-fault : goal.returns-clause-fault
-returns-clause-fault g c =
+pub returns-in-Err-run-clause-fault : goal.returns-in-Err-run-clause-fault
+returns-in-Err-run-clause-fault g c =
     let told : Option (List ℕ) = g.D.Read.remaining (inner_of c.args.reader.now) in
     let s = c.in-Ok.shared in
     let state : HasReadOn told (g.D.Read.remaining (inner_of c.start.new.reader)) s.lines s.trace s.crew s.builder s.steps.items s.numbers.items =
