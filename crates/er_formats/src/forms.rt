@@ -77,7 +77,11 @@ where
     ensures whole { 1 < options.now.workers → IfOk result (λ verdict. IsFalse (is_stopped verdict)) }
 {
     match replay_report(rt, rt.alloc(), reader, suppressions, options, watcher) {
-        Ok(found) => write_unplaced(rt.alloc(), writer, &found, suppressions, form),
+        Ok(found) => {
+            let written = write_unplaced(rt.alloc(), writer, &found, suppressions, form);
+            drop(found);
+            written
+        }
         Err(fault) => Err(fault),
     }
 }
@@ -115,16 +119,20 @@ where
     ensures whole { 1 < options.now.workers → IfOk result (λ told. IsFalse (is_stopped told.verdict)) }
 {
     match replay_report(rt, rt.alloc(), reader, suppressions, options, watcher) {
-        Ok(found) => write_placed(
-            rt.alloc(),
-            again,
-            writer,
-            &found,
-            suppressions,
-            options.byte_limit,
-            options.keys,
-            form,
-        ),
+        Ok(found) => {
+            let written = write_placed(
+                rt.alloc(),
+                again,
+                writer,
+                &found,
+                suppressions,
+                options.byte_limit,
+                options.keys,
+                form,
+            );
+            drop(found);
+            written
+        }
         Err(why) => Err(why),
     }
 }
@@ -203,12 +211,9 @@ fn write_with<W: Write>(
     ensures failed { FailsBy false (has_failed writer.new) result }
 {
     let written = write_found(alloc, writer, found, &places, suppressions, form);
-    close(places);
+    drop(places);
     written
 }
-
-// Lets go of places. Split for the prover.
-fn close(_places: Places) {}
 
 // Writes a report in a form and says what the report comes to.
 fn write_found<W: Write>(

@@ -55,11 +55,18 @@ fn trouble_of<'a, R: Files>(rt: &R, replay: &Replay<'a>, fault: Fault) -> Option
             of_rules: true,
             fault,
         }),
-        Fault::OpenTrace => Some(Trouble::Lost(replay.trace)),
-        Fault::OpenSuppressions(file) => Some(Trouble::Lost(rules_path(replay, file)?)),
-        Fault::ReadSuppressions(file) => Some(Trouble::Lost(rules_path(replay, Some(file))?)),
-        Fault::Read => Some(Trouble::Lost(unread(rt, replay)?)),
-        Fault::WriteRules => Some(Trouble::Lost(replay.write_rules?)),
+        _ => Some(Trouble::Lost(lost_path(rt, replay, fault)?)),
+    }
+}
+
+// The path of what could not be opened, read or written, if the fault is one of that kind and the path is known.
+fn lost_path<'a, R: Files>(rt: &R, replay: &Replay<'a>, fault: Fault) -> Option<&'a str> {
+    match fault {
+        Fault::OpenTrace => Some(replay.trace),
+        Fault::OpenSuppressions(file) => rules_path(replay, file),
+        Fault::ReadSuppressions(file) => rules_path(replay, Some(file)),
+        Fault::Read => unread(rt, replay),
+        Fault::WriteRules => replay.write_rules,
         _ => None,
     }
 }

@@ -52,14 +52,12 @@ where
         form,
         watcher,
     );
+    drop(again);
     match replayed {
         Ok(told) => Ok(told.verdict),
         Err(why) => Err(why),
     }
 }
-
-/// Lets go of places. Split for the prover.
-pub(crate) fn close(_places: Places) {}
 
 // The trace once more, if its report has reasons whose places are shown. What is no ordinary file can't be read twice.
 fn open_again<R: Files>(rt: &R, replay: &Replay<'_>) -> Option<Device<R::File>>
@@ -95,7 +93,9 @@ where
     let Some(mut again) = open_again(rt, replay) else {
         return Places::new(rt.alloc());
     };
-    match places_in(rt.alloc(), &mut again, options, report, other) {
+    let found = places_in(rt.alloc(), &mut again, options, report, other);
+    drop(again);
+    match found {
         Ok(places) => places,
         Err(_) => Places::new(rt.alloc()),
     }
@@ -111,6 +111,22 @@ fn places_in<A: Read>(
     requires { has_failed again.old ≡ false }
 {
     let mut wanted = Wanted::new(alloc);
+    let found = places_for(alloc, again, options, report, other, &mut wanted);
+    drop(wanted);
+    found
+}
+
+// The places of what is wanted: of nothing yet but of what the reports' reasons name. Split for the prover.
+fn places_for<A: Read>(
+    alloc: Global,
+    again: &mut Device<A>,
+    options: &Options,
+    report: &Report,
+    other: Option<&Report>,
+    wanted: &mut Wanted,
+) -> Result<Places, ReadFault>
+    requires { has_failed again.old ≡ false }
+{
     wanted.add_reasons(alloc, &report.lines)?;
     if let Some(other) = other {
         wanted.add_reasons(alloc, &other.lines)?;
@@ -118,5 +134,5 @@ fn places_in<A: Read>(
     if wanted.is_empty() {
         return Ok(Places::new(alloc));
     }
-    find_places(alloc, again, options.byte_limit, options.keys, &wanted)
+    find_places(alloc, again, options.byte_limit, options.keys, wanted)
 }

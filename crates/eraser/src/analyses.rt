@@ -8,7 +8,6 @@ ghost use Rattle.er_rules.specs.Rules.{targets_of};
 ghost use Rattle.er_triage.specs.Notes.{AreNotes};
 ghost use Rattle.eraser.specs.Replays.{EndsBy, IsPlainBy, order_of};
 
-use crate::again;
 use crate::again::places_of;
 use crate::faults::order_fault_of;
 use crate::sorting::{Ended, asks_more, finish, sorted, status_of};
@@ -21,7 +20,7 @@ use er_request::{Format, Replay};
 use er_rules::Suppressions;
 use er_run::{Options, Watch};
 use er_sites::put_sites_of_both;
-use er_trace::Names;
+use er_trace::{Names, Trace};
 use er_unordered::{
     Analysis, BothReports, UnorderedReport, put_unordered_totals, replay_by, report_both,
     report_unordered, write_unordered,
@@ -113,12 +112,16 @@ where
         Ok(found) => found,
         Err(why) => return Err(order_fault_of(why)),
     };
-    write_sites(rt, replay, options, output, &found)?;
+    let written = write_sites(rt, replay, options, output, &found);
     let races = found.lockset.races > 0 || found.unordered.races > 0;
-    Ok(Ended {
-        status: u8::from(races),
-        notes: Vec::new(rt.alloc()),
-    })
+    drop(found);
+    match written {
+        Ok(()) => Ok(Ended {
+            status: u8::from(races),
+            notes: Vec::new(rt.alloc()),
+        }),
+        Err(fault) => Err(fault),
+    }
 }
 
 // Writes the sites of both reports, with the places of their reasons if they are known.
@@ -155,11 +158,13 @@ fn write_placed<O: Write>(
     ensures nothing { IfErr result (LeavesOutput (O.contents (inner_of output.old)) (O.contents (inner_of output.new))) }
 {
     let text = sites_text(alloc, found, &places);
-    again::close(places);
+    drop(places);
     let Ok(text) = text else {
         return Err(Fault::Memory);
     };
-    match output.write_all(&text) {
+    let written = output.write_all(&text);
+    drop(text);
+    match written {
         Ok(()) => Ok(()),
         Err(_) => Err(Fault::Write),
     }
@@ -170,18 +175,36 @@ fn sites_text(alloc: Global, found: &BothReports, places: &Places) -> Result<Vec
     requires lockset { All (HasNames found.now.trace.names) found.now.lockset.lines.items }
     requires unordered { All (HasNames found.now.trace.names) found.now.unordered.lines.items }
 {
+    let mut text = Vec::new(alloc);
+    match put_sites(alloc, &mut text, found, places) {
+        Ok(()) => Ok(text),
+        Err(refused) => {
+            drop(text);
+            Err(refused)
+        }
+    }
+}
+
+// Puts the sites of both reports, and what each report ends with.
+fn put_sites(
+    alloc: Global,
+    text: &mut Vec<u8>,
+    found: &BothReports,
+    places: &Places,
+) -> Result<(), AllocError>
+    requires lockset { All (HasNames found.now.trace.names) found.now.lockset.lines.items }
+    requires unordered { All (HasNames found.now.trace.names) found.now.unordered.lines.items }
+{
     let BothReports {
         lockset,
         unordered,
         trace,
     } = found;
-    let mut text = Vec::new(alloc);
-    put_sites_of_both(alloc, &mut text, lockset, unordered, trace.names(), places)?;
-    put_rule_counts(&mut text, &lockset.rule_counts)?;
-    put_totals(&mut text, lockset)?;
-    put_rule_counts(&mut text, &unordered.rule_counts)?;
-    put_unordered_totals(&mut text, unordered)?;
-    Ok(text)
+    put_sites_of_both(alloc, text, lockset, unordered, trace.names(), places)?;
+    put_rule_counts(text, &lockset.rule_counts)?;
+    put_totals(text, lockset)?;
+    put_rule_counts(text, &unordered.rule_counts)?;
+    put_unordered_totals(text, unordered)
 }
 
 // Replays what the reader gives by happens-before, writes the report, and then the file of rules.
@@ -206,7 +229,7 @@ where
     ensures silent { replay.now.unused_rules ≡ false → replay.now.max_races ≡ None → IfOk result (λ ended. ended.notes.items ≡ []) }
     ensures nothing { IfErr result (LeavesOutput (O.contents (inner_of output.old)) (O.contents (inner_of output.new))) }
 {
-    let (report, trace) = match report_unordered(
+    match report_unordered(
         rt.alloc(),
         source,
         suppressions,
@@ -215,12 +238,42 @@ where
         options.keys,
         watcher,
     ) {
-        Ok(UnorderedReport { report, trace }) => (report, trace),
-        Err(why) => return Err(order_fault_of(why)),
-    };
-    let triaged = sorted(rt.alloc(), report, &trace, suppressions, replay)?;
-    write_sorted(rt.alloc(), &triaged.report, trace.names(), output)?;
-    finish(rt, replay.write_rules, triaged)
+        Ok(UnorderedReport { report, trace }) => {
+            let ended = sort_replayed(rt, replay, report, &trace, suppressions, output);
+            drop(trace);
+            ended
+        }
+        Err(why) => Err(order_fault_of(why)),
+    }
+}
+
+// Writes the report of a trace, and then the file of rules. Split for the prover.
+fn sort_replayed<R, O>(
+    rt: &R,
+    replay: &Replay<'_>,
+    report: Report,
+    trace: &Trace,
+    suppressions: &Suppressions,
+    output: &mut Device<O>,
+) -> Result<Ended, Fault>
+where
+    R: Files + AllocGlobal,
+    O: Write,
+    requires output { has_failed output.old ≡ false }
+    requires named { All (HasNames trace.now.names) report.lines.items }
+    ensures status { IfOk result (λ ended. (ended.status ≤ 4) × (ended.status ≢ 2)) }
+    ensures notes { IfOk result (λ ended. AreNotes ended.notes.items) }
+    ensures silent { replay.now.unused_rules ≡ false → replay.now.max_races ≡ None → IfOk result (λ ended. ended.notes.items ≡ []) }
+    ensures nothing { IfErr result (LeavesOutput (O.contents (inner_of output.old)) (O.contents (inner_of output.new))) }
+{
+    let triaged = sorted(rt.alloc(), report, trace, suppressions, replay)?;
+    match write_sorted(rt.alloc(), &triaged.report, trace.names(), output) {
+        Ok(()) => finish(rt, replay.write_rules, triaged),
+        Err(fault) => {
+            drop(triaged);
+            Err(fault)
+        }
+    }
 }
 
 fn write_sorted<O: Write>(

@@ -72,7 +72,11 @@ where
 {
     match read_request(rt.alloc(), words) {
         Ok(request) => run_request(rt, request, input, output, errors, progress, for_people),
-        Err(error) => refused(rt.alloc(), &error, output, errors),
+        Err(error) => {
+            let status = refused(rt.alloc(), &error, output, errors);
+            drop(error);
+            status
+        }
     }
 }
 
@@ -102,10 +106,14 @@ where
 {
     match request {
         Request::Replay(replay) if replay.until_fault => {
-            end_until_fault(rt, &replay, input, output, errors, progress, for_people)
+            let status = end_until_fault(rt, &replay, input, output, errors, progress, for_people);
+            drop(replay);
+            status
         }
         Request::Replay(replay) => {
-            end_replay(rt, &replay, input, output, errors, progress, for_people)
+            let status = end_replay(rt, &replay, input, output, errors, progress, for_people);
+            drop(replay);
+            status
         }
         Request::Explain(asked) => end_story(rt, &asked, input, output, errors),
         Request::Demo(demo) => end_demo(rt, demo, output, errors),
@@ -227,8 +235,10 @@ pub(crate) fn note<E: Write>(ended: Ended, errors: &mut Device<E>) -> u8
     ensures notes { GetsNotes (E.contents (inner_of errors.old)) (E.contents (inner_of errors.new)) (has_failed errors.new) }
     ensures silent { ended.notes.items ≡ [] → Keeps (E.contents (inner_of errors.old)) (E.contents (inner_of errors.new)) }
 {
-    put(errors, &ended.notes);
-    ended.status
+    let Ended { status, notes } = ended;
+    put(errors, &notes);
+    drop(notes);
+    status
 }
 
 fn run_workload_of<R, O>(rt: &R, demo: Demo, output: &mut Device<O>) -> Result<Ended, Fault>
@@ -294,7 +304,9 @@ where
 {
     let options = options_of(replay, keys_from(rt));
     let suppressions = suppressions_of(rt, &replay.suppressions, options.byte_limit)?;
-    replay_trace(rt, replay, &suppressions, &options, input, output, watcher)
+    let ended = replay_trace(rt, replay, &suppressions, &options, input, output, watcher);
+    drop(suppressions);
+    ended
 }
 
 fn replay_trace<R, I, O, V>(
@@ -462,7 +474,27 @@ fn refused<O: Write, E: Write>(
     let Ok(text) = error.to_string(alloc) else {
         return report_fault(alloc, Fault::Memory, errors);
     };
-    match error.kind() {
+    let status = put_refused(alloc, error.kind(), text.as_str(), output, errors);
+    drop(text);
+    status
+}
+
+// The same with the parser's text. Split for the prover.
+fn put_refused<O: Write, E: Write>(
+    alloc: Global,
+    kind: ErrorKind,
+    text: &str,
+    output: &mut Device<O>,
+    errors: &mut Device<E>,
+) -> u8
+    requires output { has_failed output.old ≡ false }
+    requires errors { has_failed errors.old ≡ false }
+    ensures status { result ≤ 4 }
+    ensures quiet { result ≤ 1 → GetsNotes (E.contents (inner_of errors.old)) (E.contents (inner_of errors.new)) (has_failed errors.new) }
+    ensures written { result ≤ 1 → has_failed output.new ≡ false }
+    ensures refused { result ≡ 2 → Keeps (O.contents (inner_of output.old)) (O.contents (inner_of output.new)) }
+{
+    match kind {
         ErrorKind::OutOfMemory => report_fault(alloc, Fault::Memory, errors),
         ErrorKind::DisplayHelp | ErrorKind::DisplayVersion => {
             match output.write_all(text.as_bytes()) {

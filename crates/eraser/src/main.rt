@@ -39,15 +39,19 @@ fn main(rt: HostRuntime) -> ExitCode {
     let for_people = rt.stderr().is_terminal();
     let mut errors = Device::new(rt.stderr());
     let status = match words_of(&rt) {
-        Ok(words) => command(
-            &rt,
-            words.as_slice(),
-            &mut Device::new(rt.stdin()),
-            &mut Device::new(rt.stdout()),
-            &mut errors,
-            &mut Device::new(rt.stderr()),
-            for_people,
-        ),
+        Ok(words) => {
+            let status = command(
+                &rt,
+                words.as_slice(),
+                &mut Device::new(rt.stdin()),
+                &mut Device::new(rt.stdout()),
+                &mut errors,
+                &mut Device::new(rt.stderr()),
+                for_people,
+            );
+            drop(words);
+            status
+        }
         Err(fault) => report_fault(rt.alloc(), fault, &mut errors),
     };
     ExitCode::from(status)

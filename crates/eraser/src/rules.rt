@@ -10,6 +10,7 @@ use er_text::read_suppressions;
 use er_triage::append_rules;
 use std::alloc::Global;
 use std::fs::File;
+use std::mem;
 use std::rt::Files;
 
 /// The rules of these files, in their order, and from file to file.
@@ -35,6 +36,26 @@ where
     requires { byte_limit ≤ 2 ^ 62 }
 {
     let mut rules = Suppressions::new(rt.alloc());
+    match read_all(rt, paths, byte_limit, &mut rules) {
+        Ok(()) => Ok(rules),
+        Err(fault) => {
+            drop(rules);
+            Err(fault)
+        }
+    }
+}
+
+// Reads the rules of these files in the place of the rules that there are.
+fn read_all<R>(
+    rt: &R,
+    paths: &[&str],
+    byte_limit: u64,
+    rules: &mut Suppressions,
+) -> Result<(), Fault>
+where
+    R: Files + AllocGlobal,
+    requires { byte_limit ≤ 2 ^ 62 }
+{
     let several = paths.len() > 1;
     for (place, path) in paths.iter().enumerate() {
         let number = if several {
@@ -43,13 +64,23 @@ where
             None
         };
         let found = suppressions_at(rt, path, number, byte_limit)?;
-        if place == 0 {
-            rules = found;
-        } else if append_rules(&mut rules, &found).is_err() {
-            return Err(Fault::Memory);
-        }
+        put_rules(rules, found, place == 0)?;
     }
-    Ok(rules)
+    Ok(())
+}
+
+// The rules of the first file come in the place of what there is, and those of the others behind it.
+fn put_rules(rules: &mut Suppressions, found: Suppressions, is_first: bool) -> Result<(), Fault> {
+    if is_first {
+        drop(mem::replace(rules, found));
+        return Ok(());
+    }
+    let added = append_rules(rules, &found);
+    drop(found);
+    match added {
+        Ok(()) => Ok(()),
+        Err(_) => Err(Fault::Memory),
+    }
 }
 
 // The rules of one file, which has this number if there are several.

@@ -8,7 +8,6 @@ ghost use Rattle.er_triage.specs.Notes.{AreNotes};
 ghost use Rattle.er_unordered.specs.declared.replay.Analysis.{Analysis as Order};
 ghost use Rattle.eraser.specs.Replays.{IsPlain, IsPlainBy, verdict_status};
 
-use crate::again;
 use crate::again::places_of;
 use crate::faults::fault_of;
 use crate::rules::write_rules;
@@ -83,24 +82,85 @@ where
     ensures silent { replay.now.unused_rules ≡ false → replay.now.max_races ≡ None → IfOk result (λ ended. ended.notes.items ≡ []) }
     ensures nothing { IfErr result (LeavesOutput (O.contents (inner_of output.old)) (O.contents (inner_of output.new))) }
 {
-    let replayed = replay_report(rt, rt.alloc(), source, suppressions, options, watcher);
-    let (report, trace) = match replayed {
-        Ok(ReplayedTrace { report, trace }) => (report, trace),
-        Err(why) => return Err(fault_of(why)),
-    };
-    let triaged = sorted(rt.alloc(), report, &trace, suppressions, replay)?;
-    let excerpts = excerpts_of(rt, replay.source, &triaged.report, trace.names())?;
-    write_asked(
+    match replay_report(rt, rt.alloc(), source, suppressions, options, watcher) {
+        Ok(ReplayedTrace { report, trace }) => {
+            let ended = sort_replayed(rt, replay, report, &trace, suppressions, options, output);
+            drop(trace);
+            ended
+        }
+        Err(why) => Err(fault_of(why)),
+    }
+}
+
+// Writes the report of a trace as it is asked for, and then the file of rules. Split for the prover.
+fn sort_replayed<R, O>(
+    rt: &R,
+    replay: &Replay<'_>,
+    report: Report,
+    trace: &Trace,
+    suppressions: &Suppressions,
+    options: &Options,
+    output: &mut Device<O>,
+) -> Result<Ended, Fault>
+where
+    R: Files + AllocGlobal,
+    O: Write,
+    requires output { has_failed output.old ≡ false }
+    requires named { All (HasNames trace.now.names) report.lines.items }
+    ensures status { IfOk result (λ ended. (ended.status ≤ 4) × (ended.status ≢ 2)) }
+    ensures notes { IfOk result (λ ended. AreNotes ended.notes.items) }
+    ensures silent { replay.now.unused_rules ≡ false → replay.now.max_races ≡ None → IfOk result (λ ended. ended.notes.items ≡ []) }
+    ensures nothing { IfErr result (LeavesOutput (O.contents (inner_of output.old)) (O.contents (inner_of output.new))) }
+{
+    let triaged = sorted(rt.alloc(), report, trace, suppressions, replay)?;
+    let names = trace.names();
+    match write_triaged(
+        rt,
+        replay,
+        &triaged.report,
+        names,
+        suppressions,
+        options,
+        output,
+    ) {
+        Ok(()) => finish(rt, replay.write_rules, triaged),
+        Err(fault) => {
+            drop(triaged);
+            Err(fault)
+        }
+    }
+}
+
+// Writes the report as it is asked for, with the excerpts of source files that are found. Split for the prover.
+fn write_triaged<R, O>(
+    rt: &R,
+    replay: &Replay<'_>,
+    report: &Report,
+    names: &Names,
+    suppressions: &Suppressions,
+    options: &Options,
+    output: &mut Device<O>,
+) -> Result<(), Fault>
+where
+    R: Files + AllocGlobal,
+    O: Write,
+    requires output { has_failed output.old ≡ false }
+    requires named { All (HasNames names.now) report.now.lines.items }
+    ensures nothing { IfErr result (LeavesOutput (O.contents (inner_of output.old)) (O.contents (inner_of output.new))) }
+{
+    let excerpts = excerpts_of(rt, replay.source, report, names)?;
+    let written = write_asked(
         rt,
         replay,
         options,
-        &triaged.report,
-        trace.names(),
+        report,
+        names,
         suppressions,
         &excerpts,
         output,
-    )?;
-    finish(rt, replay.write_rules, triaged)
+    );
+    drop(excerpts);
+    written
 }
 
 /// The report as it is asked for, and what is asked for besides.
@@ -188,7 +248,7 @@ fn write_as<O: Write>(
         Format::Sarif => write_sarif(alloc, output, report, names, suppressions, &places),
         Format::Html => write_html(alloc, output, report, names, excerpts),
     };
-    again::close(places);
+    drop(places);
     match written {
         Ok(()) => Ok(()),
         Err(WriteFault::Memory) => Err(Fault::Memory),
@@ -204,22 +264,34 @@ pub(crate) fn finish<R: Files>(rt: &R, path: Option<&str>, triaged: Triaged) -> 
     ensures fault { IfErr result (λ fault. fault ≡ WriteRules) }
 {
     let verdict = verdict_of(&triaged.report);
+    if let Err(fault) = write_known(rt, path, &triaged, verdict) {
+        drop(triaged);
+        return Err(fault);
+    }
     let Triaged {
         report,
         known_races,
         notes,
     } = triaged;
-    close(report);
-    if let (Some(path), Some(text)) = (path, &known_races) {
-        if verdict != Verdict::Stopped {
-            write_rules(rt, path, text)?;
-        }
-    }
+    drop(report);
+    drop(known_races);
     Ok(Ended {
         status: status_of(verdict),
         notes,
     })
 }
 
-// Lets go of a report. Split for the prover.
-fn close(_report: Report) {}
+// Writes the rules for the known races, if there is a file for them and the replay didn't stop. Split for the prover.
+fn write_known<R: Files>(
+    rt: &R,
+    path: Option<&str>,
+    triaged: &Triaged,
+    verdict: Verdict,
+) -> Result<(), Fault>
+    ensures { IfErr result (λ fault. fault ≡ WriteRules) }
+{
+    match (path, &triaged.known_races) {
+        (Some(path), Some(text)) if verdict != Verdict::Stopped => write_rules(rt, path, text),
+        _ => Ok(()),
+    }
+}

@@ -59,6 +59,30 @@ where
 {
     let mut tried: HashSet<u32> = HashSet::new(rt.alloc());
     let mut excerpts = Vec::new(rt.alloc());
+    let put = put_excerpts(rt, folder, lines, names, &mut tried, &mut excerpts);
+    drop(tried);
+    match put {
+        Ok(()) => Ok(excerpts),
+        Err(refused) => {
+            drop(excerpts);
+            Err(refused)
+        }
+    }
+}
+
+// Puts the lines around each site that has not been tried before.
+fn put_excerpts<R>(
+    rt: &R,
+    folder: &str,
+    lines: &[Line],
+    names: &Names,
+    tried: &mut HashSet<u32>,
+    excerpts: &mut Vec<Excerpt>,
+) -> Result<(), AllocError>
+where
+    R: Files + AllocGlobal,
+    requires { All (HasNames names.now) lines.now }
+{
     for line in lines {
         if tried.len() >= MOST_SITES {
             break;
@@ -67,10 +91,10 @@ where
             continue;
         };
         if tried.insert(number)? {
-            put_excerpt_of(rt, folder, site, &mut excerpts)?;
+            put_excerpt_of(rt, folder, site, excerpts)?;
         }
     }
-    Ok(excerpts)
+    Ok(())
 }
 
 // The number and the name of a race's site. None for other lines and for the missing site.
@@ -100,24 +124,53 @@ where
     };
     let file = file.strip_prefix(folder).unwrap_or(file);
     let path = format!(in rt.alloc(); "{folder}/{file}")?;
-    let Some(text) = text_at(rt, path.as_str())? else {
+    let found = text_at(rt, path.as_str());
+    drop(path);
+    let Some(text) = found? else {
         return Ok(());
     };
+    let put = put_lines_around(rt.alloc(), site, line, &text, excerpts);
+    drop(text);
+    put
+}
+
+// Puts the lines of a text around a site's line, if the text has that line.
+fn put_lines_around(
+    alloc: Global,
+    site: &str,
+    line: u64,
+    text: &[u8],
+    excerpts: &mut Vec<Excerpt>,
+) -> Result<(), AllocError> {
     let first_line = line.saturating_sub(LINES_AROUND).max(1);
-    let kept = lines_between(
-        rt.alloc(),
-        &text,
-        first_line,
-        line,
-        line.saturating_add(LINES_AROUND),
-    )?;
-    let Some(kept) = kept else {
+    let last_line = line.saturating_add(LINES_AROUND);
+    let Some(kept) = lines_between(alloc, text, first_line, line, last_line)? else {
         return Ok(());
+    };
+    let put = put_excerpt(alloc, site, first_line, &kept, excerpts);
+    drop(kept);
+    put
+}
+
+fn put_excerpt(
+    alloc: Global,
+    site: &str,
+    first_line: u64,
+    lines: &[u8],
+    excerpts: &mut Vec<Excerpt>,
+) -> Result<(), AllocError> {
+    let site = String::from_str(alloc, site)?;
+    let text = match String::from_utf8_lossy(alloc, lines) {
+        Ok(text) => text,
+        Err(refused) => {
+            drop(site);
+            return Err(refused);
+        }
     };
     excerpts.push(Excerpt {
-        site: String::from_str(rt.alloc(), site)?,
+        site,
         first_line,
-        text: String::from_utf8_lossy(rt.alloc(), &kept)?,
+        text,
     })?;
     Ok(())
 }
@@ -154,8 +207,13 @@ where
     let mut text = Vec::new(rt.alloc());
     match file.take(MOST_BYTES).read_to_end(&mut text) {
         Ok(_) => Ok(Some(text)),
-        Err(why) if why.kind() == ErrorKind::OutOfMemory => Err(AllocError),
-        Err(_) => Ok(None),
+        Err(why) => {
+            drop(text);
+            if why.kind() == ErrorKind::OutOfMemory {
+                return Err(AllocError);
+            }
+            Ok(None)
+        }
     }
 }
 
@@ -168,6 +226,21 @@ fn lines_between(
     last: u64,
 ) -> Result<Option<Vec<u8>>, AllocError> {
     let mut kept = Vec::new(alloc);
+    match keep_lines(&mut kept, text, first, last) {
+        Ok(line) if line >= wanted => Ok(Some(kept)),
+        Ok(_) => {
+            drop(kept);
+            Ok(None)
+        }
+        Err(refused) => {
+            drop(kept);
+            Err(refused)
+        }
+    }
+}
+
+// Keeps the lines from the first to the last one, each cut to its first bytes, and says on which line the text ends, or that behind the last.
+fn keep_lines(kept: &mut Vec<u8>, text: &[u8], first: u64, last: u64) -> Result<u64, AllocError> {
     let mut line: u64 = 1;
     let mut column: usize = 0;
     for byte in text {
@@ -187,5 +260,5 @@ fn lines_between(
             kept.push(b'\n')?;
         }
     }
-    Ok(if line < wanted { None } else { Some(kept) })
+    Ok(line)
 }

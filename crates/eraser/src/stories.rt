@@ -108,7 +108,11 @@ fn explain_from<D: Read, O: Write>(
     ensures failed { FailsOutput (has_failed output.new) result }
 {
     match read_trace_keyed(alloc, source, byte_limit, keys) {
-        Ok(trace) => explain_in(alloc, &trace, line, output),
+        Ok(trace) => {
+            let written = explain_in(alloc, &trace, line, output);
+            drop(trace);
+            written
+        }
         Err(fault) => Err(Fault::of_trace(fault)),
     }
 }
@@ -132,7 +136,9 @@ fn explain_in<O: Write>(
     let Some(story) = found else {
         return Err(Fault::NoStep(line));
     };
-    match write_story(alloc, output, &story, trace.names()) {
+    let written = write_story(alloc, output, &story, trace.names());
+    drop(story);
+    match written {
         Ok(()) => Ok(()),
         Err(WriteFault::Memory) => Err(Fault::Memory),
         Err(WriteFault::Write) => Err(Fault::Write),

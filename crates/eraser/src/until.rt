@@ -78,7 +78,11 @@ where
 {
     match run_shown(rt, replay, input, output, progress, for_people) {
         Ok(ended) => note(ended, errors),
-        Err(cut) => report_cut(rt, replay, &cut, errors, for_people),
+        Err(cut) => {
+            let status = report_cut(rt, replay, &cut, errors, for_people);
+            drop(cut);
+            status
+        }
     }
 }
 
@@ -169,7 +173,9 @@ where
     let options = options_of(replay, keys_from(rt));
     match suppressions_of(rt, &replay.suppressions, options.byte_limit) {
         Ok(suppressions) => {
-            replay_trace(rt, replay, &suppressions, &options, input, output, watcher)
+            let ended = replay_trace(rt, replay, &suppressions, &options, input, output, watcher);
+            drop(suppressions);
+            ended
         }
         Err(fault) => Err(cut_by(rt.alloc(), fault)),
     }
@@ -274,24 +280,56 @@ where
         watcher,
     );
     let kept = keeping.into_inner().into_kept();
-    match (first, kept) {
-        (Ok(ended), _) => Ok(ended),
-        (Err(fault), Some(text)) => {
-            let again = Again::Kept(&text);
-            Err(replay_before(
-                rt,
-                replay,
-                fault,
-                again,
-                output,
-                suppressions,
-                options,
-                watcher,
-            ))
+    match first {
+        Ok(ended) => {
+            drop(kept);
+            Ok(ended)
         }
-        (Err(Fault::Text(_)), None) => Err(cut_by(rt.alloc(), Fault::Memory)),
-        (Err(fault), None) => Err(cut_by(rt.alloc(), fault)),
+        Err(fault) => Err(replay_kept_before(
+            rt,
+            replay,
+            fault,
+            kept,
+            output,
+            suppressions,
+            options,
+            watcher,
+        )),
     }
+}
+
+// Replays the lines before a fault of the text that was kept, if there was memory for it.
+fn replay_kept_before<R, O, V>(
+    rt: &R,
+    replay: &Replay<'_>,
+    fault: Fault,
+    kept: Option<Vec<u8>>,
+    output: &mut Device<O>,
+    suppressions: &Suppressions,
+    options: &Options,
+    watcher: &mut V,
+) -> Cut
+where
+    R: Files + AllocGlobal + Threads + Wait + Sync,
+    O: Write,
+    V: Watch,
+{
+    let Some(text) = kept else {
+        let is_of_text = matches!(fault, Fault::Text(_));
+        return cut_by(rt.alloc(), if is_of_text { Fault::Memory } else { fault });
+    };
+    let cut = replay_before(
+        rt,
+        replay,
+        fault,
+        Again::Kept(&text),
+        output,
+        suppressions,
+        options,
+        watcher,
+    );
+    drop(text);
+    cut
 }
 
 // If the fault is one of the text, replays the lines before it. A text that ends there may lack its line `end`: that is no damage of these
@@ -328,6 +366,7 @@ where
     if !lacks_end_alone(&second) {
         return cut_at(rt.alloc(), first, second);
     }
+    drop(second);
     let options = options.with_strict(false);
     let third = replay_lines(
         rt,
