@@ -1,7 +1,6 @@
 -- Nothing written is no note.
-use Rattle.std.proofs.Common.{◌≡◌, ℕ, Bool, false, List, [], ◌++◌, Option, Some, None, Result, Ok, Err, IfOk, refl, sym}
+use Rattle.std.proofs.Common.{◌≡◌, ℕ, Bool, false, List, [], Option, Some, None, Result, Ok, Err, IfOk, refl, sym}
 use Rattle.std.proofs.lemmas.List.{append-nil}
-use Rattle.er_exit.specs.Writes.{WritesBytes}
 use Rattle.er_triage.specs.Notes.{AreNotes}
 use Rattle.eraser.specs.Notes.{GetsNotes}
 use Rattle.eraser.specs.declared.sorting.Ended.{Ended}
