@@ -80,8 +80,13 @@ impl<'t> Detector<'t> {
     {
         let mut shards = Vec::with_capacity(alloc, config.shards as usize)?;
         for number in 0..config.shards {
-            let shard = empty_shard(alloc, table, config, number)?;
-            shards.push(CachePadded::new(Mutex::new(shard)))?;
+            match empty_shard(alloc, table, config, number) {
+                Ok(shard) => shards.push_reserved(CachePadded::new(Mutex::new(shard))),
+                Err(refused) => {
+                    drop(shards);
+                    return Err(refused);
+                }
+            }
         }
         Ok(Detector {
             config,
@@ -255,9 +260,15 @@ impl<'t> Detector<'t> {
             opened,
             alloc,
         } = self;
-        let mut shards = Vec::with_capacity(alloc, locks.len())?;
+        let mut shards = match Vec::with_capacity(alloc, locks.len()) {
+            Ok(shards) => shards,
+            Err(refused) => {
+                drop(locks);
+                return Err(refused);
+            }
+        };
         for lock in locks {
-            shards.push(lock.into_inner().into_inner())?;
+            shards.push_reserved(lock.into_inner().into_inner());
         }
         Ok(Parts {
             name: config.name,

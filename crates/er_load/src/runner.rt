@@ -52,12 +52,25 @@ impl<'a, 't, G: Gate> Runner for DetectorRunner<'a, 't, G> {
         ensures seat { IfOk result (λ seat. IsSeatAt task.thread (done_after task.workload task.stage task.thread) seat) }
         ensures refusals { IfErr result (λ why. IsTrue (may_meet why)) }
     {
-        let script = script_of(alloc, task)?;
+        let script = match script_of(alloc, task) {
+            Ok(script) => script,
+            Err(_) => {
+                drop(seat);
+                return Err(Refusal::OutOfMemory);
+            }
+        };
         if seat.calls().is_empty() {
             self.gate.enter(seat.thread().number());
         }
-        run_script(rt, self.detector, &mut seat, script.as_slice())?;
-        Ok(seat)
+        let ran = run_script(rt, self.detector, &mut seat, script.as_slice());
+        drop(script);
+        match ran {
+            Ok(()) => Ok(seat),
+            Err(why) => {
+                drop(seat);
+                Err(why)
+            }
+        }
     }
 }
 

@@ -1,5 +1,5 @@
 //! A whole workload: its detector, its seats, its stages, and the run that they make.
-ghost use Rattle.std.specs.Prelude.{◌≡◌, ◌≤◌, ℕ, IfOk, IfErr, Ok, Some, length, slice_get, vec_len};
+ghost use Rattle.std.specs.Prelude.{◌≡◌, ◌≤◌, [], ℕ, IfOk, IfErr, OnOk, Ok, Some, length, slice_get, vec_len};
 ghost use Rattle.er_event.specs.declared.steps.Step.{Step as StepShown};
 ghost use Rattle.er_model.specs.Answers.{answer};
 ghost use Rattle.er_model.specs.Locality.{events_of};
@@ -44,11 +44,34 @@ pub fn run_workload<G: Gate, R: Threads + Wait + Sync>(
     ensures faults { IfErr result MayFail }
 {
     let table = LocksetTable::new(alloc, MAX_SETS)?;
-    let detector = Detector::new(alloc, &table, config())?;
-    let seats = run_stages(rt, alloc, &detector, workload, gate)?;
-    match settle(alloc, detector, seats) {
-        Ok(run) => Ok(run),
-        Err(fault) => Err(LoadFault::Unsettled(fault)),
+    let run = run_over(rt, alloc, &table, workload, gate);
+    drop(table);
+    run
+}
+
+// The same over this table. Split for the prover.
+fn run_over<G: Gate, R: Threads + Wait + Sync>(
+    rt: &R,
+    alloc: Global,
+    table: &LocksetTable,
+    workload: Workload,
+    gate: &G,
+) -> Result<Run, LoadFault>
+    ensures events { IfOk result (λ run. (t : ℕ) → events_of run.steps.items t (length run.steps.items) ≡ workload_events workload t) }
+    ensures count { IfOk result (λ run. vec_len run.steps ≡ step_count workload) }
+    ensures replies { IfOk result (λ run. (k : ℕ) (step : StepShown) → slice_get run.steps.items k ≡ Some step → answer run.steps.items k ≡ Ok (reply_at run.replies.items k)) }
+    ensures faults { IfErr result MayFail }
+{
+    let detector = Detector::new(alloc, table, config())?;
+    match run_stages(rt, alloc, &detector, workload, gate) {
+        Ok(seats) => match settle(alloc, detector, seats) {
+            Ok(run) => Ok(run),
+            Err(fault) => Err(LoadFault::Unsettled(fault)),
+        },
+        Err(fault) => {
+            drop(detector);
+            Err(fault)
+        }
     }
 }
 
@@ -93,14 +116,36 @@ fn open_seats(
     ensures faults { IfErr result MayFail }
 {
     let mut seats = Vec::new(alloc);
+    match fill_seats(detector, workload, &mut seats) {
+        Ok(()) => Ok(seats),
+        Err(fault) => {
+            drop(seats);
+            Err(fault)
+        }
+    }
+}
+
+// Puts a seat for each thread into a list that has none.
+fn fill_seats(
+    detector: &Detector<'_>,
+    workload: Workload,
+    seats: &mut Vec<Seat>,
+) -> Result<(), LoadFault>
+    requires name { detector.now.name ≡ detector_name }
+    requires empty { seats.old.items ≡ [] }
+    ensures count { OnOk result (vec_len seats.new ≡ thread_count workload) }
+    ensures seats { OnOk result (AreSeatsAt (done_before workload Stage.First) seats.new.items) }
+    ensures faults { IfErr result MayFail }
+{
     for number in 0..workload.threads() {
         let seat = detector.open_seat()?;
         if seat.thread().number() != number {
+            drop(seat);
             return Err(LoadFault::Unsettled(Unsettled::SeatMissing));
         }
         let Ok(()) = seats.push(seat) else {
             return Err(LoadFault::Refused(Refusal::OutOfMemory));
         };
     }
-    Ok(seats)
+    Ok(())
 }

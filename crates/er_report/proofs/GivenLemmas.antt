@@ -2,7 +2,6 @@
 use Rattle.std.proofs.Common.{◌≡◌, ℕ, zero, suc, Bool, true, false, cond, List, [], ◌∷◌, ◌++◌, map, slice_get, slice_index, Option, Some, None, is_some, Result, Ok, Err, IsFalse, length, refl, sym, ap, subst, ◌∙◌, append_assoc}
 use Rattle.std.proofs.Math.Bool.{and-true, and-false}
 use Rattle.std.proofs.lemmas.List.{append-nil, map-append}
-use Rattle.er_event.specs.declared.refusals.NoRoom.{NoRoom}
 use Rattle.er_event.specs.declared.refusals.Refusal.{Refusal}
 use Rattle.er_event.specs.declared.steps.Event.{Event}
 use Rattle.er_event.specs.declared.steps.Event.TheVariants.{Acquire, Release, Access, Reuse, IgnoreOn, IgnoreOff, Show, Level, Sync}
@@ -16,7 +15,7 @@ use Rattle.er_model.specs.Threads.{accepted, held}
 use Rattle.er_report.specs.Builder.{Built, IsBuiltBy, report_below_by}
 use Rattle.er_report.specs.Inner.Explained.{line_told, told_left, with_told}
 use Rattle.er_report.specs.Lines.{LineView}
-use Rattle.er_report.specs.Report.{Answering, AreAccesses, Summary, answer_line, reply_line, line_at, lines_by, is_printed_by, matching_rule_by, no_reasons, report_by, stop_line, answered_steps}
+use Rattle.er_report.specs.Report.{Answering, AreAccesses, Summary, answer_line, reply_line, line_at, lines_by, is_printed_by, matching_rule_by, no_reasons, report_by, answered_steps}
 use Rattle.er_report.specs.declared.report.Because.{Because}
 use Rattle.er_report.proofs.BuilderLemmas.{built-lines}
 use Rattle.er_rules.specs.Rules.{Target}

@@ -223,10 +223,12 @@ impl<'r> ReportBuilder<'r> {
         let ReportBuilder {
             rules: _,
             mut report,
-            races: _,
-            explainer: _,
+            races,
+            explainer,
             alloc: _,
         } = self;
+        drop(races);
+        drop(explainer);
         report.stop = stop;
         report
     }
@@ -258,10 +260,12 @@ impl<'r> ReportBuilder<'r> {
         let ReportBuilder {
             rules: _,
             mut report,
-            races: _,
-            explainer: _,
+            races,
+            explainer,
             alloc: _,
         } = self;
+        drop(races);
+        drop(explainer);
         report.stop = None;
         give_reasons(reasons, &mut report.lines);
         report

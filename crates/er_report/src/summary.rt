@@ -1,19 +1,21 @@
 //! The report of a whole run.
-ghost use Rattle.std.specs.Prelude.{◌≡◌, ◌<◌, All, IsTrue, length, IfOk, IfSome};
+ghost use Rattle.std.specs.Prelude.{◌≡◌, ◌<◌, ◌+◌, ◌^◌, ℕ, [], All, IsTrue, is_some, length, IfOk, IfSome, OnOk};
 ghost use Rattle.er_explain.specs.Racing.{is_race};
 ghost use Rattle.er_held.specs.ThreadLocks.{held_by};
 ghost use Rattle.er_journal.specs.AnswerList.{shown};
 ghost use Rattle.er_model.specs.Answers.{answers};
-ghost use Rattle.er_report.specs.Names.{HasNames};
+ghost use Rattle.er_report.specs.Builder.{IsReported, IsStepAt};
+ghost use Rattle.er_report.specs.Names.{HasNames, HasSiteName};
 ghost use Rattle.er_report.specs.Report.{told, report_of, answered_steps};
 ghost use Rattle.er_rules.specs.Rules.{targets_of};
+ghost use Rattle.er_trace.specs.Trace.{Recording};
 
 use crate::{Report, ReportBuilder};
-use er_event::{Lockset, ThreadId};
+use er_event::{Lockset, Step, ThreadId};
 use er_held::ThreadLocks;
 use er_journal::{Answer, Outcome};
 use er_rules::Suppressions;
-use er_trace::Trace;
+use er_trace::{Names, Trace};
 use std::alloc::{AllocError, Global};
 
 /// The report of a run of a trace's steps, which may have stopped at one of them. A race that a rule takes has no line and counts
@@ -32,16 +34,69 @@ pub fn summarise(
 {
     let mut builder = ReportBuilder::explaining(alloc, suppressions, explain)?;
     let mut locks = ThreadLocks::new(alloc);
+    let added = add_steps(alloc, trace, outcome, &mut builder, &mut locks);
+    drop(locks);
+    match added {
+        Ok(()) => Ok(builder.finish_for(trace, outcome.stopped)),
+        Err(refused) => {
+            drop(builder);
+            Err(refused)
+        }
+    }
+}
+
+// Adds the steps that were answered to a report of none, with the locks of no thread.
+fn add_steps(
+    alloc: Global,
+    trace: &Trace,
+    outcome: &Outcome,
+    builder: &mut ReportBuilder<'_>,
+    locks: &mut ThreadLocks,
+) -> Result<(), AllocError>
+    requires answers { outcome.now.answers ≡ answers (answered_steps trace.now.steps outcome.now.stopped) }
+    requires begun { IsReported builder.old trace.now 0 }
+    requires locks { locks.old ≡ [] }
+    ensures reported { OnOk result (IsReported builder.new trace.now (length (answered_steps trace.now.steps outcome.now.stopped))) }
+    ensures rules { OnOk result (builder.new.rules ≡ builder.old.rules) }
+    ensures explains { OnOk result (is_some builder.new.kept ≡ is_some builder.old.kept) }
+{
     for (k, step) in trace.steps().iter().enumerate() {
         let Some(answer) = outcome.answers.get(k) else {
             break;
         };
-        let held = race_locks(alloc, &locks, step.thread, answer)?;
-        builder.add_answer(trace.names(), trace.lines()[k], step, answer, &held)?;
-        builder.explain(trace.lines()[k], step)?;
+        let held = race_locks(alloc, locks, step.thread, answer)?;
+        let added = add_one(
+            builder,
+            trace.names(),
+            trace.lines()[k],
+            step,
+            answer,
+            &held,
+        );
+        drop(held);
+        added?;
         locks.follow(alloc, step)?;
     }
-    Ok(builder.finish_for(trace, outcome.stopped))
+    Ok(())
+}
+
+// Adds a step, and finds its reasons if it has some.
+fn add_one(
+    builder: &mut ReportBuilder<'_>,
+    names: &Names,
+    line: u64,
+    step: &Step,
+    answer: Answer<'_>,
+    held: &Lockset,
+) -> Result<(), AllocError>
+    requires room { builder.old.report.steps + 1 < 2 ^ 64 }
+    requires site { HasSiteName names.now step.now.event }
+    ensures rules { OnOk result (builder.new.rules ≡ builder.old.rules) }
+    ensures explains { OnOk result (is_some builder.new.kept ≡ is_some builder.old.kept) }
+    ensures reported { (r : Recording) (k : ℕ) → IsReported builder.old r k → IsStepAt r k names.now line step.now (shown answer.entry) held.now → OnOk result (IsReported builder.new r (k + 1)) }
+{
+    builder.add_answer(names, line, step, answer, held)?;
+    builder.explain(line, step)
 }
 
 // The locks that the thread holds, if this answers a race; a report needs no others.

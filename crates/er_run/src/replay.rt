@@ -95,7 +95,11 @@ where
     let found = report_on(rt, rt.alloc(), reader, suppressions, options, watcher);
     watcher.end();
     match found {
-        Ok(found) => write_found(rt.alloc(), writer, &found),
+        Ok(found) => {
+            let verdict = write_found(rt.alloc(), writer, &found);
+            drop(found);
+            verdict
+        }
         Err(why) => Err(why),
     }
 }

@@ -67,10 +67,23 @@ impl<'t> ShadowMap<'t> {
     ) -> Result<ShadowMap<'t>, AllocError>
         ensures { IfOk result (λ map. (w : ℕ) → states map w ≡ Virgin) }
     {
-        let pages = IndexMap::with_hasher(alloc, NumberHasher::new(keys));
         let known = Known::new(alloc, table)?;
-        let places = Hints::new(alloc)?;
-        let covers = Hints::new(alloc)?;
+        let places = match Hints::new(alloc) {
+            Ok(places) => places,
+            Err(refused) => {
+                drop(known);
+                return Err(refused);
+            }
+        };
+        let covers = match Hints::new(alloc) {
+            Ok(covers) => covers,
+            Err(refused) => {
+                drop(known);
+                drop(places);
+                return Err(refused);
+            }
+        };
+        let pages = IndexMap::with_hasher(alloc, NumberHasher::new(keys));
         Ok(ShadowMap {
             pages,
             places,

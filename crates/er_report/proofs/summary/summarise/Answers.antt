@@ -1,82 +1,18 @@
--- The report on its way is that of the steps that were added, and at the end of all that were answered.
-use Rattle.std.proofs.Common.{◌≡◌, ◌≤◌, ◌<◌, ◌∙◌, ℕ, List, Option, length, slice_get, slice_index, is_some, Some, refl, ap, subst, arith}
-use Rattle.std.proofs.lemmas.Option.{slice_get_read, slice_get_within}
-use Rattle.er_trace.specs.Trace.{Recording}
-use Rattle.er_event.specs.declared.steps.Step.{Step}
-use Rattle.er_explain.proofs.Passes.{held-start, held-next}
-use Rattle.er_journal.specs.AnswerList.{shown}
-use Rattle.er_journal.specs.declared.answers.Stopped.{Stopped}
-use Rattle.er_report.specs.Builder.{IsBuilt, IsReported}
-use Rattle.er_report.specs.Kept.{Kept}
-use Rattle.er_report.specs.Report.{answered_steps}
-use Rattle.er_report.proofs.BuilderLemmas.{answers_are, answered_within, built-steps, step-answered, still-explained}
-use Rattle.er_report.proofs.NamedLemmas.{site_named}
+use Rattle.std.proofs.Common.{◌∙◌}
 use Rattle.er_report.proofs.summary.summarise.Goals as goal
-use Rattle.er_report.proofs.summary.summarise.Goals.{else-loop-k-test, then-loop-k-test+in_default}
 
-pub loop-k-init : goal.loop-k-init
-loop-k-init c = record {
-  built = c.in_ok-builder.ensures.built c.args.trace.now;
-  explains = c.in_ok-builder.ensures.explains;
-  rules = c.in_ok-builder.ensures.rules;
-  held = held-start c.args.trace.now.steps c.new-locks.result c.new-locks.ensures;
-  within = omega arith;
+pub add_steps-added-requires : goal.add_steps-added-requires
+add_steps-added-requires c = record {
+  answers = c.requires.answers;
+  begun = c.in_ok-builder.ensures.built c.args.trace.now;
+  locks = c.new-locks.ensures;
 }
-
-pub add_answer-requires : goal.add_answer-requires
-unfolding IsBuilt
-add_answer-requires c =
-    let steps : List Step = c.steps-step-items.result.now in
-    let here : slice_get steps c.loop-k.k ≡ Some c.step-item.result = slice_get_read steps _ c.loop-k.k c.step-item.result refl (omega arith) c.step-item.is in
-    let count : c.loop-k.builder.report.steps ≡ c.loop-k.k = built-steps _ c.loop-k.builder c.args.trace.now c.loop-k.k c.loop-k.invariant.built.built in
-    record {
-      room = omega arith;
-      site = rw c.names.ensures (site_named c.args.trace.now.names c.args.trace.now.steps c.steps-step-items.ensures.named c.loop-k.k c.step-item.result
-          (rw c.steps-step-items.ensures.value at here));
-    }
-
-pub loop-k-preserved : goal.loop-k-preserved
-loop-k-preserved c =
-    let r : Recording = c.args.trace.now in
-    let k : ℕ = c.loop-k.k in
-    let stop : Option Stopped = c.args.outcome.now.stopped in
-    let step : Step = c.step-item.result in
-    let steps : List Step = c.steps-step-items.result.now in
-    let read : slice_get steps k ≡ Some step = slice_get_read steps _ k step refl (omega arith) c.step-item.is in
-    let here : slice_get r.steps k ≡ Some step = rw c.steps-step-items.ensures.value at read in
-    let many : length c.args.outcome.now.answers ≡ length (answered_steps r.steps stop) = answers_are r stop c.args.outcome.now.answers c.requires.answers in
-    let below : k < length c.args.outcome.now.answers = slice_get_within c.args.outcome.now.answers k (shown c.in-Some.answer) c.in-Some.ensures in
-    record {
-      built =
-          c.in_ok-explain.ensures.explained r k
-          (c.in_ok-add_answer.ensures.built r k c.loop-k.invariant.built.built
-          (step-answered r stop k _ _ step (shown c.in-Some.answer) c.in_ok-held.held _ c.args.outcome.now.answers c.requires.answers c.in-Some.ensures here
-          (ap (λ (numbers : List ℕ). slice_index numbers k) c.lines.ensures.value) c.names.ensures c.in_ok-held.ensures (c.loop-k.invariant.held step.thread)))
-          (still-explained c.loop-k.builder c.add_answer.new.self r k c.in_ok-add_answer.ensures.rules c.in_ok-add_answer.ensures.kept c.loop-k.invariant.built.explained) here
-          (ap (λ (numbers : List ℕ). slice_index numbers k) c.lines-in-loop-k.ensures.value);
-      explains = c.in_ok-explain.ensures.explains ∙ ap (λ (o : Option Kept). is_some o) c.in_ok-add_answer.ensures.kept ∙ c.loop-k.invariant.explains;
-      rules = c.in_ok-explain.ensures.rules ∙ c.in_ok-add_answer.ensures.rules ∙ c.loop-k.invariant.rules;
-      held = held-next r.steps k step c.loop-k.locks c.follow.new.self here c.loop-k.invariant.held c.in_ok-follow.ensures;
-      within = omega (arith, many, below);
-    }
 
 pub finish_for-requires : goal.finish_for-requires
-finish_for-requires c =
-    let r : Recording = c.args.trace.now in
-    let stop : Option Stopped = c.args.outcome.now.stopped in
-    let answered : length c.args.outcome.now.answers ≡ length (answered_steps r.steps stop) = answers_are r stop c.args.outcome.now.answers c.requires.answers in
-    let most : length (answered_steps r.steps stop) ≤ length r.steps = answered_within r.steps stop in
-    let all : length c.steps-step-items.result.now ≡ length r.steps = ap (λ (steps : List Step). length steps) c.steps-step-items.ensures.value in
-    let past : length (answered_steps r.steps stop) ≤ c.loop-k.k =
-    elim c.loop-k-test.branch [ else-loop-k-test w ↦ omega arith | then-loop-k-test+in_default w ↦ omega arith ] in
-    let end : c.loop-k.k ≡ length (answered_steps r.steps stop) = omega (arith, past, c.loop-k.invariant.within) in
-    record {
-      stop = c.requires.stop;
-      built = subst (IsReported c.loop-k.builder r) end c.loop-k.invariant.built;
-    }
-
-pub returns : goal.returns
-returns c = record {
-  report = rw (c.loop-k.invariant.rules, c.loop-k.invariant.explains) at c.finish_for.ensures.report;
-  named = c.finish_for.ensures.named;
+finish_for-requires c = record {
+  stop = c.requires.stop;
+  built = c.in-Ok.ensures.reported;
 }
+
+pub returns-in-Ok-clause-report : goal.returns-in-Ok-clause-report
+returns-in-Ok-clause-report c = rw (c.in-Ok.ensures.rules ∙ c.in_ok-builder.ensures.rules, c.in-Ok.ensures.explains ∙ c.in_ok-builder.ensures.explains) at c.finish_for.ensures.report

@@ -1,12 +1,11 @@
 -- The lines have the reasons that are given, and all else is as it was.
-use Rattle.std.proofs.Common.{◌≡◌, ◌∙◌, ℕ, List, None, length, map, sym, ap, subst, arith}
+use Rattle.std.proofs.Common.{◌≡◌, ◌∙◌, None, length, map, sym, ap, subst, arith}
 use Rattle.std.proofs.lemmas.List.{with_items_is}
 use Rattle.std.specs.Vec.{with_items}
 use Rattle.er_report.specs.Builder.{Built, IsBuiltBy}
 use Rattle.er_report.specs.Inner.Explained.{with_told}
 use Rattle.er_report.specs.Lines.{line_view}
 use Rattle.er_report.specs.Report.{told, report_by, answered_steps}
-use Rattle.er_report.specs.declared.report.Because.{Because}
 use Rattle.er_rules.specs.Rules.{targets_of}
 use Rattle.er_report.proofs.BuilderLemmas.{report-named}
 use Rattle.er_report.proofs.GivenLemmas.{given-end, given-lines}
