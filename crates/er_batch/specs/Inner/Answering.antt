@@ -1,5 +1,5 @@
 -- How far a machine has come in the steps of a recording, and the report behind it.
-use Rattle.std.specs.Prelude.{◌≡◌, ℕ, ◌+◌, ◌<◌, List, [], length, take, Option, Some, None, IsTrue, is_some}
+use Rattle.std.specs.Prelude.{◌≡◌, ℕ, ◌+◌, ◌<◌, [], length, take, Option, Some, None, IsTrue, is_some}
 use Rattle.er_journal.specs.declared.answers.Stopped.{Stopped}
 use Rattle.er_replay.specs.Standing.{Replayed, Stands}
 use Rattle.er_replay.specs.Stops.{MayStop}

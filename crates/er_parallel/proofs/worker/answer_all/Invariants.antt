@@ -1,5 +1,5 @@
 -- So far a worker has come in the batch. What lies between the steps that it looks at is answered by others.
-use Rattle.std.proofs.Common.{List, ℕ, ◌-◌, ◌≤◌, length}
+use Rattle.std.proofs.Common.{List, ◌-◌, ◌≤◌, length}
 use Rattle.er_event.specs.declared.steps.Step.{Step}
 use Rattle.er_parallel.specs.Crews.{HasFollowed}
 use Rattle.er_parallel.specs.Inner.Taking.{HasCome}

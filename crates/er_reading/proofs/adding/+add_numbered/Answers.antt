@@ -1,5 +1,5 @@
 -- The first piece, and then the others.
-use Rattle.std.proofs.Common.{◌≡◌, ◌+◌, ℕ, List, ◌∷◌, length, OnOk, ap, subst, sym, rules}
+use Rattle.std.proofs.Common.{◌≡◌, ◌+◌, List, length, OnOk, ap, subst, rules}
 use Rattle.er_text.proofs.GrowthLemmas.{grows_not}
 use Rattle.er_text.specs.Batches.{HasRead}
 use Rattle.er_text.specs.Pieces.{ReadPiece}

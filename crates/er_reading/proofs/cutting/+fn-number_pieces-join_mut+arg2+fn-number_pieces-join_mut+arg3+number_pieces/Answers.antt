@@ -1,5 +1,4 @@
-use Rattle.std.proofs.Common.{◌≡◌, List, ◌++◌, sym, subst, ap, ◌∙◌, take, drop, rules}
-use Rattle.std.proofs.lemmas.List.{take-append-drop}
+use Rattle.std.proofs.Common.{◌≡◌, List, ◌++◌, sym, subst, rules}
 use Rattle.er_text.specs.Pieces.{ReadPiece}
 use Rattle.er_reading.specs.Inner.Adding.{AreNumbered}
 use Rattle.er_reading.proofs.AddedLemmas.{numbered_append}
