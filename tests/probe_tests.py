@@ -7,6 +7,7 @@ more. Which rows may find none, and that each of them does, stands in the case. 
 """
 
 import pathlib
+import random
 import re
 import subprocess
 import tempfile
@@ -31,6 +32,8 @@ BAD_ROWS = [
     ("steps 4\nthread 1073741824 write 0\n", 2),
     ("steps 4\nthread 1 write 0 1 2\n", 2),
     ("steps 4\nparallel 1 1 17\n", 2),
+    ("steps 4\nbatches 1 1 17 3\n", 2),
+    ("steps 4\nbatches 1 1 2 0\n", 2),
     ("detectors 4 2 100 2 8\nopen c\n", 2),
     ("detectors 4 2 100 2 8\nseat 0 write 0\n", 2),
     ("detectors 4 2 100 2 8\nopen a\nseat 0 write 0 in a 2\n", 3),
@@ -101,6 +104,30 @@ def is_lacking(verb, usual, answer):
     return {"settle": "memory", "parallel": "out of memory"}.get(verb) == answer or (verb, answer) == ("parallel", "worker not started")
 
 
+def random_calls(choose):
+    """Calls of four threads at three locks and eight pages. Some are refused, and some are races."""
+    for _ in range(choose.randrange(4, 80)):
+        thread, lock, mode = choose.randrange(4), choose.randrange(3), choose.choice(("read", "write"))
+        word = 4096 * choose.randrange(8) + 4 * choose.randrange(3)
+        call = choose.choice((f"read {word}", f"write {word}", f"write {word}", f"acquire {lock} {mode}", f"release {lock} {mode}", f"show {word}",
+            f"reuse {word} 8", choose.choice(("ignore-on", "ignore-off", "ignore-off", "level 3", "level 0"))))
+        yield f"thread {thread} {call}"
+
+
+def batches(record):
+    """Workers that answer a list in batches of 3 steps, and in batches of 1 and 1,000, give the answers of one machine to the whole list, or find the table full."""
+    choose, races, full = random.Random(3), 0, 0
+    for nth in range(300):
+        sets = choose.choice((1, 2, 1048576, 1048576))
+        asked = [f"batches {shards} {sets} {workers} {length}" for workers, shards in ((1, 8), (2, 8), (7, 3)) for length in (3, choose.choice((1, 1000)))]
+        output, errors, status = run("\n".join([f"steps {sets}", *random_calls(choose), f"run {sets}", *asked, ""]))
+        whole, *found = output.splitlines()[-1 - len(asked) :]
+        wanted = "table full" if "stopped" in whole else whole
+        races, full = races + ("race" in whole), full + ("stopped" in whole)
+        record(f"random calls {nth} in batches", (errors, status, found) == ("", 0, [wanted] * len(asked)), f"{errors} {status} {found}, not {wanted}"[:1000])
+    record("some random calls race, and some find the table full", races > 50 and full > 20, f"{races} and {full}")
+
+
 def refusals(record, preloaded):
     with tempfile.TemporaryDirectory() as folder:
         library = preloaded(folder, "refuse")
@@ -124,6 +151,7 @@ def tests(record, preloaded):
         subprocess.run(["rt", "run"], cwd=PROBE.parent.parent, input=b"values\n", stdout=subprocess.DEVNULL, check=True)
     plays(record)
     bad_rows(record)
+    batches(record)
     refusals(record, preloaded)
 
 

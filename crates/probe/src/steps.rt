@@ -1,4 +1,6 @@
 //! Rows of a machine, of the list of its steps, and of what the list explains.
+ghost use Rattle.std.specs.Prelude.{◌≤◌};
+
 use crate::Fault;
 use crate::answered::Answered;
 use crate::answers::{put_answer, put_answers, put_state};
@@ -8,8 +10,8 @@ use crate::explained::{Question, put_explained, question_of};
 use crate::rows::{Row, count_of, number_of, thread_of};
 use er_event::{Event, Level, Refusal, Reply, Step, ThreadId, Word, WordRange, WordState};
 use er_gate::OpenGate;
-use er_journal::Outcome;
-use er_parallel::{ReplayConfig, ReplayFault, replay_parallel};
+use er_journal::{Answers, Outcome};
+use er_parallel::{Crew, ReplayConfig, ReplayFault, Unusual, replay_parallel};
 use er_replay::{Machine, run};
 use er_table::LocksetTable;
 use std::alloc::AllocError;
@@ -151,6 +153,8 @@ enum Asked<'w> {
     Run(Option<u32>),
     // The same by workers: shards, sets and workers.
     Parallel(Option<ReplayConfig>, u32),
+    // The same by a crew, batch after batch: shards, sets, workers, and how many steps a batch has.
+    Batches(Option<ReplayConfig>, u32, u32),
     Explained(Question<'w>),
 }
 
@@ -161,6 +165,11 @@ fn asked_of<'w>(words: &'w [&'w str]) -> Option<Asked<'w>> {
         ["parallel", shards, sets, workers] => Some(Asked::Parallel(
             ReplayConfig::new(count_of(shards)?, count_of(sets)?),
             count_of(workers)?,
+        )),
+        ["batches", shards, sets, workers, length] => Some(Asked::Batches(
+            ReplayConfig::new(count_of(shards)?, count_of(sets)?),
+            count_of(workers)?,
+            count_of(length)?,
         )),
         _ => Some(Asked::Explained(question_of(words)?)),
     }
@@ -178,6 +187,9 @@ fn answer<R: Runtime + AllocGlobal + Threads + Wait + Sync>(
         Asked::State(address) => put_word(&mut out, machine, address)?,
         Asked::Run(sets) => put_run(rt, &mut out, steps, sets)?,
         Asked::Parallel(config, workers) => put_parallel(rt, &mut out, steps, config, workers)?,
+        Asked::Batches(config, workers, length) => {
+            put_batches(rt, &mut out, steps, config, workers, length)?
+        }
         Asked::Explained(question) => put_explained(rt.alloc(), &mut out, steps, question)?,
     };
     if is_there {
@@ -262,6 +274,114 @@ fn put_parallel<R: AllocGlobal + Threads + Wait + Sync>(
         Err(fault) => out.push_str(fault_text(fault))?,
     }
     Ok(true)
+}
+
+fn put_batches<R: AllocGlobal + Threads + Wait + Sync>(
+    rt: &R,
+    out: &mut String,
+    steps: &[Step],
+    config: Option<ReplayConfig>,
+    workers: u32,
+    length: u32,
+) -> Result<bool, AllocError> {
+    let Some(config) = config else {
+        out.push_str("no such configuration")?;
+        return Ok(true);
+    };
+    if workers < 1 || workers > 16 || length < 1 {
+        return Ok(false);
+    }
+    let table = LocksetTable::new(rt.alloc(), config.max_sets)?;
+    let answers = answers_by_crew(rt, &table, steps, config, workers, length as usize);
+    drop(table);
+    match answers {
+        Ok(answers) => put_answers(out, &answers)?,
+        Err(fault) => out.push_str(fault_text(fault))?,
+    }
+    Ok(true)
+}
+
+fn answers_by_crew<R: AllocGlobal + Threads + Wait + Sync>(
+    rt: &R,
+    table: &LocksetTable,
+    steps: &[Step],
+    config: ReplayConfig,
+    workers: u32,
+    length: usize,
+) -> Result<Answers, ReplayFault>
+    requires workers { (1 ≤ workers) × (workers ≤ 16) }
+    requires length { 1 ≤ length }
+{
+    let mut crew = match Crew::new(rt, rt.alloc(), table, config, workers) {
+        Ok(crew) => crew,
+        Err(fault) => return Err(fault),
+    };
+    let mut answers = Answers::new(rt.alloc());
+    let taken = take_batches(rt, &mut crew, steps, length, &mut answers);
+    drop(crew);
+    match taken {
+        Ok(()) => Ok(answers),
+        Err(fault) => {
+            drop(answers);
+            Err(fault)
+        }
+    }
+}
+
+fn take_batches<R: Threads + Wait + Sync>(
+    rt: &R,
+    crew: &mut Crew<'_>,
+    steps: &[Step],
+    length: usize,
+    answers: &mut Answers,
+) -> Result<(), ReplayFault>
+    requires { 1 ≤ length }
+{
+    for batch in steps.chunks(length) {
+        let items = match crew.take(rt, batch, false) {
+            Ok(items) => items,
+            Err(fault) => return Err(fault),
+        };
+        put_batch(batch, items, answers)?;
+    }
+    Ok(())
+}
+
+// The answers to a batch: those of its items, and between them the usual ones.
+fn put_batch(
+    batch: &[Step],
+    items: Vec<Unusual>,
+    answers: &mut Answers,
+) -> Result<(), AllocError> {
+    let mut next = 0;
+    for item in items {
+        let Unusual { at, answer, .. } = item;
+        put_usual(batch, next, at, answers)?;
+        answers.push(answer)?;
+        next = at.saturating_add(1);
+    }
+    put_usual(batch, next, batch.len(), answers)
+}
+
+fn put_usual(
+    batch: &[Step],
+    from: usize,
+    to: usize,
+    answers: &mut Answers,
+) -> Result<(), AllocError> {
+    for at in from..to {
+        if let Some(step) = batch.get(at) {
+            answers.push(usual_answer(step.event))?;
+        }
+    }
+    Ok(())
+}
+
+fn usual_answer(event: Event) -> Result<Reply, Refusal> {
+    match event {
+        Event::Access(..) => Ok(Reply::Quiet),
+        _ => Ok(Reply::Done),
+    }
 }
 
 fn fault_text(fault: ReplayFault) -> &'static str {
