@@ -20,6 +20,11 @@ pub fn is_name(word: &[u8]) -> bool {
     !word.is_empty() && word.len() <= LONGEST && word.iter().all(|&byte| IN_NAMES[byte as usize])
 }
 
+/// Whether suppressions may name a site so: by printable bytes, whichever they are.
+pub fn is_site(word: &[u8]) -> bool {
+    !word.is_empty() && word.len() <= LONGEST && word.iter().all(u8::is_ascii_graphic)
+}
+
 /// The hash of a word of more than 8 bytes.
 #[inline]
 fn hash_of(word: &[u8]) -> u32 {

@@ -1,7 +1,7 @@
 //! Suppressions.
 
 use crate::bytes::{line_feed, number, words_in, words_of};
-use crate::names::is_name;
+use crate::names::is_site;
 use crate::reader::{too_long, Lines, TextFault, LONGEST};
 
 enum Rule {
@@ -52,7 +52,7 @@ impl Rules {
             return Err("extra operand");
         }
         self.rules.push(match operands {
-            [site, _] if needed == 1 => match is_name(site) {
+            [site, _] if needed == 1 => match is_site(site) {
                 true => Rule::Site((site != b"-").then(|| site.to_vec())),
                 false => return Err("bad name"),
             },
