@@ -348,11 +348,7 @@ fn take_batches<R: Threads + Wait + Sync>(
 }
 
 // The answers to a batch: those of its items, and between them the usual ones.
-fn put_batch(
-    batch: &[Step],
-    items: Vec<Unusual>,
-    answers: &mut Answers,
-) -> Result<(), AllocError> {
+fn put_batch(batch: &[Step], items: Vec<Unusual>, answers: &mut Answers) -> Result<(), AllocError> {
     let mut next = 0;
     for item in items {
         let Unusual { at, answer, .. } = item;
