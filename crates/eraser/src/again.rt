@@ -116,7 +116,7 @@ fn places_in<A: Read>(
     found
 }
 
-// The places of what is wanted: of nothing yet but of what the reports' reasons name. Split for the prover.
+// Notes in an empty list what the reports' reasons name, and finds its places. Split for the prover.
 fn places_for<A: Read>(
     alloc: Global,
     again: &mut Device<A>,
