@@ -20,7 +20,7 @@ pub fn is_name(word: &[u8]) -> bool {
     !word.is_empty() && word.len() <= LONGEST && word.iter().all(|&byte| IN_NAMES[byte as usize])
 }
 
-/// Whether suppressions may name a site so: by printable bytes, whichever they are.
+/// Whether the word can be a site of a suppression: 1 to 128 printable bytes.
 pub fn is_site(word: &[u8]) -> bool {
     !word.is_empty() && word.len() <= LONGEST && word.iter().all(u8::is_ascii_graphic)
 }

@@ -15,7 +15,8 @@ pub struct Options {
     pub explain: bool,
     /// In how many shards the words are if there are several workers, from 1 to 64.
     pub shards: u32,
-    /// By how many workers, from 1 to 16: of several, half read the text, and the others answer its steps. One has all words in one shard.
+    /// How many workers there are, from 1 to 16. Of several, half read the text, and the others answer its steps. One worker alone has all
+    /// words in one shard.
     pub workers: u32,
     /// Whether a damaged trace is a fault.
     pub strict: bool,

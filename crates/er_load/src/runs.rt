@@ -125,7 +125,7 @@ fn open_seats(
     }
 }
 
-// Puts a seat for each thread into a list that has none.
+// Opens a seat for each thread, and puts them into an empty list.
 fn fill_seats(
     detector: &Detector<'_>,
     workload: Workload,

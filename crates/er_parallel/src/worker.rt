@@ -4,7 +4,7 @@ ghost use Rattle.er_event.specs.declared.steps.Step.{Step as Steps};
 ghost use Rattle.er_parallel.specs.Crews.{HasFollowed};
 ghost use Rattle.er_parallel.specs.Faults.{AsksForSet};
 ghost use Rattle.er_parallel.specs.Found.{usual};
-ghost use Rattle.er_parallel.specs.Inner.Taking.{AreIdle, HasCome, HasDone, HasTaken, IsIdle, IsOwn};
+ghost use Rattle.er_parallel.specs.Inner.Taking.{AreIdle, HasCome, HasDone, HasTaken, IsBusy, IsIdle, IsOwn};
 ghost use Rattle.er_parallel.specs.Tasks.{IsShare};
 ghost use Rattle.er_parallel.specs.Work.{MayBeFull};
 ghost use Rattle.er_model.specs.Following.{answered, state_after};
@@ -99,8 +99,8 @@ fn answer_all<R: Wait>(
     Ok(())
 }
 
-// The first position from here on, in a batch, of a step that isn't an access of another worker's word, or the end of the batch. It is a loop of its own
-// that passes over what another worker answers, so that its few values stay in registers.
+// The first position from here on, in a batch, of a step that isn't idle, or the end of the batch. It is a loop of its own, so that its few values stay
+// in registers.
 #[inline(always)]
 fn next_busy(steps: &[Step], share: Share, from: usize) -> usize
     requires share { IsShare share }
@@ -108,33 +108,25 @@ fn next_busy(steps: &[Step], share: Share, from: usize) -> usize
     ensures behind { from ≤ result }
     ensures within { result ≤ length steps.now }
     ensures idle { AreIdle share from result steps.now }
+    ensures busy { (step : Steps) → slice_get steps.now result ≡ Some step → IsBusy share step.event }
 {
     for at in from..steps.len() {
-        let Step { event, .. } = steps[at];
-        if !is_idle(share, event) {
+        if !is_idle(share, &steps[at]) {
             return at;
         }
     }
     steps.len()
 }
 
-// Whether the event is an access of another worker's word.
+// Whether the step is an access of another worker's word, which changes nothing of this worker.
 #[inline(always)]
-fn is_idle(share: Share, event: Event) -> bool
+fn is_idle(share: Share, step: &Step) -> bool
     requires { IsShare share }
-    ensures { IsTrue result → IsIdle share event }
+    ensures idle { IsTrue result → IsIdle share step.now.event }
+    ensures busy { IsFalse result → IsBusy share step.now.event }
 {
-    match event {
-        Event::Access(..) => worker_for(share.shards, share.workers, event) != share.worker,
-        Event::Acquire(..)
-        | Event::Release(..)
-        | Event::Reuse(_)
-        | Event::IgnoreOn
-        | Event::IgnoreOff
-        | Event::Show(_)
-        | Event::Level(_)
-        | Event::Sync(_) => false,
-    }
+    let Step { event, .. } = *step;
+    is_access(step) && worker_for(share.shards, share.workers, event) != share.worker
 }
 
 // Takes the next step of a batch, and keeps its answer unless it is another worker's step, or a plain one.
@@ -162,8 +154,8 @@ fn go_on<R: Wait>(
     answer_own(rt, alloc, steps, share, at, step, machine, found)
 }
 
-// Takes the next step of a batch, which is the worker's own, and keeps its answer unless it is a plain one. It is no part of the loop that passes over
-// the steps of the others: so that loop is short, and its values stay in registers.
+// Takes the next step of a batch, which is the worker's own, and keeps its answer unless it is a plain one. It is called, so that the loop over the
+// steps stays short.
 #[inline(never)]
 fn answer_own<R: Wait>(
     rt: &R,

@@ -57,7 +57,8 @@ impl Model for PieceReader {
 }
 
 impl PieceReader {
-    /// A reader in front of a text of at most `limit` bytes, which reads by so many threads, 1 to 16. Names are hashed by these keys.
+    /// A reader in front of a text of at most `limit` bytes, which reads by so many threads, 1 to 16. One thread reads line by line, and makes no
+    /// pieces. Names are hashed by these keys.
     pub fn new(
         alloc: Global,
         limit: u64,

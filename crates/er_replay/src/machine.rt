@@ -123,7 +123,7 @@ impl<'t> Machine<'t> {
 
     /// Takes what a step makes of its thread's holdings, and leaves every word as it is: for a step whose word another machine keeps. A
     /// step that the definitions refuse changes nothing. The only error is that there is no memory, which changes nothing either.
-    // A worker calls it at each access of the other workers, where it does nothing: a call would be most of its cost.
+    // A worker of a parallel replay takes each access of the others by it, where it does nothing.
     #[inline(always)]
     pub fn pass(&mut self, step: Step) -> Result<(), AllocError>
         ensures holdings { OnOk result ((t : ℕ) → holding self.new t ≡ after_step (holding self.old t) t step) }

@@ -45,7 +45,7 @@ pub fn summarise(
     }
 }
 
-// Adds the steps that were answered to a report of none, with the locks of no thread.
+// Adds the steps that were answered to a report that has none yet. Before the first step no thread holds a lock.
 fn add_steps(
     alloc: Global,
     trace: &Trace,

@@ -45,7 +45,7 @@ pub struct Replay<'a> {
     pub progress: bool,
     /// In how many shards the words are, from 1 to 64.
     pub shards: u32,
-    /// By how many workers the trace is replayed, from 1 to 16.
+    /// How many workers replay the trace, from 1 to 16.
     pub workers: u32,
     /// How many bytes the trace may have, and the suppressions, at most 2^62.
     pub byte_limit: u64,

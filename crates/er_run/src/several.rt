@@ -58,20 +58,16 @@ struct Shared<'t, 'r> {
     inspector: Option<Inspector>,
 }
 
-// Of so many workers, how many read lines.
-fn readers_of(workers: u32) -> u32
+// Of so many workers, how many read lines and how many answer steps: half of them each, and an odd one answers. One worker alone would do both.
+fn halves_of(workers: u32) -> (u32, u32)
     requires { (1 ≤ workers) × (workers ≤ 16) }
-    ensures { (1 ≤ result) × (result ≤ 16) }
+    ensures all { 2 ≤ workers → result.0 + result.1 ≡ workers }
+    ensures half { (result.0 ≤ result.1) × (result.1 ≤ result.0 + 1) }
+    ensures some { 1 ≤ result.0 }
+    ensures few { result.1 ≤ 16 }
 {
-    if workers == 1 { 1 } else { workers / 2 }
-}
-
-// Of so many workers, how many answer steps.
-fn crew_of(workers: u32) -> u32
-    requires { (1 ≤ workers) × (workers ≤ 16) }
-    ensures { (1 ≤ result) × (result ≤ 16) }
-{
-    workers.div_ceil(2)
+    let readers = (workers / 2).max(1);
+    (readers, workers.div_ceil(2))
 }
 
 // The workers answer the steps while the next batch is read.
@@ -139,12 +135,8 @@ impl<'t, 'r> Shared<'t, 'r> {
         ensures failed { FailsBy (has_failed reader.new) false result }
         ensures taken { taken_of reader.new ≤ taken_of reader.old + options.now.byte_limit + bytes_past_limit }
     {
-        let mut lines = PieceReader::new(
-            alloc,
-            options.byte_limit,
-            options.keys,
-            readers_of(options.workers),
-        )?;
+        let (readers, answering) = halves_of(options.workers);
+        let mut lines = PieceReader::new(alloc, options.byte_limit, options.keys, readers)?;
         let builder = match ReportBuilder::explaining_keyed(
             alloc,
             suppressions,
@@ -163,7 +155,7 @@ impl<'t, 'r> Shared<'t, 'r> {
             max_sets: options.max_sets,
             keys: options.keys,
         };
-        match Crew::new(rt, alloc, table, config, crew_of(options.workers)) {
+        match Crew::new(rt, alloc, table, config, answering) {
             Ok(crew) => Ok(Shared {
                 alloc,
                 lines,

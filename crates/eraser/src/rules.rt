@@ -45,7 +45,7 @@ where
     }
 }
 
-// Reads the rules of these files in the place of the rules that there are.
+// Reads the rules of these files, in their order, into a list that has none.
 fn read_all<R>(
     rt: &R,
     paths: &[&str],
@@ -69,7 +69,7 @@ where
     Ok(())
 }
 
-// The rules of the first file come in the place of what there is, and those of the others behind it.
+// The rules of the first file become the list, and those of each other file come behind them.
 fn put_rules(rules: &mut Suppressions, found: Suppressions, is_first: bool) -> Result<(), Fault> {
     if is_first {
         drop(mem::replace(rules, found));

@@ -239,7 +239,7 @@ fn lines_between(
     }
 }
 
-// Keeps the lines from the first to the last one, each cut to its first bytes, and says on which line the text ends, or that behind the last.
+// Keeps the lines from `first` to `last`, each cut to its first bytes. Returns on which line the text ends, or the line behind `last` if it goes on.
 fn keep_lines(kept: &mut Vec<u8>, text: &[u8], first: u64, last: u64) -> Result<u64, AllocError> {
     let mut line: u64 = 1;
     let mut column: usize = 0;

@@ -298,7 +298,7 @@ where
     }
 }
 
-// Replays the lines before a fault of the text that was kept, if there was memory for it.
+// Replays the lines before a fault from the text that was kept. Without memory to keep it, a fault of the text becomes a want of memory.
 fn replay_kept_before<R, O, V>(
     rt: &R,
     replay: &Replay<'_>,

@@ -23,7 +23,11 @@ IsOwn share event = worker_for share.shards share.workers event ≡ share.worker
 abbrev pub IsIdle : Share → Event → Type 0
 IsIdle share event = IsTrue (is_access event) × (IsOwn share event → ⊥)
 
--- so are the batch's steps from one position up to another
+-- it is anything else, so the worker has to look at it
+abbrev pub IsBusy : Share → Event → Type 0
+IsBusy share event = IsIdle share event → ⊥
+
+-- the batch's steps from one position up to another are accesses that other workers answer
 abbrev pub AreIdle : Share → ℕ → ℕ → List Step → Type 0
 AreIdle share from to batch = (k : ℕ) (step : Step) → from ≤ k → k < to → slice_get batch k ≡ Some step → IsIdle share step.event
 
