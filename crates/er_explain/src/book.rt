@@ -13,6 +13,7 @@ use er_event::{Event, Kind, LockId, Lockset, Step, ThreadId, Word};
 use er_held::ThreadLocks;
 use std::alloc::{AllocError, Global};
 use std::marker::Model;
+use std::mem;
 
 /// A counted access, as a book names it.
 #[derive(Clone, Copy)]
@@ -162,6 +163,15 @@ impl<A: Copy> Joint<A> {
         &self.parts.pairs
     }
 
+    // Something of what it says, to have it at hand.
+    #[inline(always)]
+    fn bits(&self) -> u32 {
+        match self.parts.write {
+            Some(_) => 1,
+            None => 0,
+        }
+    }
+
     // A later access.
     fn go_on(&mut self, locks: &ThreadLocks, at: A, thread: ThreadId, kind: Kind)
         ensures { self.new ≡ gone_on self.old at kind (locks_for (held_by locks.now thread) kind) }
@@ -216,6 +226,30 @@ fn pair_after<A: Copy>(
     Pair { lock, at: Some(at) }
 }
 
+// A second thread has joined by an access, under the locks that its thread holds.
+fn join_under<A: Copy>(
+    alloc: Global,
+    spare: &mut Vec<Joint<Access<A>>>,
+    locks: &ThreadLocks,
+    first: Access<A>,
+    join: Access<A>,
+) -> Result<Joint<Access<A>>, AllocError>
+    ensures { IfOk result (λ joint. joint ≡ begun first join join.kind (locks_for (held_by locks.now join.thread) join.kind)) }
+{
+    let cover = locks.cover_of(alloc, join.thread, join.kind)?;
+    let joint = Joint::begin(alloc, spare, first, join, join.kind, &cover);
+    drop(cover);
+    joint
+}
+
+// Puts something else in place of what is kept of a word.
+#[inline(always)]
+fn put<A: Copy>(packed: &mut Packed<A>, new: Packed<A>)
+    ensures { packed.new ≡ new }
+{
+    drop(mem::replace(packed, new));
+}
+
 impl<A: Copy> Book<A> {
     /// No access counts yet.
     pub(crate) fn new() -> Book<A>
@@ -248,7 +282,7 @@ impl<A: Copy> Book<A> {
         ensures { OnOk result (self.new ≡ book_accessed self.old (access_named at thread kind) thread kind (locks_for (held_by locks.now thread) kind)) }
     {
         match &mut self.packed {
-            Packed::Empty => self.packed = Packed::Alone(kind, thread, at),
+            Packed::Empty => put(&mut self.packed, Packed::Alone(kind, thread, at)),
             Packed::Alone(first_kind, owner, first) => {
                 if *owner != thread {
                     let first = Access {
@@ -257,10 +291,8 @@ impl<A: Copy> Book<A> {
                         kind: *first_kind,
                     };
                     let join = Access { at, thread, kind };
-                    let cover = locks.cover_of(alloc, thread, kind)?;
-                    self.packed = Packed::Together(Joint::begin(
-                        alloc, spare, first, join, kind, &cover,
-                    )?);
+                    let joint = join_under(alloc, spare, locks, first, join)?;
+                    put(&mut self.packed, Packed::Together(joint));
                 }
             }
             Packed::Together(joint) => joint.go_on(
@@ -293,12 +325,22 @@ impl<A: Copy> Book<A> {
             }
             Event::Reuse(range) => {
                 if range.contains(word) {
-                    self.packed = Packed::Empty;
+                    put(&mut self.packed, Packed::Empty);
                 }
             }
             _ => {}
         }
         Ok(())
+    }
+
+    /// Something of what the book says, to have it at hand.
+    #[inline(always)]
+    pub(crate) fn bits(&self) -> u32 {
+        match &self.packed {
+            Packed::Empty => 0,
+            Packed::Alone(_, owner, _) => owner.number(),
+            Packed::Together(joint) => joint.bits(),
+        }
     }
 
     /// The joining of a book that nobody needs, if it has one.
