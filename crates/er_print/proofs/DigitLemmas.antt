@@ -1,5 +1,5 @@
 -- The digits of a number, of which the code puts the last one last.
-use Rattle.std.proofs.Common.{◌≡◌, ◌≢◌, ℕ, zero, suc, ◌+◌, ◌-◌, ◌/◌, ◌%◌, ◌^◌, ◌<◌, ◌≤◌, List, ◌∷◌, [], ◌++◌, decimal, refl, sym, ap, ◌∙◌, append_assoc, arith}
+use Rattle.std.proofs.Common.{◌≡◌, ◌≢◌, ℕ, zero, suc, ◌-◌, ◌/◌, ◌%◌, List, ◌∷◌, [], ◌++◌, refl, ap, ◌∙◌, append_assoc, arith}
 use Rattle.std.specs.Char.{digit_char}
 use Rattle.er_print.specs.Printed.{hex_digits}
 
@@ -17,7 +17,5 @@ hex_more (suc k) n some = let e : suc k - 1 ≡ k = omega arith in rw e refl
 pub put_two : (old front new first second : List ℕ) → front ≡ old ++ first → new ≡ front ++ second → new ≡ old ++ (first ++ second)
 put_two old front new first second one two = two ∙ ap (λ (text : List ℕ). text ++ second) one ∙ append_assoc old first second
 
-pub put_five : (old a b c d e r s t u v : List ℕ) → a ≡ old ++ r → b ≡ a ++ s → c ≡ b ++ t → d ≡ c ++ u → e ≡ d ++ v
-    → e ≡ old ++ (r ++ s ++ t ++ u ++ v)
-put_five old a b c d e r s t u v first second third fourth fifth =
-    rw (fifth, fourth, third, second, first) (simp append_assoc)
+pub put_three : (old a b c r s t : List ℕ) → a ≡ old ++ r → b ≡ a ++ s → c ≡ b ++ t → c ≡ old ++ (r ++ s ++ t)
+put_three old a b c r s t first second third = rw (third, second, first) (simp append_assoc)

@@ -1,13 +1,14 @@
 //! The lines of a report.
-ghost use Rattle.std.specs.Prelude.{◌≡◌, [], ◌∷◌, ◌++◌, All, codes, flat_map, OnOk};
+ghost use Rattle.std.specs.Prelude.{◌≡◌, ◌<◌, ◌≤◌, [], ◌∷◌, ◌++◌, length, All, codes, decimal, flat_map, OnOk};
+ghost use Rattle.er_event.specs.Refusal.{text_of};
 ghost use Rattle.er_report.specs.Lines.{line_view};
-ghost use Rattle.er_report.specs.Names.{HasLabelName, HasNames, HasReasonNames};
+ghost use Rattle.er_report.specs.Names.{HasLabelName, HasLockNames, HasEventNames, HasNames, HasReasonNames, HasStateNames};
 ghost use Rattle.er_report.specs.Report.{told};
-ghost use Rattle.er_print.specs.Printed.{kind_text, label_text, place_text, reason_text, own_text, line_text, stop_text, count_text, counts_text, totals_text};
+ghost use Rattle.er_print.specs.Printed.{name_at, site_text, locks_text, kind_text, address_text, event_text, state_text, label_text, place_text, reason_text, own_text, line_text, stop_text, count_text, counts_text, totals_text};
 
-use crate::naming::{put_event, put_kind, put_lock, put_locks, put_site, put_state, put_thread};
+use crate::naming::{put_event, put_lock, put_locks, put_site, put_state, put_thread};
 use crate::numbers::{put_address, put_number};
-use er_event::{Kind, NoRoom};
+use er_event::{Kind, Lockset, NoRoom, Refusal, Site, Step, ThreadId, Word, WordState};
 use er_report::{Because, Label, Line, Report};
 use er_trace::Names;
 use std::alloc::AllocError;
@@ -55,17 +56,8 @@ fn put_own_line(out: &mut Vec<u8>, names: &Names, line: &Line) -> Result<(), All
             explained: _,
         } => {
             put_place(out, *line)?;
-            out.extend_from_slice(b"race: ")?;
-            put_thread(out, names, *thread)?;
-            out.extend_from_slice(b" ")?;
-            put_kind(out, *kind)?;
-            out.extend_from_slice(b" ")?;
-            put_address(out, *word)?;
-            out.extend_from_slice(b" at ")?;
-            put_site(out, names, *site)?;
-            out.extend_from_slice(b", holds ")?;
-            put_locks(out, names, held)?;
-            out.extend_from_slice(b"\n")
+            put_race(out, names, *thread, *kind, *word)?;
+            put_where(out, names, *site, held)
         }
         Line::Refused {
             line,
@@ -73,23 +65,94 @@ fn put_own_line(out: &mut Vec<u8>, names: &Names, line: &Line) -> Result<(), All
             refusal,
         } => {
             put_place(out, *line)?;
-            out.extend_from_slice(b"refused: ")?;
-            put_thread(out, names, step.thread)?;
-            out.extend_from_slice(b" ")?;
-            put_event(out, names, step.event)?;
-            out.extend_from_slice(b": ")?;
-            out.extend_from_slice(refusal.text().as_bytes())?;
-            out.extend_from_slice(b"\n")
+            put_refused(out, names, step, *refusal)
         }
         Line::Shown { line, word, state } => {
             put_place(out, *line)?;
-            out.extend_from_slice(b"state ")?;
-            put_address(out, *word)?;
-            out.extend_from_slice(b": ")?;
-            put_state(out, names, state)?;
-            out.extend_from_slice(b"\n")
+            put_shown(out, names, *word, state)
         }
     }
+}
+
+// Puts the access of a race.
+#[inline]
+fn put_race(
+    out: &mut Vec<u8>,
+    names: &Names,
+    thread: ThreadId,
+    kind: Kind,
+    word: Word,
+) -> Result<(), AllocError>
+    requires { thread < length names.now.threads }
+    ensures { OnOk result (out.new.items ≡ out.old.items ++ (codes "race: " ++ name_at names.now.threads thread ++ codes " " ++ kind_text kind ++ codes " " ++ address_text word)) }
+{
+    out.extend_from_slice(b"race: ")?;
+    put_thread(out, names, thread)?;
+    out.extend_from_slice(spaced_verb(kind))?;
+    put_address(out, word)
+}
+
+// The verb of an access, between spaces.
+fn spaced_verb(kind: Kind) -> &'static [u8]
+    ensures { result.now ≡ codes " " ++ kind_text kind ++ codes " " }
+{
+    match kind {
+        Kind::Read => b" read ".as_slice(),
+        Kind::Write => b" write ".as_slice(),
+    }
+}
+
+// Puts the site of a race and the locks that its thread held there, and ends the line.
+#[inline]
+fn put_where(out: &mut Vec<u8>, names: &Names, site: Site, held: &Lockset) -> Result<(), AllocError>
+    requires site { site ≤ length names.now.sites }
+    requires locks { HasLockNames names.now held.now }
+    ensures { OnOk result (out.new.items ≡ out.old.items ++ (codes " at " ++ site_text names.now site ++ codes ", holds " ++ locks_text names.now held.now ++ 10 ∷ [])) }
+{
+    out.extend_from_slice(b" at ")?;
+    put_site(out, names, site)?;
+    out.extend_from_slice(b", holds ")?;
+    put_locks(out, names, held)?;
+    out.extend_from_slice(b"\n")
+}
+
+// Puts a step that was refused and why, and ends the line.
+#[inline]
+fn put_refused(
+    out: &mut Vec<u8>,
+    names: &Names,
+    step: &Step,
+    refusal: Refusal,
+) -> Result<(), AllocError>
+    requires thread { step.now.thread < length names.now.threads }
+    requires event { HasEventNames names.now step.now.event }
+    ensures { OnOk result (out.new.items ≡ out.old.items ++ (codes "refused: " ++ name_at names.now.threads step.now.thread ++ codes " " ++ event_text names.now step.now.event ++ codes ": " ++ text_of refusal ++ 10 ∷ [])) }
+{
+    out.extend_from_slice(b"refused: ")?;
+    put_thread(out, names, step.thread)?;
+    out.extend_from_slice(b" ")?;
+    put_event(out, names, step.event)?;
+    out.extend_from_slice(b": ")?;
+    out.extend_from_slice(refusal.text().as_bytes())?;
+    out.extend_from_slice(b"\n")
+}
+
+// Puts a word's state, and ends the line.
+#[inline]
+fn put_shown(
+    out: &mut Vec<u8>,
+    names: &Names,
+    word: Word,
+    state: &WordState,
+) -> Result<(), AllocError>
+    requires { HasStateNames names.now state.now }
+    ensures { OnOk result (out.new.items ≡ out.old.items ++ (codes "state " ++ address_text word ++ codes ": " ++ state_text names.now state.now ++ 10 ∷ [])) }
+{
+    out.extend_from_slice(b"state ")?;
+    put_address(out, word)?;
+    out.extend_from_slice(b": ")?;
+    put_state(out, names, state)?;
+    out.extend_from_slice(b"\n")
 }
 
 // Puts the line of one access that makes a race.
@@ -158,10 +221,8 @@ pub fn put_rule_counts(out: &mut Vec<u8>, rule_counts: &[u64]) -> Result<(), All
 fn put_rule_count(out: &mut Vec<u8>, number: u64, count: u64) -> Result<(), AllocError>
     ensures { OnOk result (out.new.items ≡ out.old.items ++ count_text number count) }
 {
-    out.extend_from_slice(b"suppression ")?;
-    put_number(out, number)?;
-    out.extend_from_slice(b": ")?;
-    put_number(out, count)?;
+    put_labelled(out, b"suppression ", number)?;
+    put_labelled(out, b": ", count)?;
     out.extend_from_slice(b"\n")?;
     Ok(())
 }
@@ -170,22 +231,26 @@ fn put_rule_count(out: &mut Vec<u8>, number: u64, count: u64) -> Result<(), Allo
 pub fn put_totals(out: &mut Vec<u8>, report: &Report) -> Result<(), AllocError>
     ensures { OnOk result (out.new.items ≡ out.old.items ++ totals_text (told report.now)) }
 {
-    out.extend_from_slice(b"steps ")?;
-    put_number(out, report.steps)?;
-    out.extend_from_slice(b", races ")?;
-    put_number(out, report.races)?;
-    out.extend_from_slice(b", suppressed ")?;
-    put_number(out, report.suppressed)?;
-    out.extend_from_slice(b", refused ")?;
-    put_number(out, report.refused)?;
+    put_labelled(out, b"steps ", report.steps)?;
+    put_labelled(out, b", races ", report.races)?;
+    put_labelled(out, b", suppressed ", report.suppressed)?;
+    put_labelled(out, b", refused ", report.refused)?;
     out.extend_from_slice(b"\n")
+}
+
+// Puts a number behind a label.
+#[inline]
+fn put_labelled(out: &mut Vec<u8>, label: &[u8], n: u64) -> Result<(), AllocError>
+    ensures { OnOk result (out.new.items ≡ out.old.items ++ (label.now ++ decimal n)) }
+{
+    out.extend_from_slice(label)?;
+    put_number(out, n)
 }
 
 /// Puts what a line that tells of a line of the trace begins with.
 pub fn put_place(out: &mut Vec<u8>, line: u64) -> Result<(), AllocError>
     ensures { OnOk result (out.new.items ≡ out.old.items ++ place_text line) }
 {
-    out.extend_from_slice(b"line ")?;
-    put_number(out, line)?;
+    put_labelled(out, b"line ", line)?;
     out.extend_from_slice(b": ")
 }

@@ -1,5 +1,5 @@
 -- What is in a list of sets, and what it is with one more.
-use Rattle.std.proofs.Common.{◌≡◌, ◌≢◌, ◌∙◌, ℕ, zero, suc, ◌<◌, Bool, true, false, true≢false, List, [], ◌∷◌, ◌++◌, length, Option, Some, None, is_some, Contains, if◌then◌else◌, refl, sym, ap, subst, arith}
+use Rattle.std.proofs.Common.{◌≡◌, ◌≢◌, ◌∙◌, ℕ, zero, suc, ◌+◌, ◌<◌, ◌≤◌, Bool, true, false, true≢false, List, [], ◌∷◌, ◌++◌, length, Option, Some, None, is_some, Result, Ok, Err, OnOk, OnErr, Contains, if◌then◌else◌, refl, sym, ap, subst, arith, length-append}
 use Rattle.std.specs.Bool.{Decides}
 use Rattle.std.specs.Cmp.Lexicographic.{bytes_decides}
 use Rattle.std.specs.List.{list_any, IsDistinct}
@@ -78,3 +78,14 @@ AreDistinct-push sets set distinct absent =
 pub zero_from_empty : (sets : List (List ℕ)) (n : ℕ) → AreDistinct sets → set_at sets 0 ≡ [] → n < length sets → set_at sets n ≡ [] → n ≡ 0
 zero_from_empty sets zero distinct first within none = refl
 zero_from_empty sets (suc n) distinct first within none = absurd (distinct 0 (suc n) [] (omega arith) within (first ∙ sym none))
+
+-- a list of distinct sets within a limit stays one whether a new set is appended or refused
+pub appended-distinct : {T E : Type 0} (r : Result T E) (old new : List (List ℕ)) (set : List ℕ) → AreDistinct old → ¬ Contains old set
+    → OnOk r (new ≡ old ++ set ∷ []) → OnErr r (new ≡ old) → AreDistinct new
+appended-distinct (Ok x) old new set distinct absent ok err = subst AreDistinct (sym ok) (AreDistinct-push old set distinct absent)
+appended-distinct (Err e) old new set distinct absent ok err = subst AreDistinct (sym err) distinct
+
+pub appended-length : {T E : Type 0} (r : Result T E) (old new : List (List ℕ)) (set : List ℕ) → OnOk r (new ≡ old ++ set ∷ []) → OnErr r (new ≡ old)
+    → length new ≤ length old + 1
+appended-length (Ok x) old new set ok err = rw ok (omega (arith, length-append old (set ∷ [])))
+appended-length (Err e) old new set ok err = rw err (omega arith)

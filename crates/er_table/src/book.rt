@@ -1,5 +1,6 @@
 //! Where each set of a table stands.
 ghost use Rattle.std.specs.Prelude.{◌≡◌, ◌<◌, ◌≤◌, ◌↔◌, [], ◌∷◌, ◌++◌, length, IfOk, IsOkUnless, OnOk, OnErr, IsErrOf, Contains};
+ghost use Rattle.indexmap.specs.IndexMap.{keys};
 ghost use Rattle.er_table.specs.SetRef.{IsOf, set_of};
 ghost use Rattle.er_table.specs.Sets.{with_set, IsNoted};
 
@@ -71,7 +72,9 @@ impl Book {
         if let Some(found) = SetRef::at(sets, self.places[index], set) {
             return Ok(found);
         }
-        let pushed = SetRef::push(rt, sets, set)?;
+        let Ok(pushed) = SetRef::push(rt, sets, set) else {
+            return Err(NoRoom::OutOfMemory);
+        };
         self.places[index] = pushed.place();
         Ok(pushed)
     }
@@ -88,10 +91,34 @@ impl Book {
         if self.places.len() >= self.max_sets {
             return Err(NoRoom::TableFull);
         }
-        self.places.reserve(1)?;
-        let copy = set.copy()?;
-        let pushed = SetRef::push(rt, sets, set)?;
-        self.places.insert(copy, pushed.place()).unwrap();
-        Ok(pushed)
+        append(&mut self.places, rt, sets, set)
     }
+}
+
+// Pushes a set that isn't here yet, and notes where it stands.
+#[inline]
+fn append<R: Wait>(
+    places: &mut IndexMap<Lockset, usize>,
+    rt: &R,
+    sets: &Sets,
+    set: &Lockset,
+) -> Result<SetRef, NoRoom>
+    requires { ¬ Contains (keys places.old) set.now }
+    ensures named { IfOk result (λ r. IsOf sets.now r × (set_of r ≡ set.now)) }
+    ensures ok { OnOk result (keys places.new ≡ keys places.old ++ set.now ∷ []) }
+    ensures err { OnErr result (keys places.new ≡ keys places.old) }
+    ensures memory { IsOkUnless result NoRoom.OutOfMemory }
+{
+    let Ok(()) = places.reserve(1) else {
+        return Err(NoRoom::OutOfMemory);
+    };
+    let Ok(copy) = set.copy() else {
+        return Err(NoRoom::OutOfMemory);
+    };
+    let Ok(pushed) = SetRef::push(rt, sets, set) else {
+        drop(copy);
+        return Err(NoRoom::OutOfMemory);
+    };
+    places.insert(copy, pushed.place()).unwrap();
+    Ok(pushed)
 }

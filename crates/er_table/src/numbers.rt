@@ -1,6 +1,7 @@
 //! Numbers for the sets of a table, as one owner gives them.
 ghost use Rattle.std.specs.Prelude.{◌≡◌, ◌≢◌, ◌+◌, ◌<◌, ◌≤◌, [], ◌∷◌, ◌++◌, length, IsTrue, IsFalse, IsOk, IfOk, IfSome, OnOk, OnErr, IsErrOf, Contains};
 ghost use Rattle.er_event.specs.Lockset.{meet};
+ghost use Rattle.er_table.specs.Numbers.{numbered};
 ghost use Rattle.er_table.specs.Sets.{with_set, set_at, AreDistinct, most_sets};
 
 use crate::LocksetTable;
@@ -138,7 +139,9 @@ impl<'t> Numbers<'t> {
         ensures full_only_if_some { IsErrOf result NoRoom.TableFull → meet (set_at self.old first) (set_at self.old second) ≢ [] }
         ensures refusals { ¬ IsErrOf result NoRoom.JournalFull }
     {
-        let meet = self.meet(first, second)?;
+        let Ok(meet) = self.meet(first, second) else {
+            return Err(NoRoom::OutOfMemory);
+        };
         self.number_of(rt, &meet)
     }
 
@@ -152,12 +155,9 @@ impl<'t> Numbers<'t> {
         if self.has_all(self.limit) {
             return Err(NoRoom::TableFull);
         }
-        self.others.reserve(1)?;
-        let set_ref = self.table.intern(rt, set)?;
-        let number = self.others.len() as u32 + 1;
-        self.others.insert(self.table.get(&set_ref)).unwrap();
-        Ok(number)
+        append(&mut self.others, self.table, rt, set)
     }
+
     // Whether it has numbered so many sets, beside the empty one.
     fn has_all(&self, max_sets: u32) -> bool
         ensures all { IsTrue result → max_sets < length self.now }
@@ -165,4 +165,31 @@ impl<'t> Numbers<'t> {
     {
         self.others.len() >= max_sets as usize
     }
+}
+
+// Gives a set that has no number the next one.
+#[inline]
+fn append<'t, R: Wait>(
+    others: &mut IndexSet<&'t Lockset>,
+    table: &'t LocksetTable,
+    rt: &R,
+    set: &Lockset,
+) -> Result<u32, NoRoom>
+    requires new { ¬ Contains (numbered others.old.keys) set.now }
+    requires few { length others.old.keys < most_sets }
+    ensures ok { OnOk result (numbered others.new.keys ≡ numbered others.old.keys ++ set.now ∷ []) }
+    ensures number { IfOk result (λ n. n ≡ length (numbered others.old.keys)) }
+    ensures err { OnErr result (numbered others.new.keys ≡ numbered others.old.keys) }
+    ensures refusals { ¬ IsErrOf result NoRoom.JournalFull }
+{
+    let Ok(()) = others.reserve(1) else {
+        return Err(NoRoom::OutOfMemory);
+    };
+    let set_ref = match table.intern(rt, set) {
+        Ok(set_ref) => set_ref,
+        Err(refused) => return Err(refused),
+    };
+    let number = others.len() as u32 + 1;
+    others.insert(table.get(&set_ref)).unwrap();
+    Ok(number)
 }

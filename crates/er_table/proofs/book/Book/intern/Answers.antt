@@ -22,8 +22,8 @@ returns-in-Some-at-clause-ok g c = sym (with_set-present _ _ (present_from_look_
 pub returns-in-Some-at-clause-full : goal.returns-in-Some-at-clause-full
 returns-in-Some-at-clause-full g c = λ at_limit absent. absurd (absent (present_from_look_up c.self.inside.places _ _ (ap (λ (b : Noted). b.sets) c.self.view_is) (sym c.in-Some.ensures.found)))
 
-pub returns-in_err-pushed-clause-full : goal.returns-in_err-pushed-clause-full
-returns-in_err-pushed-clause-full g c = λ at_limit absent. absurd (absent (present_from_look_up c.self.inside.places _ _ (ap (λ (b : Noted). b.sets) c.self.view_is) (sym c.in-Some.ensures.found)))
+pub returns-in_default-push-clause-full : goal.returns-in_default-push-clause-full
+returns-in_default-push-clause-full g c = λ at_limit absent. absurd (absent (present_from_look_up c.self.inside.places _ _ (ap (λ (b : Noted). b.sets) c.self.view_is) (sym c.in-Some.ensures.found)))
 
 pub invariant_of-self : goal.invariant_of-self
 invariant_of-self g c =

@@ -1,27 +1,19 @@
-use Rattle.std.proofs.Common.{◌≡◌, ◌∙◌, [], ◌∷◌, ◌++◌, length, Contains, ap, sym, subst, arith, length-append}
-use Rattle.std.proofs.lemmas.Result.{IfOk-at_ok}
-use Rattle.er_table.specs.Sets.{AreDistinct}
+-- The sets with numbers are the empty one and the others.
+use Rattle.std.proofs.Common.{Contains, length, ap, subst, arith}
 use Rattle.er_table.specs.Numbers.{numbered}
-use Rattle.er_table.proofs.SetsLemmas.{AreDistinct-push}
-use Rattle.er_table.proofs.NumbersLemmas.{numbered-added}
+use Rattle.er_table.proofs.SetsLemmas.{appended-distinct, appended-length}
 use Rattle.er_table.proofs.numbers.Numbers.add.Goals as goal
 
-pub returns-clause-ok : goal.returns-clause-ok
-returns-clause-ok g c =
-    let is : c.get.result.now ≡ c.args.set.now = c.get.ensures ∙ c.in_ok-set_ref.ensures.named.1 in
-    numbered-added c.get.result c.reserve.new.self.keys c.args.self.now (ap numbered c.reserve.ensures.keys ∙ c.self.view_is) c.insert.new.self.keys
-    (subst (λ s. ¬ Contains c.args.self.now s) (sym is) c.requires) (IfOk-at_ok _ c.unwrap.ensures c.insert.ensures.keys)
-    ∙ ap (λ s. c.args.self.now ++ s ∷ []) is
-
-pub invariant_of-self-2 : goal.invariant_of-self-2
-invariant_of-self-2 g c =
-    let longer : numbered c.insert.new.self.keys ≡ c.args.self.now ++ c.args.set.now ∷ [] = returns-clause-ok g c in
-    let old : AreDistinct c.args.self.now = subst AreDistinct c.self.view_is c.self.invariant.1.distinct in
-    let count = ap length longer ∙ length-append c.args.self.now (c.args.set.now ∷ []) in (
+pub invariant_of-self : goal.invariant_of-self
+invariant_of-self g c =
+    let old = numbered c.self.inside.others.keys in
+    let absent : ¬ Contains old c.args.set.now = λ there. c.requires (subst (λ sets. Contains sets c.args.set.now) c.self.view_is there) in
+    let longer = appended-length c.append.result old (numbered c.append.new.others.keys) c.args.set.now c.append.ensures.ok c.append.ensures.err in
+    let same = ap length c.self.view_is in (
       c.self.invariant.0,
       record {
-        distinct = subst AreDistinct (sym longer) (AreDistinct-push _ _ old c.requires);
-        within = omega (arith, count, c.has_all.ensures.not_all c.if-has_all.false);
+        distinct = appended-distinct c.append.result old _ c.args.set.now c.self.invariant.1.distinct absent c.append.ensures.ok c.append.ensures.err;
+        within = omega (arith, longer, same, c.has_all.ensures.not_all c.if-has_all.false);
         small = c.self.invariant.1.small;
       },
       c.self.invariant.2,
