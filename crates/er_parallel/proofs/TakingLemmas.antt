@@ -1,5 +1,5 @@
 -- A worker that has gone one step further in a batch.
-use Rattle.std.proofs.Common.{IsTrue, ◌≡◌, ℕ, zero, suc, ◌+◌, ◌-◌, ◌%◌, ◌<◌, ◌≤◌, ◌==◌, Bool, true, false, cond, List, [], ◌∷◌, ◌++◌, length, slice_get, Option, Some, None, Result, Ok, Err, refl, ap, sym, subst, ◌∙◌, arith, ⊎_elim, ◌⊎◌, inl, inr}
+use Rattle.std.proofs.Common.{IsTrue, IsFalse, OnOk, ◌≡◌, ℕ, zero, suc, ◌+◌, ◌-◌, ◌%◌, ◌<◌, ◌≤◌, ◌==◌, Bool, true, false, cond, List, [], ◌∷◌, ◌++◌, length, slice_get, Option, Some, None, Result, Ok, Err, refl, ap, sym, subst, ◌∙◌, arith, ⊎_elim, ◌⊎◌, inl, inr}
 use Rattle.std.proofs.lemmas.List.{length-append}
 use Rattle.std.proofs.lemmas.Option.{same_Some}
 use Rattle.er_event.specs.Refusal.{refusal_of}
@@ -28,12 +28,12 @@ use Rattle.er_model.proofs.Threads.{holdings-step}
 use Rattle.er_parallel.specs.Crews.{IsAmong, IsAnswered, HasFollowed, LeavesWord}
 use Rattle.er_parallel.specs.Faults.{AsksForSet}
 use Rattle.er_parallel.specs.Found.{usual}
-use Rattle.er_parallel.specs.Inner.Taking.{AreIdle, HasCome, HasDone, IsFoundSoFar, IsIdle, IsOwn}
+use Rattle.er_parallel.specs.Inner.Taking.{AreIdle, HasCome, HasDone, IsFoundSoFar, IsIdle, IsKept, IsOwn}
 use Rattle.er_parallel.specs.Tasks.{worker_for}
 use Rattle.er_parallel.specs.declared.task.Share.{Share}
 use Rattle.er_parallel.specs.declared.unusual.Unusual.{Unusual}
 use Rattle.er_parallel.proofs.FollowingLemmas.{apart, replied-same, asks-same}
-use Rattle.er_replay.specs.Standing.{Replayed, holding, states}
+use Rattle.er_replay.specs.Standing.{Replayed, found_no_room, holding, states}
 use Rattle.er_replay.specs.Wants.{asks_by, is_access}
 
 -- only an access is a race, so that its thread's holdings stay
@@ -288,6 +288,16 @@ module _ (past : List Step) (batch : List Step) (share : Share) (n : ℕ) (step 
                   ∙ held_at_race (past ++ batch) share.shards share.worker share.workers (length past + n) step placed before after come.held come.words follows a given race;
             }) mine);
       }
+
+  -- the same where the answer may not be kept
+  pub come-kept : {A : Type 0} → IsOwn share step.event → (a : Result Reply Refusal) (kept : Result A NoRoom) (kept_items : List Unusual) → OnOk kept (IsFalse (found_no_room a))
+      → OnOk kept (IsKept n a (holding after step.thread).held items kept_items)
+      → (IsFalse (found_no_room a) → (t : ℕ) → holding after t ≡ after_step (holding before t) t step)
+      → (IsFalse (found_no_room a) → a ≡ answered (holding before step.thread) (states before) step)
+      → (IsFalse (found_no_room a) → (w : ℕ) → states after w ≡ state_after (holding before step.thread) (states before w) w step)
+      → OnOk kept (HasCome (n + 1) past batch share kept_items after)
+  come-kept mine a (Ok done) kept_items room is follows given moves = come-found (follows room) mine a (given room) (moves room) is.locks kept_items is.locked is.items
+  come-kept mine a (Err why) kept_items room is follows given moves = tt
 
 -- an access leaves its thread's holdings as they are
 access_keeps : (h : Holdings) (e : Event) → is_access e ≡ true → changed_unless (refused_by h e) h e ≡ h

@@ -1,5 +1,5 @@
 -- The results of all workers.
-use Rattle.std.proofs.Common.{◌≡◌, ◌⊎◌, inl, inr, ℕ, suc, ◌+◌, ◌<◌, ◌≤◌, ⊎_elim, List, [], ◌∷◌, ◌++◌, refl, subst, Option, None, IfSome, IfOk, IfErr, MatchOption, length, map, get_or, slice_get, Some, Result, Ok, Err, MatchResult, sym, ap, ◌∙◌, arith}
+use Rattle.std.proofs.Common.{◌≡◌, ◌⊎◌, inl, inr, ℕ, suc, ◌+◌, ◌<◌, ◌≤◌, ⊎_elim, List, [], ◌∷◌, ◌++◌, refl, subst, Option, None, IfSome, IfOk, IfErr, OnOk, MatchOption, length, map, get_or, slice_get, Some, Result, Ok, Err, MatchResult, sym, ap, ◌∙◌, arith}
 use Rattle.std.specs.Option.{option_map}
 use Rattle.std.proofs.lemmas.List.{length-map}
 use Rattle.std.proofs.lemmas.Option.{slice_get-map, get_or_from_slice_get}
@@ -153,6 +153,19 @@ next-found n results (Some known) found here least = record {
 
 pub none-behind : (results : Results) (fault : WorkFault) → NoneFails results → (i : ℕ) × (slice_get results i ≡ Some (Err fault)) → ⊥
 none-behind results fault none (i, is) = none i fault (in_range results i (Err fault) is) is
+
+-- results that are all there have no fault
+pub oks-none : (results : Results) (all : List Found) → AreOks results all → NoneFails results
+oks-none results all same i fault below is = by (slice_get all i) (sym (slice_get-map Ok all i) ∙ (ap (λ (xs : Results). slice_get xs i) (sym same) ∙ is))
+  where
+    by : (o : Option Found) → option_map Ok o ≡ Some (Err fault) → ⊥
+    by None other = cc
+    by (Some found) other = cc
+
+-- what follows from two facts where there is no fault
+pub on-ok : {A E P Q R : Type 0} (r : Result A E) → (P → Q → R) → OnOk r P → OnOk r Q → OnOk r R
+on-ok (Ok a) follows one other = follows one other
+on-ok (Err e) follows one other = tt
 
 -- what follows from a fact for each outcome
 pub if-ok : {A E : Type 0} {P Q : A → Type 0} (r : Result A E) → ((a : A) → P a → Q a) → IfOk r P → IfOk r Q

@@ -123,8 +123,10 @@ fn take_batch<R: Threads + Wait + Sync>(
     if let Some(fault) = least_fault(workers) {
         return Err(ReplayFault::from(fault.cause));
     }
-    let items = merge(alloc, workers)?;
-    Ok(items)
+    match merge(alloc, workers) {
+        Ok(items) => Ok(items),
+        Err(refused) => Err(ReplayFault::from(refused)),
+    }
 }
 
 // Workers that have answered no step. A thread of each makes it. All threads that were started are joined.
@@ -157,12 +159,15 @@ fn start<'t, R: Threads + Wait + Sync>(
                         ensures { IfOk result (λ worker. Stands worker.machine []) }
                     { Worker::new(alloc, table, keys) },
                 );
-                let Ok(handle) = started else {
-                    // Those that were started are waited for all the same.
-                    let _ = join_all(rt, alloc, handles);
-                    return Err(ReplayFault::WorkerNotStarted);
-                };
-                handles.push_reserved(handle);
+                match started {
+                    Ok(handle) => handles.push_reserved(handle),
+                    Err(refused) => {
+                        drop(refused);
+                        // Those that were started are waited for all the same.
+                        drop(join_all(rt, alloc, handles));
+                        return Err(ReplayFault::WorkerNotStarted);
+                    }
+                }
             }
             match join_all(rt, alloc, handles) {
                 Ok(all) => Ok(all),
@@ -189,6 +194,7 @@ fn join_all<'t, R: Threads>(
         }
     }
     if lacking {
+        drop(all);
         return Err(AllocError);
     }
     Ok(all)
@@ -200,10 +206,15 @@ fn add<'t>(all: &mut Vec<Worker<'t>>, made: Result<Worker<'t>, AllocError>) -> b
     ensures fresh { AreFresh all.old.items → AreFresh all.new.items }
     ensures count { IsTrue result → length all.new.items ≡ length all.old.items + 1 }
 {
-    let Ok(worker) = made else {
-        return false;
-    };
-    all.push(worker).is_ok()
+    match made {
+        Ok(worker) => {
+            let pushed = all.push(worker);
+            let added = pushed.is_ok();
+            drop(pushed);
+            added
+        }
+        Err(_) => false,
+    }
 }
 
 // Each worker answers its steps of the batch, in a thread of its own if one can be started.

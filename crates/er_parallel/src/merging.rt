@@ -14,8 +14,11 @@ pub(crate) fn merge(alloc: Global, workers: &mut [Worker<'_>]) -> Result<Vec<Unu
 {
     let mut items = Vec::new(alloc);
     while let Some(item) = take_least(workers) {
-        let Unusual { at, answer, held } = item;
-        items.push(Unusual { at, answer, held })?;
+        if let Err(refused) = items.push(item) {
+            drop(refused);
+            drop(items);
+            return Err(AllocError);
+        }
     }
     Ok(items)
 }

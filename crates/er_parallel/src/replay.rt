@@ -44,11 +44,41 @@ pub fn replay_parallel<G: Gate, R: Threads + Wait + Sync>(
     ensures none_lost { ¬ IsErrOf result ReplayFault.WorkerLost }
 {
     let table = LocksetTable::new(alloc, config.max_sets)?;
-    let worked = work_all(rt, alloc, &table, config, steps, workers, gate)?;
-    let (mut given, all) = worked;
-    gather(&mut given, all.as_slice())?;
-    Ok(Outcome {
-        answers: given,
-        stopped: None,
-    })
+    let outcome = replay_over(rt, alloc, &table, config, steps, workers, gate);
+    drop(table);
+    outcome
+}
+
+// The same over this table. Split for the prover.
+fn replay_over<G: Gate, R: Threads + Wait + Sync>(
+    rt: &R,
+    alloc: Global,
+    table: &LocksetTable,
+    config: ReplayConfig,
+    steps: &[Step],
+    workers: u32,
+    gate: &G,
+) -> Result<Outcome, ReplayFault>
+    requires { (1 ≤ workers) × (workers ≤ 16) }
+    ensures stopped { IfOk result (λ outcome. outcome.stopped ≡ None) }
+    ensures answers { IfOk result (λ outcome. outcome.answers ≡ answers steps.now) }
+    ensures table_full { IsErrOf result ReplayFault.TableFull → AsksForSet steps.now }
+    ensures none_lost { ¬ IsErrOf result ReplayFault.WorkerLost }
+{
+    let (mut given, all) = match work_all(rt, alloc, table, config, steps, workers, gate) {
+        Ok(worked) => worked,
+        Err(fault) => return Err(fault),
+    };
+    let gathered = gather(&mut given, all.as_slice());
+    drop(all);
+    match gathered {
+        Ok(()) => Ok(Outcome {
+            answers: given,
+            stopped: None,
+        }),
+        Err(refused) => {
+            drop(given);
+            Err(ReplayFault::from(refused))
+        }
+    }
 }

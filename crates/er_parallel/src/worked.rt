@@ -1,5 +1,5 @@
 //! What one worker answered.
-ghost use Rattle.std.specs.Prelude.{◌≡◌, ◌+◌, length, slice_get, IsTrue, IfOk, OnOk, IsErrOf, MatchResult, Some};
+ghost use Rattle.std.specs.Prelude.{◌≡◌, ◌+◌, ◌++◌, ◌∷◌, [], length, slice_get, IsTrue, IfOk, OnOk, IfErr, IsErrOf, MatchResult, Some};
 ghost use Rattle.er_journal.specs.AnswerList.{shown};
 ghost use Rattle.er_parallel.specs.Faults.{AsksForSet};
 ghost use Rattle.er_parallel.specs.Found.{usual};
@@ -83,8 +83,51 @@ fn go_on<R: Wait>(
     if let Some(cause) = no_room(&answer) {
         return Err(cause);
     }
-    places.push(at)?;
+    keep(at, answer, places, answers)
+}
+
+// Puts down the answer to the step at this position.
+#[inline]
+fn keep(
+    at: usize,
+    answer: Result<Reply, Refusal>,
+    places: &mut Vec<usize>,
+    answers: &mut Answers,
+) -> Result<(), NoRoom>
+    ensures places { OnOk result (places.new.items ≡ places.old.items ++ at ∷ []) }
+    ensures answers { OnOk result (answers.new ≡ answers.old ++ answer ∷ []) }
+    ensures full { ¬ IsErrOf result NoRoom.TableFull }
+{
+    if places.push(at).is_err() {
+        drop(answer);
+        return Err(NoRoom::OutOfMemory);
+    }
     answers.push(answer)?;
+    Ok(())
+}
+
+// Takes all steps of a task's list, one after another.
+#[inline]
+fn answer_all<R: Wait>(
+    rt: &R,
+    task: Task<'_>,
+    machine: &mut Machine<'_>,
+    places: &mut Vec<usize>,
+    answers: &mut Answers,
+) -> Result<(), WorkFault>
+    requires task { IsTask task }
+    requires none { AreFollowed 0 (found_by task places.old.items answers.old) (holding machine.old) (states machine.old) }
+    ensures all { OnOk result (AreFollowed (length task.entry.steps.now) (found_by task.entry places.new.items answers.new) (holding machine.new) (states machine.new)) }
+    ensures fault { IfErr result (λ fault. IsFault task.entry fault) }
+{
+    let steps = task.steps;
+    for (at, step) in steps.iter().enumerate() {
+        if let Err(cause) = go_on(rt, task, at, step, machine, places, answers) {
+            let Step { event, .. } = *step;
+            let shard = shard_for(task.shards, event);
+            return Err(WorkFault { shard, cause });
+        }
+    }
     Ok(())
 }
 
@@ -119,27 +162,31 @@ impl<'s> Worked<'s> {
         requires { IsTask task }
         ensures { MatchResult result (λ worked. IsWork task.entry worked) (λ fault. IsFault task.entry fault) }
     {
-        let Ok(mut machine) = Machine::keyed(alloc, table, keys) else {
-            return Err(WorkFault {
-                shard: task.worker,
-                cause: NoRoom::OutOfMemory,
-            });
+        let mut machine = match Machine::keyed(alloc, table, keys) {
+            Ok(machine) => machine,
+            Err(_) => {
+                return Err(WorkFault {
+                    shard: task.worker,
+                    cause: NoRoom::OutOfMemory,
+                });
+            }
         };
-        let steps = task.steps;
         let mut places = Vec::new(alloc);
         let mut answers = Answers::new(alloc);
-        for (at, step) in steps.iter().enumerate() {
-            if let Err(cause) = go_on(rt, task, at, step, &mut machine, &mut places, &mut answers) {
-                let Step { event, .. } = *step;
-                let shard = shard_for(task.shards, event);
-                return Err(WorkFault { shard, cause });
+        let answered = answer_all(rt, task, &mut machine, &mut places, &mut answers);
+        drop(machine);
+        match answered {
+            Ok(()) => Ok(Worked {
+                task,
+                places,
+                answers,
+            }),
+            Err(fault) => {
+                drop(places);
+                drop(answers);
+                Err(fault)
             }
         }
-        Ok(Worked {
-            task,
-            places,
-            answers,
-        })
     }
 
     /// Puts the answers in their places.

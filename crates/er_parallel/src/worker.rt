@@ -1,10 +1,10 @@
 //! A worker of a crew: it answers the steps of its shards, and follows what the other steps make of their threads' holdings.
-ghost use Rattle.std.specs.Prelude.{◌≡◌, ◌+◌, ◌≤◌, ◌++◌, [], ℕ, false, List, length, slice_get, IsTrue, IsFalse, IsSome, IfOk, OnOk, OnErr, IsErrOf, IfErr, MatchResult, Ok, Some};
+ghost use Rattle.std.specs.Prelude.{◌≡◌, ◌+◌, ◌≤◌, ◌++◌, [], ℕ, false, List, length, slice_get, IsTrue, IsFalse, IsSome, IfOk, OnOk, OnErr, IsErrOf, IfErr, MatchResult, Ok, Err, Some};
 ghost use Rattle.er_event.specs.declared.steps.Step.{Step as Steps};
 ghost use Rattle.er_parallel.specs.Crews.{HasFollowed};
 ghost use Rattle.er_parallel.specs.Faults.{AsksForSet};
 ghost use Rattle.er_parallel.specs.Found.{usual};
-ghost use Rattle.er_parallel.specs.Inner.Taking.{AreIdle, HasCome, HasDone, HasTaken, IsBusy, IsIdle, IsOwn};
+ghost use Rattle.er_parallel.specs.Inner.Taking.{AreIdle, HasCome, HasDone, HasTaken, IsBusy, IsIdle, IsKept, IsOwn};
 ghost use Rattle.er_parallel.specs.Tasks.{IsShare};
 ghost use Rattle.er_parallel.specs.Work.{MayBeFull};
 ghost use Rattle.er_model.specs.Following.{answered, state_after};
@@ -177,10 +177,34 @@ fn answer_own<R: Wait>(
     if is_plain(step, &answer, noted) {
         return Ok(());
     }
+    keep(alloc, machine, thread, at, answer, found)
+}
+
+// Keeps the answer to the step at this position, with the thread's locks if it is a race, unless the step found no room.
+#[inline]
+fn keep(
+    alloc: Global,
+    machine: &Machine<'_>,
+    thread: ThreadId,
+    at: usize,
+    answer: Result<Reply, Refusal>,
+    found: &mut VecDeque<Unusual>,
+) -> Result<(), NoRoom>
+    ensures room { OnOk result (IsFalse (found_no_room answer)) }
+    ensures kept { OnOk result (IsKept at answer (holding machine.now thread).held found.old.items found.new.items) }
+    ensures full { IsErrOf result NoRoom.TableFull → answer ≡ Err Refusal.TableFull }
+{
     if let Some(cause) = no_room(&answer) {
+        drop(answer);
         return Err(cause);
     }
-    let held = locks_at_race(alloc, machine, thread, &answer)?;
+    let held = match locks_at_race(alloc, machine, thread, &answer) {
+        Ok(held) => held,
+        Err(refused) => {
+            drop(answer);
+            return Err(NoRoom::from(refused));
+        }
+    };
     found.push_back(Unusual { at, answer, held })?;
     Ok(())
 }

@@ -95,18 +95,24 @@ pub(crate) fn work_all<'s, R: Threads + Wait + Sync, G: Gate>(
                         work(rt, alloc, table, keys, task, gate)
                     },
                 );
-                let Ok(handle) = started else {
-                    // Those that were started are waited for all the same.
-                    fault_of(rt, handles);
-                    return Err(ReplayFault::WorkerNotStarted);
-                };
-                handles.push_reserved(handle);
+                match started {
+                    Ok(handle) => handles.push_reserved(handle),
+                    Err(refused) => {
+                        drop(refused);
+                        // Those that were started are waited for all the same.
+                        fault_of(rt, handles);
+                        return Err(ReplayFault::WorkerNotStarted);
+                    }
+                }
             }
             // This thread makes the list of answers meanwhile.
             let usual = usual_answers(alloc, steps);
             let results = match thread::join_promised(rt, handles) {
                 Ok(results) => results,
-                Err(refused) => return Err(fault_of(rt, refused.value)),
+                Err(refused) => {
+                    drop(usual);
+                    return Err(fault_of(rt, refused.value));
+                }
             };
             all_or_fault(alloc, results, usual)
         },
@@ -123,8 +129,9 @@ fn fault_of<'s, R: Threads>(
 {
     let mut least = None;
     for handle in handles {
-        if let Err(fault) = handle.join(rt) {
-            least = Some(lesser(least, fault));
+        match handle.join(rt) {
+            Ok(worked) => drop(worked),
+            Err(fault) => least = Some(lesser(least, fault)),
         }
     }
     match least {
@@ -143,22 +150,51 @@ fn all_or_fault<'s>(
     ensures ok { IfOk result (λ r. AreOks results.entry.items r.1.items) }
     ensures fault { IfErr result (λ given. IsFaultOf results.entry.items given) }
 {
-    if let Some(fault) = least_fault(results.as_slice()) {
-        return Err(ReplayFault::from(fault.cause));
-    }
-    let usual = usual?;
-    let mut all = Vec::new(alloc);
-    for result in results {
-        match result {
-            Ok(worked) => {
-                let Ok(()) = all.push(worked) else {
-                    return Err(ReplayFault::Memory);
-                };
-            }
-            Err(fault) => return Err(ReplayFault::from(fault.cause)),
+    let all = match all_of(alloc, results) {
+        Ok(all) => all,
+        Err(fault) => {
+            drop(usual);
+            return Err(fault);
+        }
+    };
+    match usual {
+        Ok(usual) => Ok((usual, all)),
+        Err(refused) => {
+            drop(all);
+            Err(ReplayFault::from(refused))
         }
     }
-    Ok((usual, all))
+}
+
+// The results of all workers, or the fault of the least shard that has one.
+fn all_of<'s>(
+    alloc: Global,
+    results: Vec<Result<Worked<'s>, WorkFault>>,
+) -> Result<Vec<Worked<'s>>, ReplayFault>
+    ensures ok { IfOk result (λ all. AreOks results.entry.items all.items) }
+    ensures fault { IfErr result (λ given. IsFaultOf results.entry.items given) }
+{
+    if let Some(fault) = least_fault(results.as_slice()) {
+        drop(results);
+        return Err(ReplayFault::from(fault.cause));
+    }
+    let mut all = match Vec::with_capacity(alloc, results.len()) {
+        Ok(all) => all,
+        Err(refused) => {
+            drop(results);
+            return Err(ReplayFault::from(refused));
+        }
+    };
+    for result in results {
+        match result {
+            Ok(worked) => all.push_reserved(worked),
+            Err(fault) => {
+                drop(all);
+                return Err(ReplayFault::from(fault.cause));
+            }
+        }
+    }
+    Ok(all)
 }
 
 // The fault of the least shard that has one. Of two faults of one shard it is the later worker's.

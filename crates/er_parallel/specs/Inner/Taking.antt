@@ -1,7 +1,10 @@
 -- How far a worker has come in a batch.
-use Rattle.std.specs.Prelude.{IsTrue, ◌≡◌, ◌⊎◌, ◌<◌, ◌≤◌, ◌+◌, ◌%◌, ◌++◌, ℕ, List, length, slice_get, Some, MatchOption}
+use Rattle.std.specs.Prelude.{IsTrue, ◌≡◌, ◌⊎◌, ◌<◌, ◌≤◌, ◌+◌, ◌%◌, ◌++◌, ◌∷◌, [], ℕ, List, length, slice_get, Some, Result, Ok, MatchOption}
 use Rattle.er_event.specs.declared.steps.Event.{Event}
 use Rattle.er_event.specs.declared.steps.Step.{Step}
+use Rattle.er_event.specs.declared.refusals.Refusal.{Refusal}
+use Rattle.er_event.specs.declared.steps.Reply.{Reply}
+use Rattle.er_event.specs.declared.steps.Reply.TheVariants.{Race}
 use Rattle.er_journal.specs.Merges.{shard_of}
 use Rattle.er_model.specs.Answers.{answer, state_at}
 use Rattle.er_model.specs.Holdings.{holdings_at}
@@ -46,6 +49,12 @@ pub record IsFoundSoFar (n : ℕ) (past : List Step) (batch : List Step) (share 
       (answer (past ++ batch) (length past + k) ≡ usual step.event) ⊎ IsAmong items k
   pub noted : (k : ℕ) (step : Step) → k < n → slice_get batch k ≡ Some step → IsOwn share step.event → IsTrue share.noting →
       LeavesWord (past ++ batch) (length past + k) step.event ⊎ IsAmong items k
+
+-- the answer is kept behind the other items, with these locks if it is a race
+pub record IsKept (at : ℕ) (given : Result Reply Refusal) (held : List ℕ) (old new : List Unusual) : Type 0 where
+  pub locks : List ℕ
+  pub locked : given ≡ Ok Race → locks ≡ held
+  pub items : new ≡ old ++ record { at = at; answer = given; held = locks } ∷ []
 
 -- after the first n steps its machine has every thread's holdings and the states of its own shards' words, and it has its items
 pub record HasCome (n : ℕ) (past : List Step) (batch : List Step) (share : Share) (items : List Unusual) (machine : Replayed) : Type 0 where

@@ -7,19 +7,19 @@ returns-in-Some-clause-fault g c past before =
     taken-fault past c.args.steps.now c.args.shards c.args.noting c.args.workers.now c.answer_each.new.workers c.answer_each.ensures.count c.answer_each.ensures.taken before
     (length c.answer_each.new.workers) c.in-Some.fault _ c.in-Some.ensures c.from.ensures
 
-pub returns-clause-goes_on : goal.returns-clause-goes_on
-returns-clause-goes_on g c past before =
+pub returns-in-Ok-clause-goes_on : goal.returns-in-Ok-clause-goes_on
+returns-in-Ok-clause-goes_on g c past before =
     done-answered past c.args.steps.now c.args.shards c.args.noting c.args.workers.now c.answer_each.new.workers c.answer_each.ensures.count c.answer_each.ensures.taken before c.in_default.ensures
-    c.merge.new.workers c.in_ok-items.ensures.machines
+    c.merge.new.workers c.in-Ok.ensures.machines
 
-pub returns-clause-answers : goal.returns-clause-answers
-returns-clause-answers g c past before =
+pub returns-in-Ok-clause-answers : goal.returns-in-Ok-clause-answers
+returns-in-Ok-clause-answers g c past before =
     let apart = done-apart past c.args.steps.now c.args.shards c.args.noting c.args.workers.now c.answer_each.new.workers c.answer_each.ensures.count c.answer_each.ensures.taken before c.in_default.ensures in
     done-unusual past c.args.steps.now c.args.shards c.args.noting c.args.workers.now c.answer_each.new.workers c.answer_each.ensures.count c.answer_each.ensures.taken before c.in_default.ensures
-    c.merge.new.workers c.in_ok-items.items.items (c.in_ok-items.ensures.merged apart) c.in_ok-items.ensures.none_left c.requires.2
+    c.merge.new.workers c.in-Ok.items.items (c.in-Ok.ensures.merged apart) c.in-Ok.ensures.none_left c.requires.2
 
-pub returns-clause-noted : goal.returns-clause-noted
-returns-clause-noted g c past before notes =
+pub returns-in-Ok-clause-noted : goal.returns-in-Ok-clause-noted
+returns-in-Ok-clause-noted g c past before notes =
     let apart = done-apart past c.args.steps.now c.args.shards c.args.noting c.args.workers.now c.answer_each.new.workers c.answer_each.ensures.count c.answer_each.ensures.taken before c.in_default.ensures in
     done-noted past c.args.steps.now c.args.shards c.args.noting c.args.workers.now c.answer_each.new.workers c.answer_each.ensures.count c.answer_each.ensures.taken before c.in_default.ensures
-    c.merge.new.workers c.in_ok-items.items.items (c.in_ok-items.ensures.merged apart) c.in_ok-items.ensures.none_left c.requires.2 notes
+    c.merge.new.workers c.in-Ok.items.items (c.in-Ok.ensures.merged apart) c.in-Ok.ensures.none_left c.requires.2 notes

@@ -8,9 +8,9 @@ loop-item-smaller c = taken-count c.loop-item.workers c.in-Some.item c.take_leas
 pub loop-item-preserved : goal.loop-item-preserved
 loop-item-preserved c = record {
   machines = taken-machines c.loop-item.workers c.in-Some.item c.take_least.new.workers c.in-Some.ensures ∙ c.loop-item.invariant.machines;
-  merged = λ apart. rw c.in_ok-push.ensures.items
+  merged = λ apart. rw c.in_default-push.ensures.items
       (merged-more c.args.workers.now c.loop-item.workers c.take_least.new.workers c.loop-item.items.items c.in-Some.item c.in-Some.ensures (c.loop-item.invariant.merged apart));
 }
 
-pub returns-in_err-push-clause-machines : goal.returns-in_err-push-clause-machines
-returns-in_err-push-clause-machines c = taken-machines c.loop-item.workers c.in-Some.item c.take_least.new.workers c.in-Some.ensures ∙ c.loop-item.invariant.machines
+pub returns-in-Err-clause-machines : goal.returns-in-Err-clause-machines
+returns-in-Err-clause-machines c = taken-machines c.loop-item.workers c.in-Some.item c.take_least.new.workers c.in-Some.ensures ∙ c.loop-item.invariant.machines

@@ -2,6 +2,7 @@ use Rattle.std.proofs.Common.{◌≡◌, sym, refl, ◌∙◌, IsFalse}
 use Rattle.er_parallel.specs.Tasks.{worker_for}
 use Rattle.er_parallel.specs.Inner.Following.{found_by}
 use Rattle.er_parallel.proofs.FollowingLemmas.{followed-past, followed-usual, followed-found, usual-found}
+use Rattle.er_parallel.proofs.WorkLemmas.{on-ok}
 use Rattle.er_replay.specs.Standing.{holding, states, found_no_room}
 use Rattle.er_parallel.proofs.worked.go_on.Goals as goal
 
@@ -24,7 +25,8 @@ pub returns-clause-far : goal.returns-clause-far
 returns-clause-far g c =
     let mine : worker_for c.args.task.shards c.args.task.workers c.args.step.now.event ≡ c.args.task.worker = sym c.worker_for.ensures ∙ c.if-worker_for-task.false in
     let room : IsFalse (found_no_room c.step-answer.result) = c.in_default.ensures in
-    followed-found c.args.at (found_by c.args.task c.args.places.now.items c.args.answers.now) c.args.step.now c.requires.there
+    on-ok c.keep.result
+    (followed-found c.args.at (found_by c.args.task c.args.places.now.items c.args.answers.now) c.args.step.now c.requires.there
     (holding c.args.machine.now) (holding c.step-answer.new.self) (states c.args.machine.now) (states c.step-answer.new.self) c.requires.far (c.step-answer.ensures.holdings room)
-    mine c.step-answer.result (found_by c.args.task c.push.new.self.items c.push-2.new.self) (c.step-answer.ensures.answered room) (c.step-answer.ensures.states room)
-    refl refl refl refl c.in_ok-push.ensures.items c.in_ok-push-2.ensures.ok
+    mine c.step-answer.result (found_by c.args.task c.keep.new.places.items c.keep.new.answers) (c.step-answer.ensures.answered room) (c.step-answer.ensures.states room)
+    refl refl refl refl) c.keep.ensures.places c.keep.ensures.answers

@@ -2,16 +2,16 @@ use Rattle.std.specs.Vec.Iter.{into_iter_items}
 use Rattle.er_parallel.proofs.WorkLemmas.{may-fail, head-of, rest-of, lesser-full, full-kept}
 use Rattle.er_parallel.proofs.workers.fault_of.Goals as goal
 
-pub loop-handle-preserved-in-Err : goal.loop-handle-preserved-in-Err
-loop-handle-preserved-in-Err g c = record {
+pub loop-handle-preserved : goal.loop-handle-preserved
+loop-handle-preserved g c = record {
   promised = λ steps all. rest-of (λ h. h.promise.steps.now) (into_iter_items c.loop-handle.handle-iterator) _ c.in-Some.handle steps c.in-Some.ensures.steps.0 (c.loop-handle.invariant.promised steps all);
   least = λ steps all. lesser-full steps c.loop-handle.least c.in-Err.fault c.lesser.result c.lesser.ensures (c.loop-handle.invariant.least steps all)
       (full-kept _ steps c.in-Err.fault
       (head-of (λ h. h.promise.steps.now) (into_iter_items c.loop-handle.handle-iterator) _ c.in-Some.handle steps c.in-Some.ensures.steps.0 (c.loop-handle.invariant.promised steps all)) c.in-Err.ensures);
 }
 
-pub loop-handle-preserved-in_default : goal.loop-handle-preserved-in_default
-loop-handle-preserved-in_default g c = record {
+pub loop-handle-preserved-in-Ok : goal.loop-handle-preserved-in-Ok
+loop-handle-preserved-in-Ok g c = record {
   promised = λ steps all. rest-of (λ h. h.promise.steps.now) (into_iter_items c.loop-handle.handle-iterator) _ c.in-Some.handle steps c.in-Some.ensures.steps.0 (c.loop-handle.invariant.promised steps all);
   least = c.loop-handle.invariant.least;
 }

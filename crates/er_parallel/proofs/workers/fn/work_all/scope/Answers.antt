@@ -2,13 +2,13 @@ use Rattle.std.proofs.Common.{◌≡◌, ◌<◌, ◌∙◌, ℕ, length, get_or
 use Rattle.er_parallel.proofs.WorkLemmas.{IsResult, all-worked, full-of, kept-work, if-ok, if-err}
 use Rattle.er_parallel.proofs.workers.fn.work_all.scope.Goals as goal
 
-pub returns-in-Err : goal.returns-in-Err
-returns-in-Err g c = record {
+pub returns-in-Err-join_promised : goal.returns-in-Err-join_promised
+returns-in-Err-join_promised g c = record {
   usual = tt;
   worked = tt;
-  fault = c.fault_of-in-Err.ensures c.captures.steps.now (λ i d below.
-      let low : i < c.loop-worker.worker = omega (arith, below, ap (λ v. length v.items) c.in-Err.ensures.err, c.loop-worker.invariant.count) in
-      ap (λ v. (get_or v.items i d).promise.steps.now) c.in-Err.ensures.err ∙ (c.loop-worker.invariant.promised i d low).0);
+  fault = c.fault_of-in-Err-join_promised.ensures c.captures.steps.now (λ i d below.
+      let low : i < c.loop-worker.worker = omega (arith, below, ap (λ v. length v.items) c.in-Err-join_promised.ensures.err, c.loop-worker.invariant.count) in
+      ap (λ v. (get_or v.items i d).promise.steps.now) c.in-Err-join_promised.ensures.err ∙ (c.loop-worker.invariant.promised i d low).0);
 }
 
 pub returns : goal.returns

@@ -1,6 +1,0 @@
-use Rattle.std.proofs.Common.{◌≡◌, ◌++◌, map, Ok}
-use Rattle.std.specs.Vec.Iter.{into_iter_items}
-use Rattle.er_parallel.proofs.workers.all_or_fault.Given as goal
-
-abbrev pub invariant-loop-result : goal.invariant-loop-result
-invariant-loop-result l = map Ok l.all.items ++ into_iter_items l.result-iterator ≡ l.fn.results.items
