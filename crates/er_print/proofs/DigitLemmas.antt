@@ -19,3 +19,8 @@ put_two old front new first second one two = two ∙ ap (λ (text : List ℕ). t
 
 pub put_three : (old a b c r s t : List ℕ) → a ≡ old ++ r → b ≡ a ++ s → c ≡ b ++ t → c ≡ old ++ (r ++ s ++ t)
 put_three old a b c r s t first second third = rw (third, second, first) (simp append_assoc)
+
+pub put_five : (old a b c d e r s t u v : List ℕ) → a ≡ old ++ r → b ≡ a ++ s → c ≡ b ++ t → d ≡ c ++ u → e ≡ d ++ v
+    → e ≡ old ++ (r ++ s ++ t ++ u ++ v)
+put_five old a b c d e r s t u v first second third fourth fifth =
+    rw (fifth, fourth, third, second, first) (simp append_assoc)
