@@ -1,7 +1,7 @@
 -- Lists whose elements stand in a relation to all later ones.
-use Rattle.std.proofs.Common.{◌≡◌, ◌≢◌, ℕ, ◌+◌, ◌<◌, ◌≤◌, List, [], ◌∷◌, ◌++◌, length, take, set, get_or, get_or-set_other, get_or-set_same, refl, sym, ap, ◌∙◌, arith, zero, suc, inl, inr, ◌⊎◌}
+use Rattle.std.proofs.Common.{◌≡◌, ◌≢◌, ℕ, ◌+◌, ◌<◌, ◌≤◌, List, [], ◌∷◌, ◌++◌, length, take, map, set, get_or, get_or-set_other, get_or-set_same, refl, sym, ap, ◌∙◌, arith, zero, suc, inl, inr, ◌⊎◌}
 use Rattle.std.proofs.lemmas.Option.{slice_get_within, slice_get_read, get_or_from_slice_get, slice_get-get_or}
-use Rattle.std.proofs.lemmas.List.{take_more}
+use Rattle.std.proofs.lemmas.List.{take_more, take_all, map-append}
 use Rattle.std.specs.Prelude.{slice_get, slice_index, Some, None, Option}
 use Rattle.std.proofs.lemmas.Bool.{cases_order}
 use Rattle.er_journal.specs.Entries.{Call}
@@ -133,3 +133,26 @@ pub length_front : {A : Type 0} (xs : List A) (k : ℕ) (x : A) → slice_get xs
 length_front [] k x h = absurd (cc)
 length_front (y ∷ xs) zero x h = refl
 length_front (y ∷ xs) (suc k) x h = let e = length_front xs k x h in omega (arith, e)
+
+-- one more item is what the function makes of the next one
+pub map_one_more : {X Y : Type 0} (f : X → Y) (before after : List Y) (xs : List X) (k : ℕ) (x : X) (y : Y) → k < length xs → x ≡ get_or xs k x
+    → before ≡ map f (take k xs) → after ≡ before ++ y ∷ [] → y ≡ f x → after ≡ map f (take (k + 1) xs)
+map_one_more {X} {Y} f before after xs k x y within here so_far more is =
+    let next : take (k + 1) xs ≡ take k xs ++ x ∷ [] = take_more xs k x within ∙ ap (λ (z : X). take k xs ++ z ∷ []) (sym here) in
+    more ∙ ap (λ (front : List Y). front ++ y ∷ []) so_far ∙ ap (λ (z : Y). map f (take k xs) ++ z ∷ []) is
+    ∙ sym (ap (map f) next ∙ map-append f (take k xs) (x ∷ []))
+
+pub map_no_more : {X Y : Type 0} (f : X → Y) (whole : List Y) (xs : List X) (k : ℕ) → length xs ≤ k → whole ≡ map f (take k xs) → whole ≡ map f xs
+map_no_more f whole xs k past so_far = so_far ∙ ap (map f) (take_all k xs past)
+
+-- one more empty list behind others
+empty_appended : {X : Type 0} (lists : List (List X)) → ((k : ℕ) → k < length lists → slice_get lists k ≡ Some []) → (k : ℕ) → k < length lists + 1 → slice_get (lists ++ [] ∷ []) k ≡ Some []
+empty_appended [] each zero within = refl
+empty_appended [] each (suc k) within = absurd (omega arith)
+empty_appended (x ∷ xs) each zero within = each 0 (omega arith)
+empty_appended (x ∷ xs) each (suc k) within = empty_appended xs (λ j below. each (suc j) (omega (arith, below))) k (omega (arith, within))
+
+pub one_empty_more : {X : Type 0} (old new : List (List X)) (n : ℕ) → length old ≡ n → ((k : ℕ) → k < n → slice_get old k ≡ Some []) → new ≡ old ++ [] ∷ []
+    → (k : ℕ) → k < n + 1 → slice_get new k ≡ Some []
+one_empty_more old new n count each is k within =
+    rw is (empty_appended old (λ j below. each j (omega (arith, below, count))) k (omega (arith, within, count)))

@@ -1,5 +1,6 @@
 //! Whether calls and their entries have the same replies, and each entry the locks that the seat held at the call.
 ghost use Rattle.std.specs.Prelude.{◌≡◌, ◌↔◌, [], ◌∷◌, IsTrue, IfOk};
+ghost use Rattle.er_held.specs.Held.{nothing_held};
 ghost use Rattle.er_journal.specs.Merges.{stamp_by, stamps_in};
 ghost use Rattle.er_settle.specs.Faults.{IsAlike, event_of};
 ghost use Rattle.er_settle.specs.Inner.EntryMatches.{AreGrouped, AllAgree, ticketed_calls, ticketed_entries};
@@ -41,14 +42,30 @@ fn is_answered(
     requires { ticketed_calls seat.now.calls ≡ ticketed_entries group.now }
     ensures { IfOk result (λ alike. IsTrue alike ↔ AreAlike seat.now group.now) }
 {
-    let thread = seat.thread();
     let mut held = Held::new(alloc);
+    let answered = is_answered_from(&mut held, seat, group);
+    drop(held);
+    answered
+}
+
+// The same, by what the seat holds at each of its calls, which is nothing at the first.
+#[inline]
+fn is_answered_from(
+    held: &mut Held,
+    seat: &SeatView<'_>,
+    group: &[PlacedEntry<'_>],
+) -> Result<bool, AllocError>
+    requires nothing { held.old ≡ nothing_held }
+    requires calls { ticketed_calls seat.now.calls ≡ ticketed_entries group.now }
+    ensures { IfOk result (λ alike. IsTrue alike ↔ AreAlike seat.now group.now) }
+{
+    let thread = seat.thread();
     let mut at = 0;
     for call in seat.calls() {
         if call.ticket().is_some() {
             let count = group.len();
             prove!(at < count);
-            if !is_alike(&held, thread, call, group[at].entry()) {
+            if !is_alike(held, thread, call, group[at].entry()) {
                 return Ok(false);
             }
             at += 1;

@@ -1,4 +1,5 @@
 pub mod NamesLemmas
+pub mod DigitLemmas
 pub mod HintLemmas
 pub mod NumberLemmas
 pub mod AppendedLemmas

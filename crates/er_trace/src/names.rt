@@ -302,8 +302,15 @@ impl Names {
         ensures more { HasMore self.old self.new }
     {
         let threads = self.threads.add(&others.threads)?;
-        let locks = self.locks.add(&others.locks)?;
-        let sites = self.sites.add(&others.sites)?;
+        let Ok(locks) = self.locks.add(&others.locks) else {
+            drop(threads);
+            return Err(AllocError);
+        };
+        let Ok(sites) = self.sites.add(&others.sites) else {
+            drop(threads);
+            drop(locks);
+            return Err(AllocError);
+        };
         Ok(NewTable {
             threads,
             locks,

@@ -80,8 +80,12 @@ impl Trace {
         ensures err { OnErr result (self.new ≡ self.old) }
     {
         let Step { thread, event } = step;
-        self.steps.reserve(1)?;
-        self.lines.push(line)?;
+        let Ok(()) = self.steps.reserve(1) else {
+            return Err(AllocError);
+        };
+        let Ok(()) = self.lines.push(line) else {
+            return Err(AllocError);
+        };
         self.steps.push_reserved(Step { thread, event });
         Ok(())
     }
@@ -104,8 +108,12 @@ impl Trace {
         ensures ok { OnOk result (self.new ≡ with_steps self.old steps.now lines.now) }
         ensures err { OnErr result (self.new ≡ self.old) }
     {
-        self.steps.reserve(steps.len())?;
-        self.lines.extend_from_slice(lines)?;
+        let Ok(()) = self.steps.reserve(steps.len()) else {
+            return Err(AllocError);
+        };
+        let Ok(()) = self.lines.extend_from_slice(lines) else {
+            return Err(AllocError);
+        };
         let added: Result<(), AllocError> = self.steps.extend_from_slice(steps);
         added.unwrap();
         Ok(())
@@ -152,7 +160,7 @@ impl Trace {
     {
         self.steps.clear();
         self.lines.clear();
-        self.names = Names::keyed(alloc, keys);
+        drop(mem::replace(&mut self.names, Names::keyed(alloc, keys)));
     }
 
     /// Forgets the steps and their lines. It keeps the names, and the room for as many steps.
