@@ -163,9 +163,9 @@ oks-none results all same i fault below is = by (slice_get all i) (sym (slice_ge
     by (Some found) other = cc
 
 -- what follows from two facts where there is no fault
-pub on-ok : {A E P Q R : Type 0} (r : Result A E) → (P → Q → R) → OnOk r P → OnOk r Q → OnOk r R
-on-ok (Ok a) follows one other = follows one other
-on-ok (Err e) follows one other = tt
+pub on-ok : {A E P Q R : Type 0} (r : Result A E) → OnOk r P → OnOk r Q → (P → Q → R) → OnOk r R
+on-ok (Ok a) one other follows = follows one other
+on-ok (Err e) one other follows = tt
 
 -- what follows from a fact for each outcome
 pub if-ok : {A E : Type 0} {P Q : A → Type 0} (r : Result A E) → ((a : A) → P a → Q a) → IfOk r P → IfOk r Q

@@ -1,5 +1,5 @@
 //! What one worker answered.
-ghost use Rattle.std.specs.Prelude.{◌≡◌, ◌+◌, ◌++◌, ◌∷◌, [], length, slice_get, IsTrue, IfOk, OnOk, IfErr, IsErrOf, MatchResult, Some};
+ghost use Rattle.std.specs.Prelude.{◌≡◌, ◌+◌, ◌++◌, ◌∷◌, [], length, slice_get, IsTrue, IsFalse, IfOk, OnOk, IfErr, IsErrOf, MatchResult, Err, Some};
 ghost use Rattle.er_journal.specs.AnswerList.{shown};
 ghost use Rattle.er_parallel.specs.Faults.{AsksForSet};
 ghost use Rattle.er_parallel.specs.Found.{usual};
@@ -7,7 +7,7 @@ ghost use Rattle.er_parallel.specs.Inner.Following.{AreFollowed, found_by};
 ghost use Rattle.er_parallel.specs.Putting.{ArePut};
 ghost use Rattle.er_parallel.specs.Tasks.{IsTask};
 ghost use Rattle.er_parallel.specs.Work.{IsWork, IsFault, IsLesser};
-ghost use Rattle.er_replay.specs.Standing.{holding, states};
+ghost use Rattle.er_replay.specs.Standing.{found_no_room, holding, states};
 
 use crate::task::{Task, shard_for, worker_for};
 use er_event::{Event, NoRoom, Refusal, Reply, Step};
@@ -80,13 +80,10 @@ fn go_on<R: Wait>(
     if is_usual(step, &answer) {
         return Ok(());
     }
-    if let Some(cause) = no_room(&answer) {
-        return Err(cause);
-    }
     keep(at, answer, places, answers)
 }
 
-// Puts down the answer to the step at this position.
+// Puts down the answer to the step at this position, unless the step found no room.
 #[inline]
 fn keep(
     at: usize,
@@ -94,10 +91,14 @@ fn keep(
     places: &mut Vec<usize>,
     answers: &mut Answers,
 ) -> Result<(), NoRoom>
-    ensures places { OnOk result (places.new.items ≡ places.old.items ++ at ∷ []) }
-    ensures answers { OnOk result (answers.new ≡ answers.old ++ answer ∷ []) }
-    ensures full { ¬ IsErrOf result NoRoom.TableFull }
+    ensures room { OnOk result (IsFalse (found_no_room answer)) }
+    ensures put { OnOk result ((places.new.items ≡ places.old.items ++ at ∷ []) × (answers.new ≡ answers.old ++ answer ∷ [])) }
+    ensures full { IsErrOf result NoRoom.TableFull → answer ≡ Err Refusal.TableFull }
 {
+    if let Some(cause) = no_room(&answer) {
+        drop(answer);
+        return Err(cause);
+    }
     if places.push(at).is_err() {
         drop(answer);
         return Err(NoRoom::OutOfMemory);
