@@ -1,5 +1,5 @@
 -- A pass that forgets its steps stands for all of them, and at the end for those of the text.
-use Rattle.std.proofs.Common.{◌≡◌, ℕ, Bool, List, [], ◌++◌, length, Option, Some, None, IfSome, IfOk, Result, Ok, Err, cond, refl, sym, ap, subst, ◌∙◌, arith}
+use Rattle.std.proofs.Common.{◌≡◌, ℕ, Bool, false, List, [], ◌++◌, length, Option, Some, None, IfSome, IfOk, Result, Ok, Err, cond, refl, sym, ap, subst, ◌∙◌, arith}
 use Rattle.std.specs.List.{All}
 use Rattle.std.proofs.lemmas.List.{length-append}
 use Rattle.std.proofs.lemmas.List.Elements.{All-append, All-nil}
@@ -8,7 +8,7 @@ use Rattle.er_places.proofs.FrontLemmas.{in-front}
 use Rattle.er_places.proofs.NameLemmas.{all-named, are-named}
 use Rattle.er_places.proofs.PlaceLemmas.{found-all}
 use Rattle.er_places.specs.Inner.Following.{Followed, HasAll, HasCome, HasEnded, StandsFor}
-use Rattle.er_places.specs.Places.{place_below, ArePlaces, HasPlaces, PlaceTable, place_on}
+use Rattle.er_places.specs.Places.{place_at, place_below, ArePlaces, HasPlaces, PlaceTable, place_on}
 use Rattle.er_places.specs.declared.place.Place.{Place}
 use Rattle.er_text.proofs.BatchLaws.{forgotten}
 use Rattle.er_text.proofs.TextLaws.{same_trace}
@@ -19,7 +19,7 @@ use Rattle.er_text.specs.Trace.{IsTrace}
 use Rattle.er_text.specs.declared.faults.ReadFault.{ReadFault}
 use Rattle.er_text.specs.declared.reading.Batch.{Batch}
 use Rattle.er_text.specs.declared.reading.Batch.TheVariants.{More, End}
-use Rattle.er_trace.specs.Names.{no_names}
+use Rattle.er_trace.specs.Names.{NameTable, no_names}
 use Rattle.er_trace.specs.Trace.{IsNamed, Recording, no_steps, without_steps}
 
 -- a batch
@@ -113,6 +113,19 @@ pub places-found : (wants : ℕ → Bool) (told : Option (List ℕ)) (limit : �
     → table.places ≡ seen.places → table.names ≡ trace.names → IfSome told (λ text. ArePlaces wants text limit table)
 places-found wants told limit trace seen table ended places names =
     subst (λ (x : PlaceTable). IfSome told (λ text. ArePlaces wants text limit x)) (sym (λ i. record { places = places i; names = names i })) ended.found
+
+-- where nothing is asked, no place is one too many
+named_none : (names : NameTable) → KeepsNames no_names names
+named_none names = record { threads = λ n name is. absurd (cc); locks = λ n name is. absurd (cc); sites = λ n name is. absurd (cc) }
+
+pub places-none : (asked : ℕ → Bool) (told : Option (List ℕ)) (limit : ℕ) (table : PlaceTable) → ((line : ℕ) → asked line ≡ false) → ((line : ℕ) → place_at table line ≡ None)
+    → table.names ≡ no_names → IfSome told (λ text. ArePlaces asked text limit table)
+places-none asked None limit table none empty names = tt
+places-none asked (Some text) limit table none empty names = λ r is.
+    record {
+      places = λ line. empty line ∙ ap (λ (b : Bool). cond b (place_on r line) None) (sym (none line));
+      names = subst (λ (n : NameTable). KeepsNames n r.names) (sym names) (named_none r.names);
+    }
 
 -- what is asked is what is wanted
 same-cond : (one other : Bool) (o : Option Place) → one ≡ other → cond one o None ≡ cond other o None

@@ -130,7 +130,10 @@ pub fn find_places<D: Read>(
     let mut finder = Finder::new(alloc, byte_limit, keys)?;
     match finder.run(reader, wanted) {
         Ok(()) => Ok(finder.finish()),
-        Err(why) => Err(why),
+        Err(why) => {
+            drop(finder);
+            Err(why)
+        }
     }
 }
 

@@ -102,15 +102,23 @@ impl Follower {
         ensures places { OnOk result ((l : ℕ) → place_in self.new.places l
             ≡ cond (nat_eq line l) (Some (record { line = line; thread = thread; kind = kind; site = site; held = (held_by self.old.threads thread).held; write_held = (held_by self.old.threads thread).write_held })) (place_in self.old.places l)) }
     {
+        let held = self.threads.locks_of(self.alloc, thread)?;
+        let write_held = match self.threads.cover_of(self.alloc, thread, Kind::Write) {
+            Ok(locks) => locks,
+            Err(why) => {
+                drop(held);
+                return Err(why);
+            }
+        };
         let place = Place {
             line,
             thread,
             kind,
             site,
-            held: self.threads.locks_of(self.alloc, thread)?,
-            write_held: self.threads.cover_of(self.alloc, thread, Kind::Write)?,
+            held,
+            write_held,
         };
-        self.places.insert(line, place)?;
+        drop(self.places.insert(line, place)?);
         Ok(())
     }
 }

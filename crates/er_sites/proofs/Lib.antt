@@ -1,3 +1,5 @@
 pub mod NameLemmas
 pub mod RowLemmas
 pub mod BothLemmas
+pub mod PutLemmas
+pub mod CountLemmas

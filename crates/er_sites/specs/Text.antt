@@ -88,9 +88,13 @@ abbrev pub held_text : NameTable → ℕ → ℕ → List Because → ℕ → Li
 held_text names number thread explained lock =
     codes "  " ++ thread_text names thread ++ codes " held " ++ lock_text names lock ++ mode_text number explained lock ++ 10 ∷ []
 
--- or that it held none
+-- that a thread held no lock
+abbrev pub no_lock_text : NameTable → ℕ → List ℕ
+no_lock_text names thread = codes "  " ++ thread_text names thread ++ codes " held no lock" ++ 10 ∷ []
+
+-- all locks that a thread held, or that it held none
 abbrev pub holds_text : NameTable → ℕ → ℕ → List Because → List ℕ → List ℕ
-holds_text names number thread explained [] = codes "  " ++ thread_text names thread ++ codes " held no lock" ++ 10 ∷ []
+holds_text names number thread explained [] = no_lock_text names thread
 holds_text names number thread explained (lock ∷ locks) = flat_map (held_text names number thread explained) (lock ∷ locks)
 
 -- a lock that did not protect

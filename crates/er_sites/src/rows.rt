@@ -5,6 +5,7 @@ ghost use Rattle.er_sites.specs.Inner.Counted.{AreCounts, HasRowsBelow};
 ghost use Rattle.er_sites.specs.Table.{races_at, words_at, IsOwnCount};
 
 use crate::counts::{Counts, count_at};
+use crate::distinct::{count_locks, count_threads};
 use crate::row::SiteRow;
 use er_event::Site;
 use er_report::Line;
@@ -62,11 +63,22 @@ fn add_site(
 #[derive(Drop)]
 pub(crate) struct Others {
     /// How many threads have races there.
-    pub(crate) threads: Vec<u64>,
+    threads: Vec<u64>,
     /// How many locks were held at one of its races or more.
-    pub(crate) locks: Vec<u64>,
+    locks: Vec<u64>,
     /// The place of its first race among the lines.
-    pub(crate) examples: Vec<usize>,
+    examples: Vec<usize>,
+}
+
+/// What is known of each site besides the counts of its races.
+pub(crate) fn find_others(alloc: Global, lines: &[Line]) -> Result<Others, AllocError> {
+    let threads = count_threads(alloc, lines)?;
+    let locks = count_locks(alloc, lines)?;
+    Ok(Others {
+        threads,
+        locks,
+        examples: find_examples(alloc, lines)?,
+    })
 }
 
 // The place of the first race at a site.
@@ -77,8 +89,8 @@ fn place_at(examples: &[usize], site: usize) -> usize {
     }
 }
 
-/// The place of the first race at each site among the lines, by the number of the site.
-pub(crate) fn find_examples(alloc: Global, lines: &[Line]) -> Result<Vec<usize>, AllocError> {
+// The place of the first race at each site among the lines, by the number of the site.
+fn find_examples(alloc: Global, lines: &[Line]) -> Result<Vec<usize>, AllocError> {
     let mut places = Vec::new(alloc);
     for (place, line) in lines.iter().enumerate().rev() {
         if let Line::Race { site, .. } = line {

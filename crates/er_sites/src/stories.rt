@@ -3,7 +3,7 @@ ghost use Rattle.std.specs.Prelude.{◌≡◌, ◌++◌, ◌<◌, ◌≤◌, All
 ghost use Rattle.std.specs.List.{list_any};
 ghost use Rattle.er_report.specs.Lines.{line_view};
 ghost use Rattle.er_report.specs.Names.{HasLabelName, HasLockName, HasLockNames, HasNames, HasReasonNames};
-ghost use Rattle.er_sites.specs.Text.{deed_text, example_text, failed_lock_text, head_text, held_text, holds_text, title_text, mode_text, reason_text, so_by, so_text, story_text, unordered_text, unprotected_text, is_without};
+ghost use Rattle.er_sites.specs.Text.{deed_text, example_text, failed_lock_text, head_text, held_text, holds_text, title_text, mode_text, no_lock_text, reason_text, so_by, so_text, story_text, unordered_text, unprotected_text, is_without};
 
 use crate::names::{put_access, put_did, put_line, put_lock, put_site, put_thread};
 use crate::standing::put_where;
@@ -87,14 +87,22 @@ fn put_locks(
     ensures { OnOk result (out.new.items ≡ out.old.items ++ holds_text names.now line thread explained.now locks.now) }
 {
     if locks.is_empty() {
-        out.extend_from_slice(b"  ")?;
-        put_thread(out, names, thread)?;
-        return out.extend_from_slice(b" held no lock\n");
+        return put_no_lock(out, names, thread);
     }
     for lock in locks {
         put_held(out, names, line, thread, explained, *lock)?;
     }
     Ok(())
+}
+
+// Puts that the thread of a race held no lock.
+fn put_no_lock(out: &mut Vec<u8>, names: &Names, thread: ThreadId) -> Result<(), AllocError>
+    requires { thread < length names.now.threads }
+    ensures { OnOk result (out.new.items ≡ out.old.items ++ no_lock_text names.now thread) }
+{
+    out.extend_from_slice(b"  ")?;
+    put_thread(out, names, thread)?;
+    out.extend_from_slice(b" held no lock\n")
 }
 
 // Puts one lock that the thread of a race held.

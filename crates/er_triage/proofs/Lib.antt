@@ -1,3 +1,4 @@
 pub mod FirstLemmas
 pub mod KnownLemmas
 pub mod UnusedLemmas
+pub mod PutLemmas

@@ -17,10 +17,13 @@ target_text (AtWords (Some run)) = codes "words " ++ address_text run.first ++ c
 abbrev pub access_text : NameTable → KnownRace → List ℕ
 access_text names race = name_at names.threads race.thread ++ codes " " ++ kind_text race.kind ++ codes " " ++ address_text race.word
 
+-- how many races a rule takes, and the line of the first of them
+abbrev pub count_text : KnownRace → List ℕ
+count_text race = codes "# races " ++ decimal race.races ++ codes ", first: line " ++ decimal race.line
+
 -- what a rule takes: how many races, and the first of them
 abbrev pub taken_text : NameTable → KnownRace → List ℕ
-taken_text names race =
-    codes "# races " ++ decimal race.races ++ codes ", first: line " ++ decimal race.line ++ codes ", " ++ access_text names race ++ 10 ∷ []
+taken_text names race = count_text race ++ codes ", " ++ access_text names race ++ 10 ∷ []
 
 -- a rule, below a comment that says what it takes
 abbrev pub known_text : NameTable → KnownRace → List ℕ

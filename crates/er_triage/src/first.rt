@@ -1,5 +1,5 @@
 //! A report with the lines of its first races alone.
-ghost use Rattle.std.specs.Prelude.{◌≡◌, All, map, IfOk};
+ghost use Rattle.std.specs.Prelude.{◌≡◌, ◌-◌, ◌||◌, not, nat_lt, cond, All, map, IfOk};
 ghost use Rattle.er_report.specs.Names.{HasNames};
 ghost use Rattle.er_report.specs.Lines.{line_view};
 ghost use Rattle.er_report.specs.Report.{told};
@@ -41,14 +41,28 @@ fn first_lines(alloc: Global, lines: Vec<Line>, most: u64) -> Result<Vec<Line>, 
     let mut kept = Vec::new(alloc);
     let mut left = most;
     for line in lines {
-        if !is_race(&line) {
+        if is_kept(&line, &mut left) {
             kept.push(line)?;
-        } else if left > 0 {
-            left -= 1;
-            kept.push(line)?;
+        } else {
+            drop(line);
         }
     }
     Ok(kept)
+}
+
+// Whether a line is kept. A race is only if some are left, and then one less is.
+fn is_kept(line: &Line, left: &mut u64) -> bool
+    ensures kept { result ≡ (not (is_race line.now) || nat_lt 0 left.old) }
+    ensures left { left.new ≡ cond (is_race line.now) (left.old - 1) left.old }
+{
+    if !is_race(line) {
+        return true;
+    }
+    if *left == 0 {
+        return false;
+    }
+    *left -= 1;
+    true
 }
 
 fn is_race(line: &Line) -> bool

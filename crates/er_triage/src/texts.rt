@@ -3,7 +3,7 @@ ghost use Rattle.std.specs.Prelude.{◌≡◌, ◌<◌, ◌++◌, All, length, o
 ghost use Rattle.er_print.specs.Printed.{kind_text, name_at};
 ghost use Rattle.er_rules.specs.Rules.{AtSite, AtWords, target_of, targets_of};
 ghost use Rattle.er_triage.specs.Known.{race_target, IsNamed};
-ghost use Rattle.er_triage.specs.Texts.{access_text, known_text, known_races_text, left_out_text, taken_text, target_text, unused_from, unused_line};
+ghost use Rattle.er_triage.specs.Texts.{access_text, count_text, known_text, known_races_text, left_out_text, taken_text, target_text, unused_from, unused_line};
 
 use crate::known::{KnownRace, name_of};
 use er_event::{Kind, ThreadId, Word};
@@ -76,13 +76,20 @@ fn put_taken(out: &mut Vec<u8>, names: &Names, race: &KnownRace) -> Result<(), A
     requires { IsNamed names.now race.now }
     ensures { OnOk result (out.new.items ≡ out.old.items ++ taken_text names.now race.now) }
 {
-    out.extend_from_slice(b"# races ")?;
-    put_number(out, race.races)?;
-    out.extend_from_slice(b", first: line ")?;
-    put_number(out, race.line)?;
+    put_count(out, race)?;
     out.extend_from_slice(b", ")?;
     put_access(out, names, race)?;
     out.extend_from_slice(b"\n")
+}
+
+// Puts how many races a rule takes, and the line of the first of them.
+fn put_count(out: &mut Vec<u8>, race: &KnownRace) -> Result<(), AllocError>
+    ensures { OnOk result (out.new.items ≡ out.old.items ++ count_text race.now) }
+{
+    out.extend_from_slice(b"# races ")?;
+    put_number(out, race.races)?;
+    out.extend_from_slice(b", first: line ")?;
+    put_number(out, race.line)
 }
 
 // Puts who did what to which word.

@@ -1,7 +1,8 @@
 -- The rules are those of the races of all lines.
-use Rattle.std.proofs.Common.{◌≡◌, ◌≤◌, ◌∙◌, [], ap, sym, subst, List, All, length, map, arith}
+use Rattle.std.proofs.Common.{◌≡◌, ◌≤◌, ◌∙◌, [], ◌∷◌, ◌++◌, ap, sym, subst, List, All, length, map, take, arith}
 use Rattle.std.specs.List.{fold}
-use Rattle.std.proofs.lemmas.List.{take_all}
+use Rattle.std.proofs.lemmas.List.{take_all, take_more}
+use Rattle.std.proofs.lemmas.List.Sums.{fold_push}
 use Rattle.er_report.specs.declared.report.Line.{Line}
 use Rattle.er_rules.specs.Rules.{Target}
 use Rattle.er_triage.specs.Known.{IsTaken, rules_of, known_target, with_rule}
@@ -15,3 +16,16 @@ returns-clause-taken c =
     c.loop-line.invariant.known ∙ c.loop-line.invariant.rules
     ∙ ap (λ (lines : List Line). fold (with_rule c.args.names.now) [] lines) (take_all c.loop-line.line-index c.args.lines.now past) in
     subst (λ (rules : List Target). All (IsTaken c.args.names.now rules) c.args.lines.now) (sym all) (all_taken c.args.names.now c.args.lines.now)
+
+pub loop-line-preserved : goal.loop-line-preserved
+loop-line-preserved c =
+    let lines : List Line = take c.loop-line.line-index c.args.lines.now in
+    record {
+      known = c.in_ok-add_line.ensures.known;
+      rules = c.in_ok-add_line.ensures.rules
+          ∙ ap (λ (rules : List Target). with_rule c.args.names.now rules c.line-item.result) c.loop-line.invariant.rules
+          ∙ sym (fold_push (with_rule c.args.names.now) [] lines c.line-item.result)
+          ∙ ap (λ (line : Line). fold (with_rule c.args.names.now) [] (lines ++ line ∷ [])) c.line-item.is
+          ∙ ap (fold (with_rule c.args.names.now) []) (sym (take_more c.args.lines.now c.loop-line.line-index c.line-item.result c.loop-line-test.true));
+      named = c.in_ok-add_line.ensures.named c.loop-line.invariant.named;
+    }
