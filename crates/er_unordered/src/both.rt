@@ -14,7 +14,7 @@ ghost use Rattle.er_unordered.specs.declared.replay.Analysis.TheVariants.{Both};
 use crate::OrderFault;
 use crate::building::OrderBuilder;
 use crate::passes::BATCH_LINES;
-use crate::stopping::read_rest;
+use crate::stopping::fault_behind;
 use er_batch::{Options, Progress, Watch, answer_batch};
 use er_before::OrderMachine;
 use er_device::Device;
@@ -125,19 +125,25 @@ impl<'t, 'r> BothPass<'t, 'r> {
         ensures taken { taken_of reader.new + taken_by self.old.lines.place ≤ taken_of reader.old + taken_by self.new.lines.place }
         ensures most { taken_by self.new.lines.place ≤ self.new.lines.place.limit + bytes_past_limit }
     {
-        let batch = self.lines.next_batch(reader, &mut self.trace, BATCH_LINES)?;
-        self.stop = answer_batch(
+        let batch = match self.lines.next_batch(reader, &mut self.trace, BATCH_LINES) {
+            Ok(batch) => batch,
+            Err(fault) => return Err(OrderFault::Read(fault)),
+        };
+        let stop = answer_batch(
             rt,
             &mut self.machine,
             &self.trace,
             &mut self.builder,
             self.stop,
-        )?;
+        );
+        self.stop = match stop {
+            Ok(stop) => stop,
+            Err(AllocError) => return Err(OrderFault::Memory),
+        };
         match self.unordered.answer(&mut self.ordering, &self.trace) {
             Ok(()) => {}
             Err(OrderFault::CountFull) => {
-                read_rest(&mut self.lines, &mut self.trace, reader, batch)?;
-                return Err(OrderFault::CountFull);
+                return Err(fault_behind(&mut self.lines, &mut self.trace, reader, batch));
             }
             // Otherwise memory was refused.
             Err(_) => return Err(OrderFault::Memory),
