@@ -304,14 +304,18 @@ fn report_with<R: Wait, D: Read, V: Watch>(
     ensures failed { FailsBy (has_failed reader.new) false result }
     ensures taken { taken_of reader.new ≤ taken_of reader.old + options.now.byte_limit + bytes_past_limit }
 {
-    let mut pass = BothPass::new(
+    let pass = BothPass::new(
         alloc,
         table,
         suppressions,
         options.byte_limit,
         options.explain,
         options.keys,
-    )?;
+    );
+    let mut pass = match pass {
+        Ok(pass) => pass,
+        Err(AllocError) => return Err(OrderFault::Memory),
+    };
     let ran = pass.run(rt, reader, watcher);
     watcher.end();
     match ran {
