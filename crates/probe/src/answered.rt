@@ -4,7 +4,7 @@ use std::io;
 use std::rt::Runtime;
 
 /// What a call is answered.
-#[derive(Clone, Copy, Debug, PartialEq, Eq)]
+#[derive(Clone, Copy, PartialEq, Eq)]
 pub(crate) enum Answered {
     Done,
     Quiet,
@@ -100,8 +100,13 @@ impl Tally {
         Ok(Tally::of(answered))
     }
 
-    /// Prints the answers that are left.
-    pub(crate) fn print<R: Runtime>(self, rt: &R) -> io::Result<()> {
+    /// Prints the answers that are left, and ends the line.
+    pub(crate) fn print_line<R: Runtime>(self, rt: &R) -> io::Result<()> {
+        self.print(rt)?;
+        rt.println("")
+    }
+
+    fn print<R: Runtime>(self, rt: &R) -> io::Result<()> {
         print_answered(rt, self.answered)?;
         if self.count > 1 {
             print!(rt; " x{}", self.count)?;

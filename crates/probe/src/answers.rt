@@ -116,16 +116,8 @@ pub(crate) fn put_access(
 
 pub(crate) fn put_event(out: &mut String, event: Event) -> Result<(), AllocError> {
     match event {
-        Event::Acquire(lock, mode) => {
-            out.push_str("acquire ")?;
-            put_lock(out, lock)?;
-            write!(out, " {}", mode_text(mode))
-        }
-        Event::Release(lock, mode) => {
-            out.push_str("release ")?;
-            put_lock(out, lock)?;
-            write!(out, " {}", mode_text(mode))
-        }
+        Event::Acquire(lock, mode) => put_in_mode(out, "acquire ", lock, mode),
+        Event::Release(lock, mode) => put_in_mode(out, "release ", lock, mode),
         Event::Access(kind, word, site) => put_access(out, kind, word.address(), site),
         Event::Reuse(range) => write!(
             out,
@@ -139,6 +131,13 @@ pub(crate) fn put_event(out: &mut String, event: Event) -> Result<(), AllocError
         Event::Level(level) => write!(out, "level {}", level.number()),
         Event::Sync(sync) => put_sync(out, sync),
     }
+}
+
+fn put_in_mode(out: &mut String, verb: &str, lock: LockId, mode: Mode) -> Result<(), AllocError> {
+    out.push_str(verb)?;
+    put_lock(out, lock)?;
+    out.push_str(" ")?;
+    out.push_str(mode_text(mode))
 }
 
 fn put_sync(out: &mut String, sync: Sync) -> Result<(), AllocError> {

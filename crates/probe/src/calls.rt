@@ -20,21 +20,40 @@ pub(crate) enum Call {
 /// The call that these words ask for.
 pub(crate) fn call_of(words: &[&str]) -> Option<Call> {
     match words {
-        ["acquire", lock, mode] => Some(Call::Acquire(lock_of(lock)?, mode_of(mode)?)),
-        ["release", lock, mode] => Some(Call::Release(lock_of(lock)?, mode_of(mode)?)),
         ["ignore-on"] => Some(Call::IgnoreOn),
         ["ignore-off"] => Some(Call::IgnoreOff),
-        ["level", level] => Some(Call::Level(number_of(level)?)),
-        ["start", thread] => Some(Call::Sync(Sync::Start(thread_of(thread)?))),
-        ["join", thread] => Some(Call::Sync(Sync::Join(thread_of(thread)?))),
-        ["signal", object] => Some(Call::Sync(Sync::Signal(lock_of(object)?))),
-        ["await", object] => Some(Call::Sync(Sync::Await(lock_of(object)?))),
-        ["reuse", address, size] => Some(Call::Reuse(number_of(address)?, number_of(size)?)),
-        ["show", address] => Some(Call::Show(number_of(address)?)),
-        [kind, address, site @ ..] => {
-            Some(Call::Access(kind_of(kind)?, number_of(address)?, site_of(site)?))
-        }
+        [verb, operand] => call_on(verb, operand),
+        [verb, operand, detail] => detailed_call_on(verb, operand, detail),
         _ => None,
+    }
+}
+
+fn call_on(verb: &str, operand: &str) -> Option<Call> {
+    match verb {
+        "level" => Some(Call::Level(number_of(operand)?)),
+        "show" => Some(Call::Show(number_of(operand)?)),
+        "start" | "join" | "signal" | "await" => Some(Call::Sync(sync_of(verb, operand)?)),
+        _ => Some(Call::Access(kind_of(verb)?, number_of(operand)?, Site::MISSING)),
+    }
+}
+
+fn sync_of(verb: &str, operand: &str) -> Option<Sync> {
+    match verb {
+        "start" => Some(Sync::Start(thread_of(operand)?)),
+        "join" => Some(Sync::Join(thread_of(operand)?)),
+        "signal" => Some(Sync::Signal(lock_of(operand)?)),
+        "await" => Some(Sync::Await(lock_of(operand)?)),
+        _ => None,
+    }
+}
+
+// The same with a mode, a size or a site.
+fn detailed_call_on(verb: &str, operand: &str, detail: &str) -> Option<Call> {
+    match verb {
+        "acquire" => Some(Call::Acquire(lock_of(operand)?, mode_of(detail)?)),
+        "release" => Some(Call::Release(lock_of(operand)?, mode_of(detail)?)),
+        "reuse" => Some(Call::Reuse(number_of(operand)?, number_of(detail)?)),
+        _ => Some(Call::Access(kind_of(verb)?, number_of(operand)?, site_of(detail)?)),
     }
 }
 

@@ -11,6 +11,8 @@ use crate::shown::now_shown;
 use er_detector::{Config, Detector};
 use er_seat::Seat;
 use er_table::LocksetTable;
+use std::alloc::AllocError;
+use std::io;
 use std::rt::Runtime;
 use std::sync::Wait;
 
@@ -78,9 +80,12 @@ pub(crate) fn detector_rows<R: Runtime + AllocGlobal + Wait>(
         return Err(Fault::Row(1));
     };
     let table = table_of(rt, count_of(sets))?;
-    play(rt, &table, first, second, rows)
+    let played = play(rt, &table, first, second, rows);
+    drop(table);
+    played
 }
 
+// This function makes the detectors, the next one owns them with the seats, and the one below borrows all.
 fn play<R: Runtime + AllocGlobal + Wait>(
     rt: &R,
     table: &LocksetTable,
@@ -89,22 +94,69 @@ fn play<R: Runtime + AllocGlobal + Wait>(
     rows: &[Row<'_>],
 ) -> Result<(), Fault> {
     let a = Detector::new(rt.alloc(), table, first)?;
-    let b = Detector::new(rt.alloc(), table, second)?;
+    match Detector::new(rt.alloc(), table, second) {
+        Ok(b) => play_with(rt, table, a, b, rows),
+        Err(AllocError) => {
+            drop(a);
+            Err(Fault::Memory)
+        }
+    }
+}
+
+fn play_with<'t, R: Runtime + AllocGlobal + Wait>(
+    rt: &R,
+    table: &'t LocksetTable,
+    a: Detector<'t>,
+    b: Detector<'t>,
+    rows: &[Row<'_>],
+) -> Result<(), Fault> {
     let mut seats = Vec::new(rt.alloc());
     let scene = Scene {
         a: &a,
         b: &b,
         table,
     };
-    let ending = play_all(rt, scene, &mut seats, rows)?;
-    let line = last_line(rows);
+    let ending = play_all(rt, scene, &mut seats, rows);
     match ending {
-        Ending::Open => Ok(()),
-        Ending::Settle(Side::A, places) => end(rt, a, seats, Some(places), line),
-        Ending::Settle(Side::B, places) => end(rt, b, seats, Some(places), line),
-        Ending::Parts(Side::A) => end(rt, a, seats, None, line),
-        Ending::Parts(Side::B) => end(rt, b, seats, None, line),
+        Ok(Ending::Settle(side, places)) => {
+            end(
+                rt,
+                detector_at(side, a, b),
+                seats,
+                Some(places),
+                last_line(rows),
+            )
+        }
+        Ok(Ending::Parts(side)) => end(rt, detector_at(side, a, b), seats, None, last_line(rows)),
+        Ok(Ending::Open) => {
+            let_go(a, b, seats);
+            Ok(())
+        }
+        Err(fault) => {
+            let_go(a, b, seats);
+            Err(fault)
+        }
     }
+}
+
+// The detector of a side. The other one is let go of.
+fn detector_at<'t>(side: Side, a: Detector<'t>, b: Detector<'t>) -> Detector<'t> {
+    match side {
+        Side::A => {
+            drop(b);
+            a
+        }
+        Side::B => {
+            drop(a);
+            b
+        }
+    }
+}
+
+fn let_go(a: Detector<'_>, b: Detector<'_>, seats: Vec<Option<Seat>>) {
+    drop(seats);
+    drop(b);
+    drop(a);
 }
 
 fn last_line(rows: &[Row<'_>]) -> usize {
@@ -251,16 +303,19 @@ fn make_times<R: Runtime + AllocGlobal + Wait>(
             return Err(Fault::Row(line));
         };
         let answered = make_or_again(rt, scene, seats, &raised, line)?;
-        tally = match tally {
-            None => Some(Tally::of(answered)),
-            Some(before) => Some(before.and(rt, answered)?),
-        };
+        tally = Some(tally_with(rt, tally, answered)?);
     }
     match tally {
-        Some(tally) => tally.print(rt)?,
-        None => return Err(Fault::Row(line)),
+        Some(tally) => Ok(tally.print_line(rt)?),
+        None => Err(Fault::Row(line)),
     }
-    Ok(println!(rt; "")?)
+}
+
+fn tally_with<R: Runtime>(rt: &R, tally: Option<Tally>, answered: Answered) -> io::Result<Tally> {
+    match tally {
+        None => Ok(Tally::of(answered)),
+        Some(before) => before.and(rt, answered),
+    }
 }
 
 // Makes an act, and once more if it was refused for want of memory.
@@ -293,13 +348,13 @@ pub(crate) fn report_refused<R: Runtime>(
     line: usize,
 ) -> Result<(), Fault> {
     let left = if is_same { "unchanged" } else { "changed" };
-    match answered {
+    let reported = match answered {
         Answered::Stopped(address, _) => {
-            eprintln!(rt; "line {line}: stopped at {address:#x} for want of memory, {left}")?
+            eprintln!(rt; "line {line}: stopped at {address:#x} for want of memory, {left}")
         }
-        _ => eprintln!(rt; "line {line}: out of memory, {left}")?,
-    }
-    Ok(())
+        _ => eprintln!(rt; "line {line}: out of memory, {left}"),
+    };
+    Ok(reported?)
 }
 
 // What is left to be done of an act: a reuse goes on where it stopped.

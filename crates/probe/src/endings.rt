@@ -1,8 +1,8 @@
 //! The last row of detectors: settling, or their shards out of their locks.
-use crate::Fault;
 use crate::answers::{put_event, put_reply};
 use crate::detectors::{Side, side_of};
 use crate::rows::place_of;
+use crate::{Fault, print_line};
 use er_detector::{Detector, Parts, Run, settle};
 use er_event::{Reply, Step};
 use er_seat::Seat;
@@ -38,14 +38,44 @@ pub(crate) fn end<R: Runtime + AllocGlobal>(
     places: Option<&[&str]>,
     line: usize,
 ) -> Result<(), Fault> {
-    let text = match places {
-        Some(places) => {
-            let seats = chosen(rt.alloc(), seats, places, line)?;
-            settled(rt.alloc(), detector, seats)?
+    match places {
+        Some(places) => print_settled(rt, detector, seats, places, line),
+        None => {
+            drop(seats);
+            print_parts(rt, detector)
         }
-        None => parted(rt.alloc(), detector)?,
-    };
-    Ok(rt.println(text.as_str())?)
+    }
+}
+
+fn print_settled<R: Runtime + AllocGlobal>(
+    rt: &R,
+    detector: Detector<'_>,
+    seats: Vec<Option<Seat>>,
+    places: &[&str],
+    line: usize,
+) -> Result<(), Fault> {
+    match chosen(rt.alloc(), seats, places, line) {
+        Ok(seats) => print_text(rt, settled(rt.alloc(), detector, seats)),
+        Err(fault) => {
+            drop(detector);
+            Err(fault)
+        }
+    }
+}
+
+fn print_parts<R: Runtime + AllocGlobal>(rt: &R, detector: Detector<'_>) -> Result<(), Fault> {
+    print_text(rt, parted(rt.alloc(), detector))
+}
+
+fn print_text<R: Runtime>(rt: &R, text: Result<String, AllocError>) -> Result<(), Fault> {
+    match text {
+        Ok(text) => {
+            let printed = print_line(rt, text.as_str());
+            drop(text);
+            printed
+        }
+        Err(AllocError) => Err(Fault::Memory),
+    }
 }
 
 // The seats at these places, in this order.
@@ -56,10 +86,27 @@ fn chosen(
     line: usize,
 ) -> Result<Vec<Seat>, Fault> {
     let mut found = Vec::new(alloc);
-    for place in places {
-        choose(&mut seats, place_of(place), &mut found, line)?;
+    let choice = choose_all(&mut seats, places, &mut found, line);
+    drop(seats);
+    match choice {
+        Ok(()) => Ok(found),
+        Err(fault) => {
+            drop(found);
+            Err(fault)
+        }
     }
-    Ok(found)
+}
+
+fn choose_all(
+    seats: &mut Vec<Option<Seat>>,
+    places: &[&str],
+    found: &mut Vec<Seat>,
+    line: usize,
+) -> Result<(), Fault> {
+    for place in places {
+        choose(seats, place_of(place), found, line)?;
+    }
+    Ok(())
 }
 
 fn choose(
@@ -87,7 +134,11 @@ fn choose(
 // The run, or why there is none.
 fn settled(alloc: Global, detector: Detector<'_>, seats: Vec<Seat>) -> Result<String, AllocError> {
     match settle(alloc, detector, seats) {
-        Ok(run) => run_text(alloc, &run),
+        Ok(run) => {
+            let text = run_text(alloc, &run);
+            drop(run);
+            text
+        }
         Err(fault) => String::from_str(alloc, fault.text()),
     }
 }
@@ -111,7 +162,9 @@ fn put_step(out: &mut String, step: Step, reply: &Reply) -> Result<(), AllocErro
 
 fn parted(alloc: Global, detector: Detector<'_>) -> Result<String, AllocError> {
     let parts = detector.into_parts()?;
-    parts_text(alloc, &parts)
+    let text = parts_text(alloc, &parts);
+    drop(parts);
+    text
 }
 
 fn parts_text(alloc: Global, parts: &Parts<'_>) -> Result<String, AllocError> {

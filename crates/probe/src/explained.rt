@@ -66,7 +66,11 @@ fn put_found(
     place: u64,
 ) -> Result<(), AllocError> {
     match explain(alloc, steps, place)? {
-        Some(explanation) => put_explanation(out, &explanation),
+        Some(explanation) => {
+            let put = put_explanation(out, &explanation);
+            drop(explanation);
+            put
+        }
         None => out.push_str("no race"),
     }
 }
@@ -98,8 +102,14 @@ fn found_races(alloc: Global, steps: &[Step]) -> Result<Vec<Explanation>, AllocE
 
 fn put_races(alloc: Global, out: &mut String, steps: &[Step]) -> Result<(), AllocError> {
     let found = found_races(alloc, steps)?;
+    let put = put_explanations(out, found.as_slice());
+    drop(found);
+    put
+}
+
+fn put_explanations(out: &mut String, found: &[Explanation]) -> Result<(), AllocError> {
     write!(out, "races {}", found.len())?;
-    for explanation in &found {
+    for explanation in found {
         out.push_str("; ")?;
         put_explanation(out, explanation)?;
     }
@@ -136,7 +146,9 @@ fn is_accepted(
         write: claim.write,
         uncovered,
     };
-    check_explanation(alloc, steps, place, &explanation)
+    let is_accepted = check_explanation(alloc, steps, place, &explanation);
+    drop(explanation);
+    is_accepted
 }
 
 // The locks and places of these words, unless one of them is none.

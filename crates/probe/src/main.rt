@@ -20,7 +20,7 @@ mod steps;
 mod values;
 
 use detectors::detector_rows;
-use rows::{count_of, rows_of};
+use rows::{Row, count_of, rows_of};
 use std::alloc::{AllocError, AllocFailed};
 use std::io;
 use std::io::ErrorKind;
@@ -62,6 +62,11 @@ impl From<io::Error> for Fault {
     }
 }
 
+/// Prints a text and the end of its line.
+pub(crate) fn print_line<R: Runtime>(rt: &R, text: &str) -> Result<(), Fault> {
+    Ok(rt.println(text)?)
+}
+
 fn main(rt: HostRuntime) -> ExitCode {
     match probe(&rt) {
         Ok(()) => ExitCode::from(0),
@@ -83,8 +88,26 @@ fn main(rt: HostRuntime) -> ExitCode {
 // Goes over all rows, as the first of them says.
 fn probe<R: Runtime + AllocGlobal + Threads + Wait + Sync>(rt: &R) -> Result<(), Fault> {
     let text = io::read_to_string(rt.alloc(), rt.reader())?;
-    let rows = rows_of(rt.alloc(), text.as_str())?;
-    let [head, rows @ ..] = rows.as_slice() else {
+    let played = play_text(rt, text.as_str());
+    drop(text);
+    played
+}
+
+fn play_text<R: Runtime + AllocGlobal + Threads + Wait + Sync>(
+    rt: &R,
+    text: &str,
+) -> Result<(), Fault> {
+    let rows = rows_of(rt.alloc(), text)?;
+    let played = play(rt, rows.as_slice());
+    drop(rows);
+    played
+}
+
+fn play<R: Runtime + AllocGlobal + Threads + Wait + Sync>(
+    rt: &R,
+    rows: &[Row<'_>],
+) -> Result<(), Fault> {
+    let [head, rows @ ..] = rows else {
         return Err(Fault::Row(1));
     };
     match head.words.as_slice() {

@@ -1,12 +1,13 @@
 //! Questions to detectors, seats and shards, which change nothing.
-use crate::Fault;
 use crate::answers::{kind_text, put_event, put_locks, put_reply, put_state};
 use crate::detectors::{Scene, Side, side_of};
 use crate::rows::{count_of, number_of, place_of};
+use crate::{Fault, print_line};
 use er_detector::Detector;
 use er_event::Word;
-use er_journal::{Call, Entry, Stamp, What};
+use er_journal::{BriefReply, Call, Entry, Stamp, What};
 use er_seat::Seat;
+use er_table::LocksetTable;
 use std::alloc::AllocError;
 use std::fmt::Write;
 use std::rt::Runtime;
@@ -34,14 +35,20 @@ pub(crate) fn question_of(words: &[&str]) -> Option<Question> {
     match words {
         ["seat", place] => Some(Question::Seat(place_of(place)?)),
         ["calls", place] => Some(Question::Calls(place_of(place)?)),
-        ["entries", side, shard] => Some(Question::Entries(side_of(side)?, count_of(shard)?)),
-        ["journal", side, shard] => Some(Question::Journal(side_of(side)?, count_of(shard)?)),
-        ["state", side, address] => Some(Question::State(side_of(side)?, number_of(address)?)),
-        ["shard-of", side, address] => {
-            Some(Question::ShardOf(side_of(side)?, number_of(address)?))
-        }
         ["races", side] => Some(Question::Races(side_of(side)?)),
         ["sets"] => Some(Question::Sets),
+        [verb, side, number] => number_question_of(verb, side_of(side)?, number),
+        _ => None,
+    }
+}
+
+// A question to a detector, about one of its shards or an address.
+fn number_question_of(verb: &str, side: Side, number: &str) -> Option<Question> {
+    match verb {
+        "entries" => Some(Question::Entries(side, count_of(number)?)),
+        "journal" => Some(Question::Journal(side, count_of(number)?)),
+        "state" => Some(Question::State(side, number_of(number)?)),
+        "shard-of" => Some(Question::ShardOf(side, number_of(number)?)),
         _ => None,
     }
 }
@@ -54,12 +61,19 @@ pub(crate) fn ask<R: Runtime + AllocGlobal + Wait>(
     question: Question,
     line: usize,
 ) -> Result<(), Fault> {
-    let answer = match answer_to(rt, scene, seats, question) {
-        Err(AllocError) => answer_to(rt, scene, seats, question)?,
-        Ok(answer) => answer,
-    };
+    match answer_to(rt, scene, seats, question) {
+        Ok(answer) => print_answer(rt, answer, line),
+        Err(AllocError) => print_answer(rt, answer_to(rt, scene, seats, question)?, line),
+    }
+}
+
+fn print_answer<R: Runtime>(rt: &R, answer: Option<String>, line: usize) -> Result<(), Fault> {
     match answer {
-        Some(text) => Ok(rt.println(text.as_str())?),
+        Some(text) => {
+            let printed = print_line(rt, text.as_str());
+            drop(text);
+            printed
+        }
         None => Err(Fault::Row(line)),
     }
 }
@@ -72,29 +86,50 @@ fn answer_to<R: AllocGlobal + Wait>(
     question: Question,
 ) -> Result<Option<String>, AllocError> {
     let mut out = String::new(rt.alloc());
-    let is_there = match question {
-        Question::Seat(place) => match seats.get(place) {
-            Some(Some(seat)) => put_seat(&mut out, seat)?,
-            _ => false,
-        },
-        Question::Calls(place) => match seats.get(place) {
-            Some(Some(seat)) => put_calls(&mut out, seat.calls())?,
-            _ => false,
-        },
-        Question::Entries(side, shard) => put_count(rt, &mut out, scene.at(side), shard)?,
-        Question::Journal(side, shard) => put_journal(rt, &mut out, scene.at(side), shard)?,
-        Question::State(side, address) => put_word(rt, &mut out, scene.at(side), address)?,
-        Question::ShardOf(side, address) => put_place(&mut out, scene.at(side), address)?,
-        Question::Races(side) => put_entries(&mut out, scene.at(side).races(rt)?.as_slice())?,
-        Question::Sets => {
-            write!(out, "{}", scene.table.sets(rt))?;
-            true
+    match put_asked(rt, &mut out, scene, seats, question) {
+        Ok(true) => Ok(Some(out)),
+        Ok(false) => {
+            drop(out);
+            Ok(None)
         }
-    };
-    Ok(if is_there { Some(out) } else { None })
+        Err(refused) => {
+            drop(out);
+            Err(refused)
+        }
+    }
 }
 
 // Each of these answers whether what it is asked for is there.
+
+fn put_asked<R: AllocGlobal + Wait>(
+    rt: &R,
+    out: &mut String,
+    scene: Scene<'_, '_>,
+    seats: &[Option<Seat>],
+    question: Question,
+) -> Result<bool, AllocError> {
+    match question {
+        Question::Seat(place) => match seats.get(place) {
+            Some(Some(seat)) => put_seat(out, seat),
+            _ => Ok(false),
+        },
+        Question::Calls(place) => match seats.get(place) {
+            Some(Some(seat)) => put_calls(out, seat.calls()),
+            _ => Ok(false),
+        },
+        Question::Entries(side, shard) => put_count(rt, out, scene.at(side), shard),
+        Question::Journal(side, shard) => put_journal(rt, out, scene.at(side), shard),
+        Question::State(side, address) => put_word(rt, out, scene.at(side), address),
+        Question::ShardOf(side, address) => put_place(out, scene.at(side), address),
+        Question::Races(side) => put_races(rt, out, scene.at(side)),
+        Question::Sets => put_sets(rt, out, scene.table),
+    }
+}
+
+fn put_sets<R: Wait>(rt: &R, out: &mut String, table: &LocksetTable) -> Result<bool, AllocError> {
+    write!(out, "{}", table.sets(rt))?;
+    Ok(true)
+}
 
 fn put_seat(out: &mut String, seat: &Seat) -> Result<bool, AllocError> {
     write!(
@@ -130,11 +165,18 @@ fn put_calls(out: &mut String, calls: &[Call]) -> Result<bool, AllocError> {
 fn put_call(out: &mut String, call: &Call) -> Result<(), AllocError> {
     put_event(out, call.event())?;
     out.push_str(" ")?;
-    put_reply(out, &call.reply().reply())?;
+    put_brief(out, &call.reply())?;
     match call.ticket() {
         Some(ticket) => write!(out, " ticket {ticket}"),
         None => Ok(()),
     }
+}
+
+fn put_brief(out: &mut String, reply: &BriefReply) -> Result<(), AllocError> {
+    let reply = reply.reply();
+    let put = put_reply(out, &reply);
+    drop(reply);
+    put
 }
 
 fn put_count<R: Wait>(
@@ -162,6 +204,17 @@ fn put_journal<R: Wait>(
     }
     let shard = detector.shard(rt, number);
     put_entries(out, shard.journal())
+}
+
+fn put_races<R: Wait>(
+    rt: &R,
+    out: &mut String,
+    detector: &Detector<'_>,
+) -> Result<bool, AllocError> {
+    let races = detector.races(rt)?;
+    let put = put_entries(out, races.as_slice());
+    drop(races);
+    put
 }
 
 /// Entries, oldest first, or `none`.
@@ -195,7 +248,7 @@ fn put_entry(out: &mut String, entry: &Entry) -> Result<(), AllocError> {
         )?,
     }
     out.push_str(" ")?;
-    put_reply(out, &entry.reply.reply())
+    put_brief(out, &entry.reply)
 }
 
 fn put_stamp(out: &mut String, stamp: &Stamp) -> Result<(), AllocError> {
@@ -222,7 +275,9 @@ fn put_word<R: Wait>(
     };
     let shard = detector.shard(rt, detector.shard_of(word));
     let state = shard.state_of(word)?;
-    put_state(out, &state)?;
+    let put = put_state(out, &state);
+    drop(state);
+    put?;
     Ok(true)
 }
 

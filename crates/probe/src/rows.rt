@@ -12,6 +12,16 @@ pub(crate) struct Row<'a> {
 /// The rows of a text. Empty lines and comments are none.
 pub(crate) fn rows_of(alloc: Global, text: &str) -> Result<Vec<Row<'_>>, AllocError> {
     let mut rows = Vec::new(alloc);
+    match add_rows(alloc, &mut rows, text) {
+        Ok(()) => Ok(rows),
+        Err(refused) => {
+            drop(rows);
+            Err(refused)
+        }
+    }
+}
+
+fn add_rows<'a>(alloc: Global, rows: &mut Vec<Row<'a>>, text: &'a str) -> Result<(), AllocError> {
     let mut line: usize = 0;
     for said in text.lines() {
         line = line.saturating_add(1);
@@ -20,7 +30,7 @@ pub(crate) fn rows_of(alloc: Global, text: &str) -> Result<Vec<Row<'_>>, AllocEr
             rows.push(Row { line, words })?;
         }
     }
-    Ok(rows)
+    Ok(())
 }
 
 fn is_asking(words: &[&str]) -> bool {
@@ -83,11 +93,7 @@ pub(crate) fn kind_of(word: &str) -> Option<Kind> {
     }
 }
 
-/// The site of this number, or the missing one.
-pub(crate) fn site_of(words: &[&str]) -> Option<Site> {
-    match words {
-        [] => Some(Site::MISSING),
-        [number] => Some(Site::new(count_of(number)?)),
-        _ => None,
-    }
+/// A site by its number.
+pub(crate) fn site_of(word: &str) -> Option<Site> {
+    Some(Site::new(count_of(word)?))
 }

@@ -2,7 +2,7 @@
 use crate::answered::Answered;
 use crate::rows::{count_of, kind_of, number_of, thread_of};
 use er_detector::Detector;
-use er_event::{Kind, LockId, Lockset, Refusal, Reply, Site, ThreadId, Word, WordRange};
+use er_event::{Kind, LockId, Lockset, Refusal, Site, ThreadId, Word, WordRange};
 use er_journal::{HeldLocks, Stamp};
 use er_shard::Shard;
 use std::alloc::{AllocError, Global};
@@ -75,18 +75,21 @@ pub(crate) fn raw_of(words: &[&str]) -> Option<Raw> {
     let ["ticket", ticket, "thread", thread, what @ ..] = words else {
         return None;
     };
-    let what = match what {
-        ["reset", address, size] => What::Reset(number_of(address)?, number_of(size)?),
-        [kind, address, "holding", locks @ ..] => {
-            What::Access(kind_of(kind)?, number_of(address)?, locks_of(locks)?)
-        }
-        _ => return None,
-    };
     Some(Raw {
         ticket: number_of(ticket)?,
         thread: thread_of(thread)?,
-        what,
+        what: what_of(what)?,
     })
+}
+
+fn what_of(words: &[&str]) -> Option<What> {
+    match words {
+        ["reset", address, size] => Some(What::Reset(number_of(address)?, number_of(size)?)),
+        [kind, address, "holding", locks @ ..] => {
+            Some(What::Access(kind_of(kind)?, number_of(address)?, locks_of(locks)?))
+        }
+        _ => None,
+    }
 }
 
 impl Raw {
@@ -130,13 +133,20 @@ fn enter<R: Wait + AllocGlobal>(rt: &R, shard: &mut Shard<'_>, raw: Raw) -> Answ
     match raw.what {
         What::Access(kind, address, locks) => {
             match stamp_of(rt.alloc(), raw.thread, kind, address, locks) {
-                Ok(Some(stamp)) => Answered::of_room(&shard.apply(rt, raw.ticket, stamp)),
+                Ok(Some(stamp)) => apply(rt, shard, raw.ticket, stamp),
                 Ok(None) => Answered::Missing,
                 Err(AllocError) => Answered::Refused(Refusal::OutOfMemory),
             }
         }
         What::Reset(address, size) => reset(shard, raw, address, size),
     }
+}
+
+fn apply<R: Wait>(rt: &R, shard: &mut Shard<'_>, ticket: u64, stamp: Stamp) -> Answered {
+    let answer = shard.apply(rt, ticket, stamp);
+    let answered = Answered::of_room(&answer);
+    drop(answer);
+    answered
 }
 
 fn stamp_of(
@@ -149,17 +159,31 @@ fn stamp_of(
     let Ok(word) = Word::of_address(address) else {
         return Ok(None);
     };
-    let held = set_of(alloc, locks.held)?;
-    let write_held = set_of(alloc, locks.write_held)?;
-    let locks = HeldLocks::new(alloc, &held, &write_held)?;
+    let locks = held_of(alloc, locks)?;
     Ok(Some(Stamp::new(thread, word, kind, Site::MISSING, locks)))
+}
+
+fn held_of(alloc: Global, locks: Locks) -> Result<HeldLocks, AllocError> {
+    let held = set_of(alloc, locks.held)?;
+    let both = both_of(alloc, &held, locks.write_held);
+    drop(held);
+    both
+}
+
+fn both_of(alloc: Global, held: &Lockset, write_held: u64) -> Result<HeldLocks, AllocError> {
+    let write_held = set_of(alloc, write_held)?;
+    let both = HeldLocks::new(alloc, held, &write_held);
+    drop(write_held);
+    both
 }
 
 fn reset(shard: &mut Shard<'_>, raw: Raw, address: u64, size: u64) -> Answered {
     match WordRange::of_bytes(address, size) {
         Ok(Some(range)) if range.parts() > 0 => {
-            let reset = shard.reset(raw.ticket, raw.thread, range.part(0));
-            Answered::of_room(&reset.map(|_| Reply::Done))
+            match shard.reset(raw.ticket, raw.thread, range.part(0)) {
+                Ok(()) => Answered::Done,
+                Err(cause) => Answered::Refused(cause.refusal()),
+            }
         }
         _ => Answered::Missing,
     }

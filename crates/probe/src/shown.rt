@@ -5,7 +5,7 @@ use er_seat::Seat;
 use std::sync::Wait;
 
 /// What is there before a call and after it.
-#[derive(Clone, Copy, Debug, PartialEq, Eq)]
+#[derive(Clone, Copy, PartialEq, Eq)]
 pub(crate) struct Shown {
     seats: usize,
     entries: usize,

@@ -1,13 +1,13 @@
 //! Rows of a machine, of the list of its steps, and of what the list explains.
 ghost use Rattle.std.specs.Prelude.{◌≤◌};
 
-use crate::Fault;
 use crate::answered::Answered;
 use crate::answers::{put_answer, put_answers, put_state};
 use crate::calls::{Call, call_of};
 use crate::detectors::{report_refused, table_of};
 use crate::explained::{Question, put_explained, question_of};
 use crate::rows::{Row, count_of, number_of, thread_of};
+use crate::{Fault, print_line};
 use er_event::{Event, Level, Refusal, Reply, Step, ThreadId, Word, WordRange, WordState};
 use er_gate::OpenGate;
 use er_journal::{Answers, Outcome};
@@ -27,7 +27,9 @@ pub(crate) fn step_rows<R: Runtime + AllocGlobal + Threads + Wait + Sync>(
     rows: &[Row<'_>],
 ) -> Result<(), Fault> {
     let table = table_of(rt, sets)?;
-    play_at(rt, &table, rows)
+    let played = play_at(rt, &table, rows);
+    drop(table);
+    played
 }
 
 // One function owns the table, one the machine and one the steps, each with few ways out: that is short to prove.
@@ -37,7 +39,9 @@ fn play_at<R: Runtime + AllocGlobal + Threads + Wait + Sync>(
     rows: &[Row<'_>],
 ) -> Result<(), Fault> {
     let mut machine = Machine::new(rt.alloc(), table)?;
-    play_all(rt, &mut machine, rows)
+    let played = play_all(rt, &mut machine, rows);
+    drop(machine);
+    played
 }
 
 fn play_all<R: Runtime + AllocGlobal + Threads + Wait + Sync>(
@@ -97,14 +101,25 @@ fn take_call<R: Runtime + AllocGlobal + Wait>(
     call: Call,
     line: usize,
 ) -> Result<(), Fault> {
-    let event = match event_of(call) {
-        Ok(Some(event)) => event,
-        Ok(None) => return Ok(rt.println("no step")?),
-        Err(why) => return Ok(rt.println(why.text())?),
-    };
-    steps.push(Step { thread, event })?;
-    let answer = step_or_again(rt, machine, &Step { thread, event }, line)?;
-    print_answer(rt, &answer)
+    match event_of(call) {
+        Ok(Some(event)) => take_step(rt, machine, steps, Step { thread, event }, line),
+        Ok(None) => print_line(rt, "no step"),
+        Err(why) => print_line(rt, why.text()),
+    }
+}
+
+fn take_step<R: Runtime + AllocGlobal + Wait>(
+    rt: &R,
+    machine: &mut Machine<'_>,
+    steps: &mut Vec<Step>,
+    step: Step,
+    line: usize,
+) -> Result<(), Fault> {
+    steps.push(step)?;
+    let answer = step_or_again(rt, machine, &step, line)?;
+    let printed = print_answer(rt, &answer);
+    drop(answer);
+    printed
 }
 
 // The answer's own text may want memory, for which it is asked twice.
@@ -113,11 +128,20 @@ fn print_answer<R: Runtime + AllocGlobal>(
     answer: &Result<Reply, Refusal>,
 ) -> Result<(), Fault> {
     let mut out = String::new(rt.alloc());
-    if put_answer(&mut out, answer).is_err() {
-        out.clear();
-        put_answer(&mut out, answer)?;
+    let printed = match put_or_again(&mut out, answer) {
+        Ok(()) => print_line(rt, out.as_str()),
+        Err(AllocError) => Err(Fault::Memory),
+    };
+    drop(out);
+    printed
+}
+
+fn put_or_again(out: &mut String, answer: &Result<Reply, Refusal>) -> Result<(), AllocError> {
+    if put_answer(out, answer).is_ok() {
+        return Ok(());
     }
-    Ok(rt.println(out.as_str())?)
+    out.clear();
+    put_answer(out, answer)
 }
 
 fn step_or_again<R: Runtime + Wait>(
@@ -130,11 +154,20 @@ fn step_or_again<R: Runtime + Wait>(
     let answer = machine.step(rt, *step);
     let answered = Answered::of_answer(&answer);
     if !answered.lacks_memory() {
+        drop(before);
         return Ok(answer);
     }
-    let is_same = before == state_at(machine, step.event);
+    drop(answer);
+    let is_same = is_state(before, state_at(machine, step.event));
     report_refused(rt, answered, is_same, line)?;
     Ok(machine.step(rt, *step))
+}
+
+fn is_state(before: Option<WordState>, now: Option<WordState>) -> bool {
+    let is_same = before == now;
+    drop(before);
+    drop(now);
+    is_same
 }
 
 // The state of the word that an access touches.
@@ -162,17 +195,21 @@ fn asked_of<'w>(words: &'w [&'w str]) -> Option<Asked<'w>> {
     match words {
         ["state", address] => Some(Asked::State(number_of(address)?)),
         ["run", sets] => Some(Asked::Run(Some(count_of(sets)?))),
-        ["parallel", shards, sets, workers] => Some(Asked::Parallel(
-            ReplayConfig::new(count_of(shards)?, count_of(sets)?),
-            count_of(workers)?,
-        )),
+        ["parallel", shards, sets, workers] => {
+            Some(Asked::Parallel(config_of(shards, sets)?, count_of(workers)?))
+        }
         ["batches", shards, sets, workers, length] => Some(Asked::Batches(
-            ReplayConfig::new(count_of(shards)?, count_of(sets)?),
+            config_of(shards, sets)?,
             count_of(workers)?,
             count_of(length)?,
         )),
         _ => Some(Asked::Explained(question_of(words)?)),
     }
+}
+
+// How a list is replayed, if that is possible, by two numbers.
+fn config_of(shards: &str, sets: &str) -> Option<Option<ReplayConfig>> {
+    Some(ReplayConfig::new(count_of(shards)?, count_of(sets)?))
 }
 
 fn answer<R: Runtime + AllocGlobal + Threads + Wait + Sync>(
@@ -183,27 +220,43 @@ fn answer<R: Runtime + AllocGlobal + Threads + Wait + Sync>(
     line: usize,
 ) -> Result<(), Fault> {
     let mut out = String::new(rt.alloc());
-    let is_there = match asked {
-        Asked::State(address) => put_word(&mut out, machine, address)?,
-        Asked::Run(sets) => put_run(rt, &mut out, steps, sets)?,
-        Asked::Parallel(config, workers) => put_parallel(rt, &mut out, steps, config, workers)?,
-        Asked::Batches(config, workers, length) => {
-            put_batches(rt, &mut out, steps, config, workers, length)?
-        }
-        Asked::Explained(question) => put_explained(rt.alloc(), &mut out, steps, question)?,
+    let printed = match put_asked(rt, &mut out, machine, steps, asked) {
+        Ok(true) => print_line(rt, out.as_str()),
+        Ok(false) => Err(Fault::Row(line)),
+        Err(fault) => Err(fault),
     };
-    if is_there {
-        Ok(rt.println(out.as_str())?)
-    } else {
-        Err(Fault::Row(line))
-    }
+    drop(out);
+    printed
+}
+
+// The answer, or false where the row asks for nothing.
+fn put_asked<R: AllocGlobal + Threads + Wait + Sync>(
+    rt: &R,
+    out: &mut String,
+    machine: &Machine<'_>,
+    steps: &[Step],
+    asked: Asked<'_>,
+) -> Result<bool, Fault> {
+    let put = match asked {
+        Asked::State(address) => put_word(out, machine, address),
+        Asked::Run(sets) => return put_run(rt, out, steps, sets),
+        Asked::Parallel(config, workers) => put_parallel(rt, out, steps, config, workers),
+        Asked::Batches(config, workers, length) => {
+            put_batches(rt, out, steps, config, workers, length)
+        }
+        Asked::Explained(question) => put_explained(rt.alloc(), out, steps, question),
+    };
+    Ok(put?)
 }
 
 fn put_word(out: &mut String, machine: &Machine<'_>, address: u64) -> Result<bool, AllocError> {
     let Ok(word) = Word::of_address(address) else {
         return Ok(false);
     };
-    put_state(out, &machine.state_of(word)?)?;
+    let state = machine.state_of(word)?;
+    let put = put_state(out, &state);
+    drop(state);
+    put?;
     Ok(true)
 }
 
@@ -214,7 +267,9 @@ fn put_run<R: AllocGlobal + Wait>(
     sets: Option<u32>,
 ) -> Result<bool, Fault> {
     let table = table_of(rt, sets)?;
-    put_run_over(rt, &table, out, steps)
+    let put = put_run_over(rt, &table, out, steps);
+    drop(table);
+    Ok(put?)
 }
 
 fn put_run_over<R: AllocGlobal + Wait>(
@@ -222,9 +277,9 @@ fn put_run_over<R: AllocGlobal + Wait>(
     table: &LocksetTable,
     out: &mut String,
     steps: &[Step],
-) -> Result<bool, Fault> {
+) -> Result<bool, AllocError> {
     let outcome = run_anew(rt, table, steps)?;
-    put_outcome(out, &outcome)?;
+    put_all(out, outcome)?;
     Ok(true)
 }
 
@@ -234,7 +289,9 @@ fn run_anew<R: AllocGlobal + Wait>(
     steps: &[Step],
 ) -> Result<Outcome, AllocError> {
     let mut machine = Machine::new(rt.alloc(), table)?;
-    Ok(run_at(rt, &mut machine, steps))
+    let outcome = run_at(rt, &mut machine, steps);
+    drop(machine);
+    Ok(outcome)
 }
 
 // It says nothing of the outcome, so that its caller's proof has little to carry.
@@ -269,11 +326,18 @@ fn put_parallel<R: AllocGlobal + Threads + Wait + Sync>(
     if workers < 1 || workers > 16 {
         return Ok(false);
     }
-    match replay_parallel(rt, rt.alloc(), config, steps, workers, &OpenGate) {
-        Ok(outcome) => put_outcome(out, &outcome)?,
-        Err(fault) => out.push_str(fault_text(fault))?,
-    }
+    let put = match replay_parallel(rt, rt.alloc(), config, steps, workers, &OpenGate) {
+        Ok(outcome) => put_all(out, outcome),
+        Err(fault) => out.push_str(fault_text(fault)),
+    };
+    put?;
     Ok(true)
+}
+
+fn put_all(out: &mut String, outcome: Outcome) -> Result<(), AllocError> {
+    let put = put_outcome(out, &outcome);
+    drop(outcome);
+    put
 }
 
 fn put_batches<R: AllocGlobal + Threads + Wait + Sync>(
@@ -294,10 +358,15 @@ fn put_batches<R: AllocGlobal + Threads + Wait + Sync>(
     let table = LocksetTable::new(rt.alloc(), config.max_sets)?;
     let answers = answers_by_crew(rt, &table, steps, config, workers, length as usize);
     drop(table);
-    match answers {
-        Ok(answers) => put_answers(out, &answers)?,
-        Err(fault) => out.push_str(fault_text(fault))?,
-    }
+    let put = match answers {
+        Ok(answers) => {
+            let put = put_answers(out, &answers);
+            drop(answers);
+            put
+        }
+        Err(fault) => out.push_str(fault_text(fault)),
+    };
+    put?;
     Ok(true)
 }
 

@@ -1,7 +1,7 @@
 //! Rows of values: a set of locks, a packed word, ranges, levels, limits and the texts of refusals.
-use crate::Fault;
 use crate::answers::put_locks;
 use crate::rows::{Row, count_of, kind_of, lock_of, number_of, place_of, thread_of};
+use crate::{Fault, print_line};
 use er_detector::Config;
 use er_event::{Kind, Level, Lockset, Refusal, ThreadId, Word, WordRange};
 use er_owner::{Need, NumberedState, Shadow, advance, need};
@@ -13,9 +13,19 @@ use std::rt::Runtime;
 /// Plays all rows at an empty set of locks and a virgin word.
 pub(crate) fn value_rows<R: Runtime + AllocGlobal>(rt: &R, rows: &[Row<'_>]) -> Result<(), Fault> {
     let mut set = Lockset::new(rt.alloc());
+    let played = play_all(rt, &mut set, rows);
+    drop(set);
+    played
+}
+
+fn play_all<R: Runtime + AllocGlobal>(
+    rt: &R,
+    set: &mut Lockset,
+    rows: &[Row<'_>],
+) -> Result<(), Fault> {
     let mut shadow = Shadow::virgin();
     for row in rows {
-        play_row(rt, &mut set, &mut shadow, row)?;
+        play_row(rt, set, &mut shadow, row)?;
     }
     Ok(())
 }
@@ -27,11 +37,13 @@ fn play_row<R: Runtime + AllocGlobal>(
     row: &Row<'_>,
 ) -> Result<(), Fault> {
     let mut out = String::new(rt.alloc());
-    if put_row(rt.alloc(), &mut out, set, shadow, row.words.as_slice())? {
-        Ok(rt.println(out.as_str())?)
-    } else {
-        Err(Fault::Row(row.line))
-    }
+    let printed = match put_row(rt.alloc(), &mut out, set, shadow, row.words.as_slice()) {
+        Ok(true) => print_line(rt, out.as_str()),
+        Ok(false) => Err(Fault::Row(row.line)),
+        Err(AllocError) => Err(Fault::Memory),
+    };
+    drop(out);
+    printed
 }
 
 // The answer to a row, or false if it asks for nothing.
@@ -61,7 +73,11 @@ fn put_act(
     words: &[&str],
 ) -> Result<bool, AllocError> {
     match locks_of(alloc, words)? {
-        Some(locks) => is_put(put_set(out, set, act, &locks)),
+        Some(locks) => {
+            let put = put_set(out, set, act, &locks);
+            drop(locks);
+            is_put(put)
+        }
         None => Ok(false),
     }
 }
@@ -156,18 +172,23 @@ fn number_asked_of(words: &[&str]) -> Option<Asked> {
         ["word", address] => Some(Asked::Word(address_of(number_of(address)?))),
         ["level", level] => Some(Asked::Word(level_of(number_of(level)?))),
         ["level-lock", lock] => Some(Asked::Is(lock_of(lock)?.is_level_lock())),
-        ["detector", shards, journal, seats] => Some(Asked::Is(Config::new(
-            7,
-            count_of(shards)?,
-            count_of(journal)?,
-            count_of(seats)?,
-        ).is_some())),
-        ["replay", shards, sets] => Some(Asked::Is(ReplayConfig::new(
-            count_of(shards)?,
-            count_of(sets)?,
-        ).is_some())),
+        ["detector", shards, journal, seats] => {
+            Some(Asked::Is(is_detector(shards, journal, seats)?))
+        }
+        ["replay", shards, sets] => Some(Asked::Is(is_replay(shards, sets)?)),
         _ => None,
     }
+}
+
+// Whether these numbers make a detector.
+fn is_detector(shards: &str, journal: &str, seats: &str) -> Option<bool> {
+    let config = Config::new(7, count_of(shards)?, count_of(journal)?, count_of(seats)?);
+    Some(config.is_some())
+}
+
+// Whether they make a replay.
+fn is_replay(shards: &str, sets: &str) -> Option<bool> {
+    Some(ReplayConfig::new(count_of(shards)?, count_of(sets)?).is_some())
 }
 
 fn yes_or_no(is: bool) -> &'static str {
@@ -201,13 +222,28 @@ fn shadow_of(words: &[&str]) -> Option<Shadow> {
 
 fn locks_of(alloc: Global, words: &[&str]) -> Result<Option<Lockset>, AllocError> {
     let mut locks = Lockset::new(alloc);
+    match add_locks(&mut locks, words) {
+        Ok(true) => Ok(Some(locks)),
+        Ok(false) => {
+            drop(locks);
+            Ok(None)
+        }
+        Err(refused) => {
+            drop(locks);
+            Err(refused)
+        }
+    }
+}
+
+// False if a word is no lock.
+fn add_locks(locks: &mut Lockset, words: &[&str]) -> Result<bool, AllocError> {
     for word in words {
         match lock_of(word) {
             Some(lock) => locks.insert(lock)?,
-            None => return Ok(None),
+            None => return Ok(false),
         }
     }
-    Ok(Some(locks))
+    Ok(true)
 }
 
 fn put_set(
@@ -237,9 +273,21 @@ fn put_set(
             let has_all = locks.as_slice().iter().all(|lock| set.contains(*lock));
             out.push_str(yes_or_no(has_all))
         }
-        SetAct::Meet => put_locks(out, &set.intersect(locks)?),
-        SetAct::Equals => out.push_str(yes_or_no(set.copy()? == *locks)),
+        SetAct::Meet => put_owned(out, set.intersect(locks)?),
+        SetAct::Equals => out.push_str(yes_or_no(is_equal(set.copy()?, locks))),
     }
+}
+
+fn put_owned(out: &mut String, locks: Lockset) -> Result<(), AllocError> {
+    let put = put_locks(out, &locks);
+    drop(locks);
+    put
+}
+
+fn is_equal(set: Lockset, locks: &Lockset) -> bool {
+    let is_equal = set == *locks;
+    drop(set);
+    is_equal
 }
 
 fn put_shadow(out: &mut String, shadow: Shadow) -> Result<(), AllocError> {

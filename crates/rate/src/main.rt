@@ -85,7 +85,16 @@ fn main(rt: HostRuntime) -> ExitCode {
 // Does what the command line asks for.
 fn measured<R: Runtime + AllocGlobal + Threads + Wait + Sync>(rt: &R) -> Result<(), Fault> {
     let words: Vec<String> = env::args(rt)?.collect(rt.alloc())?;
-    match words.as_slice() {
+    let told = tell(rt, words.as_slice());
+    drop(words);
+    told
+}
+
+fn tell<R: Runtime + AllocGlobal + Threads + Wait + Sync>(
+    rt: &R,
+    words: &[String],
+) -> Result<(), Fault> {
+    match words {
         [_, verb, rounds] if verb.as_str() == "workloads" => tell_rounds(rt, rounds.as_str()),
         [_, rest @ ..] => tell_rate(rt, rest),
         [] => Err(Fault::Usage),

@@ -129,7 +129,9 @@ fn make_calls<R: Wait>(
 ) -> Result<u32, Refusal>
     ensures { IfOk result (λ races. races ≤ asked.calls) }
 {
-    make_all(rt, detector, asked, &mut seat)
+    let races = make_all(rt, detector, asked, &mut seat);
+    drop(seat);
+    races
 }
 
 // The same at a seat that the caller keeps.
@@ -160,13 +162,19 @@ fn open(detector: &Detector<'_>) -> Result<Seat, Refusal>
     let mut seat = detector.open_seat()?;
     match seat.acquire(LockId::new(1), Mode::Write) {
         Ok(()) => Ok(seat),
-        Err(why) => Err(why),
+        Err(why) => {
+            drop(seat);
+            Err(why)
+        }
     }
 }
 
 // Writes each word once.
 fn write_all<R: Wait>(rt: &R, detector: &Detector<'_>, shape: Shape) -> Result<(), Refusal> {
-    write_all_by(rt, detector, shape, &mut open(detector)?)
+    let mut seat = open(detector)?;
+    let written = write_all_by(rt, detector, shape, &mut seat);
+    drop(seat);
+    written
 }
 
 fn write_all_by<R: Wait>(
@@ -195,10 +203,22 @@ pub(crate) fn take_rate<R: Clock + Threads + Wait + Sync>(
     let shards = asked.shape.shards();
     let config = Config::new(1, shards, Config::MAX_LIMIT, 17).ok_or(Fault::Unexpected)?;
     let table = LocksetTable::new(alloc, 4)?;
-    match Detector::new(alloc, &table, config) {
-        Ok(detector) => rate_at(rt, alloc, &detector, asked),
-        Err(_) => Err(Fault::Memory),
-    }
+    let measured = rate_over(rt, alloc, &table, config, asked);
+    drop(table);
+    measured
+}
+
+fn rate_over<R: Clock + Threads + Wait + Sync>(
+    rt: &R,
+    alloc: Global,
+    table: &LocksetTable,
+    config: Config,
+    asked: Measure,
+) -> Result<Measured, Fault> {
+    let detector = Detector::new(alloc, table, config)?;
+    let measured = rate_at(rt, alloc, &detector, asked);
+    drop(detector);
+    measured
 }
 
 fn rate_at<R: Clock + Threads + Wait + Sync>(
@@ -220,10 +240,22 @@ fn open_all(alloc: Global, detector: &Detector<'_>, threads: u32) -> Result<Vec<
     ensures { IfOk result (λ seats. vec_len seats ≡ threads) }
 {
     let mut seats = Vec::new(alloc);
-    for _ in 0..threads {
-        add_seat(detector, &mut seats)?;
+    match add_seats(detector, &mut seats, threads) {
+        Ok(()) => Ok(seats),
+        Err(fault) => {
+            drop(seats);
+            Err(fault)
+        }
     }
-    Ok(seats)
+}
+
+fn add_seats(detector: &Detector<'_>, seats: &mut Vec<Seat>, threads: u32) -> Result<(), Fault>
+    ensures { OnOk result (vec_len seats.new ≡ vec_len seats.old + threads) }
+{
+    for _ in 0..threads {
+        add_seat(detector, seats)?;
+    }
+    Ok(())
 }
 
 fn add_seat(detector: &Detector<'_>, seats: &mut Vec<Seat>) -> Result<(), Fault>
@@ -231,7 +263,10 @@ fn add_seat(detector: &Detector<'_>, seats: &mut Vec<Seat>) -> Result<(), Fault>
 {
     match seats.push(open(detector)?) {
         Ok(()) => Ok(()),
-        Err(_) => Err(Fault::Memory),
+        Err(refused) => {
+            drop(refused);
+            Err(Fault::Memory)
+        }
     }
 }
 

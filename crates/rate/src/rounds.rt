@@ -47,7 +47,11 @@ fn run_once<R: Threads + Wait + Sync>(
     workload: Workload,
 ) -> Result<Counted, Fault> {
     match run_workload(rt, alloc, workload, &OpenGate) {
-        Ok(run) => Ok(counts(&run)),
+        Ok(run) => {
+            let counted = counts(&run);
+            drop(run);
+            Ok(counted)
+        }
         Err(LoadFault::Refused(Refusal::OutOfMemory)) => Err(Fault::Memory),
         Err(LoadFault::Refused(why)) => Err(Fault::Refused(why)),
         Err(LoadFault::Unsettled(Unsettled::Memory)) => Err(Fault::Memory),
