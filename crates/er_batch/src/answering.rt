@@ -11,16 +11,13 @@ ghost use Rattle.er_text.specs.Named.{KeepsNames};
 ghost use Rattle.er_trace.specs.Names.{NameTable};
 ghost use Rattle.er_trace.specs.Trace.{Recording};
 
-use er_event::{Event, Lockset, NoRoom, Refusal, Reply, Step, Word};
+use er_event::{Event, Lockset, NoRoom, Refusal, Reply, Step};
 use er_journal::Stopped;
 use er_replay::{Machine, no_room};
 use er_report::ReportBuilder;
 use er_trace::{Names, Trace};
 use std::alloc::AllocError;
 use std::sync::Wait;
-
-/// How many steps are looked at ahead, for what the report keeps of their words.
-const AHEAD: usize = 16;
 
 /// Answers the steps of a batch and adds them to the report, and says where the run has stopped. Once it has stopped nothing is added.
 /// Another analysis of the same batches can be made beside it.
@@ -99,26 +96,7 @@ fn add_answer(
     builder.add(names, line, step, answer, held)
 }
 
-// Reads what the report keeps of the words that the next few steps access, so that it comes from memory side by side. It only saves time.
-fn look_ahead(builder: &mut ReportBuilder<'_>, steps: &[Step], at: usize)
-    ensures { builder.new ≡ builder.old }
-{
-    let end = at.saturating_add(AHEAD).min(steps.len());
-    let mut words = [Word::new(0); AHEAD];
-    let mut count = 0;
-    for place in at..end {
-        if let Event::Access(_, word, _) = steps[place].event
-            && count < AHEAD
-        {
-            words[count] = word;
-            count += 1;
-        }
-    }
-    builder.look_ahead(&words[..count]);
-}
-
-// Adds so many steps that have nothing to say, and then one that has, which is the one at place `at` of the batch. At each few steps it looks
-// ahead, but only from an access: behind a step of another kind there may be none that has anything to say.
+// Adds so many steps that have nothing to say, and then one that has.
 fn add_behind(
     builder: &mut ReportBuilder<'_>,
     plain: u64,
@@ -127,8 +105,6 @@ fn add_behind(
     step: &Step,
     answer: &Result<Reply, Refusal>,
     held: &Lockset,
-    steps: &[Step],
-    at: usize,
 ) -> Result<(), AllocError>
     requires room { builder.old.report.steps + plain + 1 < 2 ^ 64 }
     requires site { HasSiteName names.now step.now.event }
@@ -137,9 +113,6 @@ fn add_behind(
     ensures explains { OnOk result (is_some builder.new.kept ≡ is_some builder.old.kept) }
     ensures reported { (r : Recording) (n : ℕ) → Lags builder.old r n plain → IsStepAt r n names.now line step.now answer.now held.now → OnOk result (IsReported builder.new r (n + 1)) }
 {
-    if at % AHEAD == 0 && matches!(step.event, Event::Access(..)) {
-        look_ahead(builder, steps, at);
-    }
     builder.add_plain(plain);
     add_answer(builder, names, line, step, answer, held)?;
     builder.explain(line, step)?;
@@ -181,17 +154,7 @@ fn answer_steps<R: Wait>(
         } else {
             let held = machine.held(step.thread).held();
             let line = trace.lines()[k];
-            add_behind(
-                builder,
-                plain,
-                trace.names(),
-                line,
-                step,
-                &answer,
-                held,
-                steps,
-                k,
-            )?;
+            add_behind(builder, plain, trace.names(), line, step, &answer, held)?;
             plain = 0;
         }
     }

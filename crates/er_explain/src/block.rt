@@ -83,16 +83,6 @@ impl<A: Copy> Block<A> {
         Ok(())
     }
 
-    /// Reads the book of the word at a place, or the last book if it has none: a new one would stand behind that.
-    #[inline(always)]
-    pub(crate) fn bits(&self, place: usize) -> u32
-        requires { place < 128 }
-    {
-        let count = self.books.len();
-        let number = number_at(&self.places, count, place as u8);
-        bits_at(&self.books, number.min(count.saturating_sub(1)))
-    }
-
     /// Empties the books from `lo` to `hi`, both included. Their joinings are spare.
     pub(crate) fn empty(&mut self, spare: &mut Vec<Joint<Access<A>>>, lo: usize, hi: usize)
         requires { hi < 128 }
@@ -122,15 +112,6 @@ fn joining_at<A>(books: &[Book<A>], number: usize) -> Option<&Joint<Access<A>>>
     match books.get(number) {
         Some(book) => book.joining(),
         None => None,
-    }
-}
-
-// Something of what a book says, if there is one of this number.
-#[inline(always)]
-fn bits_at<A: Copy>(books: &[Book<A>], number: usize) -> u32 {
-    match books.get(number) {
-        Some(book) => book.bits(),
-        None => 0,
     }
 }
 

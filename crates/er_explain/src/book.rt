@@ -163,15 +163,6 @@ impl<A: Copy> Joint<A> {
         &self.parts.pairs
     }
 
-    // Something of what it says, to have it at hand.
-    #[inline(always)]
-    fn bits(&self) -> u32 {
-        match self.parts.write {
-            Some(_) => 1,
-            None => 0,
-        }
-    }
-
     // A later access.
     fn go_on(&mut self, locks: &ThreadLocks, at: A, thread: ThreadId, kind: Kind)
         ensures { self.new ≡ gone_on self.old at kind (locks_for (held_by locks.now thread) kind) }
@@ -331,16 +322,6 @@ impl<A: Copy> Book<A> {
             _ => {}
         }
         Ok(())
-    }
-
-    /// Something of what the book says, to have it at hand.
-    #[inline(always)]
-    pub(crate) fn bits(&self) -> u32 {
-        match &self.packed {
-            Packed::Empty => 0,
-            Packed::Alone(_, owner, _) => owner.number(),
-            Packed::Together(joint) => joint.bits(),
-        }
     }
 
     /// The joining of a book that nobody needs, if it has one.

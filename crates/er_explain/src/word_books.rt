@@ -23,9 +23,6 @@ const WORDS: u64 = 128;
 /// How many blocks are found without a hash.
 const HINTS: u64 = 4096;
 
-/// How many words `look_ahead` reads.
-const MOST_AHEAD: usize = 16;
-
 /// A book for each word, as steps go by. An access is named as the caller likes, by its place in a list or by its line, and by its thread and its
 /// kind. Contracts see the books by `book_in`.
 ///
@@ -39,8 +36,6 @@ pub struct WordBooks<A> {
     hints: Vec<u32>,
     // Joinings that nobody needs, for words that are joined later. So a reuse of many words frees nothing and looks at no joining.
     spare: Vec<Joint<Access<A>>>,
-    // What `look_ahead` has read. Nobody asks for it.
-    ahead: u32,
     alloc: Global,
 }
 
@@ -69,40 +64,8 @@ impl<A: Copy> WordBooks<A> {
             blocks: IndexMap::with_hasher(alloc, NumberHasher::new(keys)),
             hints: Vec::new(alloc),
             spare: Vec::new(alloc),
-            ahead: 0,
             alloc,
         }
-    }
-
-    /// Reads the books of some words that will be accessed soon, 16 at most. Nothing waits for what is read, so books of several blocks come
-    /// from memory side by side, and are at hand at their accesses. All blocks are found first: so no look for a block keeps a book waiting.
-    pub fn look_ahead(&mut self, words: &[Word])
-        ensures { self.new ≡ self.old }
-    {
-        let count = words.len().min(MOST_AHEAD);
-        let mut places = [0; MOST_AHEAD];
-        for i in 0..count {
-            places[i] = self.find_block(words[i]);
-        }
-        self.read_ahead(&places, words);
-    }
-
-    // Where the block of a word stands, or some other place if it has none.
-    #[inline(always)]
-    fn find_block(&self, word: Word) -> usize {
-        let number = block_of(word);
-        match index_of_block(&self.blocks, hint(&self.hints, number), number) {
-            Some(index) => index,
-            None => 0,
-        }
-    }
-
-    // Reads the book of a word in each of these blocks.
-    #[inline(always)]
-    fn read_ahead(&mut self, places: &[usize; MOST_AHEAD], words: &[Word])
-        ensures { self.new ≡ self.old }
-    {
-        self.ahead ^= bits_of(&self.blocks, places, words);
     }
 
     /// Goes on by a step, if these are the locks that each thread holds before it. Its access is named so, and by its thread and its kind.
@@ -184,22 +147,6 @@ impl<A: Copy> WordBooks<A> {
             None => None,
         }
     }
-}
-
-// Something of what the books of words in these blocks say, all in one.
-#[inline(always)]
-fn bits_of<A: Copy>(
-    blocks: &IndexMap<u64, Block<A>, NumberHasher>,
-    places: &[usize; MOST_AHEAD],
-    words: &[Word],
-) -> u32 {
-    let mut bits = 0;
-    for (place, word) in places.iter().zip(words) {
-        if let Some((_, block)) = blocks.as_slice().get_index(*place) {
-            bits ^= block.bits(place_of(*word));
-        }
-    }
-    bits
 }
 
 // Makes room for all hints, unless it is there.

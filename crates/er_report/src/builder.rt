@@ -18,7 +18,7 @@ use crate::explainer::Explainer;
 use crate::reasons::{explain_lines, give_reasons};
 use crate::rules::first_rule;
 use crate::{Because, Line, Report};
-use er_event::{Event, Lockset, NoRoom, Refusal, Reply, Step, Word};
+use er_event::{Event, Lockset, NoRoom, Refusal, Reply, Step};
 use er_journal::{Answer, Stopped};
 use er_keys::HashKeys;
 use er_rules::Suppressions;
@@ -128,16 +128,6 @@ impl<'r> ReportBuilder<'r> {
         ensures { result ≡ is_some self.now.kept }
     {
         self.explainer.is_some()
-    }
-
-    /// If reasons are wanted, reads what is kept of some words that will be accessed soon, 16 at most, so that it comes from memory side by
-    /// side. It only saves time.
-    pub fn look_ahead(&mut self, words: &[Word])
-        ensures { self.new ≡ self.old }
-    {
-        if let Some(explainer) = &mut self.explainer {
-            explainer.look_ahead(words);
-        }
     }
 
     /// Adds the next step: the line of the text that it came from, its answer, and the locks that its thread holds, in any mode,

@@ -58,13 +58,6 @@ impl Explainer {
         self.told.len()
     }
 
-    /// Reads the books of words that will be accessed soon, 16 at most.
-    pub(crate) fn look_ahead(&mut self, words: &[Word])
-        ensures { self.new ≡ self.old }
-    {
-        self.books.look_ahead(words);
-    }
-
     /// Goes on by a step on this line, which may be a race that is printed.
     pub(crate) fn follow(&mut self, line: u64, step: &Step, printed: bool) -> Result<(), AllocError>
         ensures { (r : Recording) (rules : List Target) (k : ℕ) → Follows self.old r rules k → slice_get r.steps k ≡ Some step.now → line ≡ slice_index r.lines k → printed ≡ is_printed r rules k → OnOk result (Follows self.new r rules (k + 1)) }
