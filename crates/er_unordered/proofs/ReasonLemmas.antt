@@ -1,5 +1,5 @@
 -- What is kept for reasons goes on by one step, and stays if more steps and names come behind it.
-use Rattle.std.proofs.Common.{◌≡◌, ◌<◌, ◌≤◌, ◌+◌, ◌∙◌, ℕ, zero, suc, add-one, Bool, true, false, ◌&&◌, cond, is_none, List, [], ◌∷◌, ◌++◌, length, map, take, slice_get, slice_index, Option, Some, None, Result, Ok, refl, sym, ap, ap₂, subst, arith}
+use Rattle.std.proofs.Common.{◌≡◌, ◌<◌, ◌+◌, ◌∙◌, ℕ, zero, suc, add-one, Bool, true, false, cond, is_none, List, [], ◌∷◌, ◌++◌, length, map, take, slice_get, slice_index, Option, Some, None, Result, Ok, refl, sym, ap, ap₂, subst, arith}
 use Rattle.std.specs.List.{All}
 use Rattle.std.specs.Option.{option_map, option_to_list}
 use Rattle.std.proofs.lemmas.Bool.{and_parts}
@@ -28,20 +28,18 @@ use Rattle.er_order.specs.Races.{order_answer, order_answer_to, order_reply}
 use Rattle.er_order.specs.Reasons.{unordered_with}
 use Rattle.er_report.proofs.NamedLemmas.{named_step}
 use Rattle.er_report.specs.Builder.{GoesOn}
-use Rattle.er_explain.specs.Book.{event_kind}
 use Rattle.er_report.specs.Names.{HasReasonNames}
-use Rattle.er_report.specs.Reasons.{access_reason, step_reason, reason_at}
+use Rattle.er_report.specs.Reasons.{access_reason, step_reason}
 use Rattle.er_report.specs.Report.{AreAccesses, is_printed_by, matching_rule_by}
 use Rattle.er_report.specs.declared.report.Because.{Because}
 use Rattle.er_report.specs.declared.report.Label.TheVariants as label
 use Rattle.er_rules.specs.Rules.{Target}
 use Rattle.er_batch.proofs.StepLemmas.{past-next}
-use Rattle.er_trace.specs.Names.{NameTable}
 use Rattle.er_trace.specs.Trace.{Recording, IsNamed}
 use Rattle.er_unordered.proofs.AnswerLemmas.{long, order-here, with-here}
 use Rattle.er_unordered.specs.Answers.{done_if_show, unordered_answer}
 use Rattle.er_unordered.specs.Inner.Reasons.{HasReasons, Reasoned, access_reason_at, line_reason, reasons_below}
-use Rattle.er_unordered.specs.Reasons.{order_reasons, order_reasons_if, reasons_with}
+use Rattle.er_unordered.specs.Reasons.{order_reasons, reasons_with}
 
 -- a show is no race, and no counted access
 module _ (steps : List Step) (k : ℕ) where
