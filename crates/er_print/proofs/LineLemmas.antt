@@ -11,10 +11,10 @@ told-lines names [] = refl
 told-lines names (line ∷ lines) = ap (λ (rest : List ℕ). line_text names (line_view line) ++ rest) (told-lines names lines)
 
 -- the text of one more thing is put behind those before it
-pub one_more : {X : Type 0} (text : X → List ℕ) (old before after : List ℕ) (xs : List X) (k : ℕ) (x : X) → k < length xs → x ≡ get_or xs k x
+pub one_more : {X : Type 0} (text : X → List ℕ) (xs : List X) (k : ℕ) (d x : X) (old before after : List ℕ) → k < length xs → x ≡ get_or xs k d
     → before ≡ old ++ flat_map text (take k xs) → after ≡ before ++ text x → after ≡ old ++ flat_map text (take (k + 1) xs)
-one_more {X} text old before after xs k x within here so_far put =
-    let next : take (k + 1) xs ≡ take k xs ++ x ∷ [] = take_more xs k x within ∙ ap (λ (y : X). take k xs ++ y ∷ []) (sym here) in
+one_more {X} text xs k d x old before after within here so_far put =
+    let next : take (k + 1) xs ≡ take k xs ++ x ∷ [] = take_more xs k d within ∙ ap (λ (y : X). take k xs ++ y ∷ []) (sym here) in
     put ∙ ap (λ (front : List ℕ). front ++ text x) so_far ∙ flat_map_more text old (take k xs) x
     ∙ sym (ap (λ (all : List X). old ++ flat_map text all) next)
 

@@ -16,8 +16,6 @@ use Rattle.er_run.specs.Reports.{IsReportOfText, IsFaultOfText}
 use Rattle.er_run.specs.declared.fault.RunFault.{RunFault}
 use Rattle.er_run.specs.declared.fault.RunFault.TheVariants.{Read, Write, Replay, Memory, Damaged}
 use Rattle.er_batch.specs.declared.verdict.Verdict.{Verdict}
-use Rattle.er_text.specs.Trace.{HasFailedBy}
-use Rattle.er_text.specs.declared.faults.ReadFault.{ReadFault}
 use Rattle.er_text.specs.declared.faults.ReadFault.TheVariants as reading
 use Rattle.er_batch.specs.declared.verdict.Verdict.TheVariants as verdict
 
@@ -107,12 +105,6 @@ fails-again X Y read (Write writing.Write) by = by
 fails-again X Y read (Replay fault) by = by
 fails-again X Y read Memory by = by
 fails-again X Y read (Damaged damage) by = by
-
--- and a failed read by the reader's own fault
-pub fails-read : (X Y : Type 0) (failed : Bool) (why : ReadFault) → HasFailedBy {X = X} failed (Err why) → FailsBy {X = Y} failed false (Err (Read why))
-fails-read X Y failed (reading.Text fault) by = (by, refl)
-fails-read X Y failed reading.Memory by = (by, refl)
-fails-read X Y failed reading.Read by = (by, refl)
 
 whole_by : (b : Bool) → IsFalse (is_stopped (cond b verdict.Races verdict.Clean))
 whole_by true = refl

@@ -142,32 +142,8 @@ pub(crate) fn add_batch(
     if steps.len() as u64 > u64::MAX - builder.steps() {
         return Err(AllocError);
     }
-    let none = Lockset::new(alloc);
-    let added = add_steps(builder, names, steps, numbers, items, &none);
-    drop(none);
-    added
-}
-
-// The same for a batch that the report has room for. It owns nothing.
-#[inline]
-fn add_steps(
-    builder: &mut ReportBuilder<'_>,
-    names: &Names,
-    steps: &[Step],
-    numbers: &[u64],
-    items: &[Unusual],
-    none: &Lockset,
-) -> Result<(), AllocError>
-    requires room { builder.old.report.steps + length steps.now < 2 ^ 64 }
-    requires level { length numbers.now ≡ length steps.now }
-    requires named { All (IsNamed names.now) steps.now }
-    ensures rules { OnOk result (builder.new.rules ≡ builder.old.rules) }
-    ensures explains { OnOk result (is_some builder.new.kept ≡ is_some builder.old.kept) }
-    ensures reported { (past : List Steps) (lines : List ℕ) → length lines ≡ length past → AreItems (is_some builder.old.kept) past steps.now items.now
-        → IsReported builder.old (recorded (past ++ steps.now) (lines ++ numbers.now) names.now) (length past)
-        → OnOk result (IsReported builder.new (recorded (past ++ steps.now) (lines ++ numbers.now) names.now) (length past + length steps.now)) }
-{
     let explains = builder.explains();
+    let none = Lockset::new(alloc);
     let mut next = 0;
     let mut plain = 0;
     for (k, step) in steps.iter().enumerate() {
@@ -175,7 +151,7 @@ fn add_steps(
             plain += 1;
         } else {
             let line = numbers[k];
-            next = add_behind(builder, plain, names, line, step, items, next, k, none)?;
+            next = add_behind(builder, plain, names, line, step, items, next, k, &none)?;
             plain = 0;
         }
     }

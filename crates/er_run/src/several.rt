@@ -219,10 +219,7 @@ impl<'t, 'r> Shared<'t, 'r> {
         );
         let batch = match batch {
             Ok(batch) => batch,
-            Err(why) => {
-                drop(answers);
-                return Err(RunFault::Read(why));
-            }
+            Err(why) => return Err(RunFault::Read(why)),
         };
         let items = match answers {
             Ok(items) => items,

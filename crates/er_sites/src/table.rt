@@ -32,6 +32,7 @@ fn unsorted_rows(alloc: Global, lines: &[Line]) -> Result<Vec<SiteRow>, AllocErr
     rows
 }
 
+// The same, with these counts of each site's races.
 fn rows_with(alloc: Global, lines: &[Line], counts: &Counts) -> Result<Vec<SiteRow>, AllocError>
     requires { AreCounts lines.now counts.now }
     ensures own { IfOk result (λ rows. All (IsOwnCount lines.now) rows.items) }

@@ -1,4 +1,3 @@
 pub mod FirstLemmas
 pub mod KnownLemmas
 pub mod UnusedLemmas
-pub mod PutLemmas

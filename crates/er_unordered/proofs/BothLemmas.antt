@@ -20,10 +20,6 @@ use Rattle.er_unordered.specs.Faults.{FailsBy, IsFaultOf, StopsFor, fault_of_roo
 use Rattle.er_unordered.specs.Inner.Both.{HaveCome, HaveEnded}
 use Rattle.er_unordered.specs.Inner.Passes.{IsReasoned, OrderBuilt, recorded}
 use Rattle.er_unordered.specs.Reports.{AreReportsOfText, unordered_report}
-use Rattle.er_print.specs.declared.fault.WriteFault.TheVariants as writing
-use Rattle.er_text.specs.declared.faults.ReadFault.TheVariants as reading
-use Rattle.er_unordered.specs.declared.fault.OrderFault.{OrderFault}
-use Rattle.er_unordered.specs.declared.fault.OrderFault.TheVariants.{Read, Write, TableFull, CountFull, Memory}
 use Rattle.er_unordered.specs.declared.replay.Analysis.TheVariants.{Both}
 
 -- before the first batch
@@ -119,14 +115,3 @@ pub room-fails : (X : Type 0) (cause : NoRoom) → FailsBy {X = X} false false (
 room-fails X room.TableFull = (refl, refl)
 room-fails X room.JournalFull = (refl, refl)
 room-fails X room.OutOfMemory = (refl, refl)
-
--- the same fault of another result
-pub fails-again : (X Y : Type 0) (failed : Bool) (why : OrderFault) → FailsBy {X = X} failed false (Err why) → FailsBy {X = Y} failed false (Err why)
-fails-again X Y failed (Read (reading.Text fault)) by = by
-fails-again X Y failed (Read reading.Memory) by = by
-fails-again X Y failed (Read reading.Read) by = by
-fails-again X Y failed (Write writing.Memory) by = by
-fails-again X Y failed (Write writing.Write) by = by
-fails-again X Y failed TableFull by = by
-fails-again X Y failed CountFull by = by
-fails-again X Y failed Memory by = by

@@ -1,12 +1,10 @@
 -- A replay that forgets its steps is one over all of them: a batch goes on behind what was answered, and the names may have grown.
-use Rattle.std.proofs.Common.{◌≡◌, ◌+◌, ◌∙◌, ℕ, suc, add-one, nat_lt, Bool, true, false, cond, List, [], ◌∷◌, ◌++◌, length, length-append, take, slice_get, slice_index, Option, Some, None, IfSome, Result, Ok, Err, OnOk, refl, sym, ap, ap₂, subst, arith}
+use Rattle.std.proofs.Common.{◌≡◌, ◌+◌, ◌∙◌, ℕ, suc, add-one, nat_lt, Bool, true, false, cond, List, [], ◌∷◌, ◌++◌, length, length-append, take, slice_get, slice_index, Option, Some, None, IfSome, Result, refl, sym, ap, ap₂, subst, arith}
 use Rattle.std.specs.List.{All}
 use Rattle.std.proofs.lemmas.Bool.Decides.{nat_tests}
 use Rattle.std.proofs.Math.Seq.{take-append_seam, take-length}
 use Rattle.std.proofs.lemmas.List.Elements.{All-append, All-nil}
 use Rattle.er_before.specs.Standing.{Ordered, Stands, answered_by, clock_of, is_show}
-use Rattle.er_clock.specs.declared.clock.NoTick.{NoTick}
-use Rattle.er_clock.specs.declared.clock.NoTick.TheVariants as tick
 use Rattle.er_clocks.specs.Counts.{count_by}
 use Rattle.er_latest.specs.Standing.{IsClockAfter}
 use Rattle.er_order.specs.Clocks.{OfThread}
@@ -30,10 +28,8 @@ use Rattle.er_batch.proofs.StepLemmas.{past-next}
 use Rattle.er_unordered.proofs.AnswerLemmas.{answer-here, locks-here, race-accesses, show-done, unordered-front}
 use Rattle.er_unordered.specs.Answers.{unordered_answer}
 use Rattle.er_unordered.proofs.ReasonLemmas.{kept-there}
-use Rattle.er_unordered.specs.Inner.Passes.{HasAnswered, HasCome, HasComeTo, HasExplained, HasExplainedTo, IsAnswered, IsOrderFault, IsReasoned, OrderBuilt, recorded}
-use Rattle.er_unordered.specs.Faults.{fault_of}
+use Rattle.er_unordered.specs.Inner.Passes.{HasAnswered, HasCome, HasComeTo, HasExplained, HasExplainedTo, IsReasoned, OrderBuilt, recorded}
 use Rattle.er_unordered.specs.Inner.Reasons.{HasReasons, Reasoned}
-use Rattle.er_unordered.specs.declared.fault.OrderFault.{OrderFault}
 
 -- a batch of steps behind those that are past
 module _ (past : List Step) (lines : List ℕ) (names : NameTable) (trace : Recording) (kept : KeepsNames names trace.names)
@@ -118,39 +114,29 @@ module _ (machine next : Ordered) (builder : Built) (r : Recording) (n : ℕ) (s
   stands : Stands next (take (n + 1) r.steps)
   stands = subst (Stands next) (past-next r.steps n step here) (goes_on (take n r.steps) come.stands)
 
-  -- it is answered as the definitions say
-  pub answered-here : IsAnswered next r n step given
-  answered-here = record {
-    here = here;
-    known = known;
-    stands = goes_on (take n r.steps) come.stands;
-    locked = λ race. locks-here r.steps n step here (race-accesses machine step.thread step.event (sym answered ∙ race-is given race)) step.thread;
-  }
-
-  pub come-to : (new : Built) → IsBuiltBy (unordered_answer r.steps) new r (n + 1) → HasComeTo next new r (n + 1)
-  come-to new built = record { stands = stands; built = built }
-
--- a step that was answered
-module _ (machine : Ordered) (r : Recording) (n : ℕ) (step : Step) (given : Result Reply Refusal) (is : IsAnswered machine r n step given) where
   pub plain-here : is_plain given ≡ true → ArePlainBy (unordered_answer r.steps) n 1
   plain-here plain i low high =
       let same : n ≡ i = omega (arith, low, high) in
-      subst (λ (k : ℕ). is_plain (unordered_answer r.steps k) ≡ true) same (ap is_plain (sym is.known) ∙ plain)
+      subst (λ (k : ℕ). is_plain (unordered_answer r.steps k) ≡ true) same (ap is_plain (sym known) ∙ plain)
 
   pub step-here : (names : NameTable) (number : ℕ) (locks : List ℕ) → number ≡ slice_index r.lines n → names ≡ r.names
-      → ((past : List Step) → Stands machine past → locks ≡ (holdings_end past step.thread).held) → IsStepBy (unordered_answer r.steps) r n names number step given locks
+      → ((past : List Step) → Stands next past → locks ≡ (holdings_end past step.thread).held) → IsStepBy (unordered_answer r.steps) r n names number step given locks
   step-here names number locks line named locked =
       record {
-        here = is.here;
+        here = here;
         line = line;
         named = named;
-        answered = is.known;
-        locked = λ race. locked (take n r.steps ++ step ∷ []) is.stands ∙ is.locked race;
+        answered = known;
+        locked = λ race. locked (take n r.steps ++ step ∷ []) (goes_on (take n r.steps) come.stands)
+            ∙ locks-here r.steps n step here (race-accesses machine step.thread step.event (sym answered ∙ race-is given race)) step.thread;
       }
 
-  -- the machine stands for the steps up to it
-  pub stands-behind : Stands machine (take (n + 1) r.steps)
-  stands-behind = subst (Stands machine) (past-next r.steps n step is.here) is.stands
+  -- the answer is that of the definitions
+  pub known-here : given ≡ unordered_answer r.steps n
+  known-here = known
+
+  pub come-to : (new : Built) → IsBuiltBy (unordered_answer r.steps) new r (n + 1) → HasComeTo next new r (n + 1)
+  come-to new built = record { stands = stands; built = built }
 
 -- a race is printed exactly if there is one printed race more
 count-more : (b : Bool) (n : ℕ) → nat_lt n (n + cond b 1 0) ≡ b
@@ -175,13 +161,3 @@ printed-here a before after r k built next rules =
 pub clock-lent : (machine : Ordered) (steps : List Step) (t : ℕ) (clock : ℕ × List ℕ) → Stands machine steps → clock.0 ≡ t → ((u : ℕ) → count_by clock u ≡ clock_of machine t u)
     → IsClockAfter steps t clock
 clock-lent machine steps t clock stands thread counts = record { thread = thread; counts = λ u. counts u ∙ stands.clocks (OfThread t) u }
-
--- what holds anyway
-pub on-ok : {T E P : Type 0} (r : Result T E) → P → OnOk r P
-on-ok (Ok x) holds = holds
-on-ok (Err why) holds = tt
-
--- a step that isn't answered is no fault of the text
-pub order-fault : (why : NoTick) (fault : OrderFault) → fault ≡ fault_of why → IsOrderFault fault
-order-fault tick.CountFull fault is = rw is tt
-order-fault tick.OutOfMemory fault is = rw is tt

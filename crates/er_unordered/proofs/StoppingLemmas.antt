@@ -1,5 +1,5 @@
 -- A count that is full at a step is full there whatever steps come behind it, and a text whose rest was read has its first fault or is a trace.
-use Rattle.std.proofs.Common.{◌≡◌, ◌<◌, ◌∙◌, ◌++◌, ℕ, Bool, false, List, length, length-append, take, drop, Option, Some, None, IfSome, Ok, Err, refl, sym, ap, subst, arith}
+use Rattle.std.proofs.Common.{◌≡◌, ◌<◌, ◌∙◌, ◌++◌, ℕ, List, length, length-append, take, drop, Option, Some, None, IfSome, Ok, refl, sym, ap, subst, arith}
 use Rattle.std.proofs.lemmas.List.{take-append-drop, length-take-le}
 use Rattle.er_before.specs.Standing.{IsFullAfter}
 use Rattle.er_clock.specs.declared.clock.NoTick.{NoTick}
@@ -11,17 +11,14 @@ use Rattle.er_order.specs.Order.{acts_of}
 use Rattle.er_text.proofs.BatchLaws.{forgotten}
 use Rattle.er_text.specs.Batches.{GivesBatch, HasRead}
 use Rattle.er_text.specs.Places.{Reached}
-use Rattle.er_text.specs.Trace.{HasFailedBy, IsFault, IsTrace}
-use Rattle.er_text.specs.declared.faults.ReadFault.{ReadFault}
-use Rattle.er_text.specs.declared.faults.ReadFault.TheVariants as reading
+use Rattle.er_text.specs.Trace.{IsTrace}
 use Rattle.er_text.specs.declared.reading.Batch.{Batch}
 use Rattle.er_text.specs.declared.reading.Batch.TheVariants.{More}
 use Rattle.er_trace.specs.Trace.{Recording, without_steps}
-use Rattle.er_unordered.specs.Faults.{FailsBy, IsFaultOf, Overflows, OverflowsIn, fault_of}
+use Rattle.er_unordered.specs.Faults.{Overflows, OverflowsIn, fault_of}
 use Rattle.er_unordered.specs.Inner.Stopping.{HasOverflowed, IsStopIn, ReadsOn}
 use Rattle.er_unordered.specs.declared.fault.OrderFault.{OrderFault}
-use Rattle.er_unordered.specs.declared.fault.OrderFault.TheVariants.{CountFull, Read}
-use Rattle.er_unordered.specs.declared.replay.Analysis.{Analysis}
+use Rattle.er_unordered.specs.declared.fault.OrderFault.TheVariants.{CountFull}
 
 -- more steps come behind
 pub overflows-on : (steps more : List Step) → OverflowsIn steps → OverflowsIn (steps ++ more)
@@ -78,24 +75,6 @@ module _ (told : Option (List ℕ)) (past : List Step) (lines : List ℕ) (old n
     read = batch-read batch gives read;
     full = subst (IsStopIn (past ++ u.steps)) is full;
   }
-
-  -- a fault of the text that is being read
-  pub read-fault : (analysis : Analysis) (why : ReadFault) → new.place.limit ≡ old.place.limit
-      → ((text : List ℕ) (steps : List Step) (numbers : List ℕ) → HasRead text steps numbers old known t → GivesBatch text steps numbers new rest u (Err why))
-      → IfSome told (λ text. HasRead text past lines old known t) → IsFaultOf analysis told old.place.limit (Read why)
-  read-fault analysis (reading.Text fault) limit gives read = by told read
-    where
-      by : (o : Option (List ℕ)) → IfSome o (λ text. HasRead text past lines old known t) → IfSome o (λ text. IsFault text old.place.limit fault)
-      by None read = tt
-      by (Some text) read = subst (λ (n : ℕ). IsFault text n fault) limit (gives text past lines read)
-  read-fault analysis reading.Memory limit gives read = tt
-  read-fault analysis reading.Read limit gives read = tt
-
--- a failed read, by the reader's own fault
-pub fails-read : (X Y : Type 0) (failed : Bool) (why : ReadFault) → HasFailedBy {X = X} failed (Err why) → FailsBy {X = Y} failed false (Err (Read why))
-fails-read X Y failed (reading.Text fault) by = (by, refl)
-fails-read X Y failed reading.Memory by = (by, refl)
-fails-read X Y failed reading.Read by = (by, refl)
 
 -- the steps of a batch are forgotten
 read-forgotten : (told : Option (List ℕ)) (past : List Step) (lines : List ℕ) (reader : Reached) (known : Option (List ℕ)) (trace : Recording) (batch : Batch) → batch ≡ More

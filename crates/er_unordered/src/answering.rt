@@ -1,15 +1,13 @@
 //! Answers the steps of a batch by happens-before, one by one, with reasons or without.
 ghost use Rattle.std.specs.Prelude.{◌≡◌, ◌+◌, ◌++◌, ◌<◌, ◌^◌, ℕ, List, Some, length, slice_get, slice_index, IfErr, OnOk};
 ghost use Rattle.er_event.specs.declared.steps.Step.{Step as Steps};
-ghost use Rattle.er_report.specs.Builder.{is_plain, IsBuiltBy};
+ghost use Rattle.er_report.specs.Builder.{is_plain};
 ghost use Rattle.er_report.specs.Names.{HasSiteName};
 ghost use Rattle.er_text.specs.Batches.{joined};
 ghost use Rattle.er_text.specs.Named.{KeepsNames};
 ghost use Rattle.er_trace.specs.Names.{NameTable};
 ghost use Rattle.er_trace.specs.Trace.{Recording};
-ghost use Rattle.er_unordered.specs.Answers.{unordered_answer};
-ghost use Rattle.er_unordered.specs.Inner.Passes.{HasAnswered, HasComeTo, HasExplained, HasExplainedTo, IsAnswered, IsOrderFault, recorded};
-ghost use Rattle.er_unordered.specs.Inner.Reasons.{HasReasons};
+ghost use Rattle.er_unordered.specs.Inner.Passes.{HasAnswered, HasExplained, HasExplainedTo, IsOrderFault, recorded};
 ghost use Rattle.er_unordered.specs.Inner.Stopping.{IsStopIn};
 
 use crate::OrderFault;
@@ -18,7 +16,6 @@ use er_before::OrderMachine;
 use er_event::{Refusal, Reply, Step};
 use er_report::ReportBuilder;
 use er_trace::{Names, Trace};
-use std::alloc::AllocError;
 
 /// Answers each step of a batch by happens-before, and adds it to the report. So many steps that they can't be counted any more are
 /// reported as a want of memory.
@@ -41,67 +38,15 @@ pub(crate) fn answer_steps(
     }
     for (k, step) in steps.iter().enumerate() {
         machine.look_ahead(steps, k);
-        answer_step(machine, trace, k, step, builder)?;
+        let answer = machine.step(step)?;
+        if is_plain(&answer) {
+            builder.add_plain(1);
+        } else {
+            let held = machine.held(step.thread).held();
+            builder.add(trace.names(), trace.lines()[k], step, &answer, held)?;
+        }
     }
     Ok(())
-}
-
-// Answers the step at this place of a batch and adds it to the report.
-#[inline]
-fn answer_step(
-    machine: &mut OrderMachine,
-    trace: &Trace,
-    k: usize,
-    step: &Step,
-    builder: &mut ReportBuilder<'_>,
-) -> Result<(), OrderFault>
-    requires room { builder.old.report.steps + 1 < 2 ^ 64 }
-    requires line { k < length trace.now.lines }
-    requires site { HasSiteName trace.now.names step.now.event }
-    ensures rules { OnOk result (builder.new.rules ≡ builder.old.rules) }
-    ensures steps { OnOk result (builder.new.report.steps ≡ builder.old.report.steps + 1) }
-    ensures run { (r : Recording) (n : ℕ) → HasComeTo machine.old builder.old r n → slice_get r.steps n ≡ Some step.now → slice_index trace.now.lines k ≡ slice_index r.lines n → trace.now.names ≡ r.names
-        → OnOk result (HasComeTo machine.new builder.new r (n + 1)) }
-    ensures fault { IfErr result (λ why. IsOrderFault why) }
-    ensures full { (r : Recording) (n : ℕ) → HasComeTo machine.old builder.old r n → n < length r.steps → IfErr result (λ why. IsStopIn r.steps why) }
-{
-    match machine.step(step) {
-        Ok(answer) => {
-            let added = add_answer(machine, trace, k, step, &answer, builder);
-            drop(answer);
-            match added {
-                Ok(()) => Ok(()),
-                Err(AllocError) => Err(OrderFault::Memory),
-            }
-        }
-        Err(why) => Err(OrderFault::from(why)),
-    }
-}
-
-// Adds the step at this place of a batch to the report, with this answer.
-#[inline]
-fn add_answer(
-    machine: &OrderMachine,
-    trace: &Trace,
-    k: usize,
-    step: &Step,
-    answer: &Result<Reply, Refusal>,
-    builder: &mut ReportBuilder<'_>,
-) -> Result<(), AllocError>
-    requires room { builder.old.report.steps + 1 < 2 ^ 64 }
-    requires line { k < length trace.now.lines }
-    requires site { HasSiteName trace.now.names step.now.event }
-    ensures rules { OnOk result (builder.new.rules ≡ builder.old.rules) }
-    ensures steps { OnOk result (builder.new.report.steps ≡ builder.old.report.steps + 1) }
-    ensures built { (r : Recording) (n : ℕ) → IsBuiltBy (unordered_answer r.steps) builder.old r n → IsAnswered machine.now r n step.now answer.now
-        → slice_index trace.now.lines k ≡ slice_index r.lines n → trace.now.names ≡ r.names → OnOk result (IsBuiltBy (unordered_answer r.steps) builder.new r (n + 1)) }
-{
-    if is_plain(answer) {
-        builder.add_plain(1);
-        return Ok(());
-    }
-    let held = machine.held(step.thread).held();
-    builder.add(trace.names(), trace.lines()[k], step, answer, held)
 }
 
 /// The same, and finds the reason of each race that has a line.
@@ -155,48 +100,13 @@ fn explain_step(
     ensures fault { IfErr result (λ why. IsOrderFault why) }
     ensures full { (r : Recording) (k : ℕ) → HasExplainedTo machine.old builder.old reasons.old r k → k < length r.steps → IfErr result (λ why. IsStopIn r.steps why) }
 {
-    match machine.step(step) {
-        Ok(answer) => {
-            let explained = explain_answer(machine, names, line, step, &answer, builder, reasons);
-            drop(answer);
-            match explained {
-                Ok(()) => Ok(()),
-                Err(AllocError) => Err(OrderFault::Memory),
-            }
-        }
-        Err(why) => Err(OrderFault::from(why)),
-    }
-}
-
-// Adds a step to the report, with this answer, and its reason if it is a race that has a line.
-#[inline]
-fn explain_answer(
-    machine: &OrderMachine,
-    names: &Names,
-    line: u64,
-    step: &Step,
-    answer: &Result<Reply, Refusal>,
-    builder: &mut ReportBuilder<'_>,
-    reasons: &mut Reasons,
-) -> Result<(), AllocError>
-    requires room { builder.old.report.steps + 1 < 2 ^ 64 }
-    requires site { HasSiteName names.now step.now.event }
-    ensures rules { OnOk result (builder.new.rules ≡ builder.old.rules) }
-    ensures steps { OnOk result (builder.new.report.steps ≡ builder.old.report.steps + 1) }
-    ensures built { (r : Recording) (n : ℕ) → IsBuiltBy (unordered_answer r.steps) builder.old r n → IsAnswered machine.now r n step.now answer.now
-        → line ≡ slice_index r.lines n → names.now ≡ r.names → OnOk result (IsBuiltBy (unordered_answer r.steps) builder.new r (n + 1)) }
-    ensures explained { (r : Recording) (n : ℕ) → IsBuiltBy (unordered_answer r.steps) builder.old r n → HasReasons reasons.old r builder.old.rules n → IsAnswered machine.now r n step.now answer.now
-        → line ≡ slice_index r.lines n → names.now ≡ r.names → OnOk result (HasReasons reasons.new r builder.new.rules (n + 1)) }
-{
+    let answer = machine.step(step)?;
     let before = builder.races();
     let held = machine.held(step.thread).held();
-    match builder.add(names, line, step, answer, held) {
-        Ok(()) => {
-            let clock = machine.clock(step.thread);
-            reasons.follow(line, step, answer, &clock, builder.races() > before)
-        }
-        Err(refused) => Err(refused),
-    }
+    builder.add(names, line, step, &answer, held)?;
+    let clock = machine.clock(step.thread);
+    reasons.follow(line, step, &answer, &clock, builder.races() > before)?;
+    Ok(())
 }
 
 // Whether the report says nothing of an answer.

@@ -14,7 +14,7 @@ ghost use Rattle.er_unordered.specs.declared.replay.Analysis.TheVariants.{Both};
 use crate::OrderFault;
 use crate::building::OrderBuilder;
 use crate::passes::BATCH_LINES;
-use crate::stopping::fault_behind;
+use crate::stopping::read_rest;
 use er_batch::{Options, Progress, Watch, answer_batch};
 use er_before::OrderMachine;
 use er_device::Device;
@@ -125,25 +125,19 @@ impl<'t, 'r> BothPass<'t, 'r> {
         ensures taken { taken_of reader.new + taken_by self.old.lines.place ≤ taken_of reader.old + taken_by self.new.lines.place }
         ensures most { taken_by self.new.lines.place ≤ self.new.lines.place.limit + bytes_past_limit }
     {
-        let batch = match self.lines.next_batch(reader, &mut self.trace, BATCH_LINES) {
-            Ok(batch) => batch,
-            Err(fault) => return Err(OrderFault::Read(fault)),
-        };
-        let stop = answer_batch(
+        let batch = self.lines.next_batch(reader, &mut self.trace, BATCH_LINES)?;
+        self.stop = answer_batch(
             rt,
             &mut self.machine,
             &self.trace,
             &mut self.builder,
             self.stop,
-        );
-        self.stop = match stop {
-            Ok(stop) => stop,
-            Err(AllocError) => return Err(OrderFault::Memory),
-        };
+        )?;
         match self.unordered.answer(&mut self.ordering, &self.trace) {
             Ok(()) => {}
             Err(OrderFault::CountFull) => {
-                return Err(fault_behind(&mut self.lines, &mut self.trace, reader, batch));
+                read_rest(&mut self.lines, &mut self.trace, reader, batch)?;
+                return Err(OrderFault::CountFull);
             }
             // Otherwise memory was refused.
             Err(_) => return Err(OrderFault::Memory),
@@ -304,18 +298,14 @@ fn report_with<R: Wait, D: Read, V: Watch>(
     ensures failed { FailsBy (has_failed reader.new) false result }
     ensures taken { taken_of reader.new ≤ taken_of reader.old + options.now.byte_limit + bytes_past_limit }
 {
-    let pass = BothPass::new(
+    let mut pass = BothPass::new(
         alloc,
         table,
         suppressions,
         options.byte_limit,
         options.explain,
         options.keys,
-    );
-    let mut pass = match pass {
-        Ok(pass) => pass,
-        Err(AllocError) => return Err(OrderFault::Memory),
-    };
+    )?;
     let ran = pass.run(rt, reader, watcher);
     watcher.end();
     match ran {

@@ -11,7 +11,7 @@ ghost use Rattle.er_unordered.specs.Reports.{IsReportOfText};
 
 use crate::OrderFault;
 use crate::building::OrderBuilder;
-use crate::stopping::fault_behind;
+use crate::stopping::read_rest;
 use er_batch::{Progress, Watch};
 use er_before::OrderMachine;
 use er_device::Device;
@@ -93,14 +93,12 @@ impl<'r> Pass<'r> {
         ensures taken { taken_of reader.new + taken_by self.old.lines.place ≤ taken_of reader.old + taken_by self.new.lines.place }
         ensures most { taken_by self.new.lines.place ≤ self.new.lines.place.limit + bytes_past_limit }
     {
-        let batch = match self.lines.next_batch(reader, &mut self.trace, BATCH_LINES) {
-            Ok(batch) => batch,
-            Err(fault) => return Err(OrderFault::Read(fault)),
-        };
+        let batch = self.lines.next_batch(reader, &mut self.trace, BATCH_LINES)?;
         match self.builder.answer(&mut self.machine, &self.trace) {
             Ok(()) => {}
             Err(OrderFault::CountFull) => {
-                return Err(fault_behind(&mut self.lines, &mut self.trace, reader, batch));
+                read_rest(&mut self.lines, &mut self.trace, reader, batch)?;
+                return Err(OrderFault::CountFull);
             }
             // Otherwise memory was refused.
             Err(_) => return Err(OrderFault::Memory),

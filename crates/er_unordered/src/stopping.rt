@@ -1,5 +1,5 @@
 //! The rest of a text whose steps can't all be answered by happens-before.
-ghost use Rattle.std.specs.Prelude.{◌≡◌, ◌+◌, ◌<◌, ◌≤◌, ℕ, Bool, List, Option, Err, false, true, IfSome, IfOk, IfErr, OnOk};
+ghost use Rattle.std.specs.Prelude.{◌≡◌, ◌+◌, ◌<◌, ◌≤◌, ℕ, List, Option, false, true, IfSome, IfOk, IfErr, OnOk};
 ghost use Rattle.er_device.specs.Device.{inner_of, has_failed, taken_of};
 ghost use Rattle.er_text.specs.Inner.Lending.{taken_by};
 ghost use Rattle.er_text.specs.Lines.{bytes_past_limit};
@@ -14,32 +14,8 @@ use er_text::{Batch, TraceReader};
 use er_trace::Trace;
 use std::io::Read;
 
-/// The fault of a replay at one of whose steps a count is full: that of the text, if it has one behind the batch that was read.
-pub(crate) fn fault_behind<D: Read>(
-    lines: &mut TraceReader,
-    trace: &mut Trace,
-    reader: &mut Device<D>,
-    batch: Batch,
-) -> OrderFault
-    requires open { has_failed reader.old ≡ false }
-    requires within { lines.old.place.start ≤ lines.old.place.limit }
-    requires most { taken_by lines.old.place ≤ lines.old.place.limit + bytes_past_limit }
-    ensures fault { (analysis : Analyses) (told : Option (List ℕ)) → HasOverflowed told (D.remaining (inner_of reader.old)) lines.old trace.old batch
-        → IsFaultOf analysis told lines.old.place.limit result }
-    ensures limit { lines.new.place.limit ≡ lines.old.place.limit }
-    ensures within { lines.new.place.start ≤ lines.new.place.limit }
-    ensures failed { FailsBy {X = Bool} (has_failed reader.new) false (Err result) }
-    ensures taken { taken_of reader.new + taken_by lines.old.place ≤ taken_of reader.old + taken_by lines.new.place }
-    ensures most { taken_by lines.new.place ≤ lines.new.place.limit + bytes_past_limit }
-{
-    match read_rest(lines, trace, reader, batch) {
-        Ok(()) => OrderFault::CountFull,
-        Err(why) => why,
-    }
-}
-
-// Reads what comes behind a batch up to the end of the text, since a fault of the text comes before a full count.
-fn read_rest<D: Read>(
+/// Reads what comes behind a batch up to the end of the text, since a fault of the text comes before a full count.
+pub(crate) fn read_rest<D: Read>(
     lines: &mut TraceReader,
     trace: &mut Trace,
     reader: &mut Device<D>,
@@ -110,12 +86,12 @@ fn skip_batch<D: Read>(
     ensures taken { taken_of reader.new + taken_by lines.old.place ≤ taken_of reader.old + taken_by lines.new.place }
     ensures most { taken_by lines.new.place ≤ lines.new.place.limit + bytes_past_limit }
 {
-    match lines.next_batch(reader, trace, BATCH_LINES) {
-        Ok(Batch::End) => Ok(false),
-        Ok(Batch::More) => {
+    let batch = lines.next_batch(reader, trace, BATCH_LINES)?;
+    match batch {
+        Batch::End => Ok(false),
+        Batch::More => {
             trace.clear();
             Ok(true)
         }
-        Err(fault) => Err(OrderFault::Read(fault)),
     }
 }

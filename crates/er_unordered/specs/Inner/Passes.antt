@@ -1,12 +1,7 @@
 -- How far a replay by happens-before has come that forgets its steps batch by batch.
-use Rattle.std.specs.Prelude.{◌≡◌, ℕ, All, List, [], ◌∷◌, ◌++◌, length, slice_get, take, IsTrue, Option, IfSome, Some, Result}
+use Rattle.std.specs.Prelude.{◌≡◌, ℕ, All, List, [], length, take, Option, IfSome}
 use Rattle.er_before.specs.Standing.{Ordered, Stands}
-use Rattle.er_event.specs.declared.refusals.Refusal.{Refusal}
-use Rattle.er_event.specs.declared.steps.Reply.{Reply}
 use Rattle.er_event.specs.declared.steps.Step.{Step}
-use Rattle.er_explain.specs.Racing.{is_race}
-use Rattle.er_model.specs.Holdings.{holdings_end}
-use Rattle.er_model.specs.Threads.{accepted, held}
 use Rattle.er_report.specs.Builder.{Built, IsBuiltBy}
 use Rattle.er_text.specs.Batches.{HasRead}
 use Rattle.er_text.specs.Places.{Reached}
@@ -26,14 +21,6 @@ recorded steps lines names = record { steps = steps; lines = lines; names = name
 pub record HasComeTo (machine : Ordered) (builder : Built) (r : Recording) (n : ℕ) : Type 0 where
   pub stands : Stands machine (take n r.steps)
   pub built : IsBuiltBy (unordered_answer r.steps) builder r n
-
--- the recording's step at n is this one and is answered so; the machine stands for the steps up to it, and if it is a race, they leave its
--- thread the locks that it held
-pub record IsAnswered (machine : Ordered) (r : Recording) (n : ℕ) (step : Step) (given : Result Reply Refusal) : Type 0 where
-  pub here : slice_get r.steps n ≡ Some step
-  pub known : given ≡ unordered_answer r.steps n
-  pub stands : Stands machine (take n r.steps ++ step ∷ [])
-  pub locked : IsTrue (is_race given) → (holdings_end (take n r.steps ++ step ∷ []) step.thread).held ≡ held (accepted r.steps n) step.thread
 
 -- all of the recording's steps were answered
 pub record HasAnswered (machine : Ordered) (builder : Built) (r : Recording) : Type 0 where

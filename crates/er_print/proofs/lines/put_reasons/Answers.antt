@@ -10,7 +10,7 @@ loop-because-init c = sym (append-nil _)
 
 pub loop-because-preserved : goal.loop-because-preserved
 loop-because-preserved c =
-    one_more (reason_text c.args.names.now) _ _ _ c.args.explained.now _ c.because-item.result c.loop-because-test.true c.because-item.is
+    one_more (reason_text c.args.names.now) c.args.explained.now _ _ c.because-item.result _ _ _ c.loop-because-test.true c.because-item.is
     c.loop-because.invariant c.in_ok-put_reason.ensures
 
 pub returns : goal.returns

@@ -25,6 +25,6 @@ pub loop-line-preserved : goal.loop-line-preserved
 loop-line-preserved c =
     let names : NameTable = c.args.names.now in
     let items : List Line = c.args.report.now.lines.items in
-    one_more (λ (line : Line). line_text names (line_view line)) [] _ _ items c.loop-line.line-index c.line-item.result
+    one_more (λ (line : Line). line_text names (line_view line)) items c.loop-line.line-index _ c.line-item.result [] _ _
     (rw c.deref-line-items.ensures.value at c.loop-line-test.true) (rw c.deref-line-items.ensures.value at c.line-item.is)
     c.loop-line.invariant c.in_ok-put_line.ensures

@@ -2,14 +2,14 @@
 use Rattle.std.proofs.Common.{◌≡◌, ◌==◌, ◌∙◌, ℕ, List, [], ◌∷◌, ◌++◌, length, flat_map, false, refl, sym, ap}
 use Rattle.std.proofs.lemmas.List.{take_all}
 use Rattle.er_report.specs.declared.report.Because.{Because}
-use Rattle.er_sites.proofs.PutLemmas.{put_next}
+use Rattle.er_print.proofs.LineLemmas.{one_more}
 use Rattle.er_trace.specs.Names.{NameTable}
 use Rattle.er_sites.specs.Text.{held_text, holds_text}
 use Rattle.er_sites.proofs.stories.put_locks.Goals as goal
 
 pub loop-lock-preserved : goal.loop-lock-preserved
 loop-lock-preserved c =
-    put_next (held_text c.args.names.now c.args.line c.args.thread c.args.explained.now) c.args.locks.now c.loop-lock.lock-index c.lock-item.result c.args.out.now.items c.loop-lock.out.items
+    one_more (held_text c.args.names.now c.args.line c.args.thread c.args.explained.now) c.args.locks.now c.loop-lock.lock-index c.lock-item.result c.lock-item.result c.args.out.now.items c.loop-lock.out.items
     c.put_held.new.out.items c.loop-lock-test.true c.lock-item.is c.loop-lock.invariant c.in_ok-put_held.ensures
 
 -- there is a lock to put

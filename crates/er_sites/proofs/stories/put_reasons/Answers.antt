@@ -1,7 +1,7 @@
 -- One reason more.
 use Rattle.std.proofs.Common.{subst, sym}
 use Rattle.er_report.specs.Names.{HasReasonNames}
-use Rattle.er_sites.proofs.PutLemmas.{put_next}
+use Rattle.er_print.proofs.LineLemmas.{one_more}
 use Rattle.er_sites.specs.Text.{reason_text}
 use Rattle.er_sites.proofs.stories.put_reasons.Goals as goal
 
@@ -10,5 +10,5 @@ put_reason-requires c = subst (HasReasonNames c.args.names.now) (sym c.because-i
 
 pub loop-because-preserved : goal.loop-because-preserved
 loop-because-preserved c =
-    put_next (reason_text c.args.names.now c.args.places.now c.args.line) c.args.explained.now c.loop-because.because-index c.because-item.result c.args.out.now.items c.loop-because.out.items
+    one_more (reason_text c.args.names.now c.args.places.now c.args.line) c.args.explained.now c.loop-because.because-index c.because-item.result c.because-item.result c.args.out.now.items c.loop-because.out.items
     c.put_reason.new.out.items c.loop-because-test.true c.because-item.is c.loop-because.invariant c.in_ok-put_reason.ensures

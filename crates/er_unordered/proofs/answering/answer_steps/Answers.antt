@@ -1,16 +1,20 @@
 -- Each step is answered as the definitions say, and added to the report.
-use Rattle.std.proofs.Common.{◌≡◌, ◌<◌, ◌≤◌, ◌+◌, ◌∙◌, ◌++◌, ℕ, List, length, length-append, slice_get, Some, refl, sym, subst, arith, rules}
+use Rattle.std.proofs.Common.{◌≡◌, ◌<◌, ◌≤◌, ◌+◌, ◌∙◌, ◌++◌, ℕ, List, length, length-append, Err, take, slice_get, slice_index, Some, refl, sym, ap, subst, arith}
 use Rattle.std.proofs.lemmas.Option.{slice_get_read}
-use Rattle.er_before.specs.Standing.{Ordered}
+use Rattle.er_before.specs.Standing.{Ordered, Stands}
 use Rattle.er_event.proofs.Lists.{get_behind}
 use Rattle.er_event.specs.declared.steps.Step.{Step}
+use Rattle.er_model.specs.Holdings.{Holdings}
+use Rattle.er_replay.proofs.ThreadsLemmas.{err_from}
 use Rattle.er_batch.proofs.BatchLemmas.{number-behind}
 use Rattle.er_text.specs.Batches.{joined}
+use Rattle.er_unordered.specs.Answers.{unordered_answer}
 use Rattle.er_trace.specs.Trace.{Recording}
 use Rattle.er_unordered.specs.Inner.Passes.{HasComeTo}
-use Rattle.er_unordered.specs.Inner.Stopping.{IsStopIn}
-use Rattle.er_unordered.proofs.PassLemmas.{start, whole}
+use Rattle.er_unordered.proofs.PassLemmas.{come-to, plain-here, start, step-here, whole}
+use Rattle.er_unordered.proofs.StoppingLemmas.{full-here, stop-by}
 use Rattle.er_unordered.proofs.answering.answer_steps.Goals as goal
+use Rattle.er_unordered.proofs.answering.answer_steps.Goals.{then-is_plain, else-is_plain+in_ok-add}
 
 pub loop-k-preserved : goal.loop-k-preserved
 loop-k-preserved c =
@@ -21,16 +25,39 @@ loop-k-preserved c =
     λ past. get_behind past c.args.trace.now.steps k (length past + k) refl ∙ (rw c.steps-steps.ensures.value at read) in
     let ahead : (r : Recording) (at : ℕ) → HasComeTo c.loop-k.machine c.loop-k.builder r at → HasComeTo c.look_ahead.new.self c.loop-k.builder r at =
     λ r at come. subst (λ (m : Ordered). HasComeTo m c.loop-k.builder r at) (sym c.look_ahead.ensures) come in
-    record {
-      steps = (let so_far = c.loop-k.invariant.steps in let added = c.in_ok-answer_step.ensures.steps in omega arith);
-      rules = c.in_ok-answer_step.ensures.rules ∙ c.loop-k.invariant.rules;
-      run = λ past lines long before.
-          let r : Recording = joined past lines c.args.trace.now in
-          let one : length past + k + 1 ≡ length past + (k + 1) = omega arith in
-          subst (λ (n : ℕ). HasComeTo c.answer_step.new.machine c.answer_step.new.builder r n) one
-          (c.in_ok-answer_step.ensures.run r (length past + k) (ahead r (length past + k) (c.loop-k.invariant.run past lines long before)) (here past)
-          (number-behind lines c.args.trace.now.lines (length past) k long) refl);
-    }
+    elim c.if-is_plain.branch [
+      | then-is_plain w ↦ record {
+        steps = rw w.builder-is (let so_far = c.loop-k.invariant.steps in let added = w.add_plain.ensures.steps in omega arith);
+        rules = rw w.builder-is (w.add_plain.ensures.rules ∙ c.loop-k.invariant.rules);
+        run = λ past lines long before.
+            let r : Recording = joined past lines c.args.trace.now in
+            let at : ℕ = length past + k in
+            let come = ahead r at (c.loop-k.invariant.run past lines long before) in
+            let one : at + 1 ≡ length past + (k + 1) = omega arith in
+            let plain = plain-here c.look_ahead.new.self c.step.new.self c.loop-k.builder r at step (here past) come c.in_ok-answer.answer c.in_ok-answer.ensures.answered c.in_ok-answer.ensures.answer c.in_ok-answer.ensures.goes_on
+            (sym c.is_plain.ensures ∙ w.if-is_plain.true) in
+            rw w.builder-is
+            (subst (λ (n : ℕ). HasComeTo c.step.new.self w.add_plain.new.self r n) one
+            (come-to c.look_ahead.new.self c.step.new.self c.loop-k.builder r at step (here past) come c.in_ok-answer.answer c.in_ok-answer.ensures.answered c.in_ok-answer.ensures.answer c.in_ok-answer.ensures.goes_on w.add_plain.new.self
+            (w.add_plain.ensures.built_by (unordered_answer r.steps) r at come.built plain)));
+      }
+      | else-is_plain+in_ok-add w ↦ record {
+        steps = rw w.builder-is (let so_far = c.loop-k.invariant.steps in let added = w.in_ok-add.ensures.steps in omega arith);
+        rules = rw w.builder-is (w.in_ok-add.ensures.rules ∙ c.loop-k.invariant.rules);
+        run = λ past lines long before.
+            let r : Recording = joined past lines c.args.trace.now in
+            let at : ℕ = length past + k in
+            let come = ahead r at (c.loop-k.invariant.run past lines long before) in
+            let one : at + 1 ≡ length past + (k + 1) = omega arith in
+            let line = ap (λ (numbers : List ℕ). slice_index numbers k) w.lines-else-is_plain.ensures.value ∙ number-behind lines c.args.trace.now.lines (length past) k long in
+            let told = step-here c.look_ahead.new.self c.step.new.self c.loop-k.builder r at step (here past) come c.in_ok-answer.answer c.in_ok-answer.ensures.answered c.in_ok-answer.ensures.answer c.in_ok-answer.ensures.goes_on
+            _ _ _ line w.names.ensures (λ past stands. w.held-held.ensures.locks ∙ ap (λ (h : Holdings). h.held) (w.held.ensures past stands)) in
+            rw w.builder-is
+            (subst (λ (n : ℕ). HasComeTo c.step.new.self w.add.new.self r n) one
+            (come-to c.look_ahead.new.self c.step.new.self c.loop-k.builder r at step (here past) come c.in_ok-answer.answer c.in_ok-answer.ensures.answered c.in_ok-answer.ensures.answer c.in_ok-answer.ensures.goes_on w.add.new.self
+            (w.in_ok-add.ensures.built_by (unordered_answer r.steps) r at come.built told)));
+      }
+    ]
 
 pub returns-clause-run : goal.returns-clause-run
 returns-clause-run c = λ past lines names kept run.
@@ -43,15 +70,15 @@ returns-clause-run c = λ past lines names kept run.
     whole past lines names c.args.trace.now kept c.steps-steps.ensures.named c.lines.ensures.one_per_step c.args.machine.now c.args.builder.now run c.loop-k.machine c.loop-k.builder
     (subst (λ (n : ℕ). HasComeTo c.loop-k.machine c.loop-k.builder (joined past lines c.args.trace.now) (length past + n)) all come)
 
-pub returns-in_err-answer_step-clause-full : goal.returns-in_err-answer_step-clause-full
-returns-in_err-answer_step-clause-full c = λ past lines names kept run.
+pub returns-in_err-answer-clause-full : goal.returns-in_err-answer-clause-full
+returns-in_err-answer-clause-full c = λ past lines names kept run.
     let r : Recording = joined past lines c.args.trace.now in
     let at : ℕ = length past + c.loop-k.k in
     let before : HasComeTo c.args.machine.now c.args.builder.now r (length past) =
     start past lines names c.args.trace.now kept c.steps-steps.ensures.named c.lines.ensures.one_per_step c.args.machine.now c.args.builder.now run in
-    let come : HasComeTo c.look_ahead.new.self c.loop-k.builder r at =
-    subst (λ (m : Ordered). HasComeTo m c.loop-k.builder r at) (sym c.look_ahead.ensures) (c.loop-k.invariant.run past lines run.long before) in
+    let come : HasComeTo c.loop-k.machine c.loop-k.builder r at = c.loop-k.invariant.run past lines run.long before in
     let low : c.loop-k.k < length c.args.trace.now.steps = rw c.steps-steps.ensures.value at c.loop-k-test.true in
     let within : at < length r.steps = omega (arith, low, length-append past c.args.trace.now.steps) in
-    let known : IsStopIn r.steps c.in_err-answer_step.field-0.0 = c.in_err-answer_step.ensures.full r at come within in
-    search rules
+    let stands : Stands c.look_ahead.new.self (take at r.steps) = subst (λ (m : Ordered). Stands m (take at r.steps)) (sym c.look_ahead.ensures) come.stands in
+    err_from c.from_residual.result _ _ c.from_residual.ensures.1 (λ e is.
+    stop-by r.steps c.in_err-answer.field-0.0 e is (λ full. full-here r.steps at within (c.in_err-answer.ensures.full (take at r.steps) stands (ap Err full))))

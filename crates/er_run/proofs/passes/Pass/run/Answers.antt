@@ -1,4 +1,4 @@
-use Rattle.std.proofs.Common.{◌∙◌, arith, rules}
+use Rattle.std.proofs.Common.{rules}
 use Rattle.er_run.specs.Inner.Reports.{IsFaultOfText}
 use Rattle.er_run.proofs.passes.Pass.run.Goals as goal
 
@@ -7,21 +7,3 @@ returns-in_err-turn-clause-fault g c = λ told come.
     let known : IsFaultOfText told c.args.self.now.lines.place.limit c.in_err-turn.field-0.0 =
     rw c.loop-watcher.invariant.limit at (c.in_err-turn.ensures.fault told (c.loop-watcher.invariant.come told come)) in
     search rules
-
-pub loop-watcher-preserved : goal.loop-watcher-preserved
-loop-watcher-preserved g c = record {
-  unfailed = c.in_ok-turn.ensures.failed.0;
-  limit = c.turn.ensures.limit ∙ c.loop-watcher.invariant.limit;
-  rules = c.in_ok-turn.ensures.rules ∙ c.loop-watcher.invariant.rules;
-  explains = c.in_ok-turn.ensures.explains ∙ c.loop-watcher.invariant.explains;
-  taken = let turned = c.turn.ensures.taken in let before = c.loop-watcher.invariant.taken in omega (arith, turned, before);
-  come = λ told come. c.in_ok-turn.ensures.come told (c.loop-watcher.invariant.come told come) c.if-branch.true;
-  strict = c.in_ok-turn.ensures.strict ∙ c.loop-watcher.invariant.strict;
-  seen = λ told seen. c.in_ok-turn.ensures.seen told (c.loop-watcher.invariant.seen told seen) c.if-branch.true;
-}
-
-pub returns-clause-ended : goal.returns-clause-ended
-returns-clause-ended g c = λ told come. rw c.loop-watcher.invariant.limit at (c.in_ok-turn.ensures.ended told (c.loop-watcher.invariant.come told come) c.if-branch.false)
-
-pub returns-clause-seen_all : goal.returns-clause-seen_all
-returns-clause-seen_all g c = λ told seen. rw c.loop-watcher.invariant.limit at (c.in_ok-turn.ensures.seen_all told (c.loop-watcher.invariant.seen told seen) c.if-branch.false)

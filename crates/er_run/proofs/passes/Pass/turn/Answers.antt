@@ -1,17 +1,11 @@
 -- A batch goes on behind the steps that are forgotten, and with the last one they are the text's.
-use Rattle.std.proofs.Common.{◌++◌, Bool, false, Err, refl, rules, sym, subst}
-use Rattle.er_device.specs.Device.{inner_of, has_failed}
+use Rattle.std.proofs.Common.{◌++◌, refl, sym, subst}
+use Rattle.er_device.specs.Device.{inner_of}
 use Rattle.er_run.specs.Inner.Passes.{HasCome}
 use Rattle.er_text.specs.Batches.{joined}
-use Rattle.er_text.specs.declared.reading.Batch.{Batch}
 use Rattle.er_trace.specs.Trace.{Recording}
 use Rattle.er_run.specs.Inner.Inspected.{HasSeen}
-use Rattle.er_run.specs.Inner.Reports.{IsFaultOfText}
-use Rattle.er_run.specs.Replays.{FailsBy}
-use Rattle.er_run.specs.declared.fault.RunFault.TheVariants.{Read}
 use Rattle.er_run.proofs.SeenLemmas.{seen-part, seen-whole}
-use Rattle.er_run.proofs.ReplayLemmas.{fails-read}
-use Rattle.er_run.proofs.SeveralLemmas.{turn-fault}
 use Rattle.er_batch.proofs.BatchLemmas.{read-whole, read-part}
 use Rattle.er_run.proofs.passes.Pass.turn.Goals as goal
 
@@ -48,16 +42,3 @@ returns-in-More-clause-seen g c = λ told state more.
     (seen-part told c.args.self.now.lines c.next_batch.new.self (g.D.Read.remaining (inner_of c.args.reader.now)) (g.D.Read.remaining (inner_of c.next_batch.new.reader)) c.args.self.now.trace trace c.in_ok-batch.batch
     c.args.self.now.inspector c.inspect.new.inspector state c.in_ok-batch.ensures.told c.inspect.ensures.level (c.in_ok-inspect.ensures.seen state.past state.lines state.even state.stands)
     c.in-More.is)
-
-pub returns-in_err-batch-clause-fault : goal.returns-in_err-batch-clause-fault
-returns-in_err-batch-clause-fault g c = λ told come.
-    let known : IsFaultOfText told c.args.self.now.lines.place.limit (Read c.in_err-batch.field-0.0) =
-    turn-fault told (g.D.Read.remaining (inner_of c.args.reader.now)) (g.D.Read.remaining (inner_of c.next_batch.new.reader)) c.args.self.now.lines c.next_batch.new.self
-    c.args.self.now.trace c.next_batch.new.trace come.past come.lines c.in_err-batch.field-0.0 c.in_err-batch.ensures.limit c.in_err-batch.ensures.told come.read in
-    search rules
-
-pub returns-in_err-batch-clause-failed : goal.returns-in_err-batch-clause-failed
-returns-in_err-batch-clause-failed g c =
-    let known : FailsBy {X = Bool} (has_failed c.next_batch.new.reader) false (Err (Read c.in_err-batch.field-0.0)) =
-    fails-read Batch Bool (has_failed c.next_batch.new.reader) c.in_err-batch.field-0.0 c.in_err-batch.ensures.failed in
-    search rules

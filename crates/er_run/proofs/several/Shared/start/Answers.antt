@@ -2,7 +2,7 @@
 use Rattle.std.proofs.Common.{[], ℕ, List, Option, subst}
 use Rattle.er_device.specs.Device.{inner_of}
 use Rattle.er_run.specs.Inner.Reports.{IsFaultOfText}
-use Rattle.er_run.proofs.SeveralLemmas.{several-begun, start-may, start-read}
+use Rattle.er_run.proofs.SeveralLemmas.{start-may, start-read}
 use Rattle.er_run.proofs.SeenLemmas.{seen-begun}
 use Rattle.er_run.proofs.several.Shared.start.Goals as goal
 
@@ -15,7 +15,3 @@ returns-in-Err-new-clause-fault g c =
 
 pub returns-in-Ok-new-clause-seen : goal.returns-in-Ok-new-clause-seen
 returns-in-Ok-new-clause-seen g c = seen-begun c.in_ok-lines.lines c.keyed-trace.result c.start.result c.keyed-trace.ensures c.in_ok-lines.ensures.starts c.start.ensures.seen
-
-pub returns-in-Ok-new-clause-come : goal.returns-in-Ok-new-clause-come
-returns-in-Ok-new-clause-come g c = λ told. rw (c.new-in-Ok-new.ensures.items, c.new-in-Ok-new-2.ensures.items)
-    (several-begun c.in_ok-lines.lines c.keyed-trace.result c.in-Ok-new.crew c.in-Ok.builder c.keyed-trace.ensures c.in_ok-lines.ensures.starts c.in-Ok-new.ensures.none c.in-Ok.ensures.built told)

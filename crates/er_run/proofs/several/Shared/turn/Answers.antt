@@ -1,24 +1,21 @@
 -- A batch that the workers have answered goes into the report, and the one that was read takes its place.
-use Rattle.std.proofs.Common.{◌≡◌, ◌∙◌, ◌++◌, ◌<◌, ℕ, Bool, false, List, Option, Result, IfErr, IfOk, OnOk, refl, rules, subst, sym}
-use Rattle.er_device.specs.Device.{inner_of, has_failed}
-use Rattle.er_batch.specs.declared.verdict.Verdict.{Verdict}
+use Rattle.std.proofs.Common.{◌≡◌, ◌∙◌, ◌++◌, ℕ, List, Option, Result, IfErr, IfOk, OnOk, refl, subst, sym}
+use Rattle.er_device.specs.Device.{inner_of}
 use Rattle.er_event.specs.declared.steps.Step.{Step}
 use Rattle.er_parallel.specs.Crews.{AreNoted, AreUnusual, HaveAnswered}
 use Rattle.er_parallel.specs.Faults.{MayFail}
 use Rattle.er_parallel.specs.declared.faults.ReplayFault.{ReplayFault}
 use Rattle.er_batch.proofs.BatchLemmas.{all-named}
-use Rattle.er_run.proofs.ReplayLemmas.{fails-again, fails-read}
-use Rattle.er_run.proofs.SeveralLemmas.{given-of, reads-all, reads-on, turn-fault}
+use Rattle.er_run.proofs.SeveralLemmas.{given-of, reads-all, reads-on}
 use Rattle.er_run.proofs.SeenLemmas.{seen-part, seen-whole}
 use Rattle.er_run.specs.Inner.Inspected.{HasSeen}
 use Rattle.er_run.specs.Inner.Reports.{IsFaultOfText}
 use Rattle.er_text.specs.Batches.{GivesBatch}
 use Rattle.er_text.specs.Ending.{KnowsEnd}
 use Rattle.er_text.specs.Named.{Grows}
-use Rattle.er_text.specs.Trace.{HasFailedBy}
 use Rattle.er_text.specs.declared.faults.ReadFault.{ReadFault}
 use Rattle.er_text.specs.declared.reading.Batch.{Batch}
-use Rattle.er_text.specs.declared.reading.Batch.TheVariants.{End, More}
+use Rattle.er_text.specs.declared.reading.Batch.TheVariants.{End}
 use Rattle.er_trace.specs.Trace.{Recording}
 use Rattle.er_run.proofs.several.Shared.turn.Goals as goal
 
@@ -116,49 +113,3 @@ returns-clause-seen_all g c = λ told state ended.
     c.inspect.ensures.level (c.in_ok-inspect.ensures.seen state.past state.lines state.even state.stands) c.in-End.is c.answer_and_read-answers.ensures.limit
     (λ text past lines read. subst (λ (r : Result Batch ReadFault). IfOk r (λ batch. batch ≡ End → KnowsEnd text c.answer_and_read-answers.new.lines)) c.in-Ok.is
     (c.answer_and_read-answers.ensures.ends text past lines read))
-
-pub returns-in-Err-clause-fault : goal.returns-in-Err-clause-fault
-returns-in-Err-clause-fault g c = λ told state.
-    let known : Option (List ℕ) = g.D.Read.remaining (inner_of c.args.reader.now) in
-    let rest : Option (List ℕ) = g.D.Read.remaining (inner_of c.answer_and_read-answers.new.reader) in
-    turn-fault told known rest c.args.self.now.lines c.answer_and_read-answers.new.lines c.args.self.now.trace c.answer_and_read-answers.new.trace
-    (state.past ++ c.args.self.now.steps.items) (state.lines ++ c.args.self.now.numbers.items) c.in-Err.why c.answer_and_read-answers.ensures.limit
-    (λ text past lines read. subst (λ (r : Result Batch ReadFault). GivesBatch text past lines c.answer_and_read-answers.new.lines rest c.answer_and_read-answers.new.trace r) c.in-Err.is
-    (c.answer_and_read-answers.ensures.told text past lines read))
-    state.read
-
-pub returns-in-Err-clause-failed : goal.returns-in-Err-clause-failed
-returns-in-Err-clause-failed g c = fails-read Batch Bool (has_failed c.answer_and_read-answers.new.reader) c.in-Err.why
-    (subst (λ (r : Result Batch ReadFault). HasFailedBy (has_failed c.answer_and_read-answers.new.reader) r) c.in-Err.is c.answer_and_read-answers.ensures.failed)
-
-pub returns-in-Err-answers-clause-failed : goal.returns-in-Err-answers-clause-failed
-returns-in-Err-answers-clause-failed g c = fails-again Verdict Bool (has_failed c.fault_behind.new.reader) c.fault_behind.result c.fault_behind.ensures.failed
-
-pub returns-in_err-add_batch-clause-failed : goal.returns-in_err-add_batch-clause-failed
-returns-in_err-add_batch-clause-failed g c =
-    let unfailed : has_failed c.answer_and_read-answers.new.reader ≡ false =
-    subst (λ (r : Result Batch ReadFault). HasFailedBy (has_failed c.answer_and_read-answers.new.reader) r) c.in-Ok.is c.answer_and_read-answers.ensures.failed in
-    search rules
-
-pub returns-in_err-inspect-clause-failed : goal.returns-in_err-inspect-clause-failed
-returns-in_err-inspect-clause-failed g c =
-    let unfailed : has_failed c.answer_and_read-answers.new.reader ≡ false =
-    subst (λ (r : Result Batch ReadFault). HasFailedBy (has_failed c.answer_and_read-answers.new.reader) r) c.in-Ok.is c.answer_and_read-answers.ensures.failed in
-    search rules
-
-pub returns-in-More-clause-failed : goal.returns-in-More-clause-failed
-returns-in-More-clause-failed g c =
-    let unfailed : has_failed c.answer_and_read-answers.new.reader ≡ false =
-    subst (λ (r : Result Batch ReadFault). HasFailedBy (has_failed c.answer_and_read-answers.new.reader) r) c.in-Ok.is c.answer_and_read-answers.ensures.failed in
-    (unfailed, refl)
-
-pub returns-in-More-clause-more : goal.returns-in-More-clause-more
-returns-in-More-clause-more g c = λ _.
-    subst (λ (r : Result Batch ReadFault). IfOk r (λ batch. batch ≡ More → c.args.self.now.lines.place.start < c.answer_and_read-answers.new.lines.place.start)) c.in-Ok.is
-    c.answer_and_read-answers.ensures.more c.in-More.is
-
-pub returns-clause-failed : goal.returns-clause-failed
-returns-clause-failed g c =
-    let unfailed : has_failed c.answer_and_read-answers.new.reader ≡ false =
-    subst (λ (r : Result Batch ReadFault). HasFailedBy (has_failed c.answer_and_read-answers.new.reader) r) c.in-Ok.is c.answer_and_read-answers.ensures.failed in
-    (unfailed, refl)

@@ -8,8 +8,8 @@ use Rattle.er_trace.specs.Trace.{Recording}
 use Rattle.er_batch.proofs.LagLemmas.{lags-more, lags-none}
 use Rattle.er_batch.proofs.BatchLemmas.{number-behind}
 use Rattle.er_run.proofs.SeveralLemmas.{unnoted, usual-plain}
-use Rattle.er_run.proofs.adding.add_steps.Goals as goal
-use Rattle.er_run.proofs.adding.add_steps.Goals.{then-says_nothing, else-says_nothing+in_ok-next}
+use Rattle.er_run.proofs.adding.add_batch.Goals as goal
+use Rattle.er_run.proofs.adding.add_batch.Goals.{then-says_nothing, else-says_nothing+in_ok-next}
 
 pub loop-k-preserved : goal.loop-k-preserved
 loop-k-preserved c =

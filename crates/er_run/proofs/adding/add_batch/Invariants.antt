@@ -5,7 +5,7 @@ use Rattle.er_report.specs.Builder.{IsReported}
 use Rattle.er_batch.specs.Inner.Answering.{Lags}
 use Rattle.er_batch.specs.Runs.{recorded}
 use Rattle.er_run.specs.Inner.Several.{AreItems, IsNext}
-use Rattle.er_run.proofs.adding.add_steps.Given as goal
+use Rattle.er_run.proofs.adding.add_batch.Given as goal
 
 -- behind any steps that were answered, the report has the first k steps of the batch but for those that are counted, and the items of
 -- these k steps are behind
