@@ -1,8 +1,23 @@
-"""What the files of tests share: they run by themselves, as `tests/run` runs those of all, and refuse a program's calls one by one."""
+"""What the files of tests share: they find a program, run by themselves, as `tests/run` runs those of all, and refuse a program's calls one by one."""
 
+import functools
 import os
 import pathlib
+import subprocess
 import sys
+
+TOP = pathlib.Path(__file__).resolve().parent.parent
+AT_FIRST = dict(os.environ)
+
+
+@functools.lru_cache(maxsize=None)
+def program(name):
+    """The path of a program that is there, shipped or built. If it is an older one, this says so, and no script that a test calls says it again."""
+    done = subprocess.run([TOP / "tools/program", name], stdout=subprocess.PIPE, text=True, env=AT_FIRST)
+    if done.returncode:
+        sys.exit(done.returncode)
+    os.environ["ERASER_TOLD"] = "1"
+    return pathlib.Path(done.stdout.rstrip("\n"))
 
 
 def run_alone(tests, *more):
