@@ -2,6 +2,7 @@
 """`eraser replay --analysis happens-before` and `both`, beside a second reading: happens-before by chains of steps, without clocks.
 
 - worked traces give the reports of tests/analysis/*.txt, with reasons and without, by path, by standard input and with several workers
+- the lists of tests/order/worked.txt give a line for each race and for each refused step, and no other
 - random traces give what tests/order_reference.py and tests/reference.py say of them, with suppressions and without: traces of all three
   texts, a quarter of them damaged, and lists of text 3 in which every sort of order stands
 - `both` writes the report of the one analysis, and then that of the other; with `--by-site` the sites of both under two headings
@@ -134,6 +135,23 @@ def worked(record):
                         by_path, by_input = run([*analysis, *options, file.name]), run([*analysis, *options, "-"], text)
                         record(f"{analysis[1:]}: {name} {options}", by_path == by_input == (want, b"", status), f"{by_path}, {by_input}")
     record("analyses: worked traces are found", len(names) >= 10, f"{names}")
+
+
+def worked_lists(record):
+    """Of each list of tests/order/worked.txt the lines of its races and refused steps, and the counts."""
+    names = []
+    for name, text, answers in order_tests.worked_lists():
+        told = {"race": "unordered", "refused": "refused"}
+        lines = [(str(line), told[answer]) for line, answer in enumerate(answers, 2) if answer in told]
+        races, refused = answers.count("race"), answers.count("refused")
+        counts = f"steps {len(answers)}, unordered {races}, suppressed 0, refused {refused}"
+        output, errors, status = run([*HAPPENS_BEFORE, "-"], text)
+        *found, last = output.decode().splitlines() or [""]
+        heads = [tuple(re.match(r"line (\d+): (\w+): ", line).groups()) for line in found]
+        is_right = (heads, last, errors, status) == (lines, counts, b"", 1 if races else 0)
+        record(f"happens-before: list {name}", is_right, f"{output}, {errors}, {status}")
+        names.append(name)
+    record("analyses: worked lists are found", len(names) >= 20, f"{names}")
 
 
 # ---- Random traces ----
@@ -344,6 +362,7 @@ def wrong_arguments(record):
 
 def tests(record, preloaded):
     worked(record)
+    worked_lists(record)
     random_traces(record)
     by_sites(record)
     more_of_a_report(record)

@@ -10,7 +10,7 @@ moved: a path in a table becomes that of the one file that now has the function 
 - each walk of docs/ARCHITECTURE.md names a function of the file that it names, and docs/GLOSSARY.md a word of it
 - each name that docs/DEFINITIONS.md reads out is defined
 - each path of the repository that a document names in backquotes exists
-- what the README prints of an example is the example's report, and its code is that of crates/two_threads
+- what the README prints of an example is the example's report, and the code of docs/LIBRARY.md is that of crates/two_threads
 """
 
 import functools
@@ -282,7 +282,7 @@ EXAMPLE = re.compile(r"```sh\n\./eraser replay (?:([^\n]+) )?examples/(\w+)\.tra
 
 
 def example_faults():
-    """What the README prints of an example is its report, which `tests/run` compares with the program's, and its code is the example's."""
+    """What the README prints of an example is its report, which `tests/run` compares with the program's; the library's code is the example's."""
     found = EXAMPLE.findall((TOP / "README.md").read_text())
     if not found:
         yield "README.md: no example was found"
@@ -294,10 +294,13 @@ def example_faults():
             yield f"README.md: examples/{name}.report differs"
     code = (CRATES / "two_threads/src/main.rt").read_text().splitlines()
     lines = {line.strip() for line in code}
-    for block in re.findall(r"```rust\n(.*?)```", (TOP / "README.md").read_text(), re.S):
+    blocks = re.findall(r"```rust\n(.*?)```", (DOCS / "LIBRARY.md").read_text(), re.S)
+    if not blocks:
+        yield "docs/LIBRARY.md: no code was found"
+    for block in blocks:
         for line in block.splitlines():
             if line.strip() not in lines and not line.startswith("// In "):
-                yield f"README.md: crates/two_threads has no line {line!r}"
+                yield f"docs/LIBRARY.md: crates/two_threads has no line {line!r}"
 
 
 CHECKS = {
@@ -307,7 +310,7 @@ CHECKS = {
     "definitions": definition_faults,
     "the glossary": glossary_faults,
     "paths": path_faults,
-    "the README's examples": example_faults,
+    "the examples of README and LIBRARY": example_faults,
 }
 
 

@@ -2,7 +2,6 @@
 """Happens-before as tests/order_reference.py reads it: no test of the program, but of what the program is compared with.
 
 - the lists of tests/order/worked.txt have the answers beside them
-- the lists of crates/order_tests, which a proved machine answers, have the same answers
 - the texts of tests/order/faults.txt have the fault that stands below them
 - random lists race at the same places by the definition's chains and by sets of steps
 - a random trace has its first fault at the line at which tests/reference.py finds it, or as many event lines
@@ -10,7 +9,6 @@
 
 import pathlib
 import random
-import re
 import sys
 
 sys.path.insert(0, str(pathlib.Path(__file__).parent))
@@ -21,7 +19,6 @@ from alone import run_alone
 
 TOP = pathlib.Path(__file__).resolve().parent.parent
 CASES = TOP / "tests/order"
-LISTS = TOP / "crates/order_tests/src/lists.rt"
 RANDOM_LISTS = 400
 RANDOM_TRACES = 300
 WORDS = {"x": "0x1000", "y": "0x1004"}
@@ -39,46 +36,21 @@ def cases_of(path):
     return found
 
 
-def answers_to(lines):
-    text = "\n".join(["eraser trace 3", *lines]) + "\n"
-    return order_reference.answers(order_reference.mark(order_reference.read(text.encode())))
-
-
 # ---- Worked lists ----
 
 
-def worked(record):
+def worked_lists():
+    """The name of each list of tests/order/worked.txt, with its text and the answers beside its lines."""
     for name, rows in cases_of(CASES / "worked.txt").items():
         pairs = [row.split(" -> ") for row in rows if row and not row.startswith("#")]
         lines = [" ".join(WORDS.get(word, word) for word in line.split()) for line, _ in pairs]
-        found, expected = answers_to(lines), [answer for _, answer in pairs]
+        yield name, "".join(line + "\n" for line in ["eraser trace 3", *lines]).encode(), [answer for _, answer in pairs]
+
+
+def worked(record):
+    for name, text, expected in worked_lists():
+        found = order_reference.answers(order_reference.mark(order_reference.read(text)))
         record(f"order: {name}", bool(found) and found == expected, f"{found}")
-
-
-VERBS = {"w": "write", "r": "read", "a": "lock", "g": "unlock", "A": "rlock", "G": "runlock", "u": "reuse", "(": "ignore-on", ")": "ignore-off",
-         "s": "start", "j": "join", "!": "signal", "?": "await"}
-LETTERS = {"d": "done", "q": "quiet", "R": "race", "i": "ignored", "x": "refused"}
-
-
-def line_of(step):
-    """The line of a step of three characters, as crates/order_tests writes it: its thread, a verb, and a lock, a thread or a word."""
-    thread, letter, digit = step
-    verb = VERBS[letter]
-    if verb in ("write", "read"):
-        operand = f" {0x1000 + 4 * int(digit)}"
-    elif verb in ("start", "join"):
-        operand = f" t{digit}"
-    else:
-        operand = {"reuse": " 0x1000 1024", "ignore-on": "", "ignore-off": ""}.get(verb, f" m{digit}")
-    return f"t{thread} {verb}{operand}"
-
-
-def proved_lists(record):
-    found = re.findall(r'^    \(b"(.*)", b"(.*)"\),$', LISTS.read_text(), re.M)
-    record("order: the lists of crates/order_tests are found", len(found) >= 19, f"{len(found)}")
-    for steps, expected in found:
-        answers = answers_to([line_of(step) for step in steps.split()])
-        record(f"order: proved list {steps}", answers == [LETTERS[letter] for letter in expected], f"{answers}")
 
 
 # ---- Faults ----
@@ -145,7 +117,6 @@ def random_lists(record):
 
 def tests(record):
     worked(record)
-    proved_lists(record)
     faults(record)
     faults_beside_the_reference(record)
     random_lists(record)

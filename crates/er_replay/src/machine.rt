@@ -88,7 +88,7 @@ impl<'t> Machine<'t> {
         ensures holdings { IsFalse (found_no_room result) → (t : ℕ) → holding self.new t ≡ after_step (holding self.old t) t step }
         ensures states { IsFalse (found_no_room result) → (w : ℕ) → states self.new w ≡ state_after (holding self.old step.thread) (states self.old w) w step }
     {
-        self.follow(rt, step)
+        self.step_noting(rt, step).0
     }
 
     /// Takes one step as `step` does. Returns its answer, and whether the step may have changed a word's state: `true` at each reuse, and
@@ -150,58 +150,6 @@ impl<'t> Machine<'t> {
 
     // By the machine's own holdings and states. Split for the prover.
     #[inline(always)]
-    fn follow<R: Wait>(&mut self, rt: &R, step: Step) -> Result<Reply, Refusal>
-        ensures answer { IsFalse (found_no_room result) → result ≡ answered (holding self.old step.thread) (states self.old) step }
-        ensures holdings { IsFalse (found_no_room result) → (t : ℕ) → holding self.new t ≡ after_step (holding self.old t) t step }
-        ensures states { IsFalse (found_no_room result) → (w : ℕ) → states self.new w ≡ state_after (holding self.old step.thread) (states self.old w) w step }
-        ensures same_holdings { OnErr result ((t : ℕ) → holding self.new t ≡ holding self.old t) }
-        ensures same_states { OnErr result ((w : ℕ) → states self.new w ≡ states self.old w) }
-        ensures refused { (why : Refusal) → refused_by (holding self.old step.thread) step.event ≡ Some why → result ≡ Err why }
-        ensures room { refused_by (holding self.old step.thread) step.event ≡ None → IfErr result (λ why. IsTrue (may_want (holding self.old step.thread) (states self.old) step.thread step.event why)) }
-    {
-        let Step { thread, event } = step;
-        match event {
-            Event::Access(kind, word, _) => self.access(rt, thread, kind, word),
-            Event::Reuse(range) => {
-                self.words.reset(range);
-                Ok(Reply::Done)
-            }
-            Event::Show(word) => Ok(Reply::State(self.words.state_of(word)?)),
-            Event::Sync(_) => Ok(Reply::Done),
-            Event::Acquire(..)
-            | Event::Release(..)
-            | Event::IgnoreOn
-            | Event::IgnoreOff
-            | Event::Level(_) => {
-                self.threads.change(thread, event)?;
-                Ok(Reply::Done)
-            }
-        }
-    }
-
-    // An access, which isn't counted while its thread ignores.
-    #[inline(always)]
-    fn access<R: Wait>(
-        &mut self,
-        rt: &R,
-        thread: ThreadId,
-        kind: Kind,
-        word: Word,
-    ) -> Result<Reply, Refusal>
-        ensures reply { IfOk result (λ reply. reply ≡ replied (holding self.old thread) (states self.old) thread (Event.Access kind word 0)) }
-        ensures ok { OnOk result ((w : ℕ) → states self.new w ≡ moved (states self.old w) w (marked (holding self.old thread) thread (Event.Access kind word 0))) }
-        ensures err { OnErr result ((w : ℕ) → states self.new w ≡ states self.old w) }
-        ensures threads { self.new.threads ≡ self.old.threads }
-        ensures room { IfErr result (λ why. IsTrue (may_want (holding self.old thread) (states self.old) thread (Event.Access kind word 0) why)) }
-    {
-        let Some(locks) = cover(self.threads.get(thread), kind) else {
-            return Ok(Reply::Ignored);
-        };
-        Ok(self.words.access(rt, thread, word, kind, locks)?)
-    }
-
-    // What `follow` does, and whether a word may have changed. Split for the prover.
-    #[inline(always)]
     fn follow_noting<R: Wait>(&mut self, rt: &R, step: Step) -> (Result<Reply, Refusal>, bool)
         ensures answer { IsFalse (found_no_room result.0) → result.0 ≡ answered (holding self.old step.thread) (states self.old) step }
         ensures holdings { IsFalse (found_no_room result.0) → (t : ℕ) → holding self.new t ≡ after_step (holding self.old t) t step }
@@ -218,18 +166,27 @@ impl<'t> Machine<'t> {
                 Ok((reply, changed)) => (Ok(reply), changed),
                 Err(why) => (Err(why), false),
             },
-            Event::Reuse(_) => (self.follow(rt, step), true),
-            Event::Show(_)
-            | Event::Acquire(..)
+            Event::Reuse(range) => {
+                self.words.reset(range);
+                (Ok(Reply::Done), true)
+            }
+            Event::Show(word) => match self.words.state_of(word) {
+                Ok(state) => (Ok(Reply::State(state)), false),
+                Err(_) => (Err(Refusal::OutOfMemory), false),
+            },
+            Event::Sync(_) => (Ok(Reply::Done), false),
+            Event::Acquire(..)
             | Event::Release(..)
             | Event::IgnoreOn
             | Event::IgnoreOff
-            | Event::Level(_)
-            | Event::Sync(_) => (self.follow(rt, step), false),
+            | Event::Level(_) => match self.threads.change(thread, event) {
+                Ok(()) => (Ok(Reply::Done), false),
+                Err(why) => (Err(why), false),
+            },
         }
     }
 
-    // What `access` does, and whether it changed its word.
+    // An access, which isn't counted while its thread ignores, and whether it changed its word.
     #[inline(always)]
     fn access_noting<R: Wait>(
         &mut self,

@@ -97,6 +97,7 @@ impl<'t> ShadowMap<'t> {
     /// One counted access of a word, with the locks that cover it: those that the thread holds in any mode for a read, and those
     /// that it holds in write mode for a write. Returns whether it is reported as a race. If it needs a set, the thread's locks go
     /// into the table first, and then what they have in common with the candidates.
+    #[inline(always)]
     pub fn access<R: Wait>(
         &mut self,
         rt: &R,
@@ -114,8 +115,8 @@ impl<'t> ShadowMap<'t> {
         ensures own { states self.old word ≡ Exclusive thread → IsOk result }
         ensures refusals { ¬ IsErrOf result NoRoom.JournalFull }
     {
-        let (race, _) = self.advance(rt, thread, word, kind, locks)?;
-        Ok(reply_to(race))
+        let (reply, _) = self.access_noting(rt, thread, word, kind, locks)?;
+        Ok(reply)
     }
 
     /// One counted access, as `access` takes it. Returns also whether the access changed what stands for its word. If it did not, every
@@ -131,29 +132,6 @@ impl<'t> ShadowMap<'t> {
         ensures ok { OnOk result ((w : ℕ) → states self.new w ≡ moved (states self.old w) w (Counted thread kind word locks.now)) }
         ensures reply { IfOk result (λ answer. answer.0 ≡ reply_if (reports (states self.old word) (advanced (states self.old word) thread kind locks.now))) }
         ensures unchanged { IfOk result (λ answer. answer.1 ≡ false → (w : ℕ) → states self.new w ≡ states self.old w) }
-        ensures err { OnErr result ((w : ℕ) → states self.new w ≡ states self.old w) }
-        ensures full { IsErrOf result NoRoom.TableFull → IsTrue (needs_set (states self.old word) thread) }
-        ensures own { states self.old word ≡ Exclusive thread → IsOk result }
-        ensures refusals { ¬ IsErrOf result NoRoom.JournalFull }
-    {
-        let (race, changed) = self.advance(rt, thread, word, kind, locks)?;
-        Ok((reply_to(race), changed))
-    }
-
-    // Whether an access is reported as a race, and whether it changed what stands for its word. Each of its two callers has a copy of
-    // its own, so that `access` pays nothing for what it leaves out.
-    #[inline(always)]
-    fn advance<R: Wait>(
-        &mut self,
-        rt: &R,
-        thread: ThreadId,
-        word: Word,
-        kind: Kind,
-        locks: &Lockset,
-    ) -> Result<(bool, bool), NoRoom>
-        ensures ok { OnOk result ((w : ℕ) → states self.new w ≡ moved (states self.old w) w (Counted thread kind word locks.now)) }
-        ensures race { IfOk result (λ found. found.0 ≡ reports (states self.old word) (advanced (states self.old word) thread kind locks.now)) }
-        ensures unchanged { IfOk result (λ found. found.1 ≡ false → (w : ℕ) → states self.new w ≡ states self.old w) }
         ensures err { OnErr result ((w : ℕ) → states self.new w ≡ states self.old w) }
         ensures full { IsErrOf result NoRoom.TableFull → IsTrue (needs_set (states self.old word) thread) }
         ensures own { states self.old word ≡ Exclusive thread → IsOk result }
@@ -177,14 +155,14 @@ impl<'t> ShadowMap<'t> {
                 )?;
                 page.set(place, shadow);
                 let same = shadow == before;
-                Ok((race, !same))
+                Ok((reply_to(race), !same))
             }
             None => {
                 let mut page = Page::new(self.alloc)?;
                 page.set(place, Shadow::exclusive(thread));
                 self.places.note(number, self.pages.len());
                 self.pages.insert(number, page)?;
-                Ok((false, true))
+                Ok((Reply::Quiet, true))
             }
         }
     }

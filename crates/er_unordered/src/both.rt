@@ -257,7 +257,8 @@ fn abandon(trace: Trace, builder: ReportBuilder<'_>, unordered: OrderBuilder<'_>
 ///
 /// # Errors
 /// `Read`: the text has a fault, a read failed, or memory was refused to the reader. `TableFull`: a step of the text wants one set of locks
-/// more than may be kept. `CountFull`: a thread releases, starts or signals more than 2^32 - 1 times. `Memory`: memory was refused.
+/// more than may be kept. `CountFull`: a thread releases, starts, signals and is joined 2^32 - 1 times or more. `Memory`: memory was
+/// refused.
 pub fn report_both<R: Wait, D: Read, V: Watch>(
     rt: &R,
     alloc: Global,

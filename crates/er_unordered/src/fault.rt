@@ -21,7 +21,7 @@ pub enum OrderFault {
     Write(WriteFault),
     /// The table of locksets is full. Only a replay by both analyses has one.
     TableFull,
-    /// A thread has come to 2^32 - 1 releases, starts and signals, and would come to one more.
+    /// A thread releases, starts, signals and is joined 2^32 - 1 times or more.
     CountFull,
     /// Memory was refused.
     Memory,

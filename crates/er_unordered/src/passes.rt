@@ -180,8 +180,8 @@ fn close(lines: TraceReader, machine: OrderMachine) {
 /// as by `replay_text_watched`.
 ///
 /// # Errors
-/// `Read`: the text has a fault, a read failed, or memory was refused to the reader. `CountFull`: a thread releases, starts or signals
-/// more than 2^32 - 1 times. `Memory`: memory was refused.
+/// `Read`: the text has a fault, a read failed, or memory was refused to the reader. `CountFull`: a thread releases, starts,
+/// signals and is joined 2^32 - 1 times or more. `Memory`: memory was refused.
 pub fn report_unordered<D: Read, V: Watch>(
     alloc: Global,
     reader: &mut Device<D>,

@@ -41,8 +41,8 @@ pub enum Analysis {
 ///
 /// # Errors
 /// `Read`: the text has a fault, a read failed, or memory was refused to the reader. `Write`: a write failed, or memory was refused to the
-/// text. `TableFull`: a step of the lockset rule wants one set of locks more than may be kept. `CountFull`: a thread releases, starts or
-/// signals more than 2^32 - 1 times. `Memory`: memory was refused.
+/// text. `TableFull`: a step of the lockset rule wants one set of locks more than may be kept. `CountFull`: a thread releases, starts,
+/// signals and is joined 2^32 - 1 times or more. `Memory`: memory was refused.
 pub fn replay_by<R, D, W, V>(
     rt: &R,
     reader: &mut Device<D>,

@@ -3,8 +3,6 @@
 #![tactic(auto)]
 
 #[cfg(test)]
-mod batches;
-#[cfg(test)]
 mod device;
 #[cfg(test)]
 mod print;
