@@ -21,7 +21,7 @@ def program(name):
 
 
 def run_alone(tests, *more):
-    """Calls `tests` with a recorder and what else it wants. Prints each test that fails, and ends with 1 if one fails or none ran."""
+    """Calls `tests` with a recorder and what else it wants. Prints each test that fails and what was not run, and ends with 1 if one fails or none ran."""
     totals = [0, 0]
 
     def record(name, is_right, detail=""):
@@ -29,7 +29,8 @@ def run_alone(tests, *more):
         if not is_right:
             print(f"FAILED {name} {detail}")
 
-    tests(record, *more)
+    for part in tests(record, *more) or []:
+        print(f"not run: {part}")
     print(f"{totals[0]} passed, {totals[1]} failed")
     sys.exit(1 if totals[1] or not totals[0] else 0)
 
