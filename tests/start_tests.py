@@ -59,12 +59,12 @@ def program_text(says):
 
 
 class Tree:
-    """A tree with the scripts, five crates, and `eraser` and `probe` in dist/, which say `shipped`."""
+    """A tree with the scripts, five crates, and `eraser` and `probe` in dist/, which say `shipped`. No package can be installed."""
 
     def __init__(self, folder):
         self.top = pathlib.Path(folder) / "a tree"
         self.home = pathlib.Path(folder) / "home"
-        for name in ("home/kit", "a tree/tools", "a tree/tests", "a tree/dist"):
+        for name in ("home/kit", "home/bin", "a tree/tools", "a tree/tests", "a tree/dist"):
             (pathlib.Path(folder) / name).mkdir(parents=True)
         for name in SCRIPTS:
             shutil.copy(TOP / name, self.top / name)
@@ -79,7 +79,8 @@ class Tree:
         self.write("HANDLES", "Handles allowed: none.\n")
         self.write("tests/run", "#!/bin/sh\necho 'one line'\n[ -z \"$TEST_FAILS\" ] || { echo '4 passed, 1 failed'; exit 1; }\necho '5 passed, 0 failed'\n")
         self.write("../home/kit/rt", KIT)
-        for path in (self.top / "tests/run", self.home / "kit/rt"):
+        self.write("../home/bin/apt-get", "#!/bin/sh\necho $* >>\"$HOME/asked\"\n[ $1 = update ]\n")
+        for path in (self.top / "tests/run", self.home / "kit/rt", self.home / "bin/apt-get"):
             path.chmod(0o755)
         keys = self.run("tools/program", "--key", "eraser", "probe").stdout.split()
         for name, key in zip(("eraser", "probe"), keys):
@@ -102,7 +103,7 @@ class Tree:
         return self.run("tools/program", "--key", crate).stdout.strip()
 
     def run(self, script, *words, kit=False, before=(), **settings):
-        env = {"PATH": os.environ["PATH"], "HOME": str(self.home), **settings}
+        env = {"PATH": f"{self.home / 'bin'}:{os.environ['PATH']}", "HOME": str(self.home), **settings}
         if kit:
             env["PATH"] = f"{self.home / 'kit'}:{env['PATH']}"
         return subprocess.run([*before, self.top / script, *words], capture_output=True, text=True, env=env, cwd=self.top.parent, timeout=120)
@@ -348,17 +349,35 @@ def gate_tests(record, tree):
     tree.write("ci-also", "exit 5\n")
     found = tree.run("check", kit=True)
     record("check: rt ci ends early", found.returncode != 0 and found.stdout.endswith("\n0 passed, 1 failed\n"), f"{found}")
+    packages_tests(record, tree)
     manifest.unlink()
     shutil.rmtree(tree.top / "crates/eraser/out")
     found = tree.run("test")
     record("test: no program", found.returncode == 70 and found.stdout == "0 passed, 1 failed\n" and "tools/prove eraser" in found.stderr, f"{found}")
 
 
+FEW = "python3 sh bash env find sort xargs awk sha256sum touch mv rm mkdir gzip chmod mktemp uname readlink dirname id git"
+
+
+def few_commands(folder):
+    """A folder of commands, none of them a compiler or a browser, as a PATH."""
+    for name in filter(shutil.which, FEW.split()):
+        (folder / name).symlink_to(shutil.which(name))
+    return str(folder)
+
+
+def packages_tests(record, tree):
+    """Packages that can't be installed are named, and the tests run."""
+    found = tree.run("test", PATH=few_commands(tree.home / "bin"))
+    asked = (tree.home / "asked").read_text() if os.geteuid() == 0 else ""
+    names = ("gcc libc6-dev g++ clang libdw-dev", "--no-install-recommends chromium fonts-dejavu-core")
+    is_told = all(f"on Debian: apt-get install {name}\n" in found.stderr and (asked == "" or f"install -y -qq {name}\n" in asked) for name in names)
+    record("test: no package can be installed", (found.returncode, found.stdout) == (0, "one line\n5 passed, 0 failed\n") and is_told, f"{found} {asked}")
+
+
 def parts_tests(record, folder):
     """Without a compiler, a part that wants one is named, and another one runs."""
-    for name in ("python3", "sh", "bash", "find", "sort", "xargs", "awk", "sha256sum", "touch", "mv", "rm", "mkdir", "gzip", "chmod", "mktemp", "uname"):
-        (folder / name).symlink_to(shutil.which(name))
-    env = {**os.environ, "PATH": str(folder)}
+    env = {**os.environ, "PATH": few_commands(folder)}
     found = subprocess.run([sys.executable, TOP / "tests/run", "pieces", "documents", "the recorder"], capture_output=True, text=True, env=env, timeout=120)
     *_, first, second, last = found.stdout.splitlines() or [""] * 3
     named = ["not run: pieces (no C compiler)", "not run: the recorder (no gcc, g++ or clang, or no headers of libdw)"]
