@@ -154,6 +154,12 @@ def choice_tests(record, tree):
     record("start: the built program", tree.start("x") == ("built x\n", "", 0), f"{tree.start('x')}")
     path = tree.run("tools/program", "eraser").stdout
     record("start: its path", path == f"{tree.top}/crates/eraser/out/eraser\n", path)
+    built = tree.top / "crates/eraser/out/eraser"
+    is_at = built.stat()
+    os.utime(built, ns=(is_at.st_atime_ns, is_at.st_mtime_ns + 10**10))
+    record("start: a program that was built again since the stamp", tree.start("x") == ("shipped x\n", OLDER, 0), f"{tree.start('x')}")
+    os.utime(built, ns=(is_at.st_atime_ns, is_at.st_mtime_ns))
+    record("start: the built program once more", tree.start("x") == ("built x\n", "", 0), f"{tree.start('x')}")
     source.write_text("low 1\n")
     record("start: a built program of other sources", tree.start("x") == ("shipped x\n", "", 0), f"{tree.start('x')}")
     (tree.top / "crates/eraser/out/proved").unlink()
