@@ -43,6 +43,16 @@ BAD_ROWS = [
     ("detectors 4 2 100 2 8\nsettle a\nopen a\n", 3),
     ("detectors 4 2 100 2 8\nopen a\nsettle a 1\n", 3),
     ("detectors 4 2 100 2 8\nopen a\nsettle a 0 0\n", 3),
+    ("workloads 0\n", 1),
+    ("workloads 1000001\n", 1),
+    ("workloads 1\nlocked-counter 1\n", 2),
+    ("workloads 1\n\nno-such\n", 3),
+    ("rate own 0 1\n", 1),
+    ("rate own 17 1\n", 1),
+    ("rate own 1 100000001\n", 1),
+    ("rate any 1 1\n", 1),
+    ("rate own 1\n", 1),
+    ("rate own 1 1\nrate own 1 1\n", 2),
 ]
 
 
@@ -128,6 +138,15 @@ def batches(record):
     record("some random calls race, and some find the table full", races > 50 and full > 20, f"{races} and {full}")
 
 
+def rates(record):
+    """Threads make all calls that are measured, and none is a race. How long they took goes to the errors."""
+    for shape in ("own", "spread", "one"):
+        for threads in (1, 4, 16):
+            output, errors, status = run(f"rate {shape} {threads} 1000\n")
+            is_right = (output, status) == (f"calls {1000 * threads}, races 0\n", 0) and re.fullmatch(r"\d+ microseconds\n", errors)
+            record(f"rate {shape} {threads}", bool(is_right), f"{output} {errors} {status}")
+
+
 def refusals(record, preloaded):
     with tempfile.TemporaryDirectory() as folder:
         library = preloaded(folder, "refuse")
@@ -152,6 +171,7 @@ def tests(record, preloaded):
     plays(record)
     bad_rows(record)
     batches(record)
+    rates(record)
     refusals(record, preloaded)
 
 

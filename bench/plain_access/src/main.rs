@@ -1,4 +1,5 @@
-//! The plain baseline of accesses by many threads: `plain_access THREADS own|spread|one CALLS`, with the words of `rate`.
+//! The plain baseline of accesses by many threads: `plain_access THREADS own|spread|one CALLS`. It prints what `probe` prints of the row
+//! `rate own|spread|one THREADS CALLS`.
 //!
 //! It is written as one would without proofs and without a journal: all words in one `Mutex<HashMap>`, four states, and sets that are
 //! lists of locks. Nothing can be settled or checked of it afterwards.

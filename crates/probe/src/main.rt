@@ -1,7 +1,7 @@
 //! Makes the calls that the rows of its standard input ask for, and prints what each is answered, a line for each row.
 //!
-//! The first row says what the others call: `detectors SETS SHARDS JOURNAL SEATS NAME`, `steps SETS` or `values` (tests/README.md has
-//! all rows). `#` starts a comment. A call that is refused for want of memory prints a line of its own, which says whether it left
+//! The first row says what the others call: `detectors SETS SHARDS JOURNAL SEATS NAME`, `steps SETS`, `values` or `workloads ROUNDS`
+//! (tests/README.md has all rows), or it is `rate SHAPE THREADS CALLS`, which measures a detector. `#` starts a comment. A call that is refused for want of memory prints a line of its own, which says whether it left
 //! everything as it was, and is made once more. A row that asks for nothing is told with its line, and the status is 2.
 #![tactic(auto)]
 
@@ -11,6 +11,7 @@ mod calls;
 mod detectors;
 mod endings;
 mod explained;
+mod measuring;
 mod questions;
 mod rows;
 mod seats;
@@ -18,8 +19,11 @@ mod shards;
 mod shown;
 mod steps;
 mod values;
+mod workloads;
 
 use detectors::detector_rows;
+use er_event::Refusal;
+use measuring::rate_row;
 use rows::{Row, count_of, rows_of};
 use std::alloc::{AllocError, AllocFailed};
 use std::io;
@@ -30,6 +34,7 @@ use std::sync::Wait;
 use std::thread::Threads;
 use steps::step_rows;
 use values::value_rows;
+use workloads::workload_rows;
 
 /// Why there is nothing more to print.
 #[derive(Clone, Copy, PartialEq, Eq)]
@@ -37,6 +42,8 @@ pub(crate) enum Fault {
     Memory,
     /// The row of this line asks for nothing.
     Row(usize),
+    /// A call that is measured was refused.
+    Refused(Refusal),
     System,
 }
 
@@ -49,6 +56,12 @@ impl From<AllocError> for Fault {
 impl<T: Drop> From<AllocFailed<T>> for Fault {
     fn from(_refused: AllocFailed<T>) -> Fault {
         Fault::Memory
+    }
+}
+
+impl From<Refusal> for Fault {
+    fn from(why: Refusal) -> Fault {
+        Fault::Refused(why)
     }
 }
 
@@ -78,8 +91,12 @@ fn main(rt: HostRuntime) -> ExitCode {
             let _ = rt.eprintln("out of memory");
             ExitCode::from(3)
         }
+        Err(Fault::Refused(why)) => {
+            let _ = rt.eprintln(why.text());
+            ExitCode::from(3)
+        }
         Err(Fault::System) => {
-            let _ = rt.eprintln("standard input or output failed");
+            let _ = rt.eprintln("standard input, standard output or the clock failed");
             ExitCode::from(3)
         }
     }
@@ -114,6 +131,8 @@ fn play<R: Runtime + AllocGlobal + Threads + Wait + Sync>(
         ["detectors", numbers @ ..] => detector_rows(rt, numbers, rows),
         ["steps", sets] => step_rows(rt, count_of(sets), rows),
         ["values"] => value_rows(rt, rows),
+        ["workloads", rounds] => workload_rows(rt, count_of(rounds), rows),
+        ["rate", words @ ..] => rate_row(rt, words, rows),
         _ => Err(Fault::Row(head.line)),
     }
 }

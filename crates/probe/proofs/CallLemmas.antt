@@ -7,7 +7,7 @@ use Rattle.er_journal.specs.Entries.{Call}
 use Rattle.er_seat.specs.Seats.{with_call, holdings_of}
 use Rattle.er_settle.specs.Seats.{SeatList}
 use Rattle.er_detector.specs.Calls.{IsListed, IsIgnored}
-use Rattle.rate.specs.Grown.{HasMade}
+use Rattle.probe.specs.Grown.{HasMade}
 
 -- one call
 pub made-one : (seat next : SeatList) (call : Call) → next ≡ with_call seat call → HasMade seat next 1

@@ -1,6 +1,6 @@
 use Rattle.std.proofs.Common.{◌≤◌}
-use Rattle.rate.specs.Grown.{HasMade}
-use Rattle.rate.proofs.measuring.make_all.Given as goal
+use Rattle.probe.specs.Grown.{HasMade}
+use Rattle.probe.proofs.measuring.make_all.Given as goal
 
 -- each call so far is listed, and reported at most one race
 abbrev pub invariant-loop-call : goal.invariant-loop-call

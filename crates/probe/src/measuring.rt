@@ -1,17 +1,21 @@
-//! How many accesses a second threads make at one detector.
-ghost use Rattle.std.specs.Prelude.{◌≡◌, ◌<◌, ◌≤◌, ◌+◌, ◌*◌, ◌/◌, [], ◌∷◌, length, vec_len, IsSome, IfSome, IfOk, OnOk, OnErr};
+//! A row that measures how many accesses a second threads make at one detector: `rate SHAPE THREADS CALLS`.
+//!
+//! SHAPE is `own` (each thread keeps to a shard of its own), `spread` (all threads go over all shards and seldom meet at one) or `one`
+//! (all at one shard). The counts of a measure go to standard output, and its microseconds to standard error.
+ghost use Rattle.std.specs.Prelude.{◌≡◌, ◌<◌, ◌≤◌, ◌+◌, ◌*◌, ◌/◌, [], ◌∷◌, length, vec_len, IfSome, IfOk, OnOk, OnErr};
 ghost use Rattle.er_event.specs.declared.steps.Event.TheVariants.{Acquire};
 ghost use Rattle.er_seat.specs.Seats.{done};
-ghost use Rattle.rate.specs.Grown.{HasMade};
-ghost use Rattle.rate.specs.Measures.{shard_count, ReadsAs};
+ghost use Rattle.probe.specs.Grown.{HasMade};
+ghost use Rattle.probe.specs.Measures.{shard_count};
 
 use crate::Fault;
+use crate::rows::{Row, count_of};
 use er_detector::{Config, Detector};
 use er_event::{Kind, LockId, Mode, Refusal, Reply, Site, Word};
 use er_seat::Seat;
 use er_table::LocksetTable;
 use std::alloc::Global;
-use std::rt::Clock;
+use std::rt::{Clock, Runtime};
 use std::sync::Wait;
 use std::thread;
 use std::thread::Threads;
@@ -22,7 +26,7 @@ const WORDS: u64 = 1024;
 
 /// The shards that threads call.
 #[derive(Clone, Copy)]
-pub(crate) enum Shape {
+enum Shape {
     /// Each thread keeps to a shard of its own.
     Own,
     /// All threads go over all shards, sixteen calls at a shard, and seldom meet at one.
@@ -58,37 +62,50 @@ impl Shape {
 
 /// What is measured.
 #[derive(Clone, Copy)]
-pub(crate) struct Measure {
-    pub(crate) threads: u32,
-    pub(crate) shape: Shape,
+struct Measure {
+    threads: u32,
+    shape: Shape,
     /// How many calls each thread makes.
-    pub(crate) calls: u32,
+    calls: u32,
 }
 
 /// What came of it.
 #[derive(Clone, Copy)]
-pub(crate) struct Measured {
-    pub(crate) races: u64,
+struct Measured {
+    races: u64,
     /// The microseconds from before the first thread to after the last.
-    pub(crate) micros: u128,
+    micros: u128,
 }
 
-/// The measure that three words ask for.
-pub(crate) fn read_measure(words: &[String]) -> Option<Measure>
-    ensures count { IsSome result → length words.now ≡ 3 }
-    ensures read { IfSome result (ReadsAs words.now) }
+/// Measures what these words of the first row ask for. No other row follows it.
+pub(crate) fn rate_row<R: Runtime + AllocGlobal + Threads + Wait + Sync>(
+    rt: &R,
+    words: &[&str],
+    rows: &[Row<'_>],
+) -> Result<(), Fault> {
+    let Some(asked) = measure_of(words) else {
+        return Err(Fault::Row(1));
+    };
+    if let Some(row) = rows.first() {
+        return Err(Fault::Row(row.line));
+    }
+    let measured = take_rate(rt, rt.alloc(), asked)?;
+    let calls = u64::from(asked.threads) * u64::from(asked.calls);
+    println!(rt; "calls {calls}, races {}", measured.races)?;
+    eprintln!(rt; "{} microseconds", measured.micros)?;
+    Ok(())
+}
+
+fn measure_of(words: &[&str]) -> Option<Measure>
     ensures threads { IfSome result (λ asked. (1 ≤ asked.threads) × (asked.threads ≤ 16)) }
     ensures calls { IfSome result (λ asked. asked.calls ≤ 100000000) }
 {
-    let threads = words.first()?.parse::<u32>().ok()?;
-    let shape = match words.get(1)?.as_str() {
-        "own" => Shape::Own,
-        "spread" => Shape::Spread,
-        "one" => Shape::One,
-        _ => return None,
+    let [shape, threads, calls] = words else {
+        return None;
     };
-    let calls = words.get(2)?.parse::<u32>().ok()?;
-    if words.len() == 3 && threads >= 1 && threads <= 16 && calls <= 100_000_000 {
+    let shape = shape_of(shape)?;
+    let (threads, calls) = (count_of(threads)?, count_of(calls)?);
+    if threads >= 1 && threads <= 16 && calls <= 100_000_000 {
         Some(Measure {
             threads,
             shape,
@@ -96,6 +113,15 @@ pub(crate) fn read_measure(words: &[String]) -> Option<Measure>
         })
     } else {
         None
+    }
+}
+
+fn shape_of(word: &str) -> Option<Shape> {
+    match word {
+        "own" => Some(Shape::Own),
+        "spread" => Some(Shape::Spread),
+        "one" => Some(Shape::One),
+        _ => None,
     }
 }
 
@@ -194,14 +220,14 @@ fn write_all_by<R: Wait>(
     Ok(())
 }
 
-/// Makes all calls on their threads. Each thread holds one lock, under which all words were written before.
-pub(crate) fn take_rate<R: Clock + Threads + Wait + Sync>(
+// Makes all calls on their threads. Each thread holds one lock, under which all words were written before.
+fn take_rate<R: Clock + Threads + Wait + Sync>(
     rt: &R,
     alloc: Global,
     asked: Measure,
 ) -> Result<Measured, Fault> {
     let shards = asked.shape.shards();
-    let config = Config::new(1, shards, Config::MAX_LIMIT, 17).ok_or(Fault::Unexpected)?;
+    let config = Config::new(1, shards, Config::MAX_LIMIT, 17).ok_or(Fault::Row(1))?;
     let table = LocksetTable::new(alloc, 4)?;
     let measured = rate_over(rt, alloc, &table, config, asked);
     drop(table);

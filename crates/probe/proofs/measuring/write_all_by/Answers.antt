@@ -1,7 +1,7 @@
 use Rattle.std.proofs.Common.{arith}
-use Rattle.rate.proofs.CallLemmas.{made-access}
-use Rattle.rate.specs.Grown.{HasMade}
-use Rattle.rate.proofs.measuring.write_all_by.Goals as goal
+use Rattle.probe.proofs.CallLemmas.{made-access}
+use Rattle.probe.specs.Grown.{HasMade}
+use Rattle.probe.proofs.measuring.write_all_by.Goals as goal
 
 pub loop-place-preserved : goal.loop-place-preserved
 loop-place-preserved g c =

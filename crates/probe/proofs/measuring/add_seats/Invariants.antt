@@ -1,5 +1,5 @@
 use Rattle.std.proofs.Common.{◌≡◌, ◌+◌, vec_len}
-use Rattle.rate.proofs.measuring.add_seats.Given as goal
+use Rattle.probe.proofs.measuring.add_seats.Given as goal
 
 -- one seat of each thread so far
 abbrev pub invariant-loop : goal.invariant-loop

@@ -1,6 +1,6 @@
 use Rattle.std.proofs.Common.{◌*◌}
-use Rattle.rate.specs.Grown.{HasMade}
-use Rattle.rate.proofs.measuring.write_all_by.Given as goal
+use Rattle.probe.specs.Grown.{HasMade}
+use Rattle.probe.proofs.measuring.write_all_by.Given as goal
 
 -- each word of the pages so far is written
 abbrev pub invariant-loop-page : goal.invariant-loop-page
