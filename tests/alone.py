@@ -1,12 +1,27 @@
-"""What the files of tests share: they run by themselves, as `tests/run` runs those of all, and refuse a program's calls one by one."""
+"""What the files of tests share: they find a program, run by themselves, as `tests/run` runs those of all, and refuse a program's calls one by one."""
 
+import functools
 import os
 import pathlib
+import subprocess
 import sys
+
+TOP = pathlib.Path(__file__).resolve().parent.parent
+AT_FIRST = dict(os.environ)
+
+
+@functools.lru_cache(maxsize=None)
+def program(name):
+    """The path of a program that is there, shipped or built. If it is an older one, this says so, and no script that a test calls says it again."""
+    done = subprocess.run([TOP / "tools/program", name], stdout=subprocess.PIPE, text=True, env=AT_FIRST)
+    if done.returncode:
+        sys.exit(done.returncode)
+    os.environ["ERASER_TOLD"] = "1"
+    return pathlib.Path(done.stdout.rstrip("\n"))
 
 
 def run_alone(tests, *more):
-    """Calls `tests` with a recorder and what else it wants. Prints each test that fails, and ends with 1 if one fails or none ran."""
+    """Calls `tests` with a recorder and what else it wants. Prints each test that fails and what was not run, and ends with 1 if one fails or none ran."""
     totals = [0, 0]
 
     def record(name, is_right, detail=""):
@@ -14,7 +29,8 @@ def run_alone(tests, *more):
         if not is_right:
             print(f"FAILED {name} {detail}")
 
-    tests(record, *more)
+    for part in tests(record, *more) or []:
+        print(f"not run: {part}")
     print(f"{totals[0]} passed, {totals[1]} failed")
     sys.exit(1 if totals[1] or not totals[0] else 0)
 

@@ -26,11 +26,11 @@ sys.dont_write_bytecode = True
 import order_reference
 import order_tests
 import reference
-from alone import each_failed, each_refused, run_alone
+from alone import each_failed, each_refused, program, run_alone
 from site_tests import by_site_of_both, places_in, preloaded, run_file, sites_in
 
 TOP = pathlib.Path(__file__).resolve().parent.parent
-PROGRAM = TOP / "crates/eraser/out/eraser"
+PROGRAM = program("eraser")
 CASES = TOP / "tests/analysis"
 RANDOM_TRACES = 400
 RANDOM_LISTS = 700

@@ -8,10 +8,10 @@ import sys
 import tempfile
 
 sys.dont_write_bytecode = True
-from alone import run_alone
+from alone import program, run_alone
 
 TOP = pathlib.Path(__file__).resolve().parent.parent
-PROGRAM = TOP / "crates/eraser/out/eraser"
+PROGRAM = program("eraser")
 BLOCK = re.compile(r"^```(\w+)\n(.*?)^```$", re.M | re.S)
 
 

@@ -20,11 +20,11 @@ import threading
 import tty
 
 sys.dont_write_bytecode = True
-from alone import each_refused, run_alone
+from alone import each_refused, program, run_alone
 from site_tests import preloaded
 
 TOP = pathlib.Path(__file__).resolve().parent.parent
-PROGRAM = TOP / "crates/eraser/out/eraser"
+PROGRAM = program("eraser")
 VERBS = "verbs are lock, unlock, rlock, runlock, read, write, reuse, ignore-on, ignore-off, show"
 NAMES = "a name has 1 to 128 letters, digits and _ . : / - and no lock is named none"
 SITES = "a name has 1 to 128 letters, digits and _ . : / - and a site of a trace 3 has any printable bytes"

@@ -13,10 +13,10 @@ import subprocess
 import tempfile
 
 import probe_cases
-from alone import each_refused
+from alone import each_refused, program
 
 TOP = pathlib.Path(__file__).resolve().parent.parent
-PROBE = TOP / "crates/probe/out/probe"
+PROBE = program("probe")
 TOLD = re.compile(r"line (\d+): (?:out of memory|stopped at (0x[0-9a-f]+) for want of memory), (unchanged|changed)\n")
 # Rows that ask for nothing, each behind the rows of its kind, and the line that is told.
 BAD_ROWS = [

@@ -20,6 +20,8 @@ import tempfile
 import threading
 import time
 
+from alone import program
+
 TOP = pathlib.Path(__file__).resolve().parent.parent
 SOURCES = TOP / "tests/record"
 RUN = TOP / "record/run"
@@ -430,7 +432,7 @@ def tests(record):
     """Runs them all, and reports each by `record(name, is_right, detail)`."""
     findings = Findings(record)
     command([TOP / "record/build"])
-    os.environ.setdefault("ERASER", str(TOP / "eraser"))
+    os.environ.setdefault("ERASER", str(program("eraser")))
     with tempfile.TemporaryDirectory() as name:
         folder = pathlib.Path(name)
         made = build_all(folder, findings)

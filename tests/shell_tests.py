@@ -18,11 +18,11 @@ import sys
 import tempfile
 
 sys.dont_write_bytecode = True
-from alone import run_alone
+from alone import program, run_alone
 
 TOP = pathlib.Path(__file__).resolve().parent.parent
 SHELL = TOP / "shell"
-PROGRAM = TOP / "crates/eraser/out/eraser"
+PROGRAM = program("eraser")
 INSTALL = TOP / "install"
 
 

@@ -16,10 +16,10 @@ sys.path.insert(0, str(pathlib.Path(__file__).parent))
 sys.dont_write_bytecode = True
 import cases
 import reference
-from alone import each_refused, run_alone
+from alone import each_refused, program, run_alone
 
 TOP = pathlib.Path(__file__).resolve().parent.parent
-PROGRAM = TOP / "crates/eraser/out/eraser"
+PROGRAM = program("eraser")
 RANDOM_TRACES = 300
 WIDEST = 120
 

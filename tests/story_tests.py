@@ -16,11 +16,11 @@ import tempfile
 
 sys.dont_write_bytecode = True
 import reference
-from alone import each_refused, run_alone
+from alone import each_refused, program, run_alone
 from site_tests import preloaded
 
 TOP = pathlib.Path(__file__).resolve().parent.parent
-PROGRAM = TOP / "crates/eraser/out/eraser"
+PROGRAM = program("eraser")
 RANDOM_TRACES = 200
 
 # The steps behind a header, the line that is explained, and what is written of it.

@@ -22,11 +22,11 @@ import tempfile
 sys.dont_write_bytecode = True
 import cases
 import reference
-from alone import each_refused, run_alone
+from alone import each_refused, program, run_alone
 from site_tests import preloaded
 
 TOP = pathlib.Path(__file__).resolve().parent.parent
-PROGRAM = TOP / "crates/eraser/out/eraser"
+PROGRAM = program("eraser")
 RANDOM_TRACES = 300
 RACE = re.compile(r"line (\d+): race: (\S+) (read|write) (0x[0-9a-f]{12}) at (\S+), holds .*")
 HEAD = "# Known races, written by eraser replay --write-rules\n"

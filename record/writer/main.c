@@ -218,7 +218,7 @@ static void set_signals(void)
     signal(SIGPIPE, SIG_IGN);
 }
 
-/* The first call of ./eraser proves and builds the replay, which takes minutes: not while a program waits for it. */
+/* A replay that cannot be run is found before the program is started. */
 static void prepare_replay(void)
 {
     const char *command = getenv("ERASER_RECORD_PREPARE");
