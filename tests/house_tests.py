@@ -9,11 +9,15 @@ moved: a path in a table becomes that of the one file that now has the function 
   the table's sentence is that of crates.txt, and a crate comes after those that it uses
 - each walk of docs/ARCHITECTURE.md names a function of the file that it names, and docs/GLOSSARY.md a word of it
 - each name that docs/DEFINITIONS.md reads out is defined
+- nothing is beyond tests/budget.toml, and each wrong body can be put into its crate's code; how many of tests/wrong_bodies were not tried
+  since their crate changed is only printed, and so are the minutes of the last gate
 - each path of the repository that a document names in backquotes exists
 - what the README prints of an example is the example's report, and the code of docs/LIBRARY.md is that of crates/two_threads
 """
 
 import functools
+import importlib.machinery
+import importlib.util
 import pathlib
 import re
 import sys
@@ -265,6 +269,105 @@ def glossary_faults():
             yield f"{where}: no file is named"
 
 
+# ---- options
+
+def option_faults(told):
+    """How the README's table differs from the options of `eraser replay --help`, each with its value's name or none. `tests/run` asks the program."""
+    rows = tables((TOP / "README.md").read_text(), ["Option of replay", "Does"])
+    listed = [(number, cells[0].strip("`")) for number, cells in rows]
+    wanted = [f"{name} {value}" if value else name for name, value in told.items()]
+    if len(wanted) < 2:
+        yield f"eraser replay --help has the options {wanted}"
+    for option in wanted:
+        count = [it for _, it in listed].count(option)
+        if count != 1:
+            yield f"README.md: the table of options has {option} {count} times"
+    for number, option in listed:
+        if option not in wanted:
+            yield f"README.md:{number}: eraser replay --help has no {option}"
+
+
+# ---- the budget, and wrong bodies
+
+def numbers_in(text):
+    """The numbers of a file like tests/budget.toml, by their sections and names. Python has a reader of such files only since 3.11."""
+    found, section = {"": {}}, ""
+    for line in text.splitlines():
+        line = line.partition("#")[0].strip()
+        if line.startswith("["):
+            section = line.strip("[]")
+            found[section] = {}
+        elif line:
+            name, _, number = line.partition("=")
+            found[section][name.strip()] = int(number)
+    return found
+
+
+def code_of(crate):
+    """How many lines of code and how many functions a crate has."""
+    lines = [line for path in CRATES.glob(f"{crate}/src/**/*.rt") for line in text_of(path).splitlines()]
+    return {"lines_of_a_crate": len(lines), "functions_of_a_crate": sum(bool(HEAD.match(line)) for line in lines)}
+
+
+def budget_faults():
+    budget = numbers_in((TOP / "tests/budget.toml").read_text())
+    crates = {crate: code_of(crate) for crate in crates_in((TOP / "crates.txt").read_text())}
+    found = {
+        "crates": len(crates),
+        "lines_of_code": sum(code["lines_of_a_crate"] for code in crates.values()),
+        "edits_in_the_gate": len(list(CRATES.glob("*/must-fail/*.edit"))),
+    }
+    for name, number in found.items():
+        if number > budget[""][name]:
+            yield f"tests/budget.toml: {name} is {budget[''][name]}, and the house has {number}"
+    for name in ("lines_of_a_crate", "functions_of_a_crate"):
+        usual, exceptions = budget[""][name], budget[f"{name}_exceptions"]
+        for crate, code in crates.items():
+            most = exceptions.get(crate, usual)
+            if code[name] > most:
+                yield f"tests/budget.toml: {name} is {most}, and {crate} has {code[name]}"
+        for crate in exceptions:
+            if crate not in crates or crates[crate][name] <= usual:
+                yield f"tests/budget.toml: {crate} needs no exception to {name}"
+
+
+@functools.lru_cache(maxsize=None)
+def edits_tool():
+    """tools/edits as a module."""
+    loader = importlib.machinery.SourceFileLoader("edits", str(TOP / "tools" / "edits"))
+    module = importlib.util.module_from_spec(importlib.util.spec_from_loader("edits", loader))
+    loader.exec_module(module)
+    return module
+
+
+def edit_faults():
+    """The gate passes over an edit that can't be applied, and the edits of tests/wrong_bodies are tried rarely."""
+    tool = edits_tool()
+    edits = [*tool.of_the_gate(), *tool.wrong_bodies()]
+    if not edits:
+        yield "no must-fail edit was found"
+    for path in edits:
+        try:
+            tool.edited(path)
+        except (tool.BadEdit, OSError) as why:
+            yield f"{path.relative_to(TOP)}: {why}"
+    kept = {path for path in (TOP / "tests/wrong_bodies").rglob("*") if path.is_file()}
+    for path in sorted(kept - set(edits) - {tool.SEEN}):
+        yield f"{path.relative_to(TOP)} is no edit"
+
+
+GATES = ["The gate from nothing", "Crates", "Must-fail edits", "CPU minutes"]
+
+
+def notes():
+    """What is only printed."""
+    tool = edits_tool()
+    yield f"wrong bodies: {len(tool.wrong_bodies())}, of which {len(tool.changed())} were not tried since their crate changed"
+    _, last = next(iter(tables((DOCS / "DEVELOPMENT.md").read_text(), GATES)), (0, ["not in docs/DEVELOPMENT.md"]))
+    most = numbers_in((TOP / "tests/budget.toml").read_text())[""]["minutes_of_the_gate"]
+    yield f"CPU minutes of the last gate: {last[-1]}, and the budget is {most}"
+
+
 PATH = re.compile(r"^(?:\./)?((?:bench|crates|docs|examples|record|shell|tests|tools)/[\w./*+-]+)$")
 
 
@@ -307,6 +410,8 @@ CHECKS = {
     "promises": promise_faults,
     "the map of crates": map_faults,
     "walks": walk_faults,
+    "the budget": budget_faults,
+    "must-fail edits": edit_faults,
     "definitions": definition_faults,
     "the glossary": glossary_faults,
     "paths": path_faults,
@@ -316,6 +421,7 @@ CHECKS = {
 
 def tests(record):
     """Records one result for each sort of comparison."""
+    print("\n".join(notes()))
     for name, check in CHECKS.items():
         faults = list(check())
         record(f"documents: {name}", not faults, "\n  " + "\n  ".join(faults))
@@ -378,5 +484,6 @@ if __name__ == "__main__":
     if sys.argv[1:] == ["--mend"]:
         mend()
     wrong = [fault for check in CHECKS.values() for fault in check()]
+    print("\n".join(notes()))
     print("\n".join(wrong) or "the documents fit the tree")
     sys.exit(1 if wrong else 0)
