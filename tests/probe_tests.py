@@ -166,8 +166,6 @@ def refusals(record, preloaded):
 
 
 def tests(record, preloaded):
-    if not PROBE.exists():
-        subprocess.run(["rt", "run"], cwd=PROBE.parent.parent, input=b"values\n", stdout=subprocess.DEVNULL, check=True)
     plays(record)
     bad_rows(record)
     batches(record)
