@@ -44,7 +44,7 @@ STARTS = {"threads": 24}
 # A trace of fewer bytes is read a second time whole, which is slow.
 SHORT = 60_000
 # Programs of tests/record that end otherwise than by themselves, or need something else beside them.
-OTHERS = ("ends", "loads", "plugin", "busy", "jumps")
+OTHERS = ("ends", "loads", "plugin", "busy", "jumps", "empty")
 
 
 # ---- What must be true of every trace ----

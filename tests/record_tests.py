@@ -212,7 +212,7 @@ def programs(folder, findings, made):
         elif source.stem == "loads":
             plugin = SOURCES / "plugin.c"
             jobs.append((program, plugin, (str(made[plugin, compiler, level]),), 0, None, RUNS))
-        elif source.stem not in ("plugin", "busy"):
+        elif source.stem not in ("plugin", "busy", "empty"):
             jobs.append((program, source, (), STATUS.get(source.stem, 0), PRINTED.get(source.stem), RUNS))
     with concurrent.futures.ThreadPoolExecutor(WORKERS) as pool:
         runs = [pool.submit(run_often, folder, findings, *job[:5], runs=job[5], extra=EXTRA.get(job[1].stem)) for job in jobs]
@@ -234,7 +234,6 @@ def ways_to_use(folder, findings, counter, queue):
     findings.check("paths with these characters, in a trace with order", kept, f"{found}")
     found = command([RUN, counter])
     findings.check("the report follows what the program prints", found.stdout.startswith("30\nline ") and "counter.c:" in found.stdout, f"{found}")
-    findings.check("the exit status of the report", command([RUN, "--exit-status", "report", counter]).returncode == 1)
     findings.check("the exit status of the program", command([RUN, "--exit-status", "program", counter]).returncode == 3)
     trace = folder / "kept.trace"
     found = command([RUN, "-o", trace, counter])
@@ -243,8 +242,12 @@ def ways_to_use(folder, findings, counter, queue):
     findings.check("its replay", replayed.returncode == 1 and races(replayed.stdout) == marked(SOURCES / "counter.c", "RACE"), f"{replayed}")
     rules = folder / "rules"
     rules.write_text("".join(f"site {site}\n" for site in marked(SOURCES / "counter.c", "RACE")))
-    found = command([RUN, "--suppress", rules, "--exit-status", "report", counter])
-    findings.check("suppressions", found.returncode == 0 and "suppression 1: 1\n" in found.stdout, f"{found}")
+    found = command([RUN, "--suppress", rules, counter])
+    findings.check("suppressions", found.returncode == 3 and "suppression 1: 1\n" in found.stdout and ", races 0," in found.stdout, f"{found}")
+    queue_rules = folder / "queue.rules"
+    queue_rules.write_text("".join(f"site {site}\n" for site in marked(SOURCES / "queue.cpp", "RACE")))
+    found = command([RUN, "--suppress", queue_rules, "--exit-status", "report", queue])
+    findings.check("the exit status of a report without the races that rules take", found.returncode == 0 and ", races 0," in found.stdout, f"{found}")
     found = command([RUN, "--explain", "--suppress", rules, counter])
     findings.check("suppressions with --explain", found.returncode == 3 and "suppression 1: 1\n" in found.stdout, f"{found}")
     found = command([RUN, "--explain", counter])
@@ -277,14 +280,54 @@ def ways_to_use(folder, findings, counter, queue):
     # Each of these options wants a report, also if the trace is kept.
     for words in (["--replay"], ["--suppress", rules], ["--explain"], ["--format", "text"], ["--exit-status", "report"]):
         found = command([RUN, "-o", trace, *words, counter])
-        status = 1 if "report" in words else 3
-        findings.check(f"a trace that is kept, and its report by {words[0]}", "\nsteps " in found.stdout and found.returncode == status, f"{found}")
+        findings.check(f"a trace that is kept, and its report by {words[0]}", "\nsteps " in found.stdout and found.returncode == 3, f"{found}")
     report = folder / "kept.report"
     found = command([RUN, "-o", trace, "--report", report, counter])
     findings.check("a trace and a report that are kept", (found.stdout, found.returncode) == ("30\n", 3) and "\nsteps " in report.read_text(), f"{found}")
     findings.check("a trace that can't be written", command([RUN, "-o", folder / "no/where", counter]).returncode == 125)
     found = command([RUN, "-o", "/dev/full", counter])
     findings.check("a full disk", found.returncode == 3 and "cannot write /dev/full" in found.stderr, f"{found}")
+
+
+def ways_to_end(folder, made):
+    """A run of each row of the table in docs/RECORDING.md: options, the program with its arguments, settings of the environment."""
+
+    def program(name):
+        return next(path for (source, compiler, level), path in made.items() if (source.stem, compiler, level) == (name, "gcc", "-O0"))
+
+    right, racy, ends, busy = program("recursive"), program("queue"), program("ends"), program("busy")
+    limited = ["-o", folder / "lost.trace", "--limit", "100000"]
+    return {
+        "wrong options, or a file of `record/run` that can't be opened": (["-o", folder / "no/where"], [right], {}),
+        "the replay can't be started": ([], [right], {"ERASER": str(folder / "nothing")}),
+        "the program isn't there": ([], [folder / "nothing"], {}),
+        "the program can't be executed": ([], [folder], {}),
+        "a signal ended the program, here signal 6": ([], [ends, "abort"], {}),
+        "the program ended with 2 or more, here with 6": ([], [ends, "exit"], {}),
+        "the program ended with 1": ([], ["sh", "-c", f"{right}; exit 1"], {}),
+        "the replay failed: 2, 3 or 4, as `eraser replay` has them": (["--suppress", folder / "nothing"], [right], {}),
+        "the program is not instrumented": ([], ["true"], {}),
+        "no instrumented code ran": ([], [program("empty")], {}),
+        "events were lost": (limited, [busy, "3000"], {}),
+        "one more instrumented program was started": ([], ["sh", "-c", f"{right}; {right}"], {}),
+        "there is a race": ([], [racy], {}),
+        "there is no race": ([], [right], {}),
+    }
+
+
+def exit_statuses(folder, findings, made):
+    """Each row of the table of exit statuses, as it is run."""
+    section = (TOP / "docs/RECORDING.md").read_text().partition("\n## The exit status\n")[2].partition("\n## ")[0]
+    rows = [[cell.strip() for cell in line.strip("|").split(" | ")] for line in section.splitlines() if line.startswith("| ")][1:]
+    ways = ways_to_end(folder, made)
+    findings.check("the exit statuses: each row has a run", [row[0] for row in rows] == list(ways), f"{rows}")
+    for title, by_default, by_report, line in rows:
+        options, words, settings = ways[title]
+        pattern = re.sub(r"\b(FILE|PROGRAM|REPLAY)\b", r"\\S+", re.sub(r"\bN\b", r"\\d+", re.escape(line.strip("`"))))
+        for more, status in ((["--exit-status", "report"], by_report), (["--exit-status", "report", "--strict", "-q"], by_report), (["--replay"], by_default)):
+            found = command([RUN, *more, *options, *words], env={**os.environ, **settings})
+            is_said = re.search(rf"^{pattern}$", found.stderr, re.M) or "0 lost" in line and "-q" in more or "--replay" in more
+            findings.check(f"the exit status {more}: {title}", str(found.returncode) == status and is_said, f"{found}, not {status} {pattern}")
 
 
 def as_script(folder, name, text):
@@ -437,6 +480,7 @@ def tests(record):
         counter, busy = made[SOURCES / "counter.c", "gcc", "-O2"], made[SOURCES / "busy.c", "gcc", "-O2"]
         programs(folder, findings, made)
         ways_to_use(folder, findings, counter, made[SOURCES / "queue.cpp", "gcc", "-O0"])
+        exit_statuses(folder, findings, made)
         early_ends(folder, findings, busy)
         memory(folder, findings, busy)
         interrupts(folder, findings, busy)

@@ -20,6 +20,9 @@
 #define STATUS_FAILED 125
 #define STATUS_NOT_EXECUTABLE 126
 #define STATUS_NOT_FOUND 127
+/* With the status of the report, 1 means a race. So a program's own 1 becomes what xargs ends with if a command of its own fails. */
+#define STATUS_RACE 1
+#define STATUS_OF_ONE 123
 /* How many bytes of text are recorded if nothing else is said: what a replay takes if nothing else is said. */
 #define USUAL_LIMIT 268435456u
 
@@ -43,6 +46,7 @@ static struct ring *ring;
 static int ring_file = -1;
 static pid_t program, replay;
 static int program_status, replay_status;
+static int start_error; /* errno if the program could not be started, or 0 */
 static bool has_program_ended, has_replay_ended;
 static volatile sig_atomic_t replay_to_stop;
 
@@ -69,7 +73,11 @@ static const char usage[] =
     "  -h, --help              print this\n"
     "\n"
     "It ends with the program's exit status, or 128 and the number of the signal that ended it; 125 if the recorder failed, 126 or 127\n"
-    "if the program cannot be started. The report comes on standard output when the program has ended.\n";
+    "if the program cannot be started. The report comes on standard output when the program has ended.\n"
+    "\n"
+    "With --exit-status report: 0 if the program ended with 0, all of it was recorded and there is no race; 1 if there is a race; 125 if\n"
+    "nothing or not everything was recorded; 2 to 4 if the replay failed. A program that failed ends it with its own status, and with 123\n"
+    "in place of 1.\n";
 
 static void fail(const char *what, const char *name)
 {
@@ -238,9 +246,35 @@ static void prepare_replay(void)
     }
 }
 
+/* The child tells the error of a failed start by a pipe, which a start that succeeds closes. */
+static void make_pipe(int ends[2])
+{
+    if (pipe2(ends, O_CLOEXEC) != 0)
+        fail("cannot make a pipe", NULL);
+}
+
+static void execute(char **words, int to)
+{
+    execvp(words[0], words);
+    int error = errno;
+    ssize_t sent = write(to, &error, sizeof error);
+    _exit(sent < 0 ? STATUS_FAILED : error == ENOENT ? STATUS_NOT_FOUND : STATUS_NOT_EXECUTABLE);
+}
+
+/* The error of a child's start, or 0. */
+static int read_start(int ends[2])
+{
+    int error = 0;
+    close(ends[1]);
+    while (read(ends[0], &error, sizeof error) < 0 && errno == EINTR)
+        ;
+    close(ends[0]);
+    return error;
+}
+
 static void start_replay(void)
 {
-    int ends[2];
+    int ends[2], start[2];
     const char *command = getenv("ERASER");
     /* The writer ends the trace at its limit, so the replay needs none. This is the greatest that it knows. */
     char *words[16] = {(char *)(command ? command : "eraser"), "replay", "--byte-limit", "4611686018427387904", NULL};
@@ -269,8 +303,8 @@ static void start_replay(void)
     int report = options.report ? open(options.report, O_WRONLY | O_CREAT | O_TRUNC | O_CLOEXEC, 0666) : -1;
     if (options.report && report < 0)
         fail("cannot write", options.report);
-    if (pipe2(ends, O_CLOEXEC) != 0)
-        fail("cannot make a pipe", NULL);
+    make_pipe(ends);
+    make_pipe(start);
     fcntl(ends[1], F_SETPIPE_SZ, 1 << 20);
     fflush(NULL);
     replay = fork();
@@ -283,10 +317,11 @@ static void start_replay(void)
         dup2(ends[0], 0);
         if (report >= 0)
             dup2(report, 1);
-        execvp(words[0], words);
-        fprintf(stderr, "record: cannot start %s: %s\n", words[0], strerror(errno));
-        _exit(STATUS_FAILED);
+        execute(words, start[1]);
     }
+    errno = read_start(start);
+    if (errno)
+        fail("cannot start", words[0]);
     close(ends[0]);
     if (report >= 0)
         close(report);
@@ -313,20 +348,22 @@ static void set_library_path(void)
 
 static void start_program(char **words)
 {
+    int start[2];
+    make_pipe(start);
     program = fork();
     if (program < 0)
         fail("cannot start", words[0]);
-    if (program != 0)
+    if (program != 0) {
+        start_error = read_start(start);
         return;
+    }
     signal(SIGINT, SIG_DFL);
     signal(SIGQUIT, SIG_DFL);
     signal(SIGTERM, SIG_DFL);
     signal(SIGHUP, SIG_DFL);
     signal(SIGPIPE, SIG_DFL);
     set_library_path();
-    execvp(words[0], words);
-    fprintf(stderr, "record: cannot start %s: %s\n", words[0], strerror(errno));
-    _exit(errno == ENOENT ? STATUS_NOT_FOUND : STATUS_NOT_EXECUTABLE);
+    execute(words, start[1]);
 }
 
 static void reap(void)
@@ -466,25 +503,31 @@ static void say_end_of_replay(void)
 {
     int status = exit_status(replay_status);
     bool was_early = output.pipe_error == EPIPE;
-    if (WIFSIGNALED(replay_status))
+    if (!has_replay_ended)
+        fprintf(stderr, "record: the end of the replay was not seen\n");
+    else if (WIFSIGNALED(replay_status))
         fprintf(stderr, "record: the replay was ended by signal %d (%s)\n", WTERMSIG(replay_status), strsignal(WTERMSIG(replay_status)));
-    else if (status > 1 || was_early)
+    else if (status > STATUS_RACE || was_early)
         fprintf(stderr, "record: the replay ended with status %d%s\n", status, was_early ? " before it had read the whole trace" : "");
     if (was_early)
         fprintf(stderr, "record: the program went on unharmed; the trace is%s recorded further\n", options.trace ? "" : " not");
 }
 
-static void say_end(uint64_t lost)
+static void say_end(uint64_t lost, const char *name)
 {
     uint32_t others = atomic_load(&ring->others);
+    if (start_error) {
+        fprintf(stderr, "record: cannot start %s: %s\n", name, strerror(start_error));
+        return;
+    }
     if (!atomic_load(&ring->owner)) {
-        if (WIFEXITED(program_status) && WEXITSTATUS(program_status) >= STATUS_NOT_EXECUTABLE)
-            return; /* it did not start, and that was said */
         fprintf(stderr, "record: nothing was recorded: the program does not use ThreadSanitizer's library, libtsan.so.2.\n"
                         "record: build it with -g -fsanitize=thread, and without -static-libtsan; docs/RECORDING.md says how with clang\n");
         return;
     }
-    if (!options.is_quiet || lost)
+    if (!trace_events && !lost)
+        fprintf(stderr, "record: nothing was recorded: no instrumented code ran\n");
+    else if (!options.is_quiet || lost)
         fprintf(stderr, "record: %llu events recorded, %llu lost%s\n", (unsigned long long)trace_events, (unsigned long long)lost,
                 lost ? ": the trace is incomplete, and says so in its last line" : "");
     if (output.is_full)
@@ -493,6 +536,31 @@ static void say_end(uint64_t lost)
         fprintf(stderr, "record: cannot write %s: %s\n", options.trace, strerror(output.file_error));
     if (others)
         fprintf(stderr, "record: %u further program%s started by it %s not recorded\n", others, others == 1 ? "" : "s", others == 1 ? "was" : "were");
+}
+
+/* How the program failed, if it did. Its exit status alone is worth a line only if another one is expected in its place. */
+static void say_end_of_program(void)
+{
+    const char *whole = options.replays && trace_events ? "; the report is of the run up to there" : "";
+    int status = exit_status(program_status);
+    if (start_error || !status || (options.is_quiet && !options.ends_as_report))
+        return;
+    if (WIFSIGNALED(program_status))
+        fprintf(stderr, "record: the program was ended by signal %d (%s)%s\n", WTERMSIG(program_status), strsignal(WTERMSIG(program_status)), whole);
+    else if (options.ends_as_report)
+        fprintf(stderr, "record: the program ended with status %d%s%s\n", status, status == STATUS_RACE ? ", given as 123" : "", whole);
+}
+
+/* docs/RECORDING.md has a row for each line of this. */
+static int status_of_report(uint64_t lost)
+{
+    int of_program = exit_status(program_status), of_replay = has_replay_ended ? exit_status(replay_status) : STATUS_FAILED;
+    bool is_whole = trace_events && !lost && !atomic_load(&ring->others);
+    if (of_program)
+        return of_program == STATUS_RACE ? STATUS_OF_ONE : of_program;
+    if (of_replay > STATUS_RACE)
+        return of_replay;
+    return is_whole ? of_replay : STATUS_FAILED;
 }
 
 int main(int count, char **words)
@@ -517,10 +585,9 @@ int main(int count, char **words)
     uint64_t lost = count_lost();
     trace_end(lost);
     end_replay();
-    say_end(lost);
+    say_end(lost, words[optind]);
     if (options.replays)
         say_end_of_replay();
-    if (WIFSIGNALED(program_status) && !options.is_quiet)
-        fprintf(stderr, "record: the program was ended by signal %d (%s)\n", WTERMSIG(program_status), strsignal(WTERMSIG(program_status)));
-    return exit_status(options.ends_as_report ? replay_status : program_status);
+    say_end_of_program();
+    return options.ends_as_report && !start_error ? status_of_report(lost) : exit_status(program_status);
 }
