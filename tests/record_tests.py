@@ -227,13 +227,17 @@ def ways_to_use(folder, findings, counter, queue):
     """Its options, and what it passes on."""
     trace = folder / "paths.trace"
     found = command([RUN, "-o", trace, "--replay", "--paths", queue])
-    legal = re.search(r"^steps .* refused 0$", found.stdout, re.M) and " /usr/include/c__/" in trace.read_text()
+    legal = re.search(r"^steps .* refused 0$", found.stderr, re.M) and " /usr/include/c__/" in trace.read_text()
     findings.check("paths with characters that no name may have", legal, f"{found}")
     found = command([RUN, "-o", trace, "--replay", "--order", "--paths", queue])
-    kept = re.search(r"^steps .* refused 0$", found.stdout, re.M) and " /usr/include/c++/" in trace.read_text()
+    kept = re.search(r"^steps .* refused 0$", found.stderr, re.M) and " /usr/include/c++/" in trace.read_text()
     findings.check("paths with these characters, in a trace with order", kept, f"{found}")
     found = command([RUN, counter])
-    findings.check("the report follows what the program prints", found.stdout.startswith("30\nline ") and "counter.c:" in found.stdout, f"{found}")
+    is_behind = re.search(r"\Aline \d+: race: .* at counter\.c:(?s:.*)\nsteps .*\nrecord: \d+ events recorded, 0 lost\n\Z", found.stderr)
+    findings.check("the report is on standard error, and standard output is the program's", found.stdout == "30\n" and is_behind, f"{found}")
+    found = command([RUN, "--report", "-", counter])
+    is_behind = re.search(r"\A30\nline \d+: race: .* at counter\.c:(?s:.*)\nsteps .*\n\Z", found.stdout)
+    findings.check("a report on standard output follows what the program prints", is_behind and re.fullmatch(r"record: .*\n", found.stderr), f"{found}")
     findings.check("the exit status of the program", command([RUN, "--exit-status", "program", counter]).returncode == 3)
     trace = folder / "kept.trace"
     found = command([RUN, "-o", trace, counter])
@@ -243,31 +247,31 @@ def ways_to_use(folder, findings, counter, queue):
     rules = folder / "rules"
     rules.write_text("".join(f"site {site}\n" for site in marked(SOURCES / "counter.c", "RACE")))
     found = command([RUN, "--suppress", rules, counter])
-    findings.check("suppressions", found.returncode == 3 and "suppression 1: 1\n" in found.stdout and ", races 0," in found.stdout, f"{found}")
+    findings.check("suppressions", found.returncode == 3 and "suppression 1: 1\n" in found.stderr and ", races 0," in found.stderr, f"{found}")
     queue_rules = folder / "queue.rules"
     queue_rules.write_text("".join(f"site {site}\n" for site in marked(SOURCES / "queue.cpp", "RACE")))
     found = command([RUN, "--suppress", queue_rules, "--exit-status", "report", queue])
-    findings.check("the exit status of a report without the races that rules take", found.returncode == 0 and ", races 0," in found.stdout, f"{found}")
+    findings.check("the exit status of a report without the races that rules take", found.returncode == 0 and ", races 0," in found.stderr, f"{found}")
     found = command([RUN, "--explain", "--suppress", rules, counter])
-    findings.check("suppressions with --explain", found.returncode == 3 and "suppression 1: 1\n" in found.stdout, f"{found}")
+    findings.check("suppressions with --explain", found.returncode == 3 and "suppression 1: 1\n" in found.stderr, f"{found}")
     found = command([RUN, "--explain", counter])
-    findings.check("reasons of a race", re.search(r"^line .* race: .*\n  first: line \d+, t\d ", found.stdout, re.M), f"{found}")
-    found = command([RUN, "--explain", "--format", "json", counter])
+    findings.check("reasons of a race", re.search(r"^line .* race: .*\n  first: line \d+, t\d ", found.stderr, re.M), f"{found}")
+    found = command([RUN, "--explain", "--format", "json", "--report", "-", counter])
     document = json.loads(found.stdout.removeprefix("30\n") or "null")
     sites = {race["site"] for race in document["races"]} if document else set()
     findings.check("a report as JSON", found.returncode == 3 and sites == marked(SOURCES / "counter.c", "RACE"), f"{found}")
-    found = command([RUN, "--format", "html", counter])
+    found = command([RUN, "--format", "html", "--report", "-", counter])
     block = re.search(r'id="report">\n(.*?)</script>', found.stdout, re.S)
     sites = {race["site"] for race in json.loads(block[1])["races"]} if block else set()
     findings.check("a report as a page", found.returncode == 3 and sites == marked(SOURCES / "counter.c", "RACE"), f"{found}")
     found = command([RUN, "-q", "--paths", counter])
-    findings.check("sites with paths, quietly", f"{SOURCES}/counter.c:" in found.stdout and found.stderr == "", f"{found}")
+    findings.check("sites with paths, quietly", f"{SOURCES}/counter.c:" in found.stderr and "record:" not in found.stderr, f"{found}")
     found = command([RUN, "sh", "-c", 'cat; echo "$0" "$@" >&2; exit 9', "one", "two words"], input="given\n")
-    passed_on = found.stdout.startswith("given\n") and found.stderr.startswith("one two words\n") and found.returncode == 9
+    passed_on = found.stdout == "given\n" and found.stderr.startswith("one two words\n") and found.returncode == 9
     findings.check("arguments, streams and status of any program", passed_on, f"{found}")
-    findings.check("a program without the library", "nothing was recorded" in found.stderr, f"{found}")
+    findings.check("a program without the library has no report", "nothing was recorded" in found.stderr and "steps" not in found.stderr, f"{found}")
     found = command([RUN, "-q", "sh", "-c", f"{counter}; {counter}; exit 0"])
-    findings.check("two programs, of which one is recorded", "record: 1 further program" in found.stderr and found.stdout.startswith("30\n30\n"), f"{found}")
+    findings.check("two programs, of which one is recorded", "record: 1 further program" in found.stderr and found.stdout == "30\n30\n", f"{found}")
     findings.check("a program that is not there", command([RUN, folder / "nothing"]).returncode == 127)
     findings.check("a program that can't be started", command([RUN, folder]).returncode == 126)
     for words in (["--wrong"], ["--limit", "10x"], ["--limit", "-1"], ["--limit", ""], ["--exit-status", "other"], ["--format", "xml"], ["--format", "json", "--by-site"]):
@@ -280,10 +284,11 @@ def ways_to_use(folder, findings, counter, queue):
     # Each of these options wants a report, also if the trace is kept.
     for words in (["--replay"], ["--suppress", rules], ["--explain"], ["--format", "text"], ["--exit-status", "report"]):
         found = command([RUN, "-o", trace, *words, counter])
-        findings.check(f"a trace that is kept, and its report by {words[0]}", "\nsteps " in found.stdout and found.returncode == 3, f"{found}")
+        findings.check(f"a trace that is kept, and its report by {words[0]}", found.stdout == "30\n" and "\nsteps " in found.stderr and found.returncode == 3, f"{found}")
     report = folder / "kept.report"
     found = command([RUN, "-o", trace, "--report", report, counter])
-    findings.check("a trace and a report that are kept", (found.stdout, found.returncode) == ("30\n", 3) and "\nsteps " in report.read_text(), f"{found}")
+    kept = "\nsteps " in report.read_text() and re.fullmatch(r"record: \d+ events recorded, 0 lost\n", found.stderr)
+    findings.check("a trace and a report that are kept", (found.stdout, found.returncode) == ("30\n", 3) and kept, f"{found}")
     findings.check("a trace that can't be written", command([RUN, "-o", folder / "no/where", counter]).returncode == 125)
     found = command([RUN, "-o", "/dev/full", counter])
     findings.check("a full disk", found.returncode == 3 and "cannot write /dev/full" in found.stderr, f"{found}")
@@ -357,7 +362,7 @@ def early_ends(folder, findings, busy):
     found = command([RUN, "-o", trace, "--limit", "100000", "--replay", busy, "300000"])
     text = trace.read_text()
     limited = len(text) <= 100000 and re.search(r"\n# incomplete: \d+ events, [1-9]\d* lost\n\Z", text) and "limit of 100000 bytes" in found.stderr
-    findings.check("a limit", limited and found.returncode == 0 and "\nsteps " in found.stdout, f"{found} {text[-200:]}")
+    findings.check("a limit", limited and found.returncode == 0 and re.search(r"^steps ", found.stderr, re.M), f"{found} {text[-200:]}")
     begun, went_on = folder / "begun", folder / "went-on"
     recorder = subprocess.Popen([RUN, "-o", "/dev/null", "--limit", "0", busy, "3000000", begun, went_on], stdout=subprocess.DEVNULL, stderr=subprocess.DEVNULL)
     is_begun = wait_for(begun)
@@ -422,7 +427,7 @@ def linked_by_hand(folder, findings):
     compiled = command(["clang", "-g", "-fsanitize=thread", "-c", source, "-o", part])
     linked = command(["clang", part, "-o", program, f"-L{TOP}/record/out", "-leraser_record"])
     found = command([RUN, program])
-    findings.check("clang, linked by hand", compiled.returncode == linked.returncode == 0 and "counter.c:" in found.stdout, f"{linked} {found}")
+    findings.check("clang, linked by hand", compiled.returncode == linked.returncode == 0 and "counter.c:" in found.stderr, f"{linked} {found}")
 
 
 def fresh_copy(folder, findings):

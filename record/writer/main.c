@@ -48,6 +48,10 @@ static pid_t program, replay;
 static int program_status, replay_status;
 static int start_error; /* errno if the program could not be started, or 0 */
 static bool has_program_ended, has_replay_ended;
+/* The replay writes the report into a file without a name, and from there it goes to its place when all has ended. So it is not in the
+ * middle of what the program prints, and a write that fails is told from a replay that fails. */
+static int report_text = -1, report_place = -1;
+static int report_error; /* errno of the failed write, or 0 */
 static volatile sig_atomic_t replay_to_stop;
 
 static const char usage[] =
@@ -57,7 +61,7 @@ static const char usage[] =
     "\n"
     "  -o, --output FILE       keep the trace in FILE, and replay nothing\n"
     "      --replay            with -o: replay as well\n"
-    "      --report FILE       write the report to FILE instead of standard output\n"
+    "      --report FILE       write the report to FILE instead of standard error; `-` is standard output\n"
     "      --suppress RULES    leave out the races that these rules take (docs/FORMATS.md)\n"
     "      --analysis RULE     `lockset` (the default), `happens-before` or `both`; the last two record with --order\n"
     "      --explain           name the accesses that make each race\n"
@@ -69,11 +73,11 @@ static const char usage[] =
     "      --order             record what orders threads as well: starts and joins, semaphores, atomic operations ..\n"
     "      --limit BYTES       record at most so much text; 0: no limit. The default is 268435456\n"
     "      --paths             name sites by their whole path\n"
-    "  -q, --quiet             say nothing on standard error, unless something went wrong\n"
+    "  -q, --quiet             say nothing on standard error beside the report, unless something went wrong\n"
     "  -h, --help              print this\n"
     "\n"
     "It ends with the program's exit status, or 128 and the number of the signal that ended it; 125 if the recorder failed, 126 or 127\n"
-    "if the program cannot be started. The report comes on standard output when the program has ended.\n"
+    "if the program cannot be started. The report comes on standard error when the program has ended.\n"
     "\n"
     "With --exit-status report: 0 if the program ended with 0, all of it was recorded and there is no race; 1 if there is a race; 125 if\n"
     "nothing or not everything was recorded; 2 to 4 if the replay failed. A program that failed ends it with its own status, and with 123\n"
@@ -272,6 +276,23 @@ static int read_start(int ends[2])
     return error;
 }
 
+static bool is_on_output(const char *report)
+{
+    return strcmp(report, "-") == 0;
+}
+
+static void open_report(void)
+{
+    if (!options.report)
+        report_place = STDERR_FILENO;
+    else if (is_on_output(options.report))
+        report_place = STDOUT_FILENO;
+    else
+        report_place = open(options.report, O_WRONLY | O_CREAT | O_TRUNC | O_CLOEXEC, 0666);
+    if (report_place < 0)
+        fail("cannot write", options.report);
+}
+
 static void start_replay(void)
 {
     int ends[2], start[2];
@@ -300,9 +321,9 @@ static void start_replay(void)
         words[count++] = (char *)options.format;
     }
     words[count] = "-";
-    int report = options.report ? open(options.report, O_WRONLY | O_CREAT | O_TRUNC | O_CLOEXEC, 0666) : -1;
-    if (options.report && report < 0)
-        fail("cannot write", options.report);
+    report_text = memfd_create("eraser-report", MFD_CLOEXEC);
+    if (report_text < 0)
+        fail("cannot make a file for the report", NULL);
     make_pipe(ends);
     make_pipe(start);
     fcntl(ends[1], F_SETPIPE_SZ, 1 << 20);
@@ -315,16 +336,13 @@ static void start_replay(void)
         signal(SIGQUIT, SIG_IGN);
         signal(SIGPIPE, SIG_DFL);
         dup2(ends[0], 0);
-        if (report >= 0)
-            dup2(report, 1);
+        dup2(report_text, 1);
         execute(words, start[1]);
     }
     errno = read_start(start);
     if (errno)
         fail("cannot start", words[0]);
     close(ends[0]);
-    if (report >= 0)
-        close(report);
     output.pipe = ends[1];
 }
 
@@ -494,6 +512,28 @@ static void end_replay(void)
     }
 }
 
+static const char *name_of_report(void)
+{
+    return !options.report ? "standard error" : is_on_output(options.report) ? "standard output" : options.report;
+}
+
+/* A report of nothing is not written: it would say that there are no races. */
+static void pass_report(void)
+{
+    static char piece[1 << 16];
+    ssize_t got = 0;
+    /* Whoever waits for a report that nobody takes can end it. */
+    signal(SIGINT, SIG_DFL);
+    signal(SIGQUIT, SIG_DFL);
+    signal(SIGTERM, SIG_DFL);
+    signal(SIGHUP, SIG_DFL);
+    lseek(report_text, 0, SEEK_SET);
+    while (trace_events && !report_error && (got = read(report_text, piece, sizeof piece)) > 0)
+        report_error = write_all(report_place, piece, (size_t)got);
+    if (got < 0 || (report_place > STDERR_FILENO && close(report_place) != 0 && !report_error))
+        report_error = errno;
+}
+
 static int exit_status(int status)
 {
     return WIFSIGNALED(status) ? 128 + WTERMSIG(status) : WEXITSTATUS(status);
@@ -503,6 +543,8 @@ static void say_end_of_replay(void)
 {
     int status = exit_status(replay_status);
     bool was_early = output.pipe_error == EPIPE;
+    if (report_error)
+        fprintf(stderr, "record: cannot write %s: %s\n", name_of_report(), strerror(report_error));
     if (!has_replay_ended)
         fprintf(stderr, "record: the end of the replay was not seen\n");
     else if (WIFSIGNALED(replay_status))
@@ -573,8 +615,10 @@ int main(int count, char **words)
         if (output.file < 0)
             fail("cannot write", options.trace);
     }
-    if (options.replays)
+    if (options.replays) {
+        open_report();
         prepare_replay();
+    }
     make_ring();
     set_signals();
     if (options.replays)
@@ -585,9 +629,13 @@ int main(int count, char **words)
     uint64_t lost = count_lost();
     trace_end(lost);
     end_replay();
+    if (options.replays)
+        pass_report();
     say_end(lost, words[optind]);
     if (options.replays)
         say_end_of_replay();
     say_end_of_program();
+    if (report_error && !start_error)
+        return STATUS_FAILED;
     return options.ends_as_report && !start_error ? status_of_report(lost) : exit_status(program_status);
 }

@@ -73,24 +73,30 @@ size_t legal_site(char *to, const char *text)
 
 /* ---- Where the text goes ---- */
 
-static void write_all(int *file, int *error)
+int write_all(int file, const char *text, size_t bytes)
 {
-    for (size_t at = 0; *file >= 0 && at < used;) {
-        ssize_t sent = write(*file, buffer + at, used - at);
+    for (size_t at = 0; at < bytes;) {
+        ssize_t sent = write(file, text + at, bytes - at);
         if (sent >= 0)
             at += (size_t)sent;
-        else if (errno != EINTR) {
-            *error = errno;
-            close(*file);
-            *file = -1;
-        }
+        else if (errno != EINTR)
+            return errno;
     }
+    return 0;
+}
+
+static void send(int *file, int *error)
+{
+    if (*file < 0 || (*error = write_all(*file, buffer, used)) == 0)
+        return;
+    close(*file);
+    *file = -1;
 }
 
 void trace_flush(void)
 {
-    write_all(&output.file, &output.file_error);
-    write_all(&output.pipe, &output.pipe_error);
+    send(&output.file, &output.file_error);
+    send(&output.pipe, &output.pipe_error);
     written += used;
     used = 0;
 }

@@ -48,6 +48,8 @@ void trace_other_thread(uint32_t number, const char *verb, uint32_t other);
 void trace_ignore(struct thread *thread, const char *verb);
 void trace_thread_name(struct thread *thread, const char *name);
 
+/* Writes all bytes. Returns 0, or errno of the write that failed. */
+int write_all(int file, const char *text, size_t bytes);
 /* Ends the writer: it has no memory. */
 void *get_memory(void *old, size_t bytes);
 /* Copies text into a legal name, whose end is kept if it is too long. Returns its length. */
