@@ -291,11 +291,23 @@ def ways_to_use(folder, findings, counter, queue):
     findings.check("a trace and a report that are kept", (found.stdout, found.returncode) == ("30\n", 3) and kept, f"{found}")
     findings.check("a trace that can't be written", command([RUN, "-o", folder / "no/where", counter]).returncode == 125)
     found = command([RUN, "-o", "/dev/full", counter])
-    findings.check("a full disk", found.returncode == 3 and "cannot write /dev/full" in found.stderr, f"{found}")
+    findings.check("a full disk", found.returncode == 125 and "cannot write /dev/full" in found.stderr, f"{found}")
+    found = command([RUN, "-o", "/dev/full", "sh", "-c", "exit 9"])
+    findings.check("a full disk, and a program that is not recorded", found.returncode == 125 and "cannot write /dev/full" in found.stderr, f"{found}")
+    found = command([RUN, "-o", "/dev/full", "--report", report, counter])
+    findings.check("a full disk, and a report", found.returncode == 125 and "\nsteps " in report.read_text(), f"{found} {report.read_text()}")
+    for more in ([], ["--exit-status", "report"]):
+        found = command(["sh", "-c", '"$@" 2>/dev/full', "sh", RUN, *more, counter])
+        findings.check(f"a standard error that can't be written {more}", (found.returncode, found.stdout) == (125, "30\n"), f"{found}")
+        found = command(["sh", "-c", '"$@" >/dev/full', "sh", RUN, "--report", "-", *more, queue])
+        findings.check(f"a standard output that can't be written {more}", found.returncode == 125 and "cannot write standard output" in found.stderr, f"{found}")
 
 
 def ways_to_end(folder, made):
-    """A run of each row of the table in docs/RECORDING.md: options, the program with its arguments, settings of the environment."""
+    """A run of each row of the table in docs/RECORDING.md: options, the program with its arguments, settings of the environment.
+
+    One row is of a checkout, which `unwritable` sees to.
+    """
 
     def program(name):
         return next(path for (source, compiler, level), path in made.items() if (source.stem, compiler, level) == (name, "gcc", "-O0"))
@@ -303,10 +315,12 @@ def ways_to_end(folder, made):
     right, racy, ends, busy = program("recursive"), program("queue"), program("ends"), program("busy")
     limited = ["-o", folder / "lost.trace", "--limit", "100000"]
     return {
-        "wrong options, or a file of `record/run` that can't be opened": (["-o", folder / "no/where"], [right], {}),
+        "wrong options, or a file that can't be opened": (["-o", folder / "no/where"], [right], {}),
         "the replay can't be started": ([], [right], {"ERASER": str(folder / "nothing")}),
         "the program isn't there": ([], [folder / "nothing"], {}),
         "the program can't be executed": ([], [folder], {}),
+        "the trace can't be written": (["-o", "/dev/full"], [right], {}),
+        "the report can't be written": (["--report", "/dev/full"], [racy], {}),
         "a signal ended the program, here signal 6": ([], [ends, "abort"], {}),
         "the program ended with 2 or more, here with 6": ([], [ends, "exit"], {}),
         "the program ended with 1": ([], ["sh", "-c", f"{right}; exit 1"], {}),
@@ -324,6 +338,9 @@ def exit_statuses(folder, findings, made):
     """Each row of the table of exit statuses, as it is run."""
     section = (TOP / "docs/RECORDING.md").read_text().partition("\n## The exit status\n")[2].partition("\n## ")[0]
     rows = [[cell.strip() for cell in line.strip("|").split(" | ")] for line in section.splitlines() if line.startswith("| ")][1:]
+    wanted = ["the recorder can't be built", "125", "125", "`record: cannot write FILE, where the recorder is built`"]
+    findings.check("the exit statuses: the row that needs another checkout", wanted in rows, f"{rows}")
+    rows = [row for row in rows if row != wanted]
     ways = ways_to_end(folder, made)
     findings.check("the exit statuses: each row has a run", [row[0] for row in rows] == list(ways), f"{rows}")
     for title, by_default, by_report, line in rows:
@@ -456,6 +473,29 @@ def fresh_copy(folder, findings):
         findings.check(f"it is built again if {changed or 'nothing'} has changed", found.returncode == 0 and is_new == bool(changed), f"{found}")
 
 
+def unwritable(folder, findings, counter):
+    """A checkout that can't be written to, and that has no built recorder: one line says so, and the program does not run."""
+    os.chmod(folder, 0o755)
+    for way in ("read-only", "no folder"):
+        copy = folder / way.replace(" ", "-")
+        shutil.copytree(TOP / "record", copy, ignore=shutil.ignore_patterns("out"), symlinks=True)
+        settings = {}
+        if way == "no folder":
+            (copy / "out").write_text("")
+        else:
+            os.chmod(copy, 0o555)
+            settings = {"user": 65534} if os.geteuid() == 0 else {}
+        found = command([copy / "run", counter], **settings)
+        wanted = f"record: cannot write {copy}/out, where the recorder is built\n"
+        findings.check(f"a checkout that can't be written to, {way}", (found.returncode, found.stdout, found.stderr) == (125, "", wanted), f"{found}")
+        os.chmod(copy, 0o755)
+    copy = folder / "read-only"
+    broken = as_script(folder, "cc-that-fails", 'case " $* " in *" -c "*) echo wrong >&2; exit 1;; esac\nexec cc "$@"\n')
+    found = command([copy / "run", counter], env={**os.environ, "CC": broken})
+    is_told = found.stderr.endswith(f"\nrecord: the recorder cannot be built in {copy}/out\n") and not list((copy / "out").glob("new.*"))
+    findings.check("a recorder that can't be built", (found.returncode, found.stdout) == (125, "") and is_told, f"{found}")
+
+
 def as_the_readme_says(folder, findings):
     """The README's first commands, and its report: the addresses and the lines' numbers differ, the rest doesn't."""
     readme = (TOP / "README.md").read_text()
@@ -494,6 +534,7 @@ def tests(record):
         linked_by_hand(folder, findings)
         as_the_readme_says(folder, findings)
         fresh_copy(folder, findings)
+        unwritable(folder, findings, counter)
 
 
 if __name__ == "__main__":

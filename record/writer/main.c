@@ -543,8 +543,6 @@ static void say_end_of_replay(void)
 {
     int status = exit_status(replay_status);
     bool was_early = output.pipe_error == EPIPE;
-    if (report_error)
-        fprintf(stderr, "record: cannot write %s: %s\n", name_of_report(), strerror(report_error));
     if (!has_replay_ended)
         fprintf(stderr, "record: the end of the replay was not seen\n");
     else if (WIFSIGNALED(replay_status))
@@ -555,27 +553,31 @@ static void say_end_of_replay(void)
         fprintf(stderr, "record: the program went on unharmed; the trace is%s recorded further\n", options.trace ? "" : " not");
 }
 
-static void say_end(uint64_t lost, const char *name)
+static void say_what_was_recorded(uint64_t lost)
 {
-    uint32_t others = atomic_load(&ring->others);
-    if (start_error) {
-        fprintf(stderr, "record: cannot start %s: %s\n", name, strerror(start_error));
-        return;
-    }
-    if (!atomic_load(&ring->owner)) {
+    if (!atomic_load(&ring->owner))
         fprintf(stderr, "record: nothing was recorded: the program does not use ThreadSanitizer's library, libtsan.so.2.\n"
                         "record: build it with -g -fsanitize=thread, and without -static-libtsan; docs/RECORDING.md says how with clang\n");
-        return;
-    }
-    if (!trace_events && !lost)
+    else if (!trace_events && !lost)
         fprintf(stderr, "record: nothing was recorded: no instrumented code ran\n");
     else if (!options.is_quiet || lost)
         fprintf(stderr, "record: %llu events recorded, %llu lost%s\n", (unsigned long long)trace_events, (unsigned long long)lost,
                 lost ? ": the trace is incomplete, and says so in its last line" : "");
+}
+
+static void say_end(uint64_t lost, const char *name)
+{
+    uint32_t others = atomic_load(&ring->others);
+    if (start_error)
+        fprintf(stderr, "record: cannot start %s: %s\n", name, strerror(start_error));
+    else
+        say_what_was_recorded(lost);
     if (output.is_full)
         fprintf(stderr, "record: the trace reached its limit of %llu bytes (--limit)\n", (unsigned long long)output.limit);
     if (output.file_error)
         fprintf(stderr, "record: cannot write %s: %s\n", options.trace, strerror(output.file_error));
+    if (report_error)
+        fprintf(stderr, "record: cannot write %s: %s\n", name_of_report(), strerror(report_error));
     if (others)
         fprintf(stderr, "record: %u further program%s started by it %s not recorded\n", others, others == 1 ? "" : "s", others == 1 ? "was" : "were");
 }
@@ -593,7 +595,7 @@ static void say_end_of_program(void)
         fprintf(stderr, "record: the program ended with status %d%s%s\n", status, status == STATUS_RACE ? ", given as 123" : "", whole);
 }
 
-/* docs/RECORDING.md has a row for each line of this. */
+/* docs/RECORDING.md has a row for each case of these two. */
 static int status_of_report(uint64_t lost)
 {
     int of_program = exit_status(program_status), of_replay = has_replay_ended ? exit_status(replay_status) : STATUS_FAILED;
@@ -603,6 +605,15 @@ static int status_of_report(uint64_t lost)
     if (of_replay > STATUS_RACE)
         return of_replay;
     return is_whole ? of_replay : STATUS_FAILED;
+}
+
+static int last_status(uint64_t lost)
+{
+    if (start_error)
+        return exit_status(program_status);
+    if (output.file_error || report_error)
+        return STATUS_FAILED;
+    return options.ends_as_report ? status_of_report(lost) : exit_status(program_status);
 }
 
 int main(int count, char **words)
@@ -628,6 +639,7 @@ int main(int count, char **words)
     record();
     uint64_t lost = count_lost();
     trace_end(lost);
+    trace_close();
     end_replay();
     if (options.replays)
         pass_report();
@@ -635,7 +647,5 @@ int main(int count, char **words)
     if (options.replays)
         say_end_of_replay();
     say_end_of_program();
-    if (report_error && !start_error)
-        return STATUS_FAILED;
-    return options.ends_as_report && !start_error ? status_of_report(lost) : exit_status(program_status);
+    return last_status(lost);
 }

@@ -298,3 +298,10 @@ void trace_end(uint64_t lost)
     used = (size_t)(put(buffer + used, text, strlen(text)) - buffer);
     trace_flush();
 }
+
+void trace_close(void)
+{
+    if (output.file >= 0 && close(output.file) != 0)
+        output.file_error = errno;
+    output.file = -1;
+}

@@ -36,6 +36,8 @@ extern uint64_t trace_lost;   /* events that were taken but could not be written
 
 void trace_begin(const char *program);
 void trace_end(uint64_t lost);
+/* A file of which the system kept a part back may fail only now. */
+void trace_close(void);
 void trace_flush(void);
 /* True if text can still be written somewhere. */
 bool trace_is_open(void);
