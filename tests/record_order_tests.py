@@ -204,7 +204,7 @@ def with_a_limit(folder, findings):
     text = trace.read_text()
     is_cut = re.search(r"\n# incomplete: \d+ events, [1-9]\d* lost\n\Z", text) and len(text) <= 100000
     findings.check("a limit with --order", done.returncode == 0 and is_cut and order_reference.read(text.encode()), f"{done} {text[-100:]}")
-    done = command([RUN, "-q", "--order", "--strict", "--exit-status", "report", "--limit", "100000", program, "300000"])
+    done = command([RUN, "-q", "-o", trace, "--order", "--strict", "--exit-status", "report", "--limit", "100000", program, "300000"])
     is_told = re.search(r"^line \d+: no end$", done.stderr, re.M) and "steps" not in done.stderr
     findings.check("a limit with --order and --strict", done.returncode == 2 and is_told, f"{done}")
     # A replay that says with which words it was called.

@@ -378,8 +378,18 @@ def early_ends(folder, findings, busy):
     trace = folder / "limited.trace"
     found = command([RUN, "-o", trace, "--limit", "100000", "--replay", busy, "300000"])
     text = trace.read_text()
-    limited = len(text) <= 100000 and re.search(r"\n# incomplete: \d+ events, [1-9]\d* lost\n\Z", text) and "limit of 100000 bytes" in found.stderr
+    limited = len(text) <= 100000 and re.search(r"\n# incomplete: \d+ events, [1-9]\d* lost\n\Z", text) and found.stderr.count("limit of 100000 bytes") == 2
     findings.check("a limit", limited and found.returncode == 0 and re.search(r"^steps ", found.stderr, re.M), f"{found} {text[-200:]}")
+    recorder = subprocess.Popen([RUN, "-o", trace, "--limit", "100000", busy, "10000000000"], stdout=subprocess.DEVNULL, stderr=subprocess.PIPE, text=True, start_new_session=True)
+    line = recorder.stderr.readline()
+    still_runs = recorder.poll() is None
+    os.killpg(recorder.pid, signal.SIGINT)
+    _, errors = recorder.communicate(timeout=PATIENCE)
+    is_told = line == "record: the trace has reached its limit of 100000 bytes (--limit): from here on events are lost\n" and " lost: the trace is incomplete" in errors
+    findings.check("a limit is told while the program runs", still_runs and is_told and recorder.returncode == 130, f"{line!r} {errors!r} {recorder.returncode}")
+    found = command([RUN, "--limit", "100000", busy, "3000"])
+    is_told = found.stderr.startswith("record: --limit is of a trace that -o keeps: ") and re.search(r"^record: \d{5,} events recorded, 0 lost\n\Z", found.stderr, re.M)
+    findings.check("a limit without a trace that is kept", found.returncode == 0 and is_told, f"{found}")
     begun, went_on = folder / "begun", folder / "went-on"
     recorder = subprocess.Popen([RUN, "-o", "/dev/null", "--limit", "0", busy, "3000000", begun, went_on], stdout=subprocess.DEVNULL, stderr=subprocess.DEVNULL)
     is_begun = wait_for(begun)
@@ -389,15 +399,22 @@ def early_ends(folder, findings, busy):
 
 
 def memory(folder, findings, busy):
-    """With the trace in a pipe, four times the events take no more memory."""
-    used = []
-    for rounds in ("200000", "800000"):
-        settings = {**os.environ, "ERASER": as_script(folder, "sink", "exec cat >/dev/null\n")}
-        recorder = subprocess.Popen([RUN, "-q", "--limit", "0", busy, rounds], env=settings, stdout=subprocess.DEVNULL)
-        _, status, spent = os.wait4(recorder.pid, 0)
-        recorder.returncode = status
+    """With the trace in a pipe, four times the events take no more memory, and the limit of a trace that is kept is none here."""
+    used, sizes = [], []
+    for rounds in ("200000", "900000"):
+        # A replay whose report is the number of bytes that it got.
+        settings = {**os.environ, "ERASER": as_script(folder, "sink", "exec wc -c\n")}
+        with open(folder / "errors", "w+") as errors:
+            recorder = subprocess.Popen([RUN, busy, rounds], env=settings, stdout=subprocess.DEVNULL, stderr=errors)
+            _, status, spent = os.wait4(recorder.pid, 0)
+            recorder.returncode = status
+            errors.seek(0)
+            text = errors.read()
+        whole = re.fullmatch(r"(\d+)\nrecord: \d+ events recorded, 0 lost\n", text)
+        findings.check(f"{rounds} rounds into a pipe", status == 0 and whole, f"{status} {text!r}")
         used.append(spent.ru_maxrss)
-        findings.check(f"{rounds} rounds into a pipe", status == 0, f"{status}")
+        sizes.append(int(whole[1]) if whole else 0)
+    findings.check("more text than is kept by default", sizes[1] > 268435456, f"{sizes}")
     findings.check("the recorder's memory is constant", used[1] < used[0] + 4096, f"{used} KiB")
 
 

@@ -23,7 +23,7 @@
 /* With the status of the report, 1 means a race. So a program's own 1 becomes what xargs ends with if a command of its own fails. */
 #define STATUS_RACE 1
 #define STATUS_OF_ONE 123
-/* How many bytes of text are recorded if nothing else is said: what a replay takes if nothing else is said. */
+/* How many bytes of text are kept in a file if nothing else is said: what a replay takes if nothing else is said. */
 #define USUAL_LIMIT 268435456u
 
 struct options {
@@ -71,7 +71,7 @@ static const char usage[] =
     "      --until-fault       report the steps before the first faulty line of the trace, and then its fault\n"
     "      --exit-status WHOSE end with the status of the `program` (the default) or of the `report`\n"
     "      --order             record what orders threads as well: starts and joins, semaphores, atomic operations ..\n"
-    "      --limit BYTES       record at most so much text; 0: no limit. The default is 268435456\n"
+    "      --limit BYTES       with -o: record at most so much text; 0: no limit. The default is 268435456\n"
     "      --paths             name sites by their whole path\n"
     "  -q, --quiet             say nothing on standard error beside the report, unless something went wrong\n"
     "  -h, --help              print this\n"
@@ -137,6 +137,14 @@ static bool needs_order(void)
     return options.analysis && strcmp(options.analysis, "lockset") != 0;
 }
 
+/* The limit is of a file that grows. A replay takes what comes. */
+static void drop_limit(void)
+{
+    if (output.limit && output.limit != USUAL_LIMIT && !options.is_quiet)
+        fputs("record: --limit is of a trace that -o keeps: nothing is kept, and all is recorded\n", stderr);
+    output.limit = 0;
+}
+
 static void read_options(int count, char **words)
 {
     enum { REPLAY = 256, REPORT, SUPPRESS, EXPLAIN, BY_SITE, STRICT, UNTIL_FAULT, FORMAT, ANALYSIS, EXIT_STATUS, ORDER, LIMIT, PATHS };
@@ -182,6 +190,8 @@ static void read_options(int count, char **words)
         fputs(usage, stderr);
         exit(STATUS_FAILED);
     }
+    if (!options.trace)
+        drop_limit();
     options.replays |= !options.trace || options.report || options.rules || options.explains || options.by_site || options.is_strict || options.until_fault || options.format
         || options.analysis || options.ends_as_report;
 }
@@ -297,7 +307,7 @@ static void start_replay(void)
 {
     int ends[2], start[2];
     const char *command = getenv("ERASER");
-    /* The writer ends the trace at its limit, so the replay needs none. This is the greatest that it knows. */
+    /* The writer ends a trace that it keeps at its limit, so the replay needs none. This is the greatest that it knows. */
     char *words[16] = {(char *)(command ? command : "eraser"), "replay", "--byte-limit", "4611686018427387904", NULL};
     int count = 4;
     if (options.rules) {

@@ -106,13 +106,20 @@ bool trace_is_open(void)
     return !output.is_full && (output.file >= 0 || output.pipe >= 0);
 }
 
+static bool is_beyond_limit(void)
+{
+    return output.limit && written + used + LINE_BYTES + END_BYTES > output.limit;
+}
+
 /* Room for one line, or NULL if the text has ended. */
 static char *line(void)
 {
     if (used + LINE_BYTES > BUFFER_BYTES)
         trace_flush();
-    if (output.limit && written + used + LINE_BYTES + END_BYTES > output.limit)
+    if (is_beyond_limit() && !output.is_full) {
         output.is_full = true;
+        fprintf(stderr, "record: the trace has reached its limit of %llu bytes (--limit): from here on events are lost\n", (unsigned long long)output.limit);
+    }
     return trace_is_open() ? buffer + used : NULL;
 }
 
@@ -257,7 +264,7 @@ void trace_ignore(struct thread *thread, const char *verb)
 
 static void comment(const char *text)
 {
-    char *at = line();
+    char *at = is_beyond_limit() ? NULL : line();
     if (!at)
         return;
     at = put(put(at, "# ", 2), text, strlen(text));

@@ -15,7 +15,7 @@ struct output {
     int pipe;            /* -1: none */
     int file_error;      /* errno of the failed write, or 0 */
     int pipe_error;
-    uint64_t limit;      /* bytes of text, 0: no limit */
+    uint64_t limit;      /* bytes of text that is kept in a file, 0: no limit */
     bool is_full;
 };
 
