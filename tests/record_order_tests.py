@@ -44,7 +44,7 @@ STARTS = {"threads": 24}
 # A trace of fewer bytes is read a second time whole, which is slow.
 SHORT = 60_000
 # Programs of tests/record that end otherwise than by themselves, or need something else beside them.
-OTHERS = ("ends", "loads", "plugin", "busy", "jumps")
+OTHERS = ("ends", "loads", "plugin", "busy", "jumps", "empty")
 
 
 # ---- What must be true of every trace ----
@@ -204,8 +204,8 @@ def with_a_limit(folder, findings):
     text = trace.read_text()
     is_cut = re.search(r"\n# incomplete: \d+ events, [1-9]\d* lost\n\Z", text) and len(text) <= 100000
     findings.check("a limit with --order", done.returncode == 0 and is_cut and order_reference.read(text.encode()), f"{done} {text[-100:]}")
-    done = command([RUN, "-q", "--order", "--strict", "--exit-status", "report", "--limit", "100000", program, "300000"])
-    is_told = re.search(r"^line \d+: no end$", done.stderr, re.M) and "steps" not in done.stdout
+    done = command([RUN, "-q", "-o", trace, "--order", "--strict", "--exit-status", "report", "--limit", "100000", program, "300000"])
+    is_told = re.search(r"^line \d+: no end$", done.stderr, re.M) and "steps" not in done.stderr
     findings.check("a limit with --order and --strict", done.returncode == 2 and is_told, f"{done}")
     # A replay that says with which words it was called.
     replay = folder / "replay"
@@ -228,7 +228,7 @@ def replayed(folder, findings, program):
     trace = folder / "order.trace"
     done = command([RUN, "-o", trace, "--order", "--replay", program])
     wanted = reference.replay(trace.read_bytes())
-    findings.check("the report of a program that is recorded with --order", done.returncode == 0 and wanted[0] in done.stdout, f"{done} {wanted}")
+    findings.check("the report of a program that is recorded with --order", done.returncode == 0 and done.stderr.startswith(wanted[0]), f"{done} {wanted}")
     found = command([record_tests.TOP / "eraser", "replay", trace])
     findings.check("the replay of its trace", (found.stdout, found.stderr, found.returncode) == wanted, f"{found} {wanted}")
 
@@ -236,22 +236,22 @@ def replayed(folder, findings, program):
 def analysed(folder, findings, program):
     """`--analysis` records what orders threads, and reports by it."""
     wanted = marked(SOURCES / "order/message.c", "UNORDERED")
-    done = command([RUN, "-q", "--analysis", "happens-before", program])
+    done = command([RUN, "-q", "--report", "-", "--analysis", "happens-before", program])
     sites = set(re.findall(r": unordered: .* at (\S+), holds", done.stdout))
     findings.check("record/run --analysis happens-before", (done.returncode, done.stderr, sites) == (0, "", wanted) and ": race: " not in done.stdout, f"{done}")
-    done = command([RUN, "-q", "--analysis", "happens-before", "--exit-status", "report", program])
+    done = command([RUN, "-q", "--report", "-", "--analysis", "happens-before", "--exit-status", "report", program])
     findings.check("record/run --analysis happens-before --exit-status report", done.returncode == 1, f"{done}")
-    done = command([RUN, "-q", "--analysis", "both", "--exit-status", "report", program])
+    done = command([RUN, "-q", "--report", "-", "--analysis", "both", "--exit-status", "report", program])
     sites = set(re.findall(r": unordered: .* at (\S+), holds", done.stdout))
     totals = re.findall(r"^steps \d+, (races|unordered) \d+, suppressed 0, refused 0$", done.stdout, re.M)
     findings.check("record/run --analysis both", (done.returncode, sites, totals) == (1, wanted, ["races", "unordered"]) and ": race: " in done.stdout, f"{done}")
     trace = folder / "analysed.trace"
-    done = command([RUN, "-q", "-o", trace, "--analysis", "lockset", program])
+    done = command([RUN, "-q", "-o", trace, "--report", "-", "--analysis", "lockset", program])
     findings.check("record/run --analysis lockset", done.returncode == 0 and trace.read_text().startswith("eraser trace 1\n") and "races" in done.stdout, f"{done}")
-    done = command([RUN, "-q", "--analysis", "both", "--by-site", program])
+    done = command([RUN, "-q", "--report", "-", "--analysis", "both", "--by-site", program])
     parts = [line.split(":")[0] for line in done.stdout.splitlines() if line.startswith(("races in this run", "no common lock"))]
     findings.check("record/run --analysis both --by-site", (done.returncode, parts) == (0, ["races in this run", "no common lock"]), f"{done}")
-    done = command([RUN, "-q", "--analysis", "happens-before", "--explain", program])
+    done = command([RUN, "-q", "--report", "-", "--analysis", "happens-before", "--explain", program])
     findings.check("record/run --analysis happens-before --explain", done.returncode == 0 and "\n  unordered with: line " in done.stdout, f"{done}")
     for analysis in ("happens-before", "both"):
         for more in (*([["--by-site"]] if analysis == "happens-before" else []), ["--format", "json"], ["--strict"]):

@@ -214,7 +214,7 @@ def programs(folder, findings, made):
         elif source.stem == "loads":
             plugin = SOURCES / "plugin.c"
             jobs.append((program, plugin, (str(made[plugin, compiler, level]),), 0, None, RUNS))
-        elif source.stem not in ("plugin", "busy"):
+        elif source.stem not in ("plugin", "busy", "empty"):
             jobs.append((program, source, (), STATUS.get(source.stem, 0), PRINTED.get(source.stem), RUNS))
     with concurrent.futures.ThreadPoolExecutor(WORKERS) as pool:
         runs = [pool.submit(run_often, folder, findings, *job[:5], runs=job[5], extra=EXTRA.get(job[1].stem)) for job in jobs]
@@ -229,14 +229,17 @@ def ways_to_use(folder, findings, counter, queue):
     """Its options, and what it passes on."""
     trace = folder / "paths.trace"
     found = command([RUN, "-o", trace, "--replay", "--paths", queue])
-    legal = re.search(r"^steps .* refused 0$", found.stdout, re.M) and " /usr/include/c__/" in trace.read_text()
+    legal = re.search(r"^steps .* refused 0$", found.stderr, re.M) and " /usr/include/c__/" in trace.read_text()
     findings.check("paths with characters that no name may have", legal, f"{found}")
     found = command([RUN, "-o", trace, "--replay", "--order", "--paths", queue])
-    kept = re.search(r"^steps .* refused 0$", found.stdout, re.M) and " /usr/include/c++/" in trace.read_text()
+    kept = re.search(r"^steps .* refused 0$", found.stderr, re.M) and " /usr/include/c++/" in trace.read_text()
     findings.check("paths with these characters, in a trace with order", kept, f"{found}")
     found = command([RUN, counter])
-    findings.check("the report follows what the program prints", found.stdout.startswith("30\nline ") and "counter.c:" in found.stdout, f"{found}")
-    findings.check("the exit status of the report", command([RUN, "--exit-status", "report", counter]).returncode == 1)
+    is_behind = re.search(r"\Aline \d+: race: .* at counter\.c:(?s:.*)\nsteps .*\nrecord: \d+ events recorded, 0 lost\n\Z", found.stderr)
+    findings.check("the report is on standard error, and standard output is the program's", found.stdout == "30\n" and is_behind, f"{found}")
+    found = command([RUN, "--report", "-", counter])
+    is_behind = re.search(r"\A30\nline \d+: race: .* at counter\.c:(?s:.*)\nsteps .*\n\Z", found.stdout)
+    findings.check("a report on standard output follows what the program prints", is_behind and re.fullmatch(r"record: .*\n", found.stderr), f"{found}")
     findings.check("the exit status of the program", command([RUN, "--exit-status", "program", counter]).returncode == 3)
     trace = folder / "kept.trace"
     found = command([RUN, "-o", trace, counter])
@@ -245,28 +248,32 @@ def ways_to_use(folder, findings, counter, queue):
     findings.check("its replay", replayed.returncode == 1 and races(replayed.stdout) == marked(SOURCES / "counter.c", "RACE"), f"{replayed}")
     rules = folder / "rules"
     rules.write_text("".join(f"site {site}\n" for site in marked(SOURCES / "counter.c", "RACE")))
-    found = command([RUN, "--suppress", rules, "--exit-status", "report", counter])
-    findings.check("suppressions", found.returncode == 0 and "suppression 1: 1\n" in found.stdout, f"{found}")
+    found = command([RUN, "--suppress", rules, counter])
+    findings.check("suppressions", found.returncode == 3 and "suppression 1: 1\n" in found.stderr and ", races 0," in found.stderr, f"{found}")
+    queue_rules = folder / "queue.rules"
+    queue_rules.write_text("".join(f"site {site}\n" for site in marked(SOURCES / "queue.cpp", "RACE")))
+    found = command([RUN, "--suppress", queue_rules, "--exit-status", "report", queue])
+    findings.check("the exit status of a report without the races that rules take", found.returncode == 0 and ", races 0," in found.stderr, f"{found}")
     found = command([RUN, "--explain", "--suppress", rules, counter])
-    findings.check("suppressions with --explain", found.returncode == 3 and "suppression 1: 1\n" in found.stdout, f"{found}")
+    findings.check("suppressions with --explain", found.returncode == 3 and "suppression 1: 1\n" in found.stderr, f"{found}")
     found = command([RUN, "--explain", counter])
-    findings.check("reasons of a race", re.search(r"^line .* race: .*\n  first: line \d+, t\d ", found.stdout, re.M), f"{found}")
-    found = command([RUN, "--explain", "--format", "json", counter])
+    findings.check("reasons of a race", re.search(r"^line .* race: .*\n  first: line \d+, t\d ", found.stderr, re.M), f"{found}")
+    found = command([RUN, "--explain", "--format", "json", "--report", "-", counter])
     document = json.loads(found.stdout.removeprefix("30\n") or "null")
     sites = {race["site"] for race in document["races"]} if document else set()
     findings.check("a report as JSON", found.returncode == 3 and sites == marked(SOURCES / "counter.c", "RACE"), f"{found}")
-    found = command([RUN, "--format", "html", counter])
+    found = command([RUN, "--format", "html", "--report", "-", counter])
     block = re.search(r'id="report">\n(.*?)</script>', found.stdout, re.S)
     sites = {race["site"] for race in json.loads(block[1])["races"]} if block else set()
     findings.check("a report as a page", found.returncode == 3 and sites == marked(SOURCES / "counter.c", "RACE"), f"{found}")
     found = command([RUN, "-q", "--paths", counter])
-    findings.check("sites with paths, quietly", f"{SOURCES}/counter.c:" in found.stdout and found.stderr == "", f"{found}")
+    findings.check("sites with paths, quietly", f"{SOURCES}/counter.c:" in found.stderr and "record:" not in found.stderr, f"{found}")
     found = command([RUN, "sh", "-c", 'cat; echo "$0" "$@" >&2; exit 9', "one", "two words"], input="given\n")
-    passed_on = found.stdout.startswith("given\n") and found.stderr.startswith("one two words\n") and found.returncode == 9
+    passed_on = found.stdout == "given\n" and found.stderr.startswith("one two words\n") and found.returncode == 9
     findings.check("arguments, streams and status of any program", passed_on, f"{found}")
-    findings.check("a program without the library", "nothing was recorded" in found.stderr, f"{found}")
+    findings.check("a program without the library has no report", "nothing was recorded" in found.stderr and "steps" not in found.stderr, f"{found}")
     found = command([RUN, "-q", "sh", "-c", f"{counter}; {counter}; exit 0"])
-    findings.check("two programs, of which one is recorded", "record: 1 further program" in found.stderr and found.stdout.startswith("30\n30\n"), f"{found}")
+    findings.check("two programs, of which one is recorded", "record: 1 further program" in found.stderr and found.stdout == "30\n30\n", f"{found}")
     findings.check("a program that is not there", command([RUN, folder / "nothing"]).returncode == 127)
     findings.check("a program that can't be started", command([RUN, folder]).returncode == 126)
     for words in (["--wrong"], ["--limit", "10x"], ["--limit", "-1"], ["--limit", ""], ["--exit-status", "other"], ["--format", "xml"], ["--format", "json", "--by-site"]):
@@ -279,14 +286,72 @@ def ways_to_use(folder, findings, counter, queue):
     # Each of these options wants a report, also if the trace is kept.
     for words in (["--replay"], ["--suppress", rules], ["--explain"], ["--format", "text"], ["--exit-status", "report"]):
         found = command([RUN, "-o", trace, *words, counter])
-        status = 1 if "report" in words else 3
-        findings.check(f"a trace that is kept, and its report by {words[0]}", "\nsteps " in found.stdout and found.returncode == status, f"{found}")
+        findings.check(f"a trace that is kept, and its report by {words[0]}", found.stdout == "30\n" and "\nsteps " in found.stderr and found.returncode == 3, f"{found}")
     report = folder / "kept.report"
     found = command([RUN, "-o", trace, "--report", report, counter])
-    findings.check("a trace and a report that are kept", (found.stdout, found.returncode) == ("30\n", 3) and "\nsteps " in report.read_text(), f"{found}")
+    kept = "\nsteps " in report.read_text() and re.fullmatch(r"record: \d+ events recorded, 0 lost\n", found.stderr)
+    findings.check("a trace and a report that are kept", (found.stdout, found.returncode) == ("30\n", 3) and kept, f"{found}")
     findings.check("a trace that can't be written", command([RUN, "-o", folder / "no/where", counter]).returncode == 125)
     found = command([RUN, "-o", "/dev/full", counter])
-    findings.check("a full disk", found.returncode == 3 and "cannot write /dev/full" in found.stderr, f"{found}")
+    findings.check("a full disk", found.returncode == 125 and "cannot write /dev/full" in found.stderr, f"{found}")
+    found = command([RUN, "-o", "/dev/full", "sh", "-c", "exit 9"])
+    findings.check("a full disk, and a program that is not recorded", found.returncode == 125 and "cannot write /dev/full" in found.stderr, f"{found}")
+    found = command([RUN, "-o", "/dev/full", "--report", report, counter])
+    findings.check("a full disk, and a report", found.returncode == 125 and "\nsteps " in report.read_text(), f"{found} {report.read_text()}")
+    for more in ([], ["--exit-status", "report"]):
+        found = command(["sh", "-c", '"$@" 2>/dev/full', "sh", RUN, *more, counter])
+        findings.check(f"a standard error that can't be written {more}", (found.returncode, found.stdout) == (125, "30\n"), f"{found}")
+        found = command(["sh", "-c", '"$@" >/dev/full', "sh", RUN, "--report", "-", *more, queue])
+        findings.check(f"a standard output that can't be written {more}", found.returncode == 125 and "cannot write standard output" in found.stderr, f"{found}")
+
+
+def ways_to_end(folder, made):
+    """A run of each row of the table in docs/RECORDING.md: options, the program with its arguments, settings of the environment.
+
+    One row is of a checkout, which `unwritable` sees to.
+    """
+
+    def program(name):
+        return next(path for (source, compiler, level), path in made.items() if (source.stem, compiler, level) == (name, "gcc", "-O0"))
+
+    right, racy, ends, busy = program("recursive"), program("queue"), program("ends"), program("busy")
+    limited = ["-o", folder / "lost.trace", "--limit", "100000"]
+    return {
+        "wrong options, or a file that can't be opened": (["-o", folder / "no/where"], [right], {}),
+        "the replay can't be started": ([], [right], {"ERASER": str(folder / "nothing")}),
+        "the program isn't there": ([], [folder / "nothing"], {}),
+        "the program can't be executed": ([], [folder], {}),
+        "the trace can't be written": (["-o", "/dev/full"], [right], {}),
+        "the report can't be written": (["--report", "/dev/full"], [racy], {}),
+        "a signal ended the program, here signal 6": ([], [ends, "abort"], {}),
+        "the program ended with 2 or more, here with 6": ([], [ends, "exit"], {}),
+        "the program ended with 1": ([], ["sh", "-c", f"{right}; exit 1"], {}),
+        "the replay failed: 2, 3 or 4, as `eraser replay` has them": (["--suppress", folder / "nothing"], [right], {}),
+        "the program is not instrumented": ([], ["true"], {}),
+        "no instrumented code ran": ([], [program("empty")], {}),
+        "events were lost": (limited, [busy, "3000"], {}),
+        "one more instrumented program was started": ([], ["sh", "-c", f"{right}; {right}"], {}),
+        "there is a race": ([], [racy], {}),
+        "there is no race": ([], [right], {}),
+    }
+
+
+def exit_statuses(folder, findings, made):
+    """Each row of the table of exit statuses, as it is run."""
+    section = (TOP / "docs/RECORDING.md").read_text().partition("\n## The exit status\n")[2].partition("\n## ")[0]
+    rows = [[cell.strip() for cell in line.strip("|").split(" | ")] for line in section.splitlines() if line.startswith("| ")][1:]
+    wanted = ["the recorder can't be built", "125", "125", "`record: cannot write FILE, where the recorder is built`"]
+    findings.check("the exit statuses: the row that needs another checkout", wanted in rows, f"{rows}")
+    rows = [row for row in rows if row != wanted]
+    ways = ways_to_end(folder, made)
+    findings.check("the exit statuses: each row has a run", [row[0] for row in rows] == list(ways), f"{rows}")
+    for title, by_default, by_report, line in rows:
+        options, words, settings = ways[title]
+        pattern = re.sub(r"\b(FILE|PROGRAM|REPLAY)\b", r"\\S+", re.sub(r"\bN\b", r"\\d+", re.escape(line.strip("`"))))
+        for more, status in ((["--exit-status", "report"], by_report), (["--exit-status", "report", "--strict", "-q"], by_report), (["--replay"], by_default)):
+            found = command([RUN, *more, *options, *words], env={**os.environ, **settings})
+            is_said = re.search(rf"^{pattern}$", found.stderr, re.M) or "0 lost" in line and "-q" in more or "--replay" in more
+            findings.check(f"the exit status {more}: {title}", str(found.returncode) == status and is_said, f"{found}, not {status} {pattern}")
 
 
 def as_script(folder, name, text):
@@ -315,8 +380,18 @@ def early_ends(folder, findings, busy):
     trace = folder / "limited.trace"
     found = command([RUN, "-o", trace, "--limit", "100000", "--replay", busy, "300000"])
     text = trace.read_text()
-    limited = len(text) <= 100000 and re.search(r"\n# incomplete: \d+ events, [1-9]\d* lost\n\Z", text) and "limit of 100000 bytes" in found.stderr
-    findings.check("a limit", limited and found.returncode == 0 and "\nsteps " in found.stdout, f"{found} {text[-200:]}")
+    limited = len(text) <= 100000 and re.search(r"\n# incomplete: \d+ events, [1-9]\d* lost\n\Z", text) and found.stderr.count("limit of 100000 bytes") == 2
+    findings.check("a limit", limited and found.returncode == 0 and re.search(r"^steps ", found.stderr, re.M), f"{found} {text[-200:]}")
+    recorder = subprocess.Popen([RUN, "-o", trace, "--limit", "100000", busy, "10000000000"], stdout=subprocess.DEVNULL, stderr=subprocess.PIPE, text=True, start_new_session=True)
+    line = recorder.stderr.readline()
+    still_runs = recorder.poll() is None
+    os.killpg(recorder.pid, signal.SIGINT)
+    _, errors = recorder.communicate(timeout=PATIENCE)
+    is_told = line == "record: the trace has reached its limit of 100000 bytes (--limit): from here on events are lost\n" and " lost: the trace is incomplete" in errors
+    findings.check("a limit is told while the program runs", still_runs and is_told and recorder.returncode == 130, f"{line!r} {errors!r} {recorder.returncode}")
+    found = command([RUN, "--limit", "100000", busy, "3000"])
+    is_told = found.stderr.startswith("record: --limit is of a trace that -o keeps: ") and re.search(r"^record: \d{5,} events recorded, 0 lost\n\Z", found.stderr, re.M)
+    findings.check("a limit without a trace that is kept", found.returncode == 0 and is_told, f"{found}")
     begun, went_on = folder / "begun", folder / "went-on"
     recorder = subprocess.Popen([RUN, "-o", "/dev/null", "--limit", "0", busy, "3000000", begun, went_on], stdout=subprocess.DEVNULL, stderr=subprocess.DEVNULL)
     is_begun = wait_for(begun)
@@ -326,15 +401,22 @@ def early_ends(folder, findings, busy):
 
 
 def memory(folder, findings, busy):
-    """With the trace in a pipe, four times the events take no more memory."""
-    used = []
-    for rounds in ("200000", "800000"):
-        settings = {**os.environ, "ERASER": as_script(folder, "sink", "exec cat >/dev/null\n")}
-        recorder = subprocess.Popen([RUN, "-q", "--limit", "0", busy, rounds], env=settings, stdout=subprocess.DEVNULL)
-        _, status, spent = os.wait4(recorder.pid, 0)
-        recorder.returncode = status
+    """With the trace in a pipe, four times the events take no more memory, and the limit of a trace that is kept is none here."""
+    used, sizes = [], []
+    for rounds in ("200000", "900000"):
+        # A replay whose report is the number of bytes that it got.
+        settings = {**os.environ, "ERASER": as_script(folder, "sink", "exec wc -c\n")}
+        with open(folder / "errors", "w+") as errors:
+            recorder = subprocess.Popen([RUN, busy, rounds], env=settings, stdout=subprocess.DEVNULL, stderr=errors)
+            _, status, spent = os.wait4(recorder.pid, 0)
+            recorder.returncode = status
+            errors.seek(0)
+            text = errors.read()
+        whole = re.fullmatch(r"(\d+)\nrecord: \d+ events recorded, 0 lost\n", text)
+        findings.check(f"{rounds} rounds into a pipe", status == 0 and whole, f"{status} {text!r}")
         used.append(spent.ru_maxrss)
-        findings.check(f"{rounds} rounds into a pipe", status == 0, f"{status}")
+        sizes.append(int(whole[1]) if whole else 0)
+    findings.check("more text than is kept by default", sizes[1] > 268435456, f"{sizes}")
     findings.check("the recorder's memory is constant", used[1] < used[0] + 4096, f"{used} KiB")
 
 
@@ -381,7 +463,7 @@ def linked_by_hand(folder, findings):
     compiled = command(["clang", "-g", "-fsanitize=thread", "-c", source, "-o", part])
     linked = command(["clang", part, "-o", program, f"-L{TOP}/record/out", "-leraser_record"])
     found = command([RUN, program])
-    findings.check("clang, linked by hand", compiled.returncode == linked.returncode == 0 and "counter.c:" in found.stdout, f"{linked} {found}")
+    findings.check("clang, linked by hand", compiled.returncode == linked.returncode == 0 and "counter.c:" in found.stderr, f"{linked} {found}")
 
 
 def fresh_copy(folder, findings):
@@ -408,6 +490,29 @@ def fresh_copy(folder, findings):
         found = command([copy / "build"])
         is_new = writer.stat().st_ino != before
         findings.check(f"it is built again if {changed or 'nothing'} has changed", found.returncode == 0 and is_new == bool(changed), f"{found}")
+
+
+def unwritable(folder, findings, counter):
+    """A checkout that can't be written to, and that has no built recorder: one line says so, and the program does not run."""
+    os.chmod(folder, 0o755)
+    for way in ("read-only", "no folder"):
+        copy = folder / way.replace(" ", "-")
+        shutil.copytree(TOP / "record", copy, ignore=shutil.ignore_patterns("out"), symlinks=True)
+        settings = {}
+        if way == "no folder":
+            (copy / "out").write_text("")
+        else:
+            os.chmod(copy, 0o555)
+            settings = {"user": 65534} if os.geteuid() == 0 else {}
+        found = command([copy / "run", counter], **settings)
+        wanted = f"record: cannot write {copy}/out, where the recorder is built\n"
+        findings.check(f"a checkout that can't be written to, {way}", (found.returncode, found.stdout, found.stderr) == (125, "", wanted), f"{found}")
+        os.chmod(copy, 0o755)
+    copy = folder / "read-only"
+    broken = as_script(folder, "cc-that-fails", 'case " $* " in *" -c "*) echo wrong >&2; exit 1;; esac\nexec cc "$@"\n')
+    found = command([copy / "run", counter], env={**os.environ, "CC": broken})
+    is_told = found.stderr.endswith(f"\nrecord: the recorder cannot be built in {copy}/out\n") and not list((copy / "out").glob("new.*"))
+    findings.check("a recorder that can't be built", (found.returncode, found.stdout) == (125, "") and is_told, f"{found}")
 
 
 def as_the_readme_says(folder, findings):
@@ -439,6 +544,7 @@ def tests(record):
         counter, busy = made[SOURCES / "counter.c", "gcc", "-O2"], made[SOURCES / "busy.c", "gcc", "-O2"]
         programs(folder, findings, made)
         ways_to_use(folder, findings, counter, made[SOURCES / "queue.cpp", "gcc", "-O0"])
+        exit_statuses(folder, findings, made)
         early_ends(folder, findings, busy)
         memory(folder, findings, busy)
         interrupts(folder, findings, busy)
@@ -447,6 +553,7 @@ def tests(record):
         linked_by_hand(folder, findings)
         as_the_readme_says(folder, findings)
         fresh_copy(folder, findings)
+        unwritable(folder, findings, counter)
 
 
 if __name__ == "__main__":

@@ -275,7 +275,7 @@ def installed_program_tests(record, prefix, folder):
     shutil.copy(TOP / "examples/pool.cpp", folder / "pool.cpp")
     built = command(["eraser-c++", "pool.cpp", "-o", "pool"], env=env, cwd=folder)
     found = command(["eraser-record", "./pool"], env=env, cwd=folder)
-    races = re.findall(r"^line \d+: race: .* at (\S+), holds none$", found.stdout, re.M)
+    races = re.findall(r"^line \d+: race: .* at (\S+), holds none$", found.stderr, re.M)
     record("the installed recorder", found.returncode == 0 and races and set(races) == {"pool.cpp:19"} and " 0 lost" in found.stderr, f"{built}, {found}")
     annotated = folder / "annotated.c"
     annotated.write_text("#include <eraser.h>\nint main(void) { int x = 0; ERASER_REUSE(&x, sizeof x); return x; }\n")
@@ -286,7 +286,7 @@ def installed_program_tests(record, prefix, folder):
     if shutil.which("clang++"):
         built = command(["eraser-c++", "pool.cpp", "-o", "pool"], env={**env, "ERASER_CXX": "clang++"}, cwd=folder)
         found = command(["eraser-record", "./pool"], env=env, cwd=folder)
-        record("the installed recorder with clang", built.returncode == found.returncode == 0 and "pool.cpp:19" in found.stdout, f"{built}, {found}")
+        record("the installed recorder with clang", built.returncode == found.returncode == 0 and "pool.cpp:19" in found.stderr, f"{built}, {found}")
     if shutil.which("man"):
         found = command(["man", "-w", "eraser"], env={**env, "MANPATH": ""})
         record("man finds the page", found.stdout.strip() == str(prefix / "share/man/man1/eraser.1"), f"{found}")

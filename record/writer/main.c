@@ -20,7 +20,10 @@
 #define STATUS_FAILED 125
 #define STATUS_NOT_EXECUTABLE 126
 #define STATUS_NOT_FOUND 127
-/* How many bytes of text are recorded if nothing else is said: what a replay takes if nothing else is said. */
+/* With the status of the report, 1 means a race. So a program's own 1 becomes what xargs ends with if a command of its own fails. */
+#define STATUS_RACE 1
+#define STATUS_OF_ONE 123
+/* How many bytes of text are kept in a file if nothing else is said: what a replay takes if nothing else is said. */
 #define USUAL_LIMIT 268435456u
 
 struct options {
@@ -43,7 +46,12 @@ static struct ring *ring;
 static int ring_file = -1;
 static pid_t program, replay;
 static int program_status, replay_status;
+static int start_error; /* errno if the program could not be started, or 0 */
 static bool has_program_ended, has_replay_ended;
+/* The replay writes the report into a file without a name, and from there it goes to its place when all has ended. So it is not in the
+ * middle of what the program prints, and a write that fails is told from a replay that fails. */
+static int report_text = -1, report_place = -1;
+static int report_error; /* errno of the failed write, or 0 */
 static volatile sig_atomic_t replay_to_stop;
 
 static const char usage[] =
@@ -53,7 +61,7 @@ static const char usage[] =
     "\n"
     "  -o, --output FILE       keep the trace in FILE, and replay nothing\n"
     "      --replay            with -o: replay as well\n"
-    "      --report FILE       write the report to FILE instead of standard output\n"
+    "      --report FILE       write the report to FILE instead of standard error; `-` is standard output\n"
     "      --suppress RULES    leave out the races that these rules take (docs/FORMATS.md)\n"
     "      --analysis RULE     `lockset` (the default), `happens-before` or `both`; the last two record with --order\n"
     "      --explain           name the accesses that make each race\n"
@@ -63,13 +71,17 @@ static const char usage[] =
     "      --until-fault       report the steps before the first faulty line of the trace, and then its fault\n"
     "      --exit-status WHOSE end with the status of the `program` (the default) or of the `report`\n"
     "      --order             record what orders threads as well: starts and joins, semaphores, atomic operations ..\n"
-    "      --limit BYTES       record at most so much text; 0: no limit. The default is 268435456\n"
+    "      --limit BYTES       with -o: record at most so much text; 0: no limit. The default is 268435456\n"
     "      --paths             name sites by their whole path\n"
-    "  -q, --quiet             say nothing on standard error, unless something went wrong\n"
+    "  -q, --quiet             say nothing on standard error beside the report, unless something went wrong\n"
     "  -h, --help              print this\n"
     "\n"
     "It ends with the program's exit status, or 128 and the number of the signal that ended it; 125 if the recorder failed, 126 or 127\n"
-    "if the program cannot be started. The report comes on standard output when the program has ended.\n";
+    "if the program cannot be started. The report comes on standard error when the program has ended.\n"
+    "\n"
+    "With --exit-status report: 0 if the program ended with 0, all of it was recorded and there is no race; 1 if there is a race; 125 if\n"
+    "nothing or not everything was recorded; 2 to 4 if the replay failed. A program that failed ends it with its own status, and with 123\n"
+    "in place of 1.\n";
 
 static void fail(const char *what, const char *name)
 {
@@ -125,6 +137,14 @@ static bool needs_order(void)
     return options.analysis && strcmp(options.analysis, "lockset") != 0;
 }
 
+/* The limit is of a file that grows. A replay takes what comes. */
+static void drop_limit(void)
+{
+    if (output.limit && output.limit != USUAL_LIMIT && !options.is_quiet)
+        fputs("record: --limit is of a trace that -o keeps: nothing is kept, and all is recorded\n", stderr);
+    output.limit = 0;
+}
+
 static void read_options(int count, char **words)
 {
     enum { REPLAY = 256, REPORT, SUPPRESS, EXPLAIN, BY_SITE, STRICT, UNTIL_FAULT, FORMAT, ANALYSIS, EXIT_STATUS, ORDER, LIMIT, PATHS };
@@ -170,6 +190,8 @@ static void read_options(int count, char **words)
         fputs(usage, stderr);
         exit(STATUS_FAILED);
     }
+    if (!options.trace)
+        drop_limit();
     options.replays |= !options.trace || options.report || options.rules || options.explains || options.by_site || options.is_strict || options.until_fault || options.format
         || options.analysis || options.ends_as_report;
 }
@@ -238,11 +260,54 @@ static void prepare_replay(void)
     }
 }
 
+/* The child tells the error of a failed start by a pipe, which a start that succeeds closes. */
+static void make_pipe(int ends[2])
+{
+    if (pipe2(ends, O_CLOEXEC) != 0)
+        fail("cannot make a pipe", NULL);
+}
+
+static void execute(char **words, int to)
+{
+    execvp(words[0], words);
+    int error = errno;
+    ssize_t sent = write(to, &error, sizeof error);
+    _exit(sent < 0 ? STATUS_FAILED : error == ENOENT ? STATUS_NOT_FOUND : STATUS_NOT_EXECUTABLE);
+}
+
+/* The error of a child's start, or 0. */
+static int read_start(int ends[2])
+{
+    int error = 0;
+    close(ends[1]);
+    while (read(ends[0], &error, sizeof error) < 0 && errno == EINTR)
+        ;
+    close(ends[0]);
+    return error;
+}
+
+static bool is_on_output(const char *report)
+{
+    return strcmp(report, "-") == 0;
+}
+
+static void open_report(void)
+{
+    if (!options.report)
+        report_place = STDERR_FILENO;
+    else if (is_on_output(options.report))
+        report_place = STDOUT_FILENO;
+    else
+        report_place = open(options.report, O_WRONLY | O_CREAT | O_TRUNC | O_CLOEXEC, 0666);
+    if (report_place < 0)
+        fail("cannot write", options.report);
+}
+
 static void start_replay(void)
 {
-    int ends[2];
+    int ends[2], start[2];
     const char *command = getenv("ERASER");
-    /* The writer ends the trace at its limit, so the replay needs none. This is the greatest that it knows. */
+    /* The writer ends a trace that it keeps at its limit, so the replay needs none. This is the greatest that it knows. */
     char *words[16] = {(char *)(command ? command : "eraser"), "replay", "--byte-limit", "4611686018427387904", NULL};
     int count = 4;
     if (options.rules) {
@@ -266,11 +331,11 @@ static void start_replay(void)
         words[count++] = (char *)options.format;
     }
     words[count] = "-";
-    int report = options.report ? open(options.report, O_WRONLY | O_CREAT | O_TRUNC | O_CLOEXEC, 0666) : -1;
-    if (options.report && report < 0)
-        fail("cannot write", options.report);
-    if (pipe2(ends, O_CLOEXEC) != 0)
-        fail("cannot make a pipe", NULL);
+    report_text = memfd_create("eraser-report", MFD_CLOEXEC);
+    if (report_text < 0)
+        fail("cannot make a file for the report", NULL);
+    make_pipe(ends);
+    make_pipe(start);
     fcntl(ends[1], F_SETPIPE_SZ, 1 << 20);
     fflush(NULL);
     replay = fork();
@@ -281,15 +346,13 @@ static void start_replay(void)
         signal(SIGQUIT, SIG_IGN);
         signal(SIGPIPE, SIG_DFL);
         dup2(ends[0], 0);
-        if (report >= 0)
-            dup2(report, 1);
-        execvp(words[0], words);
-        fprintf(stderr, "record: cannot start %s: %s\n", words[0], strerror(errno));
-        _exit(STATUS_FAILED);
+        dup2(report_text, 1);
+        execute(words, start[1]);
     }
+    errno = read_start(start);
+    if (errno)
+        fail("cannot start", words[0]);
     close(ends[0]);
-    if (report >= 0)
-        close(report);
     output.pipe = ends[1];
 }
 
@@ -313,20 +376,22 @@ static void set_library_path(void)
 
 static void start_program(char **words)
 {
+    int start[2];
+    make_pipe(start);
     program = fork();
     if (program < 0)
         fail("cannot start", words[0]);
-    if (program != 0)
+    if (program != 0) {
+        start_error = read_start(start);
         return;
+    }
     signal(SIGINT, SIG_DFL);
     signal(SIGQUIT, SIG_DFL);
     signal(SIGTERM, SIG_DFL);
     signal(SIGHUP, SIG_DFL);
     signal(SIGPIPE, SIG_DFL);
     set_library_path();
-    execvp(words[0], words);
-    fprintf(stderr, "record: cannot start %s: %s\n", words[0], strerror(errno));
-    _exit(errno == ENOENT ? STATUS_NOT_FOUND : STATUS_NOT_EXECUTABLE);
+    execute(words, start[1]);
 }
 
 static void reap(void)
@@ -457,6 +522,28 @@ static void end_replay(void)
     }
 }
 
+static const char *name_of_report(void)
+{
+    return !options.report ? "standard error" : is_on_output(options.report) ? "standard output" : options.report;
+}
+
+/* A report of nothing is not written: it would say that there are no races. */
+static void pass_report(void)
+{
+    static char piece[1 << 16];
+    ssize_t got = 0;
+    /* Whoever waits for a report that nobody takes can end it. */
+    signal(SIGINT, SIG_DFL);
+    signal(SIGQUIT, SIG_DFL);
+    signal(SIGTERM, SIG_DFL);
+    signal(SIGHUP, SIG_DFL);
+    lseek(report_text, 0, SEEK_SET);
+    while (trace_events && !report_error && (got = read(report_text, piece, sizeof piece)) > 0)
+        report_error = write_all(report_place, piece, (size_t)got);
+    if (got < 0 || (report_place > STDERR_FILENO && close(report_place) != 0 && !report_error))
+        report_error = errno;
+}
+
 static int exit_status(int status)
 {
     return WIFSIGNALED(status) ? 128 + WTERMSIG(status) : WEXITSTATUS(status);
@@ -466,33 +553,77 @@ static void say_end_of_replay(void)
 {
     int status = exit_status(replay_status);
     bool was_early = output.pipe_error == EPIPE;
-    if (WIFSIGNALED(replay_status))
+    if (!has_replay_ended)
+        fprintf(stderr, "record: the end of the replay was not seen\n");
+    else if (WIFSIGNALED(replay_status))
         fprintf(stderr, "record: the replay was ended by signal %d (%s)\n", WTERMSIG(replay_status), strsignal(WTERMSIG(replay_status)));
-    else if (status > 1 || was_early)
+    else if (status > STATUS_RACE || was_early)
         fprintf(stderr, "record: the replay ended with status %d%s\n", status, was_early ? " before it had read the whole trace" : "");
     if (was_early)
         fprintf(stderr, "record: the program went on unharmed; the trace is%s recorded further\n", options.trace ? "" : " not");
 }
 
-static void say_end(uint64_t lost)
+static void say_what_was_recorded(uint64_t lost)
 {
-    uint32_t others = atomic_load(&ring->others);
-    if (!atomic_load(&ring->owner)) {
-        if (WIFEXITED(program_status) && WEXITSTATUS(program_status) >= STATUS_NOT_EXECUTABLE)
-            return; /* it did not start, and that was said */
+    if (!atomic_load(&ring->owner))
         fprintf(stderr, "record: nothing was recorded: the program does not use ThreadSanitizer's library, libtsan.so.2.\n"
                         "record: build it with -g -fsanitize=thread, and without -static-libtsan; docs/RECORDING.md says how with clang\n");
-        return;
-    }
-    if (!options.is_quiet || lost)
+    else if (!trace_events && !lost)
+        fprintf(stderr, "record: nothing was recorded: no instrumented code ran\n");
+    else if (!options.is_quiet || lost)
         fprintf(stderr, "record: %llu events recorded, %llu lost%s\n", (unsigned long long)trace_events, (unsigned long long)lost,
                 lost ? ": the trace is incomplete, and says so in its last line" : "");
+}
+
+static void say_end(uint64_t lost, const char *name)
+{
+    uint32_t others = atomic_load(&ring->others);
+    if (start_error)
+        fprintf(stderr, "record: cannot start %s: %s\n", name, strerror(start_error));
+    else
+        say_what_was_recorded(lost);
     if (output.is_full)
         fprintf(stderr, "record: the trace reached its limit of %llu bytes (--limit)\n", (unsigned long long)output.limit);
     if (output.file_error)
         fprintf(stderr, "record: cannot write %s: %s\n", options.trace, strerror(output.file_error));
+    if (report_error)
+        fprintf(stderr, "record: cannot write %s: %s\n", name_of_report(), strerror(report_error));
     if (others)
         fprintf(stderr, "record: %u further program%s started by it %s not recorded\n", others, others == 1 ? "" : "s", others == 1 ? "was" : "were");
+}
+
+/* How the program failed, if it did. Its exit status alone is worth a line only if another one is expected in its place. */
+static void say_end_of_program(void)
+{
+    const char *whole = options.replays && trace_events ? "; the report is of the run up to there" : "";
+    int status = exit_status(program_status);
+    if (start_error || !status || (options.is_quiet && !options.ends_as_report))
+        return;
+    if (WIFSIGNALED(program_status))
+        fprintf(stderr, "record: the program was ended by signal %d (%s)%s\n", WTERMSIG(program_status), strsignal(WTERMSIG(program_status)), whole);
+    else if (options.ends_as_report)
+        fprintf(stderr, "record: the program ended with status %d%s%s\n", status, status == STATUS_RACE ? ", given as 123" : "", whole);
+}
+
+/* docs/RECORDING.md has a row for each case of these two. */
+static int status_of_report(uint64_t lost)
+{
+    int of_program = exit_status(program_status), of_replay = has_replay_ended ? exit_status(replay_status) : STATUS_FAILED;
+    bool is_whole = trace_events && !lost && !atomic_load(&ring->others);
+    if (of_program)
+        return of_program == STATUS_RACE ? STATUS_OF_ONE : of_program;
+    if (of_replay > STATUS_RACE)
+        return of_replay;
+    return is_whole ? of_replay : STATUS_FAILED;
+}
+
+static int last_status(uint64_t lost)
+{
+    if (start_error)
+        return exit_status(program_status);
+    if (output.file_error || report_error)
+        return STATUS_FAILED;
+    return options.ends_as_report ? status_of_report(lost) : exit_status(program_status);
 }
 
 int main(int count, char **words)
@@ -505,8 +636,10 @@ int main(int count, char **words)
         if (output.file < 0)
             fail("cannot write", options.trace);
     }
-    if (options.replays)
+    if (options.replays) {
+        open_report();
         prepare_replay();
+    }
     make_ring();
     set_signals();
     if (options.replays)
@@ -516,11 +649,13 @@ int main(int count, char **words)
     record();
     uint64_t lost = count_lost();
     trace_end(lost);
+    trace_close();
     end_replay();
-    say_end(lost);
+    if (options.replays)
+        pass_report();
+    say_end(lost, words[optind]);
     if (options.replays)
         say_end_of_replay();
-    if (WIFSIGNALED(program_status) && !options.is_quiet)
-        fprintf(stderr, "record: the program was ended by signal %d (%s)\n", WTERMSIG(program_status), strsignal(WTERMSIG(program_status)));
-    return exit_status(options.ends_as_report ? replay_status : program_status);
+    say_end_of_program();
+    return last_status(lost);
 }

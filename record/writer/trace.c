@@ -73,24 +73,30 @@ size_t legal_site(char *to, const char *text)
 
 /* ---- Where the text goes ---- */
 
-static void write_all(int *file, int *error)
+int write_all(int file, const char *text, size_t bytes)
 {
-    for (size_t at = 0; *file >= 0 && at < used;) {
-        ssize_t sent = write(*file, buffer + at, used - at);
+    for (size_t at = 0; at < bytes;) {
+        ssize_t sent = write(file, text + at, bytes - at);
         if (sent >= 0)
             at += (size_t)sent;
-        else if (errno != EINTR) {
-            *error = errno;
-            close(*file);
-            *file = -1;
-        }
+        else if (errno != EINTR)
+            return errno;
     }
+    return 0;
+}
+
+static void send(int *file, int *error)
+{
+    if (*file < 0 || (*error = write_all(*file, buffer, used)) == 0)
+        return;
+    close(*file);
+    *file = -1;
 }
 
 void trace_flush(void)
 {
-    write_all(&output.file, &output.file_error);
-    write_all(&output.pipe, &output.pipe_error);
+    send(&output.file, &output.file_error);
+    send(&output.pipe, &output.pipe_error);
     written += used;
     used = 0;
 }
@@ -100,13 +106,20 @@ bool trace_is_open(void)
     return !output.is_full && (output.file >= 0 || output.pipe >= 0);
 }
 
+static bool is_beyond_limit(void)
+{
+    return output.limit && written + used + LINE_BYTES + END_BYTES > output.limit;
+}
+
 /* Room for one line, or NULL if the text has ended. */
 static char *line(void)
 {
     if (used + LINE_BYTES > BUFFER_BYTES)
         trace_flush();
-    if (output.limit && written + used + LINE_BYTES + END_BYTES > output.limit)
+    if (is_beyond_limit() && !output.is_full) {
         output.is_full = true;
+        fprintf(stderr, "record: the trace has reached its limit of %llu bytes (--limit): from here on events are lost\n", (unsigned long long)output.limit);
+    }
     return trace_is_open() ? buffer + used : NULL;
 }
 
@@ -251,7 +264,7 @@ void trace_ignore(struct thread *thread, const char *verb)
 
 static void comment(const char *text)
 {
-    char *at = line();
+    char *at = is_beyond_limit() ? NULL : line();
     if (!at)
         return;
     at = put(put(at, "# ", 2), text, strlen(text));
@@ -291,4 +304,11 @@ void trace_end(uint64_t lost)
         trace_flush();
     used = (size_t)(put(buffer + used, text, strlen(text)) - buffer);
     trace_flush();
+}
+
+void trace_close(void)
+{
+    if (output.file >= 0 && close(output.file) != 0)
+        output.file_error = errno;
+    output.file = -1;
 }

@@ -15,7 +15,7 @@ struct output {
     int pipe;            /* -1: none */
     int file_error;      /* errno of the failed write, or 0 */
     int pipe_error;
-    uint64_t limit;      /* bytes of text, 0: no limit */
+    uint64_t limit;      /* bytes of text that is kept in a file, 0: no limit */
     bool is_full;
 };
 
@@ -36,6 +36,8 @@ extern uint64_t trace_lost;   /* events that were taken but could not be written
 
 void trace_begin(const char *program);
 void trace_end(uint64_t lost);
+/* A file of which the system kept a part back may fail only now. */
+void trace_close(void);
 void trace_flush(void);
 /* True if text can still be written somewhere. */
 bool trace_is_open(void);
@@ -48,6 +50,8 @@ void trace_other_thread(uint32_t number, const char *verb, uint32_t other);
 void trace_ignore(struct thread *thread, const char *verb);
 void trace_thread_name(struct thread *thread, const char *name);
 
+/* Writes all bytes. Returns 0, or errno of the write that failed. */
+int write_all(int file, const char *text, size_t bytes);
 /* Ends the writer: it has no memory. */
 void *get_memory(void *old, size_t bytes);
 /* Copies text into a legal name, whose end is kept if it is too long. Returns its length. */
