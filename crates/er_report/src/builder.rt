@@ -5,7 +5,7 @@ ghost use Rattle.er_trace.specs.Trace.{Recording, IsNamed};
 ghost use Rattle.er_explain.specs.Racing.{is_race};
 ghost use Rattle.er_journal.specs.AnswerList.{shown};
 ghost use Rattle.er_journal.specs.declared.answers.Stopped.{Stopped as Stop};
-ghost use Rattle.er_report.specs.Builder.{ArePlain, ArePlainBy, IsBuilt, IsBuiltBy, IsExplained, IsReported, IsStepAt, IsStepBy, KeepStates};
+ghost use Rattle.er_report.specs.Builder.{ArePlain, ArePlainBy, IsBuilt, IsBuiltBy, IsExplained, IsReported, IsStepBy, KeepStates};
 ghost use Rattle.er_report.specs.Inner.Adding.{empty_report, with_answer, HasRoom};
 ghost use Rattle.er_report.specs.Kept.{Follows};
 ghost use Rattle.er_report.specs.Lines.{line_view};
@@ -31,8 +31,8 @@ use std::marker::Model;
 /// If reasons are wanted, each step that was added by itself is to be explained right after it, and the builder keeps the books of all
 /// words.
 /// Contracts see the report without reasons, the positions of the races that have lines, the rules, and what is kept for reasons. Clauses
-/// that end in `_by` hold for the answers of any analysis, and the others for those of the lockset rule. A call of `add` that finds no
-/// memory leaves the builder as it was.
+/// that end in `_by` hold for the answers of any analysis, and the others for those of the lockset rule: `IsBuilt` is `IsBuiltBy` with
+/// these. A call of `add` that finds no memory leaves the builder as it was.
 #[derive(Drop)]
 pub struct ReportBuilder<'r> {
     rules: &'r Suppressions,
@@ -61,7 +61,6 @@ impl<'r> ReportBuilder<'r> {
     pub fn new(alloc: Global, rules: &'r Suppressions) -> Result<ReportBuilder<'r>, AllocError>
         ensures rules { IfOk result (λ builder. builder.rules ≡ targets_of rules.now) }
         ensures built_by { IfOk result (λ builder. (a : Answering) (r : Recording) → IsBuiltBy a builder r 0) }
-        ensures built { IfOk result (λ builder. (r : Recording) → IsBuilt builder r 0) }
         ensures kept { IfOk result (λ builder. builder.kept ≡ None) }
     {
         let report = empty_report(alloc, rules.len())?;
@@ -145,7 +144,6 @@ impl<'r> ReportBuilder<'r> {
         ensures rules { OnOk result (self.new.rules ≡ self.old.rules) }
         ensures steps { OnOk result (self.new.report.steps ≡ self.old.report.steps + 1) }
         ensures built_by { (a : Answering) (r : Recording) (k : ℕ) → IsBuiltBy a self.old r k → IsStepBy a r k names.now line step.now answer.now held.now → OnOk result (IsBuiltBy a self.new r (k + 1)) }
-        ensures built { (r : Recording) (k : ℕ) → IsBuilt self.old r k → IsStepAt r k names.now line step.now answer.now held.now → OnOk result (IsBuilt self.new r (k + 1)) }
         ensures kept { OnOk result (self.new.kept ≡ self.old.kept) }
         ensures err { OnErr result (self.new ≡ self.old) }
     {
@@ -167,7 +165,6 @@ impl<'r> ReportBuilder<'r> {
         ensures rules { OnOk result (self.new.rules ≡ self.old.rules) }
         ensures steps { OnOk result (self.new.report.steps ≡ self.old.report.steps + 1) }
         ensures built_by { (a : Answering) (r : Recording) (k : ℕ) → IsBuiltBy a self.old r k → IsStepBy a r k names.now line step.now (shown answer.entry) held.now → OnOk result (IsBuiltBy a self.new r (k + 1)) }
-        ensures built { (r : Recording) (k : ℕ) → IsBuilt self.old r k → IsStepAt r k names.now line step.now (shown answer.entry) held.now → OnOk result (IsBuilt self.new r (k + 1)) }
         ensures kept { OnOk result (self.new.kept ≡ self.old.kept) }
         ensures err { OnErr result (self.new ≡ self.old) }
     {
@@ -190,7 +187,6 @@ impl<'r> ReportBuilder<'r> {
         ensures rules { self.new.rules ≡ self.old.rules }
         ensures steps { self.new.report.steps ≡ self.old.report.steps + count }
         ensures built_by { (a : Answering) (r : Recording) (k : ℕ) → IsBuiltBy a self.old r k → ArePlainBy a k count → IsBuiltBy a self.new r (k + count) }
-        ensures built { (r : Recording) (k : ℕ) → IsBuilt self.old r k → ArePlain r.steps k count → IsBuilt self.new r (k + count) }
         ensures reported { (r : Recording) (k : ℕ) → IsReported self.old r k → ArePlain r.steps k count → (IsTrue (is_some self.old.kept) → KeepStates r.steps k count) → IsReported self.new r (k + count) }
         ensures kept { self.new.kept ≡ self.old.kept }
     {
@@ -217,7 +213,6 @@ impl<'r> ReportBuilder<'r> {
     pub fn finish(self, stop: Option<(u64, NoRoom)>) -> Report
         ensures report_by { (a : Answering) (r : Recording) (stopped : Option Stop) → IsBuiltBy a self.entry r (length (answered_steps r.steps stopped)) → stop ≡ stop_line r stopped → told result ≡ report_by a no_reasons r self.entry.rules stopped }
         ensures named_by { (a : Answering) (r : Recording) (n : ℕ) → IsBuiltBy a self.entry r n → All (IsNamed r.names) r.steps → HaveStateNames r.names a → All (HasNames r.names) result.lines.items }
-        ensures report { (r : Recording) (stopped : Option Stop) → IsBuilt self.entry r (length (answered_steps r.steps stopped)) → stop ≡ stop_line r stopped → told result ≡ report_of r self.entry.rules false stopped }
         ensures named { (r : Recording) (n : ℕ) → IsBuilt self.entry r n → All (IsNamed r.names) r.steps → All (HasNames r.names) result.lines.items }
     {
         let ReportBuilder {

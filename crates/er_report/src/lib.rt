@@ -6,13 +6,13 @@
 //! answers are in a list.
 //!
 //! What it promises, by the names of clauses: after the first steps of a recording were added, the builder holds the report of these
-//! steps (`built`), and what it finishes is the report that the definitions give of the answered steps under the rules (`report`), with
+//! steps (`built_by`), and what it finishes is the report that the definitions give of the answered steps under the rules (`report`), with
 //! the locks that a thread held at its race, the reasons of the race if they are asked for ([`Because`]), and each race that a rule
 //! takes counted for the first such rule alone. Each number in it that needs a name to be printed has one (`named`). The laws
 //! [`the_counts_add_up`] and [`each_reason_is_told`] say more of such a report.
 //!
-//! These clauses speak of the lockset rule. The clauses `built_by`, `report_by` and `named_by` say the same of any other analysis whose
-//! answers are added, for a report without reasons.
+//! The clauses `built_by`, `report_by` and `named_by` hold for the answers of any analysis, those of the lockset rule among them, and for a
+//! report without reasons. The others speak of the lockset rule.
 //!
 //! The builder keeps no step and no answer. A set of locks is copied for a line alone, so memory goes by the number of lines and rules,
 //! and not of steps. Rules are looked at for a race alone. If reasons are asked for, each step is also explained once it was added:

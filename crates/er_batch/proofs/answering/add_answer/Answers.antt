@@ -4,7 +4,7 @@ use Rattle.er_event.specs.declared.refusals.Refusal.{Refusal}
 use Rattle.er_event.specs.declared.steps.Reply.{Reply}
 use Rattle.er_event.specs.declared.steps.Step.{Step}
 use Rattle.er_model.specs.Answers.{answer}
-use Rattle.er_report.specs.Builder.{is_plain, ArePlain}
+use Rattle.er_report.specs.Builder.{is_plain, ArePlain, IsBuilt}
 use Rattle.er_batch.proofs.answering.add_answer.Goals as goal
 use Rattle.std.proofs.Common.{List}
 
@@ -15,5 +15,10 @@ one_plain steps k a is plain i from below =
     ap (λ n. is_plain (answer steps n)) here ∙ (ap is_plain (sym is) ∙ plain)
 
 pub returns-then-is_plain-clause-built : goal.returns-then-is_plain-clause-built
+unfolding IsBuilt
 returns-then-is_plain-clause-built c r k built at =
-    c.add_plain.ensures.built r k built (one_plain r.steps k c.args.answer.now at.answered (sym c.is_plain.ensures ∙ c.if-is_plain.true))
+    c.add_plain.ensures.built_by (answer r.steps) r k built (one_plain r.steps k c.args.answer.now at.answered (sym c.is_plain.ensures ∙ c.if-is_plain.true))
+
+pub returns-clause-built : goal.returns-clause-built
+unfolding IsBuilt
+returns-clause-built c r k = c.add.ensures.built_by (answer r.steps) r k

@@ -4,8 +4,7 @@ use Rattle.er_event.specs.declared.refusals.Refusal.{Refusal}
 use Rattle.er_event.specs.declared.steps.Reply.{Reply}
 use Rattle.er_explain.specs.Racing.{is_race}
 use Rattle.er_journal.specs.AnswerList.{shown}
-use Rattle.er_model.specs.Answers.{answer}
-use Rattle.er_report.specs.Builder.{Built, IsBuilt, IsBuiltBy}
+use Rattle.er_report.specs.Builder.{Built, IsBuiltBy}
 use Rattle.er_report.specs.Inner.Adding.{with_answer}
 use Rattle.er_report.specs.Report.{told}
 use Rattle.er_rules.specs.Rules.{targets_of}
@@ -40,12 +39,3 @@ returns-clause-built_by c = λ a r k built at.
     (sym (append-nil races)
     ∙ ap (λ (b : Bool). races ++ cond b (place ∷ []) []) (sym printed)
     ∙ ap (λ (rule : Option ℕ). races ++ cond (is_race given && is_none rule) (place ∷ []) []) c.first_rule-rule.ensures.value)
-
--- by the lockset rule
-pub returns-then-is_printed-clause-built : goal.returns-then-is_printed-clause-built
-unfolding IsBuilt
-returns-then-is_printed-clause-built c = λ r. returns-then-is_printed-clause-built_by c (answer r.steps) r
-
-pub returns-clause-built : goal.returns-clause-built
-unfolding IsBuilt
-returns-clause-built c = λ r. returns-clause-built_by c (answer r.steps) r

@@ -18,10 +18,6 @@ returns-clause-built_by c = λ a r k built plain.
     let after : Built = seen c.self.inside (c.self.inside.report.steps + c.args.count) in
     built-plain a before after r k c.args.count (subst (λ (builder : Built). IsBuiltBy a builder r k) (sym c.self.view_is) built) plain refl refl refl
 
-pub returns-clause-built : goal.returns-clause-built
-unfolding IsBuilt
-returns-clause-built c = λ r. returns-clause-built_by c (answer r.steps) r
-
 pub returns-clause-reported : goal.returns-clause-reported
 unfolding IsBuilt
 returns-clause-reported c = λ r k reported plain keep.

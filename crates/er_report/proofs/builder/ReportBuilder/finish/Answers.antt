@@ -22,10 +22,6 @@ returns-clause-named_by c = λ a r n built all states.
     (built-lines a before r n (subst (λ (builder : Built). IsBuiltBy a builder r n) (sym c.self.view_is) built)) all states (λ k. All-nil (HasReasonNames r.names))
 
 -- by the lockset rule
-pub returns-clause-report : goal.returns-clause-report
-unfolding IsBuilt
-returns-clause-report c = λ r. returns-clause-report_by c (answer r.steps) r
-
 pub returns-clause-named : goal.returns-clause-named
 unfolding IsBuilt
 returns-clause-named c = λ r n built all. returns-clause-named_by c (answer r.steps) r n built all (named_states r all)
