@@ -29,6 +29,7 @@ VERBS = "verbs are lock, unlock, rlock, runlock, read, write, reuse, ignore-on, 
 NAMES = "a name has 1 to 128 letters, digits and _ . : / - and no lock is named none"
 SITES = "a name has 1 to 128 letters, digits and _ . : / - and a site of a trace 3 has any printable bytes"
 RULE_SITES = "a site has 1 to 128 printable bytes"
+ORDER_VERBS = "the verbs start, join, signal and await need the header eraser trace 3"
 HEADER = b"eraser trace 1\n"
 
 # The file's bytes, the fault's line, the line as it is shown and how many columns stand before the mark in it (None: no line is shown), the hint.
@@ -39,7 +40,11 @@ TRACES = {
                                 r"the line ends with CR LF; take the CRs away: tr -d '\r' < FILE"),
     "byte-order mark": (b"\xef\xbb\xbf" + HEADER, "line 1: not ascii", (r"\xef\xbb\xbferaser trace 1", 0),
                         "the file begins with a byte-order mark; take its first three bytes away"),
+    "byte-order mark and CR LF": (b"\xef\xbb\xbferaser trace 1\r\n", "line 1: not ascii", (r"\xef\xbb\xbferaser trace 1\r", 26),
+                                  "the file begins with a byte-order mark; take its first three bytes away"),
     "UTF-16": (b"\xff\xfee\0r\0", "line 1: not ascii", (r"\xff\xfee\x00r\x00", 0), "the file is in UTF-16; convert it: iconv -f UTF-16 -t ASCII FILE"),
+    "UTF-16 with the great byte first": (b"\xfe\xff\0e", "line 1: not ascii", (r"\xfe\xff\x00e", 0),
+                                         "the file is in UTF-16; convert it: iconv -f UTF-16 -t ASCII FILE"),
     "gzip": (b"\x1f\x8b\x08\x00", "line 1: not ascii", (r"\x1f\x8b\x08\x00", 4), "the file is compressed by gzip; try: gzip -dc FILE | eraser replay -"),
     "zstd": (b"\x28\xb5\x2f\xfd\x04", "line 1: not ascii", (r"(\xb5/\xfd\x04", 1), "the file is compressed by zstd; try: zstd -dc FILE | eraser replay -"),
     "xz": (b"\xfd7zXZ\0\0", "line 1: not ascii", (r"\xfd7zXZ\x00\x00", 0), "the file is compressed by xz; try: xz -dc FILE | eraser replay -"),
@@ -48,15 +53,18 @@ TRACES = {
     "an empty file": (b"", "line 1: no header", None, "the first line of a trace is its header, eraser trace 1"),
     "an unknown version": (b"eraser trace 9\n", "line 1: no header", ("eraser trace 9", 0), "the header has a version that this program does not know"),
     "a verb of text 2": (HEADER + b"t1 level 3\n", "line 2: bad verb", ("t1 level 3", 3), "the verb level needs the header eraser trace 2"),
+    "a verb of text 2 behind gaps": (HEADER + b" \tt1\t level 3\n", "line 2: bad verb", (r" \tt1\t level 3", 8), "the verb level needs the header eraser trace 2"),
     "an unknown verb": (HEADER + b"t1  wirte 0x1000\n", "line 2: bad verb", ("t1  wirte 0x1000", 4), VERBS),
     "a plus in a thread": (HEADER + b"t+1 lock m\n", "line 2: bad name", ("t+1 lock m", 1), NAMES),
     "a plus in a site": (HEADER + b"t1 write 0x1000 f+3\n", "line 2: bad name", ("t1 write 0x1000 f+3", 17), SITES),
     "a thread of an access": (b"eraser trace 3\nt+1 write 0x1000 f+3\n", "line 2: bad name", ("t+1 write 0x1000 f+3", 1), SITES),
+    "a site of a read": (HEADER + b"t1 read 0x1000 f+3\n", "line 2: bad name", ("t1 read 0x1000 f+3", 16), SITES),
     "a control byte in a site": (b"eraser trace 3\nt1 write 0x1000 f+\x7f\n", "line 2: bad name", (r"t1 write 0x1000 f+\x7f", 18), SITES),
     "a long site": (b"eraser trace 3\nt1 write 4 " + b"+" * 129 + b"\n", "line 2: bad name", ("t1 write 4 " + "+" * 89 + "..", 11), SITES),
     "a lock named none": (HEADER + b"t1 lock none\n", "line 2: bad name", ("t1 lock none", 0), NAMES),
     "a command to the terminal": (HEADER + b"t1 lock \x1b[2J\n", "line 2: bad name", (r"t1 lock \x1b[2J", 8), NAMES),
     "a tab": (HEADER + b"t1\tlock a+\n", "line 2: bad name", (r"t1\tlock a+", 10), NAMES),
+    "a letter with an accent": (HEADER + b"t1 lock caf\xc3\xa9\n", "line 2: not ascii", (r"t1 lock caf\xc3\xa9", 11), "a text has bytes of ASCII alone"),
     "no number": (HEADER + b"t1 write 0y10\n", "line 2: bad number", ("t1 write 0y10", 0),
                   "a number has decimal digits, or 0x and hexadecimal digits, and is below 2^64"),
     "a comment behind a step": (HEADER + b"t1 write 0x1000 # init\n", "line 2: extra operand", ("t1 write 0x1000 # init", 16), "a comment needs a line of its own"),
@@ -64,7 +72,9 @@ TRACES = {
     "a word too few": (HEADER + b"t1 write\n", "line 2: missing operand", ("t1 write", 8), "the line ends early; was the file cut off?"),
     "a large reuse": (HEADER + b"t1 reuse 0x1000 4194305\n", "line 2: size too large", ("t1 reuse 0x1000 4194305", 16), "a reuse has at most 4194304 bytes; write several"),
     "a great address": (HEADER + b"t1 read 0x1000000000000\n", "line 2: address out of range", ("t1 read 0x1000000000000", 8), "addresses are below 2^48"),
-    "a verb of text 3": (b"eraser trace 2\nt1 start t2\n", "line 2: bad verb", ("t1 start t2", 3), "the verbs start, join, signal and await need the header eraser trace 3"),
+    "a verb of text 3": (b"eraser trace 2\nt1 start t2\n", "line 2: bad verb", ("t1 start t2", 3), ORDER_VERBS),
+    **{f"a verb of text 3: {verb}": (b"eraser trace 2\nt1 " + verb.encode() + b" x\n", "line 2: bad verb", (f"t1 {verb} x", 3), ORDER_VERBS)
+       for verb in ("join", "signal", "await")},
     "a thread that joins itself": (b"eraser trace 3\nt1 join t1\n", "line 2: own thread", ("t1 join t1", 8), "a thread neither starts nor joins itself"),
     "a thread that runs": (b"eraser trace 3\nt2 write 4\nt1 start t2\n", "line 3: already running", ("t1 start t2", 9),
                            "a thread is started before its first line; was its name used before?"),
@@ -81,6 +91,9 @@ RULES = {
     "an unknown rule": (b"# known\nsites a.c:1\n", "suppressions line 2: bad verb", ("sites a.c:1", 0), "a rule is: site SITE, or: words ADDRESS BYTES"),
     "an address of a rule": (b"words 0x1000000000000 4\n", "suppressions line 1: address out of range", ("words 0x1000000000000 4", 6), "addresses are below 2^48"),
     "a control byte in a rule": (b"site a+\x7f\n", "suppressions line 1: bad name", (r"site a+\x7f", 7), RULE_SITES),
+    "a rule too short": (b"site\n", "suppressions line 1: missing operand", ("site", 4), "the line ends early; was the file cut off?"),
+    "no number in a rule": (b"words 0x1000 0y4\n", "suppressions line 1: bad number", ("words 0x1000 0y4", 0),
+                            "a number has decimal digits, or 0x and hexadecimal digits, and is below 2^64"),
     "rules with CR LF": (b"site a.c:1\r\n", "suppressions line 1: bad name", (r"site a.c:1\r", 10), r"the line ends with CR LF; take the CRs away: tr -d '\r' < FILE"),
 }
 

@@ -7,9 +7,6 @@ use Rattle.er_hint.specs.Plain.{escape, fitting, is_plain, is_plain_byte, is_pri
 use Rattle.er_hint.specs.Quote.{front_mark, quote_from, start_of}
 use Rattle.er_hint.specs.Written.{AddsPlain, hint_line, line_text, path_text, reason_line}
 use Rattle.er_device.specs.Device.{WritesPrefix}
-use Rattle.er_hint.specs.Hints.{hint_text}
-use Rattle.er_hint.specs.declared.hints.Hint.{Hint}
-use Rattle.er_hint.specs.declared.hints.Hint.TheVariants.{Nothing, Gzip, Zstd, Xz, Zip, ByteOrderMark, WideText, CarriageReturn, NoHeader, UnknownVersion, LaterVerb, Verbs, Rules, Names, Sites, RuleSites, Numbers, Ascii, Comment, CutOff, LongLine, LongText, Addresses, Sizes, Levels, OrderVerb, OwnThread, Running, AfterEnd}
 
 pub plain_append : (front back : List ℕ) → is_plain front ≡ true → is_plain back ≡ true → is_plain (front ++ back) ≡ true
 plain_append front back first second = list_all-append is_plain_byte front back ∙ ap (λ (b : Bool). b && is_plain back) first ∙ second
@@ -93,40 +90,6 @@ plain_line (byte ∷ bytes) place = plain_quote (byte ∷ bytes) (start_of (byte
 pub plain_hint_line : (hint : List ℕ) → is_plain hint ≡ true → is_plain (hint_line hint) ≡ true
 plain_hint_line [] plain = refl
 plain_hint_line (byte ∷ bytes) plain = plain_append (codes "  hint: " ++ (byte ∷ bytes)) (10 ∷ []) (plain_append (codes "  hint: ") (byte ∷ bytes) refl plain) refl
-
-pub plain_hint_text : (hint : Hint) → is_plain (hint_text hint) ≡ true
-plain_hint_text Nothing = refl
-plain_hint_text Gzip = refl
-plain_hint_text Zstd = refl
-plain_hint_text Xz = refl
-plain_hint_text Zip = refl
-plain_hint_text ByteOrderMark = refl
-plain_hint_text WideText = refl
-plain_hint_text CarriageReturn = refl
-plain_hint_text NoHeader = refl
-plain_hint_text UnknownVersion = refl
-plain_hint_text LaterVerb = refl
-plain_hint_text Verbs = refl
-plain_hint_text Rules = refl
-plain_hint_text Names = refl
-plain_hint_text Sites = refl
-plain_hint_text RuleSites = refl
-plain_hint_text Numbers = refl
-plain_hint_text Ascii = refl
-plain_hint_text Comment = refl
-plain_hint_text CutOff = refl
-plain_hint_text LongLine = refl
-plain_hint_text LongText = refl
-plain_hint_text Addresses = refl
-plain_hint_text Sizes = refl
-plain_hint_text Levels = refl
-plain_hint_text OrderVerb = refl
-plain_hint_text OwnThread = refl
-plain_hint_text Running = refl
-plain_hint_text AfterEnd = refl
-
-pub plain_hint : (hint : Hint) → is_plain (hint_line (hint_text hint)) ≡ true
-plain_hint hint = plain_hint_line (hint_text hint) (plain_hint_text hint)
 
 pub plain_path : (path : List ℕ) → is_plain (path_text path) ≡ true
 plain_path [] = refl

@@ -1,12 +1,11 @@
 //! What is written behind a fault's line.
 ghost use Rattle.std.specs.Prelude.{◌≡◌, ◌≤◌, ◌++◌, true, length, IfOk, OnOk};
 ghost use Rattle.er_device.specs.Device.{inner_of};
-ghost use Rattle.er_hint.specs.Hints.{hint_text};
 ghost use Rattle.er_hint.specs.Plain.{is_plain};
 ghost use Rattle.er_hint.specs.Written.{AddsPlain, hint_line, line_text, path_text, reason_line};
 
 use crate::excerpts::{Excerpt, excerpt_of};
-use crate::hints::{Hint, hint_of};
+use crate::hints::hint_of;
 use crate::places::place_of;
 use crate::plain::{put_fitting, put_shown};
 use crate::quotes::put_quote;
@@ -138,7 +137,7 @@ fn text_advice(
     let mut text = Vec::new(alloc);
     put_path(&mut text, name)?;
     put_line(alloc, &mut text, line, place_of(kind, of_rules, line))?;
-    put_hint(&mut text, hint)?;
+    put_hint(&mut text, hint.text())?;
     Ok(text)
 }
 
@@ -173,13 +172,7 @@ fn put_line(alloc: Global, out: &mut Vec<u8>, line: &[u8], place: usize) -> Resu
     put_quote(alloc, out, line, place)
 }
 
-fn put_hint(out: &mut Vec<u8>, hint: Hint) -> Result<(), AllocError>
-    ensures { OnOk result (out.new.items ≡ out.old.items ++ hint_line (hint_text hint)) }
-{
-    put_hint_text(out, hint.text())
-}
-
-fn put_hint_text(out: &mut Vec<u8>, hint: &str) -> Result<(), AllocError>
+fn put_hint(out: &mut Vec<u8>, hint: &str) -> Result<(), AllocError>
     ensures { OnOk result (out.new.items ≡ out.old.items ++ hint_line hint.now) }
 {
     if hint.is_empty() {

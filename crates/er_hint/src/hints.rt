@@ -1,6 +1,6 @@
 //! What to do about a fault.
-ghost use Rattle.std.specs.Prelude.{◌≡◌};
-ghost use Rattle.er_hint.specs.Hints.{begins, begins_access, begins_order, ends_with_return, extra_hint, file_hint, header_hint, hint_of, hint_text, kind_hint, line_hint, name_hint, verb_hint};
+ghost use Rattle.std.specs.Prelude.{◌≡◌, true};
+ghost use Rattle.er_hint.specs.Plain.{is_plain};
 
 use crate::places::word_start;
 use er_text::TextKind;
@@ -71,7 +71,7 @@ pub enum Hint {
 impl Hint {
     /// The hint in words, or nothing.
     pub fn text(self) -> &'static str
-        ensures { result.now ≡ hint_text self }
+        ensures { is_plain result.now ≡ true }
     {
         match self {
             Hint::Nothing => "",
@@ -115,25 +115,19 @@ impl Hint {
 }
 
 /// The hint for a fault: by how the file begins, or else by how the line ends, or else by the kind of the fault.
-pub(crate) fn hint_of(kind: TextKind, of_rules: bool, head: &[u8], line: &[u8]) -> Hint
-    ensures { result ≡ hint_of kind of_rules head.now line.now }
-{
+pub(crate) fn hint_of(kind: TextKind, of_rules: bool, head: &[u8], line: &[u8]) -> Hint {
     match file_hint(head) {
         Hint::Nothing => line_hint(kind, of_rules, line),
         found => found,
     }
 }
 
-fn begins(bytes: &[u8], front: &[u8]) -> bool
-    ensures { result ≡ begins bytes.now front.now }
-{
+fn begins(bytes: &[u8], front: &[u8]) -> bool {
     bytes.starts_with(front)
 }
 
 // By how the file begins.
-fn file_hint(head: &[u8]) -> Hint
-    ensures { result ≡ file_hint head.now }
-{
+fn file_hint(head: &[u8]) -> Hint {
     if begins(head, &[31, 139]) {
         Hint::Gzip
     } else if begins(head, &[40, 181, 47, 253]) {
@@ -151,9 +145,7 @@ fn file_hint(head: &[u8]) -> Hint
     }
 }
 
-fn header_hint(line: &[u8]) -> Hint
-    ensures { result ≡ header_hint line.now }
-{
+fn header_hint(line: &[u8]) -> Hint {
     if begins(line, b"eraser trace ") {
         Hint::UnknownVersion
     } else {
@@ -161,9 +153,7 @@ fn header_hint(line: &[u8]) -> Hint
     }
 }
 
-fn verb_hint(of_rules: bool, line: &[u8]) -> Hint
-    ensures { result ≡ verb_hint of_rules line.now }
-{
+fn verb_hint(of_rules: bool, line: &[u8]) -> Hint {
     if of_rules {
         Hint::Rules
     } else if begins(&line[word_start(line, 1)..], b"level") {
@@ -176,9 +166,7 @@ fn verb_hint(of_rules: bool, line: &[u8]) -> Hint
 }
 
 // By whether the line may have a site.
-fn name_hint(of_rules: bool, line: &[u8]) -> Hint
-    ensures { result ≡ name_hint of_rules line.now }
-{
+fn name_hint(of_rules: bool, line: &[u8]) -> Hint {
     if of_rules {
         Hint::RuleSites
     } else if begins_access(&line[word_start(line, 1)..]) {
@@ -189,25 +177,19 @@ fn name_hint(of_rules: bool, line: &[u8]) -> Hint
 }
 
 // Whether the verb of an access stands in front.
-fn begins_access(bytes: &[u8]) -> bool
-    ensures { result ≡ begins_access bytes.now }
-{
+fn begins_access(bytes: &[u8]) -> bool {
     begins(bytes, b"read") || begins(bytes, b"write")
 }
 
 // Whether a verb of text 3 stands in front.
-fn begins_order(bytes: &[u8]) -> bool
-    ensures { result ≡ begins_order bytes.now }
-{
+fn begins_order(bytes: &[u8]) -> bool {
     begins(bytes, b"start")
         || begins(bytes, b"join")
         || begins(bytes, b"signal")
         || begins(bytes, b"await")
 }
 
-fn extra_hint(line: &[u8]) -> Hint
-    ensures { result ≡ extra_hint line.now }
-{
+fn extra_hint(line: &[u8]) -> Hint {
     if line.contains(&b'#') {
         Hint::Comment
     } else {
@@ -215,15 +197,11 @@ fn extra_hint(line: &[u8]) -> Hint
     }
 }
 
-fn ends_with_return(line: &[u8]) -> bool
-    ensures { result ≡ ends_with_return line.now }
-{
+fn ends_with_return(line: &[u8]) -> bool {
     !line.is_empty() && line[line.len() - 1] == b'\r'
 }
 
-fn kind_hint(kind: TextKind, of_rules: bool, line: &[u8]) -> Hint
-    ensures { result ≡ kind_hint kind of_rules line.now }
-{
+fn kind_hint(kind: TextKind, of_rules: bool, line: &[u8]) -> Hint {
     match kind {
         TextKind::LineTooLong => Hint::LongLine,
         TextKind::TextTooLong => Hint::LongText,
@@ -244,9 +222,7 @@ fn kind_hint(kind: TextKind, of_rules: bool, line: &[u8]) -> Hint
 }
 
 // By how the line ends, or else by the kind of the fault.
-fn line_hint(kind: TextKind, of_rules: bool, line: &[u8]) -> Hint
-    ensures { result ≡ line_hint kind of_rules line.now }
-{
+fn line_hint(kind: TextKind, of_rules: bool, line: &[u8]) -> Hint {
     if ends_with_return(line) {
         Hint::CarriageReturn
     } else {

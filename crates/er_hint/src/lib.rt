@@ -3,7 +3,7 @@
 //! Begin with [`advise`]. It looks at the file once more, if it is an ordinary file, and writes a few lines for a terminal.
 //!
 //! What it promises, by the names of clauses: each byte that it writes is printable ASCII or a line feed, whatever the file has
-//! (`plain`). What it writes of a line is exactly `quote_text`, and the hint is that of `hint_of` (`specs/Quote`, `specs/Hints`).
+//! (`plain`). What it writes of a line is exactly `quote_text` (`specs/Quote`). Which hint stands behind a fault is tested, and not proved.
 #![tactic(auto)]
 
 pub use advice::{Trouble, advise};

