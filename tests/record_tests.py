@@ -152,7 +152,7 @@ class Recording:
             return f"report {self.report!r}"
         if races(self.report) != expected:
             return f"races {sorted(races(self.report))}, expected {sorted(expected)}"
-        if not may_lose and not (re.search(r"^record: \d+ events recorded, 0 lost$", self.done.stderr, re.M) and self.trace.endswith("none lost\n")):
+        if not may_lose and not (re.search(r"^record: \d+ events recorded, 0 lost$", self.done.stderr, re.M) and self.trace.endswith("none lost\nend\n")):
             return f"lost: {self.done.stderr!r}"
         return lock_fault(self.trace)
 
@@ -226,12 +226,10 @@ def programs(folder, findings, made):
 def ways_to_use(folder, findings, counter, queue):
     """Its options, and what it passes on."""
     trace = folder / "paths.trace"
-    found = command([RUN, "-o", trace, "--replay", "--paths", queue])
-    legal = re.search(r"^steps .* refused 0$", found.stderr, re.M) and " /usr/include/c__/" in trace.read_text()
-    findings.check("paths with characters that no name may have", legal, f"{found}")
-    found = command([RUN, "-o", trace, "--replay", "--order", "--paths", queue])
-    kept = re.search(r"^steps .* refused 0$", found.stderr, re.M) and " /usr/include/c++/" in trace.read_text()
-    findings.check("paths with these characters, in a trace with order", kept, f"{found}")
+    for more in ([], ["--order"]):
+        found = command([RUN, "-o", trace, "--replay", "--paths", *more, queue])
+        kept = re.search(r"^steps .* refused 0$", found.stderr, re.M) and " /usr/include/c++/" in trace.read_text()
+        findings.check(f"paths with characters that no name may have {more}", kept, f"{found}")
     found = command([RUN, counter])
     is_behind = re.search(r"\Aline \d+: race: .* at counter\.c:(?s:.*)\nsteps .*\nrecord: \d+ events recorded, 0 lost\n\Z", found.stderr)
     findings.check("the report is on standard error, and standard output is the program's", found.stdout == "30\n" and is_behind, f"{found}")
@@ -346,7 +344,9 @@ def exit_statuses(folder, findings, made):
     for title, by_default, by_report, line in rows:
         options, words, settings = ways[title]
         pattern = re.sub(r"\b(FILE|PROGRAM|REPLAY)\b", r"\\S+", re.sub(r"\bN\b", r"\\d+", re.escape(line.strip("`"))))
-        for more, status in ((["--exit-status", "report"], by_report), (["--exit-status", "report", "--strict", "-q"], by_report), (["--replay"], by_default)):
+        plain, strict = re.fullmatch(r"(\d+)(?:, with `--strict` (\d+))?", by_report).groups()
+        ends = ((["--exit-status", "report"], plain), (["--exit-status", "report", "--strict", "-q"], strict or plain), (["--replay"], by_default))
+        for more, status in ends:
             found = command([RUN, *more, *options, *words], env={**os.environ, **settings})
             is_said = re.search(rf"^{pattern}$", found.stderr, re.M) or "0 lost" in line and "-q" in more or "--replay" in more
             findings.check(f"the exit status {more}: {title}", str(found.returncode) == status and is_said, f"{found}, not {status} {pattern}")

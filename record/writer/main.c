@@ -38,6 +38,7 @@ struct options {
     const char *format;
     const char *analysis;
     bool ends_as_report;
+    bool orders; /* what orders threads is recorded as well */
     bool is_quiet;
 };
 static struct options options;
@@ -170,7 +171,7 @@ static void read_options(int count, char **words)
         case UNTIL_FAULT: options.until_fault = true; break;
         case FORMAT: options.format = read_format(optarg); break;
         case EXIT_STATUS: options.ends_as_report = is_report(optarg); break;
-        case ORDER: trace_orders = true; break;
+        case ORDER: options.orders = true; break;
         case LIMIT: output.limit = read_bytes(optarg); break;
         case PATHS: sites_have_paths = true; break;
         case 'q': options.is_quiet = true; break;
@@ -185,7 +186,7 @@ static void read_options(int count, char **words)
         fputs("record: --format and --strict go with --analysis lockset alone, and --by-site with lockset or both\n", stderr);
         exit(STATUS_FAILED);
     }
-    trace_orders |= needs_order();
+    options.orders |= needs_order();
     if (optind == count) {
         fputs(usage, stderr);
         exit(STATUS_FAILED);
@@ -207,7 +208,7 @@ static void make_ring(void)
     if (ring == MAP_FAILED)
         fail("cannot map the ring", NULL);
     ring->writer = (uint32_t)getpid();
-    ring->orders = trace_orders;
+    ring->orders = options.orders;
     ring->magic = RING_MAGIC;
 }
 
