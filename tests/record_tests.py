@@ -299,6 +299,9 @@ def ways_to_use(folder, findings, counter, queue):
         findings.check(f"a standard error that can't be written {more}", (found.returncode, found.stdout) == (125, "30\n"), f"{found}")
         found = command(["sh", "-c", '"$@" >/dev/full', "sh", RUN, "--report", "-", *more, queue])
         findings.check(f"a standard output that can't be written {more}", found.returncode == 125 and "cannot write standard output" in found.stderr, f"{found}")
+        found = command(["sh", "-c", '"$@" 2>&-', "sh", RUN, "-o", trace, "--replay", *more, counter])
+        is_alone = trace.read_text().endswith("none lost\nend\n") and ": race: " not in trace.read_text()
+        findings.check(f"a standard error that is closed {more}", (found.returncode, found.stdout) == (125, "30\n") and is_alone, f"{found}")
 
 
 def ways_to_end(folder, made):

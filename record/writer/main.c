@@ -618,6 +618,15 @@ static int status_of_report(uint64_t lost)
     return is_whole ? of_replay : STATUS_FAILED;
 }
 
+/* A stream that is closed must not become a file of ours, which the report would then go to. Writes to it fail, and the program finds it
+ * closed. */
+static void hold_streams(void)
+{
+    for (int stream = STDIN_FILENO; stream <= STDERR_FILENO; stream++)
+        if (fcntl(stream, F_GETFD) < 0 && open("/dev/full", O_RDWR | O_CLOEXEC) != stream)
+            fail("cannot open", "/dev/full");
+}
+
 static int last_status(uint64_t lost)
 {
     if (start_error)
@@ -629,6 +638,7 @@ static int last_status(uint64_t lost)
 
 int main(int count, char **words)
 {
+    hold_streams();
     read_options(count, words);
     /* Looking for debug information is not to ask servers for it. */
     unsetenv("DEBUGINFOD_URLS");
