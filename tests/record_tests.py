@@ -402,7 +402,7 @@ def early_ends(folder, findings, busy):
 
 
 def memory(folder, findings, busy):
-    """With the trace in a pipe, four times the events take no more memory, and the limit of a trace that is kept is none here."""
+    """With the trace in a pipe, more than four times the events take no more memory, and the limit of a trace that is kept is none here."""
     used, sizes = [], []
     for rounds in ("200000", "900000"):
         # A replay whose report is the number of bytes that it got.
