@@ -189,10 +189,10 @@ def other_programs(folder, findings, pool):
 
 
 def without_order(folder, findings, program):
-    """Without the option a trace is one of text 1, and has no line of order."""
+    """Without the option a trace has no line of order, and the same head and end."""
     done, text = record_trace(folder, "plain", program)
-    verbs = {line.split()[1] for line in text.splitlines()[1:] if not line.startswith("#")}
-    is_plain = text.startswith("eraser trace 1\n") and text.endswith("none lost\n") and verbs and not verbs & set(ORDER_VERBS)
+    verbs = {line.split()[1] for line in text.splitlines()[1:-1] if not line.startswith("#")}
+    is_plain = text.startswith("eraser trace 3\n") and text.endswith("none lost\nend\n") and verbs and not verbs & set(ORDER_VERBS)
     findings.check("a trace without --order", done.returncode == 0 and is_plain, f"{done} {verbs} {text[-60:]!r}")
 
 
@@ -247,7 +247,8 @@ def analysed(folder, findings, program):
     findings.check("record/run --analysis both", (done.returncode, sites, totals) == (1, wanted, ["races", "unordered"]) and ": race: " in done.stdout, f"{done}")
     trace = folder / "analysed.trace"
     done = command([RUN, "-q", "-o", trace, "--report", "-", "--analysis", "lockset", program])
-    findings.check("record/run --analysis lockset", done.returncode == 0 and trace.read_text().startswith("eraser trace 1\n") and "races" in done.stdout, f"{done}")
+    has_order = re.search(rf"^t\d+ ({'|'.join(ORDER_VERBS)}) ", trace.read_text(), re.M)
+    findings.check("record/run --analysis lockset", done.returncode == 0 and not has_order and "races" in done.stdout, f"{done}")
     done = command([RUN, "-q", "--report", "-", "--analysis", "both", "--by-site", program])
     parts = [line.split(":")[0] for line in done.stdout.splitlines() if line.startswith(("races in this run", "no common lock"))]
     findings.check("record/run --analysis both --by-site", (done.returncode, parts) == (0, ["races in this run", "no common lock"]), f"{done}")

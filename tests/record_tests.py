@@ -154,7 +154,7 @@ class Recording:
             return f"report {self.report!r}"
         if races(self.report) != expected:
             return f"races {sorted(races(self.report))}, expected {sorted(expected)}"
-        if not may_lose and not (re.search(r"^record: \d+ events recorded, 0 lost$", self.done.stderr, re.M) and self.trace.endswith("none lost\n")):
+        if not may_lose and not (re.search(r"^record: \d+ events recorded, 0 lost$", self.done.stderr, re.M) and self.trace.endswith("none lost\nend\n")):
             return f"lost: {self.done.stderr!r}"
         return lock_fault(self.trace)
 
@@ -228,12 +228,10 @@ def programs(folder, findings, made):
 def ways_to_use(folder, findings, counter, queue):
     """Its options, and what it passes on."""
     trace = folder / "paths.trace"
-    found = command([RUN, "-o", trace, "--replay", "--paths", queue])
-    legal = re.search(r"^steps .* refused 0$", found.stderr, re.M) and " /usr/include/c__/" in trace.read_text()
-    findings.check("paths with characters that no name may have", legal, f"{found}")
-    found = command([RUN, "-o", trace, "--replay", "--order", "--paths", queue])
-    kept = re.search(r"^steps .* refused 0$", found.stderr, re.M) and " /usr/include/c++/" in trace.read_text()
-    findings.check("paths with these characters, in a trace with order", kept, f"{found}")
+    for more in ([], ["--order"]):
+        found = command([RUN, "-o", trace, "--replay", "--paths", *more, queue])
+        kept = re.search(r"^steps .* refused 0$", found.stderr, re.M) and " /usr/include/c++/" in trace.read_text()
+        findings.check(f"paths with characters that no name may have {more}", kept, f"{found}")
     found = command([RUN, counter])
     is_behind = re.search(r"\Aline \d+: race: .* at counter\.c:(?s:.*)\nsteps .*\nrecord: \d+ events recorded, 0 lost\n\Z", found.stderr)
     findings.check("the report is on standard error, and standard output is the program's", found.stdout == "30\n" and is_behind, f"{found}")
@@ -303,6 +301,9 @@ def ways_to_use(folder, findings, counter, queue):
         findings.check(f"a standard error that can't be written {more}", (found.returncode, found.stdout) == (125, "30\n"), f"{found}")
         found = command(["sh", "-c", '"$@" >/dev/full', "sh", RUN, "--report", "-", *more, queue])
         findings.check(f"a standard output that can't be written {more}", found.returncode == 125 and "cannot write standard output" in found.stderr, f"{found}")
+        found = command(["sh", "-c", '"$@" 2>&-', "sh", RUN, "-o", trace, "--replay", *more, counter])
+        is_alone = trace.read_text().endswith("none lost\nend\n") and ": race: " not in trace.read_text()
+        findings.check(f"a standard error that is closed {more}", (found.returncode, found.stdout) == (125, "30\n") and is_alone, f"{found}")
 
 
 def ways_to_end(folder, made):
@@ -348,7 +349,9 @@ def exit_statuses(folder, findings, made):
     for title, by_default, by_report, line in rows:
         options, words, settings = ways[title]
         pattern = re.sub(r"\b(FILE|PROGRAM|REPLAY)\b", r"\\S+", re.sub(r"\bN\b", r"\\d+", re.escape(line.strip("`"))))
-        for more, status in ((["--exit-status", "report"], by_report), (["--exit-status", "report", "--strict", "-q"], by_report), (["--replay"], by_default)):
+        plain, strict = re.fullmatch(r"(\d+)(?:, with `--strict` (\d+))?", by_report).groups()
+        ends = ((["--exit-status", "report"], plain), (["--exit-status", "report", "--strict", "-q"], strict or plain), (["--replay"], by_default))
+        for more, status in ends:
             found = command([RUN, *more, *options, *words], env={**os.environ, **settings})
             is_said = re.search(rf"^{pattern}$", found.stderr, re.M) or "0 lost" in line and "-q" in more or "--replay" in more
             findings.check(f"the exit status {more}: {title}", str(found.returncode) == status and is_said, f"{found}, not {status} {pattern}")
@@ -401,7 +404,7 @@ def early_ends(folder, findings, busy):
 
 
 def memory(folder, findings, busy):
-    """With the trace in a pipe, four times the events take no more memory, and the limit of a trace that is kept is none here."""
+    """With the trace in a pipe, more than four times the events take no more memory, and the limit of a trace that is kept is none here."""
     used, sizes = [], []
     for rounds in ("200000", "900000"):
         # A replay whose report is the number of bytes that it got.

@@ -38,6 +38,7 @@ struct options {
     const char *format;
     const char *analysis;
     bool ends_as_report;
+    bool orders; /* what orders threads is recorded as well */
     bool is_quiet;
 };
 static struct options options;
@@ -170,7 +171,7 @@ static void read_options(int count, char **words)
         case UNTIL_FAULT: options.until_fault = true; break;
         case FORMAT: options.format = read_format(optarg); break;
         case EXIT_STATUS: options.ends_as_report = is_report(optarg); break;
-        case ORDER: trace_orders = true; break;
+        case ORDER: options.orders = true; break;
         case LIMIT: output.limit = read_bytes(optarg); break;
         case PATHS: sites_have_paths = true; break;
         case 'q': options.is_quiet = true; break;
@@ -185,7 +186,7 @@ static void read_options(int count, char **words)
         fputs("record: --format and --strict go with --analysis lockset alone, and --by-site with lockset or both\n", stderr);
         exit(STATUS_FAILED);
     }
-    trace_orders |= needs_order();
+    options.orders |= needs_order();
     if (optind == count) {
         fputs(usage, stderr);
         exit(STATUS_FAILED);
@@ -207,7 +208,7 @@ static void make_ring(void)
     if (ring == MAP_FAILED)
         fail("cannot map the ring", NULL);
     ring->writer = (uint32_t)getpid();
-    ring->orders = trace_orders;
+    ring->orders = options.orders;
     ring->magic = RING_MAGIC;
 }
 
@@ -617,6 +618,15 @@ static int status_of_report(uint64_t lost)
     return is_whole ? of_replay : STATUS_FAILED;
 }
 
+/* A stream that is closed must not become a file of ours, which the report would then go to. Writes to it fail, and the program finds it
+ * closed. */
+static void hold_streams(void)
+{
+    for (int stream = STDIN_FILENO; stream <= STDERR_FILENO; stream++)
+        if (fcntl(stream, F_GETFD) < 0 && open("/dev/full", O_RDWR | O_CLOEXEC) != stream)
+            fail("cannot open", "/dev/full");
+}
+
 static int last_status(uint64_t lost)
 {
     if (start_error)
@@ -628,6 +638,7 @@ static int last_status(uint64_t lost)
 
 int main(int count, char **words)
 {
+    hold_streams();
     read_options(count, words);
     /* Looking for debug information is not to ask servers for it. */
     unsetenv("DEBUGINFOD_URLS");

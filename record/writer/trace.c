@@ -19,7 +19,6 @@
 #define ADDRESS_END (UINT64_C(1) << 48)
 
 struct output output = {-1, -1, 0, 0, 0, false};
-bool trace_orders;
 uint64_t trace_events, trace_lost;
 
 static char buffer[BUFFER_BYTES + 64];
@@ -68,7 +67,7 @@ size_t legal_name(char *to, const char *text)
 
 size_t legal_site(char *to, const char *text)
 {
-    return put_legal(to, text, trace_orders ? is_site_byte : is_name_byte);
+    return put_legal(to, text, is_site_byte);
 }
 
 /* ---- Where the text goes ---- */
@@ -286,7 +285,7 @@ void trace_begin(const char *program)
     char *at = line();
     if (!at)
         return;
-    used = (size_t)(put(at, trace_orders ? "eraser trace 3\n" : "eraser trace 1\n", 15) - buffer);
+    used = (size_t)(put(at, "eraser trace 3\n", 15) - buffer);
     legal_name(legal, program);
     snprintf(text, sizeof text, "recorded from %s", legal);
     comment(text);
@@ -299,7 +298,7 @@ void trace_end(uint64_t lost)
     if (lost)
         snprintf(text, sizeof text, "# incomplete: %llu events, %llu lost\n", (unsigned long long)trace_events, (unsigned long long)lost);
     else
-        snprintf(text, sizeof text, "# complete: %llu events, none lost\n%s", (unsigned long long)trace_events, trace_orders ? "end\n" : "");
+        snprintf(text, sizeof text, "# complete: %llu events, none lost\nend\n", (unsigned long long)trace_events);
     if (used + LINE_BYTES > BUFFER_BYTES)
         trace_flush();
     used = (size_t)(put(buffer + used, text, strlen(text)) - buffer);

@@ -29,8 +29,6 @@ struct thread {
 };
 
 extern struct output output;
-/* What orders threads is written as well: a trace of the third form. */
-extern bool trace_orders;
 extern uint64_t trace_events; /* lines of events written */
 extern uint64_t trace_lost;   /* events that were taken but could not be written */
 
@@ -56,7 +54,7 @@ int write_all(int file, const char *text, size_t bytes);
 void *get_memory(void *old, size_t bytes);
 /* Copies text into a legal name, whose end is kept if it is too long. Returns its length. */
 size_t legal_name(char *to, const char *text);
-/* The same for a site, which may have any printable byte in the third form. */
+/* The same for a site, which may have any printable byte. */
 size_t legal_site(char *to, const char *text);
 
 #endif
