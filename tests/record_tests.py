@@ -246,6 +246,8 @@ def ways_to_use(folder, findings, counter, queue):
     rules.write_text("".join(f"site {site}\n" for site in marked(SOURCES / "counter.c", "RACE")))
     found = command([RUN, "--suppress", rules, counter])
     findings.check("suppressions", found.returncode == 3 and "suppression 1: 1\n" in found.stderr and ", races 0," in found.stderr, f"{found}")
+    found = command([RUN, "--suppress", folder / "nothing", "--exit-status", "report", queue])
+    findings.check("rules that aren't there", found.returncode == 4 and "cannot open suppressions\n" in found.stderr, f"{found}")
     queue_rules = folder / "queue.rules"
     queue_rules.write_text("".join(f"site {site}\n" for site in marked(SOURCES / "queue.cpp", "RACE")))
     found = command([RUN, "--suppress", queue_rules, "--exit-status", "report", queue])
@@ -315,6 +317,7 @@ def ways_to_end(folder, made):
 
     right, racy, ends, busy = program("recursive"), program("queue"), program("ends"), program("busy")
     limited = ["-o", folder / "lost.trace", "--limit", "100000"]
+    failing = as_script(folder, "failing", "cat >/dev/null; exit 4\n")
     return {
         "wrong options, or a file that can't be opened": (["-o", folder / "no/where"], [right], {}),
         "the replay can't be started": ([], [right], {"ERASER": str(folder / "nothing")}),
@@ -325,7 +328,7 @@ def ways_to_end(folder, made):
         "a signal ended the program, here signal 6": ([], [ends, "abort"], {}),
         "the program ended with 2 or more, here with 6": ([], [ends, "exit"], {}),
         "the program ended with 1": ([], ["sh", "-c", f"{right}; exit 1"], {}),
-        "the replay failed: 2, 3 or 4, as `eraser replay` has them": (["--suppress", folder / "nothing"], [right], {}),
+        "the replay failed: 2, 3 or 4, as `eraser replay` has them": ([], [right], {"ERASER": failing}),
         "the program is not instrumented": ([], ["true"], {}),
         "no instrumented code ran": ([], [program("empty")], {}),
         "events were lost": (limited, [busy, "3000"], {}),
