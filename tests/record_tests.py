@@ -358,6 +358,13 @@ def exit_statuses(folder, findings, made):
             findings.check(f"the exit status {more}: {title}", str(found.returncode) == status and is_said, f"{found}, not {status} {pattern}")
 
 
+def forks(findings, program):
+    """What a forked child does isn't recorded, and a line says so. It changes no status."""
+    found = command([RUN, "-q", "--report", "-", "--exit-status", "report", program])
+    wanted = "record: the program forked 1 time: what its children did is not recorded\n"
+    findings.check("a program that forks", (found.returncode, found.stderr) == (1, wanted), f"{found}")
+
+
 def as_script(folder, name, text):
     path = folder / name
     path.write_text("#!/bin/sh\n" + text)
@@ -549,6 +556,7 @@ def tests(record):
         programs(folder, findings, made)
         ways_to_use(folder, findings, counter, made[SOURCES / "queue.cpp", "gcc", "-O0"])
         exit_statuses(folder, findings, made)
+        forks(findings, made[SOURCES / "forks.c", "gcc", "-O0"])
         early_ends(folder, findings, busy)
         memory(folder, findings, busy)
         interrupts(folder, findings, busy)

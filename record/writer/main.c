@@ -578,7 +578,7 @@ static void say_what_was_recorded(uint64_t lost)
 
 static void say_end(uint64_t lost, const char *name)
 {
-    uint32_t others = atomic_load(&ring->others);
+    uint32_t others = atomic_load(&ring->others), forks = atomic_load(&ring->forks);
     if (start_error)
         fprintf(stderr, "record: cannot start %s: %s\n", name, strerror(start_error));
     else
@@ -591,6 +591,8 @@ static void say_end(uint64_t lost, const char *name)
         fprintf(stderr, "record: cannot write %s: %s\n", name_of_report(), strerror(report_error));
     if (others)
         fprintf(stderr, "record: %u further program%s started by it %s not recorded\n", others, others == 1 ? "" : "s", others == 1 ? "was" : "were");
+    if (forks)
+        fprintf(stderr, "record: the program forked %u time%s: what its children did is not recorded\n", forks, forks == 1 ? "" : "s");
 }
 
 /* How the program failed, if it did. Its exit status alone is worth a line only if another one is expected in its place. */
