@@ -23,6 +23,7 @@
 /* With the status of the report, 1 means a race. So a program's own 1 becomes what xargs ends with if a command of its own fails. */
 #define STATUS_RACE 1
 #define STATUS_OF_ONE 123
+#define GIVEN_AS_ANOTHER ", given as 123"
 /* How many bytes of text are kept in a file if nothing else is said: what a replay takes if nothing else is said. */
 #define USUAL_LIMIT 268435456u
 
@@ -605,7 +606,7 @@ static void say_end_of_program(void)
     if (WIFSIGNALED(program_status))
         fprintf(stderr, "record: the program was ended by signal %d (%s)%s\n", WTERMSIG(program_status), strsignal(WTERMSIG(program_status)), whole);
     else if (options.ends_as_report)
-        fprintf(stderr, "record: the program ended with status %d%s%s\n", status, status == STATUS_RACE ? ", given as 123" : "", whole);
+        fprintf(stderr, "record: the program ended with status %d%s%s\n", status, status == STATUS_RACE ? GIVEN_AS_ANOTHER : "", whole);
 }
 
 /* docs/RECORDING.md has a row for each case of these two. */
