@@ -9,7 +9,7 @@
 #include <stdatomic.h>
 #include <stdint.h>
 
-#define RING_MAGIC 0x32676e6972617265u /* "eraring2" in memory */
+#define RING_MAGIC 0x33676e6972617265u /* "eraring3" in memory */
 #define RING_BITS 18
 #define RING_SLOTS (1u << RING_BITS)
 #define RING_MASK (RING_SLOTS - 1)
@@ -83,6 +83,7 @@ struct ring {
     _Atomic uint32_t stop;       /* the writer takes no more events */
     _Atomic uint32_t owner;      /* process id of the program that is recorded, 0 before there is one */
     _Atomic uint32_t others;     /* programs that found another one recorded already */
+    _Atomic uint32_t forks;      /* children that the recorded program forked */
     _Atomic uint32_t threads;    /* numbers given to threads */
     _Atomic uint64_t abandoned;  /* some ticket below this one may never be published */
     _Alignas(128) _Atomic uint64_t tail; /* next ticket */

@@ -248,6 +248,8 @@ def ways_to_use(folder, findings, counter, queue):
     rules.write_text("".join(f"site {site}\n" for site in marked(SOURCES / "counter.c", "RACE")))
     found = command([RUN, "--suppress", rules, counter])
     findings.check("suppressions", found.returncode == 3 and "suppression 1: 1\n" in found.stderr and ", races 0," in found.stderr, f"{found}")
+    found = command([RUN, "--suppress", folder / "nothing", "--exit-status", "report", queue])
+    findings.check("rules that aren't there", found.returncode == 4 and "cannot open suppressions\n" in found.stderr, f"{found}")
     queue_rules = folder / "queue.rules"
     queue_rules.write_text("".join(f"site {site}\n" for site in marked(SOURCES / "queue.cpp", "RACE")))
     found = command([RUN, "--suppress", queue_rules, "--exit-status", "report", queue])
@@ -317,6 +319,7 @@ def ways_to_end(folder, made):
 
     right, racy, ends, busy = program("recursive"), program("queue"), program("ends"), program("busy")
     limited = ["-o", folder / "lost.trace", "--limit", "100000"]
+    failing = as_script(folder, "failing", "cat >/dev/null; exit 4\n")
     return {
         "wrong options, or a file that can't be opened": (["-o", folder / "no/where"], [right], {}),
         "the replay can't be started": ([], [right], {"ERASER": str(folder / "nothing")}),
@@ -327,7 +330,7 @@ def ways_to_end(folder, made):
         "a signal ended the program, here signal 6": ([], [ends, "abort"], {}),
         "the program ended with 2 or more, here with 6": ([], [ends, "exit"], {}),
         "the program ended with 1": ([], ["sh", "-c", f"{right}; exit 1"], {}),
-        "the replay failed: 2, 3 or 4, as `eraser replay` has them": (["--suppress", folder / "nothing"], [right], {}),
+        "the replay failed: 2, 3 or 4, as `eraser replay` has them": ([], [right], {"ERASER": failing}),
         "the program is not instrumented": ([], ["true"], {}),
         "no instrumented code ran": ([], [program("empty")], {}),
         "events were lost": (limited, [busy, "3000"], {}),
@@ -355,6 +358,13 @@ def exit_statuses(folder, findings, made):
             found = command([RUN, *more, *options, *words], env={**os.environ, **settings})
             is_said = re.search(rf"^{pattern}$", found.stderr, re.M) or "0 lost" in line and "-q" in more or "--replay" in more
             findings.check(f"the exit status {more}: {title}", str(found.returncode) == status and is_said, f"{found}, not {status} {pattern}")
+
+
+def forks(findings, program):
+    """What a forked child does isn't recorded, and a line says so. It changes no status."""
+    found = command([RUN, "-q", "--report", "-", "--exit-status", "report", program])
+    wanted = "record: the program forked 1 time: what its children did is not recorded\n"
+    findings.check("a program that forks", (found.returncode, found.stderr) == (1, wanted), f"{found}")
 
 
 def as_script(folder, name, text):
@@ -548,6 +558,7 @@ def tests(record):
         programs(folder, findings, made)
         ways_to_use(folder, findings, counter, made[SOURCES / "queue.cpp", "gcc", "-O0"])
         exit_statuses(folder, findings, made)
+        forks(findings, made[SOURCES / "forks.c", "gcc", "-O0"])
         early_ends(folder, findings, busy)
         memory(folder, findings, busy)
         interrupts(folder, findings, busy)

@@ -206,9 +206,17 @@ void attach(void)
     errno = error;
 }
 
+/* A child finds no ring, so its parent counts it. */
+static void count_fork(void)
+{
+    if (attached->ring)
+        atomic_fetch_add_explicit(&attached->ring->forks, 1, memory_order_relaxed);
+}
+
 static __attribute__((constructor)) void begin(void)
 {
     attach();
+    pthread_atfork(NULL, count_fork, NULL);
 }
 
 /* ---- Functions behind this library ---- */

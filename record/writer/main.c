@@ -23,6 +23,7 @@
 /* With the status of the report, 1 means a race. So a program's own 1 becomes what xargs ends with if a command of its own fails. */
 #define STATUS_RACE 1
 #define STATUS_OF_ONE 123
+#define GIVEN_AS_ANOTHER ", given as 123"
 /* How many bytes of text are kept in a file if nothing else is said: what a replay takes if nothing else is said. */
 #define USUAL_LIMIT 268435456u
 
@@ -578,7 +579,7 @@ static void say_what_was_recorded(uint64_t lost)
 
 static void say_end(uint64_t lost, const char *name)
 {
-    uint32_t others = atomic_load(&ring->others);
+    uint32_t others = atomic_load(&ring->others), forks = atomic_load(&ring->forks);
     if (start_error)
         fprintf(stderr, "record: cannot start %s: %s\n", name, strerror(start_error));
     else
@@ -591,6 +592,8 @@ static void say_end(uint64_t lost, const char *name)
         fprintf(stderr, "record: cannot write %s: %s\n", name_of_report(), strerror(report_error));
     if (others)
         fprintf(stderr, "record: %u further program%s started by it %s not recorded\n", others, others == 1 ? "" : "s", others == 1 ? "was" : "were");
+    if (forks)
+        fprintf(stderr, "record: the program forked %u time%s: what its children did is not recorded\n", forks, forks == 1 ? "" : "s");
 }
 
 /* How the program failed, if it did. Its exit status alone is worth a line only if another one is expected in its place. */
@@ -603,7 +606,7 @@ static void say_end_of_program(void)
     if (WIFSIGNALED(program_status))
         fprintf(stderr, "record: the program was ended by signal %d (%s)%s\n", WTERMSIG(program_status), strsignal(WTERMSIG(program_status)), whole);
     else if (options.ends_as_report)
-        fprintf(stderr, "record: the program ended with status %d%s%s\n", status, status == STATUS_RACE ? ", given as 123" : "", whole);
+        fprintf(stderr, "record: the program ended with status %d%s%s\n", status, status == STATUS_RACE ? GIVEN_AS_ANOTHER : "", whole);
 }
 
 /* docs/RECORDING.md has a row for each case of these two. */
