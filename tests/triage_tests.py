@@ -63,8 +63,8 @@ def texts():
     for trace in sorted((TOP / "examples").glob("*.trace")):
         rules, options = trace.with_suffix(".rules"), trace.with_suffix(".options")
         given = options.read_text().split() if options.exists() else []
-        # A report by happens-before has no sites, and both analyses at once have no rules either.
-        yield trace.stem, trace.read_bytes(), rules.read_bytes() if rules.exists() else b"", [] if "--analysis" in given else given
+        # What is compared is the report by locks, a line for each race.
+        yield trace.stem, trace.read_bytes(), rules.read_bytes() if rules.exists() else b"", given if given == ["--explain"] else []
     for seed in range(RANDOM_TRACES):
         text, rules = reference.random_trace(seed), reference.random_rules(seed)
         if reference.replay(text, rules)[2] < 2:
