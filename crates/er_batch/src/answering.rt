@@ -73,7 +73,7 @@ fn says_nothing(
     }
 }
 
-// Adds the next step to the report. If it has nothing to say, it is counted and makes no line.
+// Adds the next step to the report. A step that the report has no line for is only counted.
 fn add_answer(
     builder: &mut ReportBuilder<'_>,
     names: &Names,
@@ -96,7 +96,7 @@ fn add_answer(
     builder.add(names, line, step, answer, held)
 }
 
-// Adds so many steps that have nothing to say, and then one that has.
+// Adds `plain` steps at once that the report has no line for, and then one that has a line.
 fn add_behind(
     builder: &mut ReportBuilder<'_>,
     plain: u64,
@@ -119,8 +119,8 @@ fn add_behind(
     Ok(())
 }
 
-// Answers each step and adds it to the report, up to the first that finds no room. Steps that have nothing to say are counted and added
-// before the next one that has. So many steps that they can't be counted any more are reported as a want of memory.
+// Answers each step and adds it to the report, up to the first that finds no room. Steps without a line are counted, and added before the
+// next step with one. If there are more of them than can be counted, that is reported as a want of memory.
 fn answer_steps<R: Wait>(
     rt: &R,
     machine: &mut Machine<'_>,

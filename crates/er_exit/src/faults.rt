@@ -27,7 +27,7 @@ pub enum Fault {
     Memory,
     /// Several workers, or both analyses, wanted more sets of locks than the table takes.
     TableFull,
-    /// A thread has come to 2^32 - 1 releases, starts and signals, and would come to one more.
+    /// A thread releases, starts, signals and is joined 2^32 - 1 times or more.
     CountFull,
     /// The trace can't be opened.
     OpenTrace,

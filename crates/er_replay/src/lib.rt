@@ -7,8 +7,9 @@
 //! answer it at that list's end (`answer`), and then stands for the longer list (`goes_on`). Where the definitions refuse the
 //! step, the answer is that refusal and no other (`refused`); any other refusal says that there was no room, of a kind that the
 //! step may want (`room`, `table_full`, `ignored`). After a refusal the machine stands for the list that it stood for (`err`). A
-//! run's answers are those of the list up to its stop (`answers`), which the definitions don't refuse (`cause`). A caller that takes the
-//! steps one by one finds a want of room by [`no_room`], and what a thread holds by [`Machine::held`].
+//! run's answers are those of the list up to its stop (`answers`). The stop is at a step that the definitions don't refuse, or at the first
+//! step if there is no memory for the list of answers (`cause`). A caller that takes the steps one by one finds a want of room by
+//! [`no_room`], and what a thread holds by [`Machine::held`].
 //!
 //! A worker whose machine keeps only some of the words calls [`Machine::pass`] at a step on any other word: `pass` follows the holdings
 //! and leaves the words. Such a machine may stand for no list. So `step` also says what it answers and changes by the machine's own

@@ -148,7 +148,7 @@ impl<'t> Machine<'t> {
         }
     }
 
-    // By the machine's own holdings and states. Split for the prover.
+    // What a step does, by the machine's own holdings and states. Split for the prover.
     #[inline(always)]
     fn follow_noting<R: Wait>(&mut self, rt: &R, step: Step) -> (Result<Reply, Refusal>, bool)
         ensures answer { IsFalse (found_no_room result.0) → result.0 ≡ answered (holding self.old step.thread) (states self.old) step }

@@ -90,7 +90,8 @@ fn says_nothing(explains: bool, event: Event, items: &[Unusual], next: usize, k:
     !explains || matches!(event, Event::Access(..))
 }
 
-// Adds so many steps that have nothing to say, and then the step at position k of a batch. Returns how many of the items are behind.
+// Adds `plain` steps at once that the report has no line for, and then the step at position k of a batch. Returns how many of the items are
+// behind.
 fn add_behind(
     builder: &mut ReportBuilder<'_>,
     plain: u64,

@@ -1,9 +1,9 @@
 //! A replay by happens-before, alone or beside the lockset rule: from the bytes of a trace to the bytes of its report.
 //!
 //! Begin with [`replay_by`]. It reads a trace text to its end, answers its steps by happens-before, or by both analyses, and writes the
-//! report, or both one behind the other. A race of a report by happens-before is an unordered access: one that conflicts with an earlier
-//! access of its word and doesn't come after it in order. [`report_unordered`] and [`report_both`] stop before the writing, and
-//! [`write_unordered`] and [`write_both`] write what they return.
+//! report, or both one behind the other. By happens-before, a race is an access that conflicts with an earlier access of the same word and
+//! is not ordered after it. [`report_unordered`] and [`report_both`] stop before the writing, and [`write_unordered`] and [`write_both`]
+//! write what they return.
 //!
 //! What it promises, by the names of clauses, if the reader and the writer tell their bytes, as a slice and a `Vec` do: what was written
 //! is exactly the text that the trace, the rules and the analysis define (`report`); a fault of the text is the text's first fault

@@ -63,7 +63,7 @@ where
     ensures status { result ≤ 4 }
 
     // With a result nothing goes to the errors but the notes that were asked for, and with wrong arguments or a faulty text nothing to
-    // the output, unless a word asks for the steps before the fault.
+    // the output, unless a word asks for the steps before the fault. `progress` is a device of its own: `quiet` says nothing of it.
     ensures quiet { result ≤ 1 → GetsNotes (E.contents (inner_of errors.old)) (E.contents (inner_of errors.new)) (has_failed errors.new) }
     ensures refused { names_until_fault words.now ≡ false → result ≡ 2 → Keeps (O.contents (inner_of output.old)) (O.contents (inner_of output.new)) }
 
