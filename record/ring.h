@@ -23,7 +23,7 @@
 /* Threads add to one of these counters what they cannot record. */
 #define LOST_COUNTERS 64
 
-/* Name of the ring's file, as it stands in /proc/PID/maps, and of the variable that tells the program where it is. */
+/* Name of the ring's file, as it stands in /proc/PID/maps, and of the variable by which the program finds it. */
 #define RING_FILE_NAME "eraser-record"
 #define RING_VARIABLE "ERASER_RECORD"
 

@@ -51,7 +51,7 @@ static int program_status, replay_status;
 static int start_error; /* errno if the program could not be started, or 0 */
 static bool has_program_ended, has_replay_ended;
 /* The replay writes the report into a file without a name, and from there it goes to its place when all has ended. So it is not in the
- * middle of what the program prints, and a write that fails is told from a replay that fails. */
+ * middle of what the program prints, and a write that fails isn't taken for a replay that fails. */
 static int report_text = -1, report_place = -1;
 static int report_error; /* errno of the failed write, or 0 */
 static volatile sig_atomic_t replay_to_stop;
@@ -73,7 +73,7 @@ static const char usage[] =
     "      --until-fault       report the steps before the first faulty line of the trace, and then its fault\n"
     "      --exit-status WHOSE end with the status of the `program` (the default) or of the `report`\n"
     "      --order             record what orders threads as well: starts and joins, semaphores, atomic operations ..\n"
-    "      --limit BYTES       with -o: record at most so much text; 0: no limit. The default is 268435456\n"
+    "      --limit BYTES       with -o: keep at most BYTES of text; 0: no limit. The default is 268435456\n"
     "      --paths             name sites by their whole path\n"
     "  -q, --quiet             say nothing on standard error beside the report, unless something went wrong\n"
     "  -h, --help              print this\n"
@@ -262,7 +262,7 @@ static void prepare_replay(void)
     }
 }
 
-/* The child tells the error of a failed start by a pipe, which a start that succeeds closes. */
+/* The child reports the error of a failed start by a pipe, which a start that succeeds closes. */
 static void make_pipe(int ends[2])
 {
     if (pipe2(ends, O_CLOEXEC) != 0)
