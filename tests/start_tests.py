@@ -103,7 +103,7 @@ class Tree:
         return self.run("tools/program", "--key", crate).stdout.strip()
 
     def run(self, script, *words, kit=False, before=(), **settings):
-        # The tree is no git repository, nor in one.
+        # Git looks for no repository above the tree.
         env = {"PATH": f"{self.home / 'bin'}:{os.environ['PATH']}", "HOME": str(self.home), "GIT_CEILING_DIRECTORIES": str(self.top.parent), **settings}
         if kit:
             env["PATH"] = f"{self.home / 'kit'}:{env['PATH']}"
@@ -307,6 +307,9 @@ def dist_tests(record, tree):
     record("dist: of other sources", found.stdout.startswith("dist/ has eraser of commit -, of other sources or by another toolchain"), f"{found}")
     found = tree.run("tools/dist", "eraser")
     record("dist: the line of other sources", found.returncode == 0 and manifest.read_text().splitlines()[1].split()[2] == tree.key(), f"{found}")
+    manifest.unlink()
+    found = tree.run("tools/dist", "--compare")
+    record("dist: no line", found.stdout == "dist/ has no eraser: tools/dist puts it there\nprobe isn't built of these sources\n", f"{found}")
 
 
 def prove_tests(record, tree):
