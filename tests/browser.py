@@ -20,11 +20,11 @@ class Browser:
     """One page of a browser. `troubles` has what went wrong in it: exceptions, errors in the console, dialogs. `loaded` has what it asked for."""
 
     def __init__(self):
-        self.folder = tempfile.TemporaryDirectory(ignore_cleanup_errors=True)
+        self.folder = tempfile.mkdtemp()
         from_us, to_browser = os.pipe()
         from_browser, to_us = os.pipe()
         words = [found(), "--headless", "--no-sandbox", "--disable-gpu", "--disable-dev-shm-usage", "--no-first-run", "--disable-extensions",
-                 "--disable-background-networking", "--remote-debugging-pipe", f"--user-data-dir={self.folder.name}", "about:blank"]
+                 "--disable-background-networking", "--remote-debugging-pipe", f"--user-data-dir={self.folder}", "about:blank"]
         # The browser reads commands from descriptor 3 and writes to descriptor 4.
         shell = f'exec "$@" 3<&{from_us} 4>&{to_us}'
         self.process = subprocess.Popen(["sh", "-c", shell, "sh", *words], pass_fds=(from_us, to_us), stdin=subprocess.DEVNULL, stdout=subprocess.DEVNULL, stderr=subprocess.DEVNULL)
@@ -51,7 +51,7 @@ class Browser:
             self.process.kill()
             self.process.wait()
         os.close(self.answers)
-        self.folder.cleanup()
+        shutil.rmtree(self.folder, ignore_errors=True)
 
     def message(self):
         while b"\0" not in self.bytes:

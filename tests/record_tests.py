@@ -12,6 +12,8 @@ import os
 import pathlib
 import re
 import resource
+import select
+import shlex
 import shutil
 import signal
 import subprocess
@@ -443,6 +445,24 @@ def interrupts(folder, findings, busy):
     findings.check("an interrupt", is_begun and status == 128 + signal.SIGINT and "steps " in report.read_text(), f"{status}")
 
 
+def unusual_starts(folder, findings, counter):
+    """Who starts the recorder may ignore that children end, and standard error may be a stream that doesn't wait."""
+    found = command([RUN, "-q", "--report", "-", counter], preexec_fn=lambda: signal.signal(signal.SIGCHLD, signal.SIG_IGN))
+    findings.check("a start that ignores the ends of children", found.returncode == 3 and "counter.c:" in found.stdout, f"{found}")
+    long = as_script(folder, "long", "cat >/dev/null; yes line | head -n 50000\n")
+    reading, writing = os.pipe()
+    os.set_blocking(writing, False)
+    recorder = subprocess.Popen([RUN, "-q", counter], env={**os.environ, "ERASER": long}, stdout=subprocess.DEVNULL, stderr=writing)
+    # Nothing is read before the pipe is full.
+    while recorder.poll() is None and select.select([], [writing], [], 0)[1]:
+        time.sleep(0.01)
+    os.close(writing)
+    with open(reading, "rb") as stream:
+        text = stream.read()
+    status = recorder.wait(PATIENCE)
+    findings.check("a long report to a stream that doesn't wait", status == 3 and text == b"line\n" * 50000, f"{status}, {len(text)} bytes")
+
+
 def names(folder, findings):
     """Every name of ThreadSanitizer's library that a compiler or a program may ask for, and the two that differ in clang."""
     library = command(["gcc", "-print-file-name=libtsan.so"]).stdout.strip()
@@ -511,6 +531,7 @@ def unwritable(folder, findings, counter):
     for way in ("read-only", "no folder"):
         copy = folder / way.replace(" ", "-")
         shutil.copytree(TOP / "record", copy, ignore=shutil.ignore_patterns("out"), symlinks=True)
+        command(["chmod", "-R", "a+rX", copy])
         settings = {}
         if way == "no folder":
             (copy / "out").write_text("")
@@ -533,8 +554,8 @@ def as_the_readme_says(folder, findings):
     readme = (TOP / "README.md").read_text()
     build, run = re.search(r"```sh\n(g\+\+ .*?) +#.*\n(record/run .*)\n```", readme).groups()
     shown = re.search(r"```text\n(2000 of.*?)```", readme, re.S)[1]
-    built = command(["sh", "-c", f"cd {TOP} && {build.replace('-o pool', f'-o {folder}/pool')}"])
-    found = command(["sh", "-c", f"cd {folder} && {TOP}/{run} 2>&1"])
+    built = command(["sh", "-c", build.replace("-o pool", f"-o {folder}/pool")], cwd=TOP)
+    found = command(["sh", "-c", f"{shlex.quote(str(TOP))}/{run} 2>&1"], cwd=folder)
 
     def plain(text):
         return re.sub(r"0x[0-9a-f]+|\bline \d+|\bt\d+ |^\d+ of|\d+ events|steps \d+", "", text, flags=re.M).splitlines()
@@ -562,6 +583,7 @@ def tests(record):
         early_ends(folder, findings, busy)
         memory(folder, findings, busy)
         interrupts(folder, findings, busy)
+        unusual_starts(folder, findings, counter)
         names(folder, findings)
         annotations_elsewhere(folder, findings)
         linked_by_hand(folder, findings)

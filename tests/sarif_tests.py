@@ -92,7 +92,8 @@ def rule_text(rule):
 
 def suppressed_of(rules, counts):
     """The results of the rules that took races."""
-    for number, (rule, count) in enumerate(zip(rules, counts, strict=True), 1):
+    assert len(rules) == len(counts)
+    for number, (rule, count) in enumerate(zip(rules, counts), 1):
         if count:
             text = rule_text(rule)
             yield {
@@ -176,7 +177,8 @@ def log_tests(record):
     lines = ["eraser trace 3"] + [f"t{who} write {4 * k} {site}" for who in (1, 2) for k, site in enumerate(PLACES)]
     log = json.loads(run(["replay", "--format", "sarif", "-"], "\n".join(lines).encode())[0])
     found = [result["locations"][0] for result in log["runs"][0]["results"]]
-    for (site, place), one in zip(PLACES.items(), found, strict=True):
+    record("each site has its location", len(found) == len(PLACES), f"{found}")
+    for (site, place), one in zip(PLACES.items(), found):
         named = {"logicalLocations": [{"fullyQualifiedName": site}]}
         wanted = named if place is None else {"physicalLocation": {"artifactLocation": {"uri": place[0]}, "region": {"startLine": place[1]}}}
         record(f"the location of {site}", one == wanted, f"{one}")

@@ -103,7 +103,8 @@ class Tree:
         return self.run("tools/program", "--key", crate).stdout.strip()
 
     def run(self, script, *words, kit=False, before=(), **settings):
-        env = {"PATH": f"{self.home / 'bin'}:{os.environ['PATH']}", "HOME": str(self.home), **settings}
+        # Git looks for no repository above the tree.
+        env = {"PATH": f"{self.home / 'bin'}:{os.environ['PATH']}", "HOME": str(self.home), "GIT_CEILING_DIRECTORIES": str(self.top.parent), **settings}
         if kit:
             env["PATH"] = f"{self.home / 'kit'}:{env['PATH']}"
         return subprocess.run([*before, self.top / script, *words], capture_output=True, text=True, env=env, cwd=self.top.parent, timeout=120)
@@ -145,6 +146,14 @@ def choice_tests(record, tree):
         for time_ in ("first", "second"):
             found = tree.start("x")
             record(f"start: the sources are {text.strip()}, {time_}", found == ("shipped x\n", wanted, 0), f"{found}")
+    # A folder that goes leaves no other one's time changed.
+    specs = tree.top / "crates/low/specs"
+    specs.mkdir()
+    (specs / "Low.antt").write_text("low 1\n")
+    time.sleep(1.1)
+    record("start: a folder of the sources more", tree.start("x") == ("shipped x\n", OLDER, 0), f"{tree.start('x')}")
+    shutil.rmtree(specs)
+    record("start: this folder is gone", tree.start("x") == ("shipped x\n", "", 0), f"{tree.start('x')}")
     source.write_text("low 2\n")
     record("start: a line that was passed on isn't said again", tree.start("x", ERASER_TOLD="1") == ("shipped x\n", "", 0))
     record("start: the other program says it of itself", tree.run("tools/program", "probe").stderr == OLDER.replace("eraser", "probe"))
@@ -166,6 +175,8 @@ def choice_tests(record, tree):
     record("start: a built program of which nothing is known", tree.start("x") == ("shipped x\n", "", 0))
     found = tree.run("tools/program", "none")
     record("start: no such crate", (found.returncode, found.stdout, found.stderr) == (70, "", "none: there is no crate of this name\n"), f"{found}")
+    found = tree.run("tools/program", "--built", "none")
+    record("start: no such crate is built", found.returncode == 70 and not (tree.top / "crates/none").exists(), f"{found}")
 
 
 def damage_tests(record, tree):
@@ -203,14 +214,16 @@ def unwritable_tests(record, tree):
         record(f"a tree without room, {time_} start", found == ("shipped x\n", "", 0) and tree.unpacked(cache) == [f"{SUM}/eraser"], f"{found}")
     found, other = tree.start("x", XDG_CACHE_HOME=str(tree.home / "else")), tree.home / "else/eraser"
     record("the cache of XDG_CACHE_HOME", found == ("shipped x\n", "", 0) and tree.unpacked(other) == [f"{SUM}/eraser"], f"{found}")
+    found = tree.start("x", XDG_CACHE_HOME="cache")
+    is_told = found[0] == "" and "can be written to" in found[1] and found[2] == 70
+    record("a cache whose path doesn't begin at the root", is_told and not (tree.top / "cache").exists(), f"{found}")
     (tree.home / "file").write_text("")
     found = tree.start("x", XDG_CACHE_HOME=str(tree.home / "file"))
     record("no place at all", found[0] == "" and found[1].count("\n") == 1 and "can be written to" in found[1] and found[2] == 70, f"{found}")
     (tree.top / "crates/eraser/out").unlink()
     # Another user's tree. Root may write anywhere, so nobody runs it.
     as_nobody = ["setpriv", "--reuid=65534", "--regid=65534", "--clear-groups"] if os.geteuid() == 0 else []
-    for folder in (tree.top.parent, tree.top, tree.home):
-        folder.chmod(0o755)
+    subprocess.run(["chmod", "-R", "a+rX", tree.top.parent], check=True)
     (tree.home / "open").mkdir()
     (tree.home / "open").chmod(0o777)
     if not as_nobody:
@@ -294,14 +307,18 @@ def dist_tests(record, tree):
     record("dist: of other sources", found.stdout.startswith("dist/ has eraser of commit -, of other sources or by another toolchain"), f"{found}")
     found = tree.run("tools/dist", "eraser")
     record("dist: the line of other sources", found.returncode == 0 and manifest.read_text().splitlines()[1].split()[2] == tree.key(), f"{found}")
+    manifest.unlink()
+    found = tree.run("tools/dist", "--compare")
+    record("dist: no line", found.stdout == "dist/ has no eraser: tools/dist puts it there\nprobe isn't built of these sources\n", f"{found}")
 
 
 def prove_tests(record, tree):
     manifest = tree.top / "dist/MANIFEST"
     before = manifest.read_text()
-    found = tree.run("tools/prove", "eraser")
-    if shutil.which("rt") is None:
-        record("prove: no toolchain", found.returncode == 70 and "toolchain is missing" in found.stderr, f"{found}")
+    found = tree.run("tools/prove", "eraser", PATH=few_commands(tree.home / "bin"))
+    record("prove: no toolchain", found.returncode == 70 and "toolchain is missing" in found.stderr, f"{found}")
+    found = tree.run("tools/prove", "none", kit=True)
+    record("prove: no such crate", (found.returncode, found.stderr) == (70, "eraser: crates.txt has no crate none\n"), f"{found}")
     found = tree.run("tools/prove", "high", kit=True)
     record("prove: a library renews nothing", found.returncode == 0 and manifest.read_text() == before and "proved 2 of 2 crates" in found.stderr, f"{found}")
     found = tree.run("tools/prove", "eraser", kit=True)
@@ -317,8 +334,14 @@ def prove_tests(record, tree):
     tree.write("crates/high/src/lib.rt", "high 2\n")
     found = tree.run("tools/prove", "eraser", kit=True)
     record("prove: what changed and what is above", "sources of high have changed" in found.stderr and "2 of 3 crates" in found.stderr and found.returncode == 0, f"{found}")
-    kit = tree.home / "kit/rt"
-    kit.write_text(kit.read_text().replace("'kit 1'", "'kit 2'"))
+    kit, stamp = tree.home / "kit/rt", tree.top / "crates/high/out/proved"
+    was = stamp.read_text()
+    kit.write_text(KIT.replace("lib) ", f"lib) echo high 4 >'{tree.top}/crates/high/src/lib.rt' && "))
+    tree.write("crates/high/src/lib.rt", "high 3\n")
+    found = tree.run("tools/prove", "eraser", kit=True)
+    is_told = "eraser: sources of high, or of a crate below it, changed meanwhile" in found.stderr
+    record("prove: sources that change meanwhile", found.returncode == 70 and is_told and stamp.read_text() == was, f"{found}")
+    kit.write_text(KIT.replace("'kit 1'", "'kit 2'"))
     found = tree.run("tools/prove", "eraser", kit=True)
     record("prove: another toolchain", "and is now kit 2 logic abc: 3 of 3 crates" in found.stderr and " kit 2 logic abc\n" in manifest.read_text(), f"{found}")
 
@@ -383,7 +406,7 @@ def packages_tests(record, tree):
 
 def parts_tests(record, folder):
     """Without a compiler, a part that wants one is named, and another one runs."""
-    env = {**os.environ, "PATH": few_commands(folder)}
+    env = {**os.environ, "PATH": few_commands(folder), "ERASER_TOLD": "1"}
     found = subprocess.run([sys.executable, TOP / "tests/run", "pieces", "documents", "the recorder"], capture_output=True, text=True, env=env, timeout=120)
     *_, first, second, last = found.stdout.splitlines() or [""] * 3
     named = ["not run: pieces (no C compiler)", "not run: the recorder (no gcc, g++ or clang, or no headers of libdw)"]

@@ -642,6 +642,8 @@ static int last_status(uint64_t lost)
 int main(int count, char **words)
 {
     hold_streams();
+    /* Who starts us may ignore it, and then no end of a child is seen. */
+    signal(SIGCHLD, SIG_DFL);
     read_options(count, words);
     /* Looking for debug information is not to ask servers for it. */
     unsetenv("DEBUGINFOD_URLS");

@@ -2,6 +2,7 @@
 #include "trace.h"
 
 #include <errno.h>
+#include <poll.h>
 #include <stdio.h>
 #include <stdlib.h>
 #include <string.h>
@@ -74,10 +75,13 @@ size_t legal_site(char *to, const char *text)
 
 int write_all(int file, const char *text, size_t bytes)
 {
+    struct pollfd room = {.fd = file, .events = POLLOUT};
     for (size_t at = 0; at < bytes;) {
         ssize_t sent = write(file, text + at, bytes - at);
         if (sent >= 0)
             at += (size_t)sent;
+        else if (errno == EAGAIN)
+            poll(&room, 1, -1); /* the program may have made a stream non-blocking that it shares with us */
         else if (errno != EINTR)
             return errno;
     }
