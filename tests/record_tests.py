@@ -321,7 +321,7 @@ def ways_to_end(folder, made):
 
     right, racy, ends, busy = program("recursive"), program("queue"), program("ends"), program("busy")
     limited = ["-o", folder / "lost.trace", "--limit", "100000"]
-    failing = as_script(folder, "failing", "cat >/dev/null; exit 4\n")
+    failing, ended = as_script(folder, "failing", "cat >/dev/null; exit 4\n"), as_script(folder, "ended", "cat >/dev/null; kill -TERM $$\n")
     return {
         "wrong options, or a file that can't be opened": (["-o", folder / "no/where"], [right], {}),
         "the replay can't be started": ([], [right], {"ERASER": str(folder / "nothing")}),
@@ -333,6 +333,7 @@ def ways_to_end(folder, made):
         "the program ended with 2 or more, here with 6": ([], [ends, "exit"], {}),
         "the program ended with 1": ([], ["sh", "-c", f"{right}; exit 1"], {}),
         "the replay failed: 2, 3 or 4, as `eraser replay` has them": ([], [right], {"ERASER": failing}),
+        "a signal ended the replay, here signal 15": ([], [right], {"ERASER": ended}),
         "the program is not instrumented": ([], ["true"], {}),
         "no instrumented code ran": ([], [program("empty")], {}),
         "events were lost": (limited, [busy, "3000"], {}),
@@ -369,6 +370,18 @@ def forks(findings, program):
     findings.check("a program that forks", (found.returncode, found.stderr) == (1, wanted), f"{found}")
 
 
+def large_report(folder, findings, program):
+    """Who reads standard output to its end first, and standard error after it, gets a report of any size."""
+    replay = as_script(folder, "large", "cat >/dev/null; head -c 1000000 /dev/zero | tr '\\0' x\n")
+    recorder = subprocess.Popen([RUN, "-q", program], stdout=subprocess.PIPE, stderr=subprocess.PIPE, env={**os.environ, "ERASER": replay})
+    patience = threading.Timer(PATIENCE, recorder.kill)
+    patience.start()
+    output, errors = recorder.stdout.read(), recorder.stderr.read()
+    patience.cancel()
+    status = recorder.wait()
+    findings.check("a large report", (status, output, errors) == (3, b"30\n", b"x" * 1000000), f"{status} {output[:100]} {len(errors)} {errors[-100:]}")
+
+
 def as_script(folder, name, text):
     path = folder / name
     path.write_text("#!/bin/sh\n" + text)
@@ -397,7 +410,7 @@ def early_ends(folder, findings, busy):
     text = trace.read_text()
     limited = len(text) <= 100000 and re.search(r"\n# incomplete: \d+ events, [1-9]\d* lost\n\Z", text) and found.stderr.count("limit of 100000 bytes") == 2
     findings.check("a limit", limited and found.returncode == 0 and re.search(r"^steps ", found.stderr, re.M), f"{found} {text[-200:]}")
-    recorder = subprocess.Popen([RUN, "-o", trace, "--limit", "100000", busy, "10000000000"], stdout=subprocess.DEVNULL, stderr=subprocess.PIPE, text=True, start_new_session=True)
+    recorder = subprocess.Popen([RUN, "-o", trace, "--limit", "100000", busy, "1000000000"], stdout=subprocess.DEVNULL, stderr=subprocess.PIPE, text=True, start_new_session=True)
     line = recorder.stderr.readline()
     still_runs = recorder.poll() is None
     os.killpg(recorder.pid, signal.SIGINT)
@@ -580,6 +593,7 @@ def tests(record):
         ways_to_use(folder, findings, counter, made[SOURCES / "queue.cpp", "gcc", "-O0"])
         exit_statuses(folder, findings, made)
         forks(findings, made[SOURCES / "forks.c", "gcc", "-O0"])
+        large_report(folder, findings, counter)
         early_ends(folder, findings, busy)
         memory(folder, findings, busy)
         interrupts(folder, findings, busy)

@@ -529,11 +529,14 @@ static const char *name_of_report(void)
     return !options.report ? "standard error" : is_on_output(options.report) ? "standard output" : options.report;
 }
 
-/* A report of nothing is not written: it would say that there are no races. */
+/* A report of nothing is not written: it would say that there are no races. Standard output ends first, if the report goes elsewhere: who reads
+ * that to its end and standard error after it must not wait for a report that waits for him. */
 static void pass_report(void)
 {
     static char piece[1 << 16];
     ssize_t got = 0;
+    if (report_place != STDOUT_FILENO)
+        close(STDOUT_FILENO);
     /* Whoever waits for a report that nobody takes can end it. */
     signal(SIGINT, SIG_DFL);
     signal(SIGQUIT, SIG_DFL);
