@@ -285,6 +285,10 @@ def ways_to_use(folder, findings, counter, queue):
     findings.check("no program", (found.stdout, found.returncode) == ("", 125) and found.stderr.startswith("Usage: record/run "), f"{found}")
     found = command([RUN, "--help"])
     findings.check("help", found.stdout.startswith("Usage: record/run ") and (found.stderr, found.returncode) == ("", 0), f"{found}")
+    found = command(["sh", "-c", '"$@" >/dev/full', "sh", RUN, "--help"])
+    findings.check("help that can't be written", found.returncode == 125 and "cannot write standard output" in found.stderr, f"{found}")
+    found = command([RUN, "--wrong"])
+    findings.check("a wrong option's name", found.stderr.startswith("record/run: ") and "--wrong" in found.stderr.splitlines()[0], f"{found}")
     # Each of these options wants a report, also if the trace is kept.
     for words in (["--replay"], ["--suppress", rules], ["--explain"], ["--format", "text"], ["--exit-status", "report"]):
         found = command([RUN, "-o", trace, *words, counter])

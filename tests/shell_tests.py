@@ -5,6 +5,7 @@
 
 - completions: bash is asked what it would complete; the files for zsh and fish are read, and asked too if these shells are there
 - the manual page: its options, demos, suppressions and exit statuses
+- the same of the recorder, whose exit statuses are a table in docs/RECORDING.md
 - ./install: what it puts works, an existing file is left alone, and after --remove the folder is as it was before
 """
 
@@ -23,6 +24,7 @@ from alone import program, run_alone
 TOP = pathlib.Path(__file__).resolve().parent.parent
 SHELL = TOP / "shell"
 PROGRAM = program("eraser")
+RECORD = TOP / "record/run"
 INSTALL = TOP / "install"
 
 
@@ -71,10 +73,11 @@ def words_of(options):
 
 # ---- Completions
 
-def bash_completes(*words):
+def bash_completes(*words, name="eraser"):
     """What bash completes behind these words, of which the last is begun."""
-    line = " ".join(shlex.quote(word) for word in ("eraser", *words))
-    script = f'source {SHELL}/eraser.bash; COMP_WORDS=({line}); COMP_CWORD={len(words)}; _eraser; printf "%s\\n" "${{COMPREPLY[@]}}"'
+    line = " ".join(shlex.quote(word) for word in (name, *words))
+    function = "_" + name.replace("-", "_")
+    script = f'source {SHELL}/{name}.bash; COMP_WORDS=({line}); COMP_CWORD={len(words)}; {function}; printf "%s\\n" "${{COMPREPLY[@]}}"'
     return set(command(["bash", "-c", script], cwd=TOP).stdout.split())
 
 
@@ -182,7 +185,7 @@ def manual_options(text):
         if line != ".TP":
             continue
         tag = roff_text(lines[place + 1])
-        match = re.match(r"\.(?:BR (-\w) \", \" |B |BI )(--[\w-]+)(?: \" (\w+)\")?$", tag)
+        match = re.match(r"\.(?:BR (-\w) \", \" |B |BI )(--[\w-]+)(?: \" (?:\\fI)?(\w+)(?:\\fP)?\")?$", tag)
         if match and name is not None:
             found.setdefault(name, {})[match[2]] = (match[1], match[3], roff_text(lines[place + 2]).rstrip("."))
     return found
@@ -205,9 +208,109 @@ def manual_tests(record, top, commands, options, values):
         record(f"manual: the example's line {line}", line.strip() in roff_text(page))
     version = command([PROGRAM, "--version"]).stdout.strip()
     record("manual: the version", f'"{version}"' in page.splitlines()[1], f"{version}")
+    groff_test(record, "eraser.1")
+
+
+def groff_test(record, name):
     if shutil.which("groff"):
-        done = command(["groff", "-man", "-ww", "-z", SHELL / "eraser.1"])
-        record("manual: groff", (done.returncode, done.stderr) == (0, ""), f"{done}")
+        done = command(["groff", "-man", "-ww", "-z", SHELL / name])
+        record(f"{name}: groff", (done.returncode, done.stderr) == (0, ""), f"{done}")
+
+
+# ---- The recorder
+
+def told_of_recorder():
+    """Each option of record/run: its short form, the name of its value, what that is (files, the words there are, or anything) and its sentence."""
+    found = {}
+    for line in command([RECORD, "--help"]).stdout.splitlines():
+        match = re.match(r"^ +(?:(-\w), )?(--[\w-]+)(?: ([A-Z]+))? +(.*)$", line)
+        if match:
+            short, long, value, says = match.groups()
+            listed = re.findall(r"`([\w-]+)`", says)
+            takes = None if not value else " ".join(listed) if len(listed) > 1 else "files" if value in ("FILE", "RULES") else "anything"
+            says = says.replace("`", "").replace(" (docs/FORMATS.md)", "")
+            found[long] = (short, value, takes, says[0].upper() + says[1:])
+    return found
+
+
+def recorder_bash_tests(record, options):
+    def completes(*words):
+        return bash_completes(*words, name="eraser-record")
+
+    words = set(options) | {short for short, *_ in options.values() if short}
+    record("bash: options of eraser-record", completes("-") == words, f"{completes('-')}")
+    for other, (short, _, takes, _) in options.items():
+        for name in filter(None, (other, short)):
+            found, begun = completes(name, ""), completes(name, "READ")
+            if takes == "files":
+                record(f"bash: eraser-record {name}: files", begun == {"README.md"}, f"{begun}")
+            elif takes == "anything":
+                record(f"bash: eraser-record {name}: nothing that could be known", found == set() == begun, f"{found}, {begun}")
+            elif takes:
+                cut = completes(name, "="), completes(name, "=", takes[:2])
+                record(f"bash: eraser-record {name}: values", found == set(takes.split()) == cut[0] and takes.split()[0] in cut[1] < found, f"{found}, {cut}")
+            # Behind the option and its value the program can come, or another option.
+            value = ["3"] if takes else []
+            record(f"bash: eraser-record {name}: options behind it", completes(name, *value, "-") == words, f"{completes(name, *value, '-')}")
+    record("bash: eraser-record and a program", {"sh", "shell"} <= completes("-q", "sh") and completes("./erase") == {"./eraser"} == completes("--limit", "3", "./erase"))
+    for words in (["sh"], ["--format=json", "sh"], ["--format", "=", "json", "sh"], ["--", "sh"], ["-o", "x", "sh", "--format"]):
+        found = completes(*words, "-"), completes(*words, "READ")
+        record(f"bash: eraser-record {words} and arguments", found == (set(), {"README.md"}), f"{found}")
+
+
+def recorder_file_tests(record, options):
+    """The files for zsh and fish, and the manual page, have each option as --help says it."""
+    page, found = (SHELL / "_eraser-record").read_text(), {}
+    line = r"^ +(?:'\((-\w) (--[\w-]+)\)'\{\1,\2\}'|'(--[\w-]+))\[(.*?)\](?::(\w+)(?::(_files|\(.*\)))?)?' \\$"
+    for short, both, alone, says, value, action in re.findall(line, page, re.M):
+        takes = "files" if action == "_files" else action.strip("()") or "anything" if value else None
+        found[both or alone] = (short or None, value.upper() or None, takes, says)
+    record("zsh: options of eraser-record", found == options and page.startswith("#compdef eraser-record\n"), f"\n  {found}\n  {options}")
+    if shutil.which("zsh"):
+        done = command(["zsh", "-n", SHELL / "_eraser-record"])
+        record("zsh reads the recorder's file", done.returncode == 0 and not done.stderr, f"{done}")
+
+    text, found = (SHELL / "eraser-record.fish").read_text(), {}
+    begin = "complete -c eraser-record -n __eraser_record_before_program"
+    for short, long, more, says in re.findall(begin + r"(?: -s (\w))? -l ([\w-]+)(.*) -d '(.*)'$", text, re.M):
+        words = re.fullmatch(r" -x -a '(.*)'", more)
+        found["--" + long] = ("-" + short if short else None, words[1] if words else {"": None, " -r -F": "files", " -x": "anything"}.get(more, more), says)
+    record("fish: options of eraser-record", found == {long: (short, takes, says) for long, (short, _, takes, says) in options.items()}, f"\n  {found}\n  {options}")
+    valued = [name for long, (short, _, takes, _) in options.items() if takes for name in filter(None, (long, short))]
+    lists = re.findall(r"__fish_complete_subcommand -- (.*)\)'$", text, re.M) + re.findall(r"^            case (--.*)$", text, re.M)
+    record("fish: which options of eraser-record have a value", len(lists) == 2 and all(sorted(names.split()) == sorted(valued) for names in lists), f"{lists}, {valued}")
+    if shutil.which("fish"):
+        words = set(options) | {short for short, *_ in options.values() if short}
+        for begun, wanted in (("", words), ("--format json ", words), ("-q no-such-program ", set()), ("--format json no-such-program ", set())):
+            done = command(["fish", "-N", "-c", f"source {SHELL}/eraser-record.fish; complete -C {shlex.quote(f'eraser-record {begun}-')}"], cwd=TOP)
+            completed = {row.split("\t")[0] for row in done.stdout.splitlines()}
+            record(f"fish completes behind eraser-record {begun}", completed == wanted, f"{done}")
+
+
+def recorder_manual_tests(record, options):
+    page = (SHELL / "eraser-record.1").read_text()
+    found, wanted = manual_options(page)[""], {long: (short, value, says.rstrip(".")) for long, (short, value, _, says) in options.items()}
+    record("manual of eraser-record: options", found == wanted, f"\n  {found}\n  {wanted}")
+    version = command([RECORD, "--version"]).stdout.strip()
+    record("manual of eraser-record: the version", f'"{version}"' in page.splitlines()[1], f"{version}")
+    # A row that is an example says so: here with 6.
+    rows = re.findall(r"^\| (.*) \| (.*) \| (.*) \| `record: .*\|$", (TOP / "docs/RECORDING.md").read_text(), re.M)
+    wanted = {number for row in rows if ", here " not in row[0] for cell in row for number in re.findall(r"\b\d+\b", cell)}
+    tags = re.findall(r"^\.TP\n\.BR? ([\d\", ]+)\n", page.split(".SH EXIT STATUS\n")[1], re.M)
+    found = [number for tag in tags for number in re.findall(r"\d+", tag)]
+    record("manual of eraser-record: exit statuses", {"0", "1", "125"} < wanted and sorted(found) == sorted(wanted), f"{found}, {wanted}")
+    groff_test(record, "eraser-record.1")
+
+
+def recorder_tests(record):
+    options = told_of_recorder()
+    record("what record/run --help says is read", len(options) > 12 and options.get("--output", ())[:3] == ("-o", "FILE", "files"), f"{options}")
+    found, version = command([RECORD, "--version"]), command([PROGRAM, "--version"]).stdout
+    record("the version of the recorder is that of the program", (found.stdout, found.stderr, found.returncode) == (version.replace("eraser ", "eraser-record ", 1), "", 0), f"{found}, {version}")
+    record("record/run -V", command([RECORD, "-V"]).stdout == found.stdout)
+    recorder_bash_tests(record, options)
+    recorder_file_tests(record, options)
+    recorder_manual_tests(record, options)
 
 
 # ---- Installation
@@ -219,7 +322,9 @@ def tree(folder):
 
 # Where each shell, man and a compiler look below a prefix.
 PLACES = ("bin/eraser", "bin/eraser-record", "bin/eraser-cc", "bin/eraser-c++", "share/man/man1/eraser.1", "share/bash-completion/completions/eraser",
-          "share/zsh/site-functions/_eraser", "share/fish/vendor_completions.d/eraser.fish", "include/eraser.h")
+          "share/zsh/site-functions/_eraser", "share/fish/vendor_completions.d/eraser.fish", "share/man/man1/eraser-record.1",
+          "share/bash-completion/completions/eraser-record", "share/zsh/site-functions/_eraser-record",
+          "share/fish/vendor_completions.d/eraser-record.fish", "include/eraser.h")
 
 
 def install_tests(record):
@@ -277,6 +382,14 @@ def installed_program_tests(record, prefix, folder):
     found = command(["eraser-record", "./pool"], env=env, cwd=folder)
     races = re.findall(r"^line \d+: race: .* at (\S+), holds none$", found.stderr, re.M)
     record("the installed recorder", found.returncode == 0 and races and set(races) == {"pool.cpp:19"} and " 0 lost" in found.stderr, f"{built}, {found}")
+    for words in (["--help"], ["--version"]):
+        found, here = command(["eraser-record", *words], env=env, cwd=folder), command([RECORD, *words])
+        wanted = here.stdout.replace("Usage: record/run ", "Usage: eraser-record ")
+        record(f"the installed recorder {words}", "eraser-record " in wanted and (found.stdout, found.stderr, found.returncode) == (wanted, "", 0), f"{found}, {here}")
+    found = command(["eraser-record"], env=env, cwd=folder)
+    record("the installed recorder without a program", found.returncode == 125 and found.stderr.startswith("Usage: eraser-record [OPTIONS] "), f"{found}")
+    found = command(["eraser-record", "--wrong"], env=env, cwd=folder)
+    record("the installed recorder with a wrong option", found.returncode == 125 and found.stderr.startswith("eraser-record: "), f"{found}")
     annotated = folder / "annotated.c"
     annotated.write_text("#include <eraser.h>\nint main(void) { int x = 0; ERASER_REUSE(&x, sizeof x); return x; }\n")
     built = command(["eraser-cc", f"-I{prefix}/include", annotated, "-o", "annotated"], env=env, cwd=folder)
@@ -288,8 +401,9 @@ def installed_program_tests(record, prefix, folder):
         found = command(["eraser-record", "./pool"], env=env, cwd=folder)
         record("the installed recorder with clang", built.returncode == found.returncode == 0 and "pool.cpp:19" in found.stderr, f"{built}, {found}")
     if shutil.which("man"):
-        found = command(["man", "-w", "eraser"], env={**env, "MANPATH": ""})
-        record("man finds the page", found.stdout.strip() == str(prefix / "share/man/man1/eraser.1"), f"{found}")
+        for name in ("eraser", "eraser-record"):
+            found = command(["man", "-w", name], env={**env, "MANPATH": ""})
+            record(f"man finds the page of {name}", found.stdout.strip() == str(prefix / f"share/man/man1/{name}.1"), f"{found}")
 
 
 def tests(record):
@@ -298,6 +412,7 @@ def tests(record):
     bash_tests(record, commands, options, values)
     file_tests(record, commands, options, values)
     manual_tests(record, top, commands, options, values)
+    recorder_tests(record)
     install_tests(record)
 
 

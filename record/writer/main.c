@@ -56,8 +56,11 @@ static int report_text = -1, report_place = -1;
 static int report_error; /* errno of the failed write, or 0 */
 static volatile sig_atomic_t replay_to_stop;
 
+/* That of the program `eraser`. tests/shell_tests.py compares them. */
+static const char version[] = "eraser-record 0.1.0\n";
+
+/* Behind the line with the name by which the recorder was called. */
 static const char usage[] =
-    "Usage: record/run [OPTIONS] PROGRAM [ARGUMENTS..]\n"
     "\n"
     "Runs a program that was built with -fsanitize=thread, records what its threads do, and reports its races.\n"
     "\n"
@@ -65,7 +68,7 @@ static const char usage[] =
     "      --replay            with -o: replay as well\n"
     "      --report FILE       write the report to FILE instead of standard error; `-` is standard output\n"
     "      --suppress RULES    leave out the races that these rules take (docs/FORMATS.md)\n"
-    "      --analysis RULE     `lockset` (the default), `happens-before` or `both`; the last two record with --order\n"
+    "      --analysis RULE     report by `lockset` (the default), `happens-before` or `both`; the last two record with --order\n"
     "      --explain           name the accesses that make each race\n"
     "      --by-site           report the races by their sites, most words first\n"
     "      --format FORM       write the report as `text` (the default), `json`, `sarif` or `html`\n"
@@ -76,7 +79,8 @@ static const char usage[] =
     "      --limit BYTES       with -o: keep at most BYTES of text; 0: no limit. The default is 268435456\n"
     "      --paths             name sites by their whole path\n"
     "  -q, --quiet             say nothing on standard error beside the report, unless something went wrong\n"
-    "  -h, --help              print this\n"
+    "  -h, --help              print this help\n"
+    "  -V, --version           print the version\n"
     "\n"
     "It ends with the program's exit status, or 128 and the number of the signal that ended it; 125 if the recorder failed, 126 or 127\n"
     "if the program cannot be started. The report comes on standard error when the program has ended.\n"
@@ -147,6 +151,19 @@ static void drop_limit(void)
     output.limit = 0;
 }
 
+static void print_usage(const char *name, FILE *to)
+{
+    fprintf(to, "Usage: %s [OPTIONS] PROGRAM [ARGUMENTS..]\n%s", name, usage);
+}
+
+/* Ends the recorder, of which nothing but a text was wanted. */
+static void end_printed(void)
+{
+    if (fflush(stdout) != 0)
+        fail("cannot write", "standard output");
+    exit(0);
+}
+
 static void read_options(int count, char **words)
 {
     enum { REPLAY = 256, REPORT, SUPPRESS, EXPLAIN, BY_SITE, STRICT, UNTIL_FAULT, FORMAT, ANALYSIS, EXIT_STATUS, ORDER, LIMIT, PATHS };
@@ -155,11 +172,11 @@ static void read_options(int count, char **words)
         {"exit-status", 1, NULL, EXIT_STATUS}, {"limit", 1, NULL, LIMIT},   {"paths", 0, NULL, PATHS},   {"quiet", 0, NULL, 'q'},
         {"explain", 0, NULL, EXPLAIN},    {"by-site", 0, NULL, BY_SITE}, {"format", 1, NULL, FORMAT}, {"help", 0, NULL, 'h'},
         {"order", 0, NULL, ORDER},        {"analysis", 1, NULL, ANALYSIS}, {"strict", 0, NULL, STRICT},
-        {"until-fault", 0, NULL, UNTIL_FAULT},
+        {"until-fault", 0, NULL, UNTIL_FAULT}, {"version", 0, NULL, 'V'},
         {NULL, 0, NULL, 0},
     };
     output.limit = USUAL_LIMIT;
-    for (int got; (got = getopt_long(count, words, "+o:qh", names, NULL)) != -1;)
+    for (int got; (got = getopt_long(count, words, "+o:qhV", names, NULL)) != -1;)
         switch (got) {
         case 'o': options.trace = optarg; break;
         case REPLAY: options.replays = true; break;
@@ -176,7 +193,8 @@ static void read_options(int count, char **words)
         case LIMIT: output.limit = read_bytes(optarg); break;
         case PATHS: sites_have_paths = true; break;
         case 'q': options.is_quiet = true; break;
-        case 'h': fputs(usage, stdout); exit(0);
+        case 'h': print_usage(words[0], stdout); end_printed(); break;
+        case 'V': fputs(version, stdout); end_printed(); break;
         default: fputs("record: --help says what there is\n", stderr); exit(STATUS_FAILED);
         }
     if (options.format && options.by_site) {
@@ -189,7 +207,7 @@ static void read_options(int count, char **words)
     }
     options.orders |= needs_order();
     if (optind == count) {
-        fputs(usage, stderr);
+        print_usage(words[0], stderr);
         exit(STATUS_FAILED);
     }
     if (!options.trace)

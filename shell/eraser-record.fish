@@ -1,0 +1,38 @@
+# Completions of eraser-record for fish. tests/shell_tests.py keeps them equal to what --help says.
+
+# Whether the words up to the cursor are options, some with a value in the next word.
+function __eraser_record_before_program
+    set -l words (commandline -opc)
+    set -e words[1]
+    while set -q words[1]
+        switch $words[1]
+            case --output -o --report --suppress --analysis --format --exit-status --limit
+                set -e words[1]
+            case '-*'
+            case '*'
+                return 1
+        end
+        set -e words[1]
+    end
+    return 0
+end
+
+complete -c eraser-record -x -a '(__fish_complete_subcommand -- --output -o --report --suppress --analysis --format --exit-status --limit)'
+
+complete -c eraser-record -n __eraser_record_before_program -s o -l output -r -F -d 'Keep the trace in FILE, and replay nothing'
+complete -c eraser-record -n __eraser_record_before_program -l replay -d 'With -o: replay as well'
+complete -c eraser-record -n __eraser_record_before_program -l report -r -F -d 'Write the report to FILE instead of standard error; - is standard output'
+complete -c eraser-record -n __eraser_record_before_program -l suppress -r -F -d 'Leave out the races that these rules take'
+complete -c eraser-record -n __eraser_record_before_program -l analysis -x -a 'lockset happens-before both' -d 'Report by lockset (the default), happens-before or both; the last two record with --order'
+complete -c eraser-record -n __eraser_record_before_program -l explain -d 'Name the accesses that make each race'
+complete -c eraser-record -n __eraser_record_before_program -l by-site -d 'Report the races by their sites, most words first'
+complete -c eraser-record -n __eraser_record_before_program -l format -x -a 'text json sarif html' -d 'Write the report as text (the default), json, sarif or html'
+complete -c eraser-record -n __eraser_record_before_program -l strict -d 'End the replay with 2 if the trace is damaged, and write no report'
+complete -c eraser-record -n __eraser_record_before_program -l until-fault -d 'Report the steps before the first faulty line of the trace, and then its fault'
+complete -c eraser-record -n __eraser_record_before_program -l exit-status -x -a 'program report' -d 'End with the status of the program (the default) or of the report'
+complete -c eraser-record -n __eraser_record_before_program -l order -d 'Record what orders threads as well: starts and joins, semaphores, atomic operations ..'
+complete -c eraser-record -n __eraser_record_before_program -l limit -x -d 'With -o: keep at most BYTES of text; 0: no limit. The default is 268435456'
+complete -c eraser-record -n __eraser_record_before_program -l paths -d 'Name sites by their whole path'
+complete -c eraser-record -n __eraser_record_before_program -s q -l quiet -d 'Say nothing on standard error beside the report, unless something went wrong'
+complete -c eraser-record -n __eraser_record_before_program -s h -l help -d 'Print this help'
+complete -c eraser-record -n __eraser_record_before_program -s V -l version -d 'Print the version'
