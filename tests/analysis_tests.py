@@ -181,7 +181,7 @@ def by_sites(record):
     """`both --by-site` beside a second reading of docs/FORMATS.md, made from what the other readings say of the text."""
     texts = [(f"random trace {seed}", reference.random_trace(seed), rules) for seed in range(SITE_TRACES) for rules in (None, reference.random_rules(seed))]
     texts += [(f"random list {seed}", order_tests.random_list(seed), None) for seed in range(SITE_TRACES)]
-    texts += [("two headings", TWO_HEADINGS, None)]
+    texts += [("two headings", TWO_HEADINGS, None), ("order alone", ORDER_ALONE, None), ("order beside", ORDER_BESIDE, None)]
     kinds = set()
     for name, text, rules in texts:
         output, errors, status = reference.replay(text, rules or b"", explain=True)
@@ -198,6 +198,10 @@ def by_sites(record):
     record("both by site: each part has sites in some text, and none in another", len(kinds) == 4, f"{kinds}")
     found = run([*BOTH, "--by-site", "-"], TWO_HEADINGS)
     record("both by site: the worked text", found == (TWO_HEADINGS_BY_SITE, b"", 1), f"{found}")
+    place = b"  nothing orders this before it: t1 wrote it (line 2)\n    at count.c:3, holding no lock\n"
+    for name, text in (("alone", ORDER_ALONE), ("beside races by locks", ORDER_BESIDE)):
+        found = run_file(None, text, *BOTH, "--by-site")
+        record(f"both by site: the place of a reason of order {name}", place in found[0] and found[1:] == (b"", 1), f"{found}")
 
 
 # ---- What is made of a report besides ----
@@ -212,6 +216,18 @@ t2 read 0x2000 b.c:2
 t2 write 0x3000 b.c:3
 end
 """
+
+
+# A lock is held from the second thread's first access on, so the lockset rule is content. The first access was not ordered before that one.
+ORDER_ALONE = b"""eraser trace 3
+t1 write 0x2000 count.c:3
+t2 lock m
+t2 write 0x2000 count.c:7
+t2 unlock m
+end
+"""
+# The same, beside a word that is reported by both.
+ORDER_BESIDE = ORDER_ALONE.replace(b"t2 lock", b"t1 write 0x1000 flag.c:3\nt2 write 0x1000 flag.c:9\nt2 lock")
 
 
 # The flag is handed on by a signal, and the counter has no lock at all.

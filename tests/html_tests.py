@@ -201,6 +201,25 @@ def source_tests(record):
         record(f"{words} are wrong arguments", (output, status) == (b"", 2) and errors.startswith(b"error: "), f"{output}, {errors}, {status}")
 
 
+# How many bytes of a source file are read.
+MOST_BYTES = 1 << 24
+
+
+def far_lines(record):
+    """Lines far behind the beginning of a file, up to where it is no longer read: the last one is cut there."""
+    with tempfile.TemporaryDirectory() as folder:
+        text = b"".join(b"%-999d\n" % number for number in range(1, MOST_BYTES // 1000 + 10))
+        (pathlib.Path(folder) / "far.c").write_bytes(text)
+        # A line has 1,000 bytes, so the last one that is read is cut behind 216.
+        cut = MOST_BYTES // 1000 + 1
+        there, missing = [1, 66, 67, 132, 1100, cut - 8, cut - 3, cut], [cut + 1, cut + 5]
+        trace = "eraser trace 1\n" + "".join(f"{thread} write {4 * line} far.c:{line}\n" for line in (*there, *missing) for thread in ("t1", "t2"))
+        page = run(["replay", "--format", "html", "--source", folder, "-"], trace.encode())[0]
+        found, wanted = json.loads(blocks_of(page)[2]), [excerpt(f"far.c:{line}", text[:MOST_BYTES], line) for line in there]
+        record("source lines far behind the beginning of a file", found == wanted, f"{found}, {wanted}"[:2000])
+        record("the last source line that is read", len(wanted[-1]["text"].split("\n")[-1]) == 216, f"{wanted[-1]}"[:2000])
+
+
 def refusal_tests(record, preloaded):
     """Each allocation refused in turn, each write failed."""
     with tempfile.TemporaryDirectory() as folder:
@@ -374,6 +393,25 @@ def screen_tests(record, one, folder):
     one.call("Emulation.setEmulatedMedia", media="screen", features=[])
 
 
+def first_races_tests(record, one, folder):
+    """A page that lacks races says so, and has the exit status of all; a site of many races has a row for each of the first 50."""
+    racy = "eraser trace 1\n" + "".join(f"{thread} write {4 * k} part{k}.cpp:1\n" for k in range(2) for thread in ("t1", "t2"))
+    lacking = [(["--max-races", "0"], ["This page has the first 0 races alone."]), (["--max-races", "1"], ["This page has the first 1 race alone."])]
+    for options, notice in (*lacking, (["--max-races", "2"], []), ([], [])):
+        opened(run(["replay", "--format", "html", *options, "-"], racy.encode())[0], folder, one)
+        found = one.value("[...document.querySelectorAll('header p')].map(part => part.textContent)")
+        wanted = ["The exit status is 1, as there is a race that no suppression takes.", *notice]
+        record(f"the head of a page with {options}", is_calm(one) and found == wanted, f"{found}, {one.troubles}")
+    opened(run(["replay", "--format", "html", "-"], b"eraser trace 1\nt1 write 0\n")[0], folder, one)
+    found = one.value("[...document.querySelectorAll('header p')].map(part => part.textContent)")
+    record("the head of a page without races", found == ["The exit status is 0, as there is no race that no suppression takes."], f"{found}")
+    for count, caption in ((1, "1 race"), (50, "50 races"), (51, "The first 50 of 51 races"), (1200, "The first 50 of 1,200 races")):
+        trace = "eraser trace 1\n" + "".join(f"{thread} write {4 * k} part.cpp:1\n" for k in range(count) for thread in ("t1", "t2"))
+        opened(run(["replay", "--format", "html", "-"], trace.encode())[0], folder, one)
+        found = one.value("(table => [table.caption.textContent, [...table.tBodies[0].rows].map(row => row.cells[0].textContent)])(document.querySelector('details.site table'))")
+        record(f"the rows of a site of {count} races", found == [caption, [f"{2 * k + 3}" for k in range(min(count, 50))]], f"{found}")
+
+
 def large_tests(record, one, folder):
     """300,000 races: the page groups them, and makes rows and pictures as they are asked for."""
     lines = [f"{thread} write {4 * k} part{k % 2000}.cpp:{k % 700 + 1}" for k in range(300_000) for thread in ("t1", "t2")]
@@ -401,6 +439,7 @@ def browser_tests(record):
         keyboard_tests(record, one, folder)
         hostile_tests(record, one, folder)
         screen_tests(record, one, folder)
+        first_races_tests(record, one, folder)
         large_tests(record, one, folder)
 
 
@@ -417,6 +456,7 @@ def tests(record, preloaded):
     """Returns what could not be run, for want of a browser."""
     shell_tests(record, page_tests(record))
     source_tests(record)
+    far_lines(record)
     refusal_tests(record, preloaded)
     if browser.found() is None:
         return ["the page in a browser (no chromium)"]

@@ -32,6 +32,16 @@ RULE_SITES = "a site has 1 to 128 printable bytes"
 ORDER_VERBS = "the verbs start, join, signal and await need the header eraser trace 3"
 HEADER = b"eraser trace 1\n"
 
+
+
+def over_a_piece(cut):
+    """A text whose last line has so many bytes in the first 4,096 of the file, as many as are read at a time, and is as long as a line may be."""
+    filler = 4096 - cut - len(HEADER)
+    lines = [b"##\n"] * (filler % 2) + [b"#\n"] * (filler // 2 - filler % 2)
+    text = HEADER + b"".join(lines) + b"t1" + b" " * 1019 + b"hop\n"
+    return text, f"line {len(lines) + 2}: bad verb", (".." + " " * 20 + "hop", 22), VERBS
+
+
 # The file's bytes, the fault's line, the line as it is shown and how many columns stand before the mark in it (None: no line is shown), the hint.
 TRACES = {
     "CR LF": (b"eraser trace 1\r\nt1 write 0x1000\r\n", "line 1: no header", (r"eraser trace 1\r", 14),
@@ -85,6 +95,7 @@ TRACES = {
     "a very long line": (HEADER + b"\0" * 300000, "line 2: line too long", (r"\x00" * 25 + "..", 0), "a line has at most 1024 bytes; is this a text?"),
     "a place far to the right": (HEADER + b"t1 write 0x1000 " + b"a" * 100 + b"+\n", "line 2: bad name", (".." + "a" * 20 + "+", 22), SITES),
     "the last line": (HEADER + b"t1 read 4\n" * 5000 + b"t1 hop", "line 5002: bad verb", ("t1 hop", 3), VERBS),
+    **{f"a line with {cut} bytes in the first piece of the file": over_a_piece(cut) for cut in (1, 64, 65, 128, 512, 1000, 1023)},
 }
 
 RULES = {

@@ -7,6 +7,7 @@
   output, the same errors behind the lines of progress, the same status; the last line has the bytes, the steps and the races of the whole trace
 - a pipe that gives a piece of a trace at a time: lines come while it is open, their numbers rise, and none comes sooner than half a second
   behind another
+- the second pass of --until-fault counts its time from its own beginning
 - a terminal: one line, which is cleared before the report and before a fault
 - standard error that is full, closed, or read by nobody: nothing else changes
 - each allocation refused in turn, and each write failed in turn
@@ -159,6 +160,22 @@ def slow_pipe(record):
         record(f"{title}: the report", (found, b"", status) == run(["replay", *options, "-"], text), f"{found}")
 
 
+def second_pass(record):
+    """The fault comes late, and the lines before it are replayed once more: what a line says of that took no longer than what came behind the fault."""
+    program = subprocess.Popen([str(PROGRAM), "replay", "--progress", "--until-fault", "-"], stdin=subprocess.PIPE, stdout=subprocess.PIPE, stderr=subprocess.PIPE)
+    program.stdin.write(HEAD + RACE)
+    program.stdin.flush()
+    time.sleep(0.5)
+    begun = time.monotonic()
+    output, errors = program.communicate(b"fault\n", timeout=120)
+    took = 1000 * (time.monotonic() - begun)
+    lines, rest = parted(errors)
+    record("progress: a late fault", (output, rest) == (run(["replay", "-"], HEAD + RACE)[0], b"line 4: missing operand\n") and len(lines) == 1, f"{output} {errors}")
+    # A rate is cut to a whole number, so its steps took more milliseconds than by the next greater one. Less than one counts as one.
+    least = [1000 * steps / (rate + 1) for _, steps, rate, _ in lines]
+    record("progress: a second pass begins anew", all(each <= max(took, 1) for each in least), f"{least} {took}")
+
+
 # ---- A terminal
 
 def on_terminal(words, text):
@@ -276,6 +293,7 @@ def tests(record, preloaded):
         same_replays(record, folder)
         numbers(record, folder)
         slow_pipe(record)
+        second_pass(record)
         terminal(record)
         lost_errors(record, preloaded, folder)
         arguments(record, folder)

@@ -26,6 +26,37 @@ WIDEST = 120
 # The first access has a site and a lock, and the race has none.
 PLACED = b"eraser trace 1\nt1 lock a\nt1 write 0x1000 pool.c:8\nt2 write 0x1000\n"
 
+# A thread has several races at one site, under one lock. The example is the first of them.
+SEVERAL = b"""eraser trace 1
+t1 write 0x1000
+t1 write 0x2000
+t1 write 0x3000
+t2 lock n
+t2 write 0x1000
+t2 write 0x2000
+t2 write 0x3000
+t3 lock m
+t3 write 0x1000 a.c:1
+t3 write 0x2000 a.c:1
+t3 read 0x3000 a.c:1
+"""
+SEVERAL_BY_SITE = b"""words     kinds       threads   locks     site
+3         read write  1         1         a.c:1
+
+a.c:1:
+  t3 wrote the word at 0x000000001000 (line 10)
+  t3 held m
+  t1 used it first: it wrote it (line 2)
+  t2 was the second: it wrote it (line 6)
+  t2 has written it since then (line 6)
+  n did not protect it when t3 wrote it (line 10)
+  So no lock protected all accesses from the second thread's first one on
+
+steps 11, races 3, suppressed 0, refused 0
+"""
+# More than 17 bits number.
+MANY = (1 << 17) + 2
+
 RACE = re.compile(r"line (\d+): (?:race|unordered): (\S+) (read|write) (0x[0-9a-f]{12}) at (\S+), holds (.*)")
 REASON = re.compile(r"  (.+): line (\d+), (\S+) (read|write)")
 REFUSED = re.compile(r"line (\d+): refused: .*: ([^:]+)")
@@ -250,6 +281,8 @@ def tests(record, preloaded):
         placed += b"\n    holding " in found[0] and b"\n    at " in found[0]
     record("traces by site have races", raced > 100, f"{raced}")
     record("some reasons have a site and locks", placed > 50, f"{placed}")
+    found = run(["replay", "--by-site", "-"], SEVERAL)
+    record("several races of a thread at one site", found == (SEVERAL_BY_SITE, b"", 1), f"{found}")
     record("reasons from a FIFO have no places", run_fifo(PLACED, "--by-site") == expected(PLACED, None))
     record("reasons from a file have places", run_file(None, PLACED, "--by-site") == expected(PLACED, None, True) and b"    at pool.c:8\n    holding a\n" in expected(PLACED, None, True)[0])
     found = run(["replay", "--by-site", "-"], long_names(9))
@@ -260,9 +293,9 @@ def tests(record, preloaded):
     record("long names by site from a file are cut", max(len(line) for line in found[0].splitlines()) <= WIDEST)
     record("no colour by site", b"\x1b" not in found[0])
     # As many sites as there are races: a pass over the rows for each would take minutes.
-    many = "eraser trace 1\n" + "".join(f"t{who} write {4 * k} s:{k}\n" for who in (1, 2) for k in range(100_000))
+    many = "eraser trace 1\n" + "".join(f"t{who} write {4 * k} s:{k}\n" for who in (1, 2) for k in range(MANY))
     output, errors, status = run(["replay", "--by-site", "-"], many.encode())
-    record("many sites", (errors, status) == (b"", 1) and output.count(b"\n1         write       1         0         s:") == 100_000)
+    record("many sites", (errors, status) == (b"", 1) and output.count(b"\n1         write       1         0         s:") == MANY)
     formats = (TOP / "docs/FORMATS.md").read_text()
     shown = run(["replay", "--by-site", str(TOP / "examples/explained.trace")])[0].decode()
     record("the report by site of the formats", shown in formats, shown)

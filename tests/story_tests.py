@@ -6,8 +6,10 @@
 - worked stories: each kind of answer, with the text worked out by hand
 - random traces, and each line of them: the same text, or the line of the fault
 - files that can't be opened, lines without a step, refused allocations and failed writes
+- names are hashed by random keys, and if the system gives no random bytes the story is the same
 """
 
+import os
 import pathlib
 import random
 import subprocess
@@ -232,10 +234,19 @@ def faults(record, preloaded):
             record(f"a story without allocation {nth}", found in (whole, (b"", b"out of memory\n", 3)), f"{found}")
 
 
+def random_keys(record, preloaded):
+    whole = run(["explain", "10", "-"], text_of(NARROWING))
+    with tempfile.TemporaryDirectory() as folder:
+        library, noted = preloaded(folder, "no_random"), pathlib.Path(folder) / "noted"
+        found = run(["explain", "10", "-"], text_of(NARROWING), env={**os.environ, "LD_PRELOAD": str(library), "RANDOM_NOTED": str(noted)})
+        record("a story asks for random bytes, and does without", found == whole and noted.exists(), f"{found}")
+
+
 def tests(record, preloaded):
     worked_stories(record)
     random_stories(record)
     faults(record, preloaded)
+    random_keys(record, preloaded)
 
 
 if __name__ == "__main__":

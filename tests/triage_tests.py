@@ -9,6 +9,7 @@ the other tests compare with tests/reference.py.
   leaves no race; there is no file behind a fault or a stop
 - --unused-rules: a line for each rule of which the report says 0
 - --max-races: the first races have lines, and the others are counted; the same in JSON and SARIF
+- more races at one site, and more sites, than 16 bits number
 - each allocation refused in turn: `out of memory` and no file of rules, or a stop, or the whole answer
 """
 
@@ -28,6 +29,8 @@ from site_tests import preloaded
 TOP = pathlib.Path(__file__).resolve().parent.parent
 PROGRAM = program("eraser")
 RANDOM_TRACES = 300
+# More than 16 bits number.
+MANY = 65_600
 RACE = re.compile(r"line (\d+): race: (\S+) (read|write) (0x[0-9a-f]{12}) at (\S+), holds .*")
 HEAD = "# Known races, written by eraser replay --write-rules\n"
 
@@ -193,6 +196,36 @@ def first_races(record, folder):
                 record(f"{name} {explained}: the first {most} races", found == (b"".join(kept), errors.encode(), lines[2]), f"{found}")
 
 
+def many_races(record, folder):
+    """As many races at one site, and then as many more at a site each: rules that count and take them all, and reports of the first of them."""
+    path, sites = folder / "many.rules", ["one.c:1"] * MANY + [f"each.c:{k}" for k in range(MANY)]
+    text = "eraser trace 1\n" + "".join(f"{thread} write {4 * k} {site}\n" for k, site in enumerate(sites) for thread in ("t1", "t2"))
+    places = [(2 * k + 3, f"t2 write 0x{4 * k:012x}") for k in range(len(sites))]
+    known = HEAD
+    for k in (0, *range(MANY, 2 * MANY)):
+        line, access = places[k]
+        known += f"# races {1 if k else MANY}, first: line {line}, {access}\nsite {sites[k]}\n"
+
+    def report(kind, what, most):
+        lines = [f"line {line}: {kind}: {access} at {site}, holds none\n" for (line, access), site in zip(places[:most], sites)]
+        return ("".join(lines) + f"steps {4 * MANY}, {what} {2 * MANY}, suppressed 0, refused 0\n").encode()
+
+    for analysis, kind, what in (("lockset", "race", "races"), ("happens-before", "unordered", "unordered")):
+        path.unlink(missing_ok=True)
+        found = run(["replay", "--analysis", analysis, "--write-rules", path, "-"], text.encode())
+        record(f"many races by {analysis}", found == (report(kind, what, None), b"", 1), f"{found}"[:1000])
+        written = path.read_bytes() if path.exists() else None
+        record(f"rules of many races by {analysis}", written == known.encode(), f"{written}"[:1000])
+    path.write_text(known)
+    found = run(["replay", "--suppress", path, "-"], text.encode())
+    counts = "".join(f"suppression {number}: {1 if number > 1 else MANY}\n" for number in range(1, MANY + 2))
+    wanted = f"{counts}steps {4 * MANY}, races 0, suppressed {2 * MANY}, refused 0\n".encode()
+    record("rules of many races take them all", found == (wanted, b"", 0), f"{found}"[:1000])
+    for most in (1025, MANY, 2 * MANY - 1):
+        found = run(["replay", "--max-races", most, "-"], text.encode())
+        record(f"the first {most} of many races", found == (report("race", "races", most), f"races left out: {2 * MANY - most}\n".encode(), 1), f"{found}"[:1000])
+
+
 def counted(form, text):
     """How many races a JSON document or the results of a SARIF log have."""
     document = json.loads(text)
@@ -251,6 +284,7 @@ def tests(record, preloaded):
         unwritten_rules(record, folder)
         unused_rules(record, folder)
         first_races(record, folder)
+        many_races(record, folder)
         together(record, folder)
         refusals(record, folder, preloaded)
 
