@@ -374,6 +374,14 @@ def forks(findings, program):
     findings.check("a program that forks", (found.returncode, found.stderr) == (1, wanted), f"{found}")
 
 
+def hangups(folder, findings):
+    """A program that is recorded under `nohup` ignores hangups, as it does without the recorder."""
+    words = [RUN, "-q", "-o", folder / "hangup.trace", "grep", "SigIgn", "/proc/self/status"]
+    found = command(["sh", "-c", 'trap "" HUP; exec "$@"', "sh", *words])
+    ignored = re.fullmatch(r"SigIgn:\s+([0-9a-f]+)\n", found.stdout)
+    findings.check("a hangup that is ignored", ignored and int(ignored[1], 16) & 1, f"{found}")
+
+
 def large_report(folder, findings, program):
     """Who reads standard output to its end first, and standard error after it, gets a report of any size."""
     replay = as_script(folder, "large", "cat >/dev/null; head -c 1000000 /dev/zero | tr '\\0' x\n")
@@ -598,6 +606,7 @@ def tests(record):
         exit_statuses(folder, findings, made)
         forks(findings, made[SOURCES / "forks.c", "gcc", "-O0"])
         large_report(folder, findings, counter)
+        hangups(folder, findings)
         early_ends(folder, findings, busy)
         memory(folder, findings, busy)
         interrupts(folder, findings, busy)

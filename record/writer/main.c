@@ -249,14 +249,19 @@ static void pass_on(int number)
         replay_to_stop = 1;
 }
 
+/* What `nohup` makes the recorder ignore, the program ignores too. */
+static bool ignores_hangup;
+
 static void set_signals(void)
 {
-    struct sigaction action = {.sa_handler = interrupt};
+    struct sigaction action = {.sa_handler = interrupt}, old;
     sigaction(SIGINT, &action, NULL);
     sigaction(SIGQUIT, &action, NULL);
     action.sa_handler = pass_on;
     sigaction(SIGTERM, &action, NULL);
-    sigaction(SIGHUP, &action, NULL);
+    ignores_hangup = sigaction(SIGHUP, NULL, &old) == 0 && old.sa_handler == SIG_IGN;
+    if (!ignores_hangup)
+        sigaction(SIGHUP, &action, NULL);
     signal(SIGPIPE, SIG_IGN);
 }
 
@@ -408,7 +413,8 @@ static void start_program(char **words)
     signal(SIGINT, SIG_DFL);
     signal(SIGQUIT, SIG_DFL);
     signal(SIGTERM, SIG_DFL);
-    signal(SIGHUP, SIG_DFL);
+    if (!ignores_hangup)
+        signal(SIGHUP, SIG_DFL);
     signal(SIGPIPE, SIG_DFL);
     set_library_path();
     execute(words, start[1]);
@@ -559,7 +565,8 @@ static void pass_report(void)
     signal(SIGINT, SIG_DFL);
     signal(SIGQUIT, SIG_DFL);
     signal(SIGTERM, SIG_DFL);
-    signal(SIGHUP, SIG_DFL);
+    if (!ignores_hangup)
+        signal(SIGHUP, SIG_DFL);
     lseek(report_text, 0, SEEK_SET);
     while (trace_events && !report_error && (got = read(report_text, piece, sizeof piece)) > 0)
         report_error = write_all(report_place, piece, (size_t)got);
