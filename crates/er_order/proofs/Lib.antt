@@ -6,6 +6,7 @@ pub mod ClockLists
 pub mod RaceLemmas
 pub mod RaceFacts
 pub mod StepLemmas
+pub mod LockOrder
 pub mod Following
 pub mod Growing
 pub mod Locality

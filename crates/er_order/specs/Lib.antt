@@ -2,6 +2,7 @@ pub mod Order
 pub mod Clocks
 pub mod ClockLists
 pub mod Races
+pub mod Exclusion
 pub mod Reasons
 pub mod Following
 pub mod Locality

@@ -9,14 +9,15 @@
 //! latest reads of a word (`races_are_found`), so that an answer follows step by step (`an_access_follows_its_word`,
 //! `an_ordered_list_grows_by_a_step`); a race is unordered with an earlier access (`a_race_is_unordered_with_an_access`), which is found
 //! among the same ones (`a_reason_is_found`); an era is reported once (`an_era_is_reported_once`); more order gives fewer races, and no
-//! order at all each race that two threads can make (`more_order_fewer_races`, `with_no_order_each_shared_write_races`). Such a function
-//! does nothing: its contract is the law. The cases in `worked_races` and `worked_reasons` are computed from the definitions alone.
+//! order at all each race that two threads can make (`more_order_fewer_races`, `with_no_order_each_shared_write_races`); a lock that no two
+//! threads hold at once orders what it covers (`a_common_lock_orders`). Such a function does nothing: its contract is the law. The cases in `worked_races` and `worked_reasons` are computed from the definitions alone.
 #![tactic(auto)]
 
 pub use laws::{
     a_clock_follows_its_step, a_step_moves_its_clocks, clock_lists_stand_for_clocks,
     clocks_decide_order, order_is_by_chains,
 };
+pub use locks::a_common_lock_orders;
 pub use races::{
     a_shadow_word_has_numbers, a_word_is_local, an_access_follows_its_word,
     an_era_is_reported_once, an_ordered_list_grows_by_a_step, more_order_fewer_races,
@@ -26,6 +27,7 @@ pub use reasons::{a_race_is_unordered_with_an_access, a_reason_is_found};
 pub use worked::{worked_races, worked_reasons};
 
 mod laws;
+mod locks;
 mod races;
 mod reasons;
 mod worked;
