@@ -1,41 +1,21 @@
 -- How many threads hold a lock changes by one where an accepted event takes it or gives it up.
-use Rattle.std.proofs.Common.{◌≡◌, ℕ, ◌+◌, ◌-◌, ◌==◌, Bool, true, false, ◌||◌, not, cond, List, length, filter, Option, Some, None, refl, ap, sym, subst, ◌∙◌}
-use Rattle.std.proofs.lemmas.Bool.{eqb-true, ne_eqb, or_right}
-use Rattle.std.proofs.lemmas.List.Folds.{list_any-append}
-use Rattle.er_event.specs.Lockset.{has, is_level_lock, level_locks, with_lock, without_lock}
+use Rattle.std.proofs.Common.{◌≡◌, ℕ, ◌+◌, ◌-◌, ◌==◌, Bool, true, false, cond, List, Option, Some, None, refl, ap, sym, subst, ◌∙◌}
+use Rattle.std.proofs.lemmas.Bool.{eqb-true, ne_eqb}
+use Rattle.er_event.specs.Lockset.{has, is_level_lock, with_lock, without_lock}
 use Rattle.er_event.specs.declared.refusals.Refusal.{Refusal}
 use Rattle.er_event.specs.declared.steps.Event.{Event}
 use Rattle.er_event.specs.declared.steps.Event.TheVariants.{Acquire, Release, Access, Reuse, IgnoreOn, IgnoreOff, Show, Level, Sync}
 use Rattle.er_event.specs.declared.steps.Mode.{Mode}
 use Rattle.er_event.specs.declared.steps.Mode.TheVariants.{Read, Write}
-use Rattle.er_event.specs.declared.steps.Step.{Step}
 use Rattle.er_event.proofs.Bools.{itself}
-use Rattle.er_event.proofs.LocksetLemmas.{has-with_lock, has-filtered}
-use Rattle.er_model.specs.Threads.{accepted, holds}
-use Rattle.er_model.specs.Holdings.{Holdings, holdings, acquired_among, at_level, refused_by, changed_by, changed_unless, after_step, holdings_end}
-use Rattle.er_model.proofs.Levels.{has-levels}
-use Rattle.er_model.proofs.Threads.{has-held, has-write_held, has-without_lock}
+use Rattle.er_event.proofs.LocksetLemmas.{has-with_lock}
+use Rattle.er_model.specs.Threads.{accepted}
+use Rattle.er_model.specs.Holdings.{Holdings, refused_by, changed_by, changed_unless, after_step}
+use Rattle.er_model.proofs.Changes.{has-at_level}
+use Rattle.er_model.proofs.Threads.{has-without_lock}
 use Rattle.er_damage.specs.Inner.Counts.{IsCount}
 use Rattle.er_damage.specs.Inner.Steps.{holders_after, writers_after, unless_refused}
 use Rattle.er_damage.proofs.CountLemmas.{count_same, count_up, count_down}
-
--- what a thread holds to write, it holds
-pub write_within : (steps : List Step) (t l : ℕ) → has (holdings_end steps t).write_held l ≡ true → has (holdings_end steps t).held l ≡ true
-unfolding holdings
-write_within steps t l is =
-    let p : List Step = accepted steps (length steps) in
-    has-held p t l ∙ or_right (holds p t l Read) (holds p t l Write) (sym (has-write_held p t l) ∙ is)
-
--- a level changes no lock but level locks
-or_false : (b : Bool) → (b || false) ≡ b
-or_false true = refl
-or_false false = refl
-
-has-at_level : (locks : List ℕ) (n l : ℕ) → is_level_lock l ≡ false → has (at_level n locks) l ≡ has locks l
-unfolding acquired_among
-has-at_level locks n l plain =
-    list_any-append (λ x. x == l) (filter (λ x. not (is_level_lock x)) locks) (level_locks n)
-    ∙ rw (has-filtered (λ x. not (is_level_lock x)) locks l, has-levels n l) (rw plain (or_false (has locks l)))
 
 -- what an accepted event tells of its thread's holdings
 module _ (h : Holdings) (l : ℕ) where

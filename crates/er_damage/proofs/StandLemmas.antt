@@ -16,13 +16,14 @@ use Rattle.er_held.specs.ThreadLocks.{held_by}
 use Rattle.er_model.specs.Answers.{answer_unless, state_end}
 use Rattle.er_model.specs.Following.{replied}
 use Rattle.er_model.specs.Holdings.{refused_by, after_step, holdings_at, holdings_end}
+use Rattle.er_model.proofs.Changes.{write-held}
 use Rattle.er_model.proofs.Prefixes.{holdings-front, answer-front, holdings-grow, holdings-empty, answer-grow}
 use Rattle.er_damage.specs.Damage.{IsRefusedAt, IsHeldTwiceAt, IsFirstLine, kept_from}
 use Rattle.er_damage.specs.Standing.{Inspected, StandsFor}
 use Rattle.er_damage.specs.Inner.Counts.{IsCount}
 use Rattle.er_damage.specs.Inner.Steps.{Follows, holders_after, writers_after, unless_refused, doubles, doubles_unless, found_line}
 use Rattle.er_damage.proofs.CountLemmas.{count_same, count_found, count_none, count_nobody}
-use Rattle.er_damage.proofs.HoldLemmas.{write_within, plain_lock, free_lock, holders_step, writers_step}
+use Rattle.er_damage.proofs.HoldLemmas.{plain_lock, free_lock, holders_step, writers_step}
 use Rattle.er_damage.proofs.LineLemmas.{first_on}
 
 -- an answer is a refusal exactly where there is one
@@ -117,7 +118,7 @@ module _ (past : List Step) (step : Step) where
         cc
       where
         in_any : (m : Mode) → has (kept_from m (holdings_end past t)) l ≡ true → has (holdings_end past t).held l ≡ true
-        in_any Read there = write_within past t l there
+        in_any Read there = write-held past t (length past) l there
         in_any Write there = there
 
     twice_acquire : (l : ℕ) (m : Mode) (o : Option Refusal) → step.event ≡ Acquire l m → mine ≡ o →
@@ -170,7 +171,7 @@ module _ (before after : Inspected) (past : List Step) (lines : List ℕ) (step 
   mine_is = ap (λ h. refused_by h step.event) (stands.threads step.thread)
 
   within : (k : ℕ) → has (holdings_end past step.thread).write_held k ≡ true → has (holdings_end past step.thread).held k ≡ true
-  within k = write_within past step.thread k
+  within k = write-held past step.thread (length past) k
 
   holders_on : (l : ℕ) → is_level_lock l ≡ false → IsCount (λ t. has (holdings_end (past ++ step ∷ []) t).held l) (slice_index after.holders l)
   holders_on l plain =

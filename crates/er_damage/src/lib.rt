@@ -6,7 +6,8 @@
 //! end it makes the [`Damage`] of the trace of these and of how the text ended.
 //!
 //! What it promises, by the names of clauses: an inspector that stands for a recording's steps stands for the longer recording after
-//! `follow` (`goes_on`), and then `damage` is what the definitions say of those steps and of the text (`told`).
+//! `follow` (`goes_on`), and then `damage` is what the definitions say of those steps and of the text (`told`). In a text without damage
+//! no two threads hold one lock at once, one of them to write (`no_damage_means_exclusion`).
 //!
 //! It keeps its own account of what each thread holds and of how many threads hold each lock, and so needs no machine's answers. The
 //! account costs memory by the threads and the locks, and a look at an access costs nothing.
@@ -14,8 +15,10 @@
 
 pub use damage::Damage;
 pub use inspector::Inspector;
+pub use laws::no_damage_means_exclusion;
 
 mod counter;
 mod damage;
 mod inspector;
+mod laws;
 mod threads;
