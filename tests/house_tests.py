@@ -9,6 +9,7 @@ moved: a path in a table becomes that of the one file that now has the function 
   the table's sentence is that of crates.txt, and a crate comes after those that it uses
 - each walk of docs/ARCHITECTURE.md names a function of the file that it names, and docs/GLOSSARY.md a word of it
 - each name that docs/DEFINITIONS.md reads out is defined
+- the table of docs/PROOF.md has the numbers that tools/believed counts
 - nothing is beyond tests/budget.toml, and each wrong body can be put into its crate's code; how many of tests/wrong_bodies were not tried
   since their crate changed is only printed, and so are the minutes of the last gate
 - each path of the repository that a document names in backquotes exists
@@ -332,27 +333,27 @@ def budget_faults():
 
 
 @functools.lru_cache(maxsize=None)
-def edits_tool():
-    """tools/edits as a module."""
-    loader = importlib.machinery.SourceFileLoader("edits", str(TOP / "tools" / "edits"))
-    module = importlib.util.module_from_spec(importlib.util.spec_from_loader("edits", loader))
+def tool(name):
+    """A script of tools/ as a module."""
+    loader = importlib.machinery.SourceFileLoader(name, str(TOP / "tools" / name))
+    module = importlib.util.module_from_spec(importlib.util.spec_from_loader(name, loader))
     loader.exec_module(module)
     return module
 
 
 def edit_faults():
     """The gate passes over an edit that can't be applied, and the edits of tests/wrong_bodies are tried rarely."""
-    tool = edits_tool()
-    edits = [*tool.of_the_gate(), *tool.wrong_bodies()]
+    edits_tool = tool("edits")
+    edits = [*edits_tool.of_the_gate(), *edits_tool.wrong_bodies()]
     if not edits:
         yield "no must-fail edit was found"
     for path in edits:
         try:
-            tool.edited(path)
-        except (tool.BadEdit, OSError) as why:
+            edits_tool.edited(path)
+        except (edits_tool.BadEdit, OSError) as why:
             yield f"{path.relative_to(TOP)}: {why}"
     kept = {path for path in (TOP / "tests/wrong_bodies").rglob("*") if path.is_file()}
-    for path in sorted(kept - set(edits) - {tool.SEEN}):
+    for path in sorted(kept - set(edits) - {edits_tool.SEEN}):
         yield f"{path.relative_to(TOP)} is no edit"
 
 
@@ -361,8 +362,8 @@ GATES = ["The gate from nothing", "Crates", "Must-fail edits", "CPU minutes"]
 
 def notes():
     """What is only printed."""
-    tool = edits_tool()
-    yield f"wrong bodies: {len(tool.wrong_bodies())}, of which {len(tool.changed())} were not tried since their crate changed"
+    edits_tool = tool("edits")
+    yield f"wrong bodies: {len(edits_tool.wrong_bodies())}, of which {len(edits_tool.changed())} were not tried since their crate changed"
     _, last = next(iter(tables((DOCS / "DEVELOPMENT.md").read_text(), GATES)), (0, ["not in docs/DEVELOPMENT.md"]))
     most = numbers_in((TOP / "tests/budget.toml").read_text())[""]["minutes_of_the_gate"]
     yield f"CPU minutes of the last gate: {last[-1]}, and the budget is {most}"
@@ -411,6 +412,7 @@ CHECKS = {
     "the map of crates": map_faults,
     "walks": walk_faults,
     "the budget": budget_faults,
+    "what must be believed": lambda: tool("believed").faults(),
     "must-fail edits": edit_faults,
     "definitions": definition_faults,
     "the glossary": glossary_faults,
