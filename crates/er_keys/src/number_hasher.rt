@@ -1,16 +1,18 @@
-//! `NumberHasher`, for maps whose keys are numbers.
+//! `NumberHasher`, for maps whose keys are numbers, or made of numbers.
 ghost use Rattle.std.specs.Prelude.{◌≡◌, length};
-ghost use Rattle.std.specs.Int.{w64, from_le_bytes};
+ghost use Rattle.std.specs.Int.{w32, w64, from_le_bytes};
 ghost use Rattle.er_keys.specs.Mixing.{mixed, with_word};
 
 use crate::HashKeys;
 use std::hash::{BuildHasher, Hasher};
 
-/// For maps whose keys are numbers of 64 bits. It costs less than a [`KeyedHasher`](crate::KeyedHasher): it multiplies the number by one
-/// of 128 bits that the hash keys make, and takes the highest 32 of the product's lowest 128 bits.
+/// For maps whose keys are numbers of 64 or 32 bits, or several of these, as sets of locks are. It costs less than a
+/// [`KeyedHasher`](crate::KeyedHasher): it multiplies the number by one of 128 bits that the hash keys make, and takes the highest 32 of the
+/// product's lowest 128 bits. Of several numbers each is first mixed with the highest 64 of these bits for the ones before it.
 ///
 /// The lowest `n` bits of the hashes of two numbers agree under fewer than 2 of 2^`n` hash keys, whichever the numbers are. So numbers that
-/// were chosen without the hash keys collide little more often than random ones.
+/// were chosen without the hash keys collide little more often than random ones. For several numbers there is no such bound, but whoever
+/// doesn't know the hash keys doesn't know what the later ones are mixed with.
 #[derive(Clone, Copy)]
 pub struct NumberHasher {
     high: u64,
@@ -57,6 +59,17 @@ fn word_of(bytes: &[u8]) -> u64
     ])
 }
 
+// The same of four bytes.
+#[inline(always)]
+fn half_of(bytes: &[u8]) -> u64
+    requires { length bytes.now ≡ 4 }
+    ensures { result ≡ from_le_bytes w32 bytes.now }
+{
+    u64::from(u32::from_le_bytes([
+        bytes[0], bytes[1], bytes[2], bytes[3],
+    ]))
+}
+
 impl BuildHasher for NumberHasher {
     type Hasher = NumberHasher;
 
@@ -85,6 +98,8 @@ impl Hasher for NumberHasher {
     fn write(&mut self, bytes: &[u8]) {
         if bytes.len() == 8 {
             self.add(word_of(bytes));
+        } else if bytes.len() == 4 {
+            self.add(half_of(bytes));
         } else {
             for byte in bytes {
                 self.add(u64::from(*byte));

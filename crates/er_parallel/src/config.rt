@@ -11,7 +11,7 @@ pub struct ReplayConfig {
     pub shards: u32,
     /// How many sets of locks the table takes, 1 to 1,048,576.
     pub max_sets: u32,
-    /// By which keys each worker finds its pages. They change no answer.
+    /// By which keys pages, threads and sets of locks are found. They change no answer.
     pub keys: HashKeys,
     pub ghost shard_count: { IsShardCount shards },
     pub ghost set_count: { IsSetCount max_sets },
@@ -24,7 +24,7 @@ impl ReplayConfig {
     /// The greatest number of sets of locks.
     pub const MAX_SETS: u32 = 1_048_576;
 
-    /// The configuration with these numbers, or none where one is out of its limits. Whoever chooses the pages that are accessed can make a
+    /// The configuration with these numbers, or none where one is out of its limits. Whoever chooses the steps can make a
     /// replay slow: see [`with_keys`](ReplayConfig::with_keys).
     pub fn new(shards: u32, max_sets: u32) -> Option<ReplayConfig>
         ensures some { IsShardCount shards → IsSetCount max_sets → IsSome result }
@@ -44,7 +44,7 @@ impl ReplayConfig {
         })
     }
 
-    /// The same configuration, by which each worker finds its pages by these keys.
+    /// The same configuration, by which pages, threads and sets of locks are found by these keys.
     pub fn with_keys(self, keys: HashKeys) -> ReplayConfig
         ensures { (result.shards ≡ self.shards) × (result.max_sets ≡ self.max_sets) }
     {

@@ -43,7 +43,7 @@ pub fn replay_parallel<G: Gate, R: Threads + Wait + Sync>(
     ensures table_full { IsErrOf result ReplayFault.TableFull → AsksForSet steps.now }
     ensures none_lost { ¬ IsErrOf result ReplayFault.WorkerLost }
 {
-    let table = LocksetTable::new(alloc, config.max_sets)?;
+    let table = LocksetTable::keyed(alloc, config.max_sets, config.keys)?;
     let outcome = replay_over(rt, alloc, &table, config, steps, workers, gate);
     drop(table);
     outcome

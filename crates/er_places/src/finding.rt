@@ -38,7 +38,7 @@ impl Finder {
         Ok(Finder {
             lines,
             trace: Trace::keyed(alloc, keys),
-            follower: Follower::new(alloc),
+            follower: Follower::new(alloc, keys),
         })
     }
 
@@ -151,7 +151,7 @@ pub fn places_of_reasons<D: Read>(
     ensures fault { IfErr result (λ why. IsFaultOf (D.remaining (inner_of reader.old)) byte_limit why) }
     ensures failed { HasFailedBy (has_failed reader.new) result }
 {
-    let wanted = asked_lines(alloc, lines)?;
+    let wanted = asked_lines(alloc, keys, lines)?;
     if wanted.is_empty() {
         return Ok(Places::new(alloc));
     }
@@ -159,10 +159,10 @@ pub fn places_of_reasons<D: Read>(
 }
 
 // The lines that the reasons name.
-fn asked_lines(alloc: Global, lines: &[Line]) -> Result<Wanted, AllocError>
+fn asked_lines(alloc: Global, keys: NameKeys, lines: &[Line]) -> Result<Wanted, AllocError>
     ensures { IfOk result (λ wanted. (line : ℕ) → is_wanted wanted line ≡ is_asked lines.now line) }
 {
-    let mut wanted = Wanted::new(alloc);
+    let mut wanted = Wanted::new(alloc, keys);
     wanted.add_reasons(alloc, lines)?;
     Ok(wanted)
 }

@@ -9,6 +9,7 @@ ghost use Rattle.er_places.specs.Wanted.{is_wanted};
 use crate::{Place, Wanted};
 use er_event::{Event, Kind, Site, Step, ThreadId};
 use er_held::ThreadLocks;
+use er_keys::{HashKeys, NumberHasher};
 use std::alloc::{AllocError, Global};
 use std::collections::HashMap;
 use std::marker::Model;
@@ -18,7 +19,7 @@ use std::marker::Model;
 pub(crate) struct Follower {
     alloc: Global,
     threads: ThreadLocks,
-    places: HashMap<u64, Place>,
+    places: HashMap<u64, Place, NumberHasher>,
 }
 
 impl Model for Follower {
@@ -30,14 +31,14 @@ impl Model for Follower {
 }
 
 impl Follower {
-    /// It has seen no step.
-    pub(crate) fn new(alloc: Global) -> Self
+    /// It has seen no step. Lines are hashed by these keys.
+    pub(crate) fn new(alloc: Global, keys: HashKeys) -> Self
         ensures { (wanted : List ℕ) → StandsFor (is_wanted wanted) result [] [] }
     {
         Follower {
             alloc,
             threads: ThreadLocks::new(alloc),
-            places: HashMap::new(alloc),
+            places: HashMap::with_hasher(alloc, NumberHasher::new(keys)),
         }
     }
 
@@ -59,7 +60,7 @@ impl Follower {
     }
 
     /// The places.
-    pub(crate) fn into_places(self) -> HashMap<u64, Place>
+    pub(crate) fn into_places(self) -> HashMap<u64, Place, NumberHasher>
         ensures { result.entries ≡ self.places }
     {
         let Follower {

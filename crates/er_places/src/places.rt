@@ -8,6 +8,7 @@ ghost use Rattle.er_trace.specs.Names.{no_names};
 
 use crate::Place;
 use er_event::Kind;
+use er_keys::{HashKeys, NumberHasher};
 use er_report::Because;
 use er_trace::{Names, Trace};
 use std::alloc::Global;
@@ -17,7 +18,7 @@ use std::marker::Model;
 /// The places of some accesses, by the line of each, and the names of their numbers.
 #[derive(Drop)]
 pub struct Places {
-    by_line: HashMap<u64, Place>,
+    by_line: HashMap<u64, Place, NumberHasher>,
     trace: Trace,
 }
 
@@ -39,13 +40,13 @@ impl Places {
         ensures names { result.names ≡ no_names }
     {
         Places {
-            by_line: HashMap::new(alloc),
+            by_line: HashMap::with_hasher(alloc, NumberHasher::new(HashKeys::KNOWN)),
             trace: Trace::new(alloc),
         }
     }
 
     /// These places, under the names of a trace.
-    pub(crate) fn of(by_line: HashMap<u64, Place>, trace: Trace) -> Self
+    pub(crate) fn of(by_line: HashMap<u64, Place, NumberHasher>, trace: Trace) -> Self
         requires { AreNamed trace.names by_line.entries }
         ensures places { result.places ≡ by_line.entries }
         ensures names { result.names ≡ trace.names }

@@ -5,6 +5,7 @@ ghost use Rattle.er_places.specs.Inner.Sites.{has_site};
 ghost use Rattle.er_places.specs.Wanted.{same_kind};
 
 use er_event::{Kind, Site};
+use er_keys::NumberHasher;
 use std::alloc::{AllocError, Global};
 use std::collections::HashSet;
 use std::marker::Model;
@@ -12,8 +13,8 @@ use std::marker::Model;
 /// The sites that have races, by the kind of race.
 #[derive(Drop)]
 pub(crate) struct Sites {
-    reads: HashSet<u32>,
-    writes: HashSet<u32>,
+    reads: HashSet<u32, NumberHasher>,
+    writes: HashSet<u32, NumberHasher>,
 }
 
 impl Model for Sites {
@@ -26,12 +27,12 @@ impl Model for Sites {
 
 impl Sites {
     /// None has one.
-    pub(crate) fn new(alloc: Global) -> Self
+    pub(crate) fn new(alloc: Global, hasher: NumberHasher) -> Self
         ensures { (s : ℕ) (k : Kinds) → has_site result s k ≡ false }
     {
         Sites {
-            reads: HashSet::new(alloc),
-            writes: HashSet::new(alloc),
+            reads: HashSet::with_hasher(alloc, hasher),
+            writes: HashSet::with_hasher(alloc, hasher),
         }
     }
 

@@ -8,6 +8,7 @@ ghost use Rattle.er_places.specs.Wanted.{asks_unless, is_asked, is_race_at, is_w
 
 use crate::Place;
 use crate::sites::Sites;
+use er_keys::{HashKeys, NumberHasher};
 use er_report::{Because, Line};
 use std::alloc::{AllocError, Global};
 use std::collections::{HashMap, HashSet};
@@ -16,7 +17,7 @@ use std::marker::Model;
 /// The lines whose accesses are wanted.
 #[derive(Drop)]
 pub struct Wanted {
-    lines: HashSet<u64>,
+    lines: HashSet<u64, NumberHasher>,
 }
 
 impl Model for Wanted {
@@ -28,12 +29,12 @@ impl Model for Wanted {
 }
 
 impl Wanted {
-    /// No line is wanted.
-    pub fn new(alloc: Global) -> Self
+    /// No line is wanted. Lines and their sites are hashed by these keys.
+    pub fn new(alloc: Global, keys: HashKeys) -> Self
         ensures { (line : ℕ) → is_wanted result line ≡ false }
     {
         Wanted {
-            lines: HashSet::new(alloc),
+            lines: HashSet::with_hasher(alloc, NumberHasher::new(keys)),
         }
     }
 
@@ -50,7 +51,7 @@ impl Wanted {
     }
 
     /// Whether each of them has a place.
-    pub(crate) fn are_in(&self, places: &HashMap<u64, Place>) -> bool
+    pub(crate) fn are_in(&self, places: &HashMap<u64, Place, NumberHasher>) -> bool
         ensures { result ≡ list_all (λ line. is_some (place_in places.now.entries line)) self.now }
     {
         self.lines.iter().all(|line| places.contains_key(line))
@@ -69,7 +70,7 @@ impl Wanted {
     pub fn add_reasons(&mut self, alloc: Global, lines: &[Line]) -> Result<(), AllocError>
         ensures { OnOk result ((line : ℕ) → is_wanted self.new line ≡ (is_wanted self.old line || is_asked lines.now line)) }
     {
-        let mut sites = Sites::new(alloc);
+        let mut sites = Sites::new(alloc, *self.lines.hasher());
         for line in lines {
             self.add_line(&mut sites, line)?;
         }

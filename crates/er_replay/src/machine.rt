@@ -41,15 +41,15 @@ impl<'t> Machine<'t> {
     // How many steps are looked at together.
     const AHEAD: usize = 16;
 
-    /// A machine that has taken no step. The sets of locks that its words need go into the table. Whoever chooses the pages that are accessed
-    /// can make it slow: see [`keyed`](Machine::keyed).
+    /// A machine that has taken no step. The sets of locks that its words need go into the table. Whoever chooses the pages that are accessed,
+    /// or the threads that take locks, can make it slow: see [`keyed`](Machine::keyed).
     pub fn new(alloc: Global, table: &'t LocksetTable) -> Result<Machine<'t>, AllocError>
         ensures { IfOk result (λ machine. Stands machine []) }
     {
         Machine::keyed(alloc, table, HashKeys::KNOWN)
     }
 
-    /// A machine that has taken no step, and finds each page by these keys. The sets of locks that its words need go into the table.
+    /// A machine that has taken no step, and finds each page and each thread by these keys. The sets of locks that its words need go into the table.
     pub fn keyed(
         alloc: Global,
         table: &'t LocksetTable,
@@ -57,7 +57,7 @@ impl<'t> Machine<'t> {
     ) -> Result<Machine<'t>, AllocError>
         ensures { IfOk result (λ machine. Stands machine []) }
     {
-        let threads = Threads::new(alloc)?;
+        let threads = Threads::new(alloc, keys)?;
         let words = ShadowMap::keyed(alloc, table, keys)?;
         Ok(Machine { threads, words })
     }

@@ -8,6 +8,7 @@ ghost use Rattle.er_replay.specs.Wants.{wants_memory, is_no_memory};
 
 use er_event::{Event, Refusal, ThreadId};
 use er_held::Held;
+use er_keys::{HashKeys, NumberHasher};
 use er_shadow::Hints;
 use indexmap::IndexMap;
 use std::alloc::{AllocError, Global};
@@ -16,7 +17,7 @@ use std::marker::Model;
 /// The holdings of the threads that took something, by thread. Any other thread has nothing.
 #[derive(Drop)]
 pub(crate) struct Threads {
-    held: IndexMap<ThreadId, Held>,
+    held: IndexMap<ThreadId, Held, NumberHasher>,
     // Where a thread stands.
     places: Hints,
     nothing: Held,
@@ -36,11 +37,11 @@ impl Model for Threads {
 }
 
 impl Threads {
-    /// Nobody has anything.
-    pub(crate) fn new(alloc: Global) -> Result<Threads, AllocError>
+    /// Nobody has anything. Threads are hashed by these keys.
+    pub(crate) fn new(alloc: Global, keys: HashKeys) -> Result<Threads, AllocError>
         ensures { IfOk result (λ threads. (t : ℕ) → holding_among threads t ≡ nothing_held) }
     {
-        let held = IndexMap::new(alloc);
+        let held = IndexMap::with_hasher(alloc, NumberHasher::new(keys));
         let places = Hints::new(alloc)?;
         Ok(Threads {
             held,
@@ -92,7 +93,11 @@ impl Threads {
 
 // Where the thread stands. It looks at the place of the hint first, and needs no hash if that is the one.
 #[inline]
-fn index_of_thread(held: &IndexMap<ThreadId, Held>, hint: usize, thread: ThreadId) -> Option<usize>
+fn index_of_thread(
+    held: &IndexMap<ThreadId, Held, NumberHasher>,
+    hint: usize,
+    thread: ThreadId,
+) -> Option<usize>
     ensures key { IfSome result (λ index. slice_get (keys held.now) index ≡ Some thread) }
     ensures within { IfSome result (λ index. index < index_map_len held.now) }
     ensures none { IfNone result (get nat_eq held.now thread ≡ None) }

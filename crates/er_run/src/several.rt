@@ -402,7 +402,7 @@ where
     ensures taken { taken_of reader.new ≤ taken_of reader.old + options.now.byte_limit + bytes_past_limit }
     ensures whole { IfOk result (λ found. found.report.stop ≡ None) }
 {
-    let table = LocksetTable::new(alloc, options.max_sets)?;
+    let table = LocksetTable::keyed(alloc, options.max_sets, options.keys)?;
     let found = report_over(rt, alloc, &table, reader, suppressions, options, watcher);
     drop(table);
     found

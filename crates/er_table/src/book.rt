@@ -7,6 +7,7 @@ ghost use Rattle.er_table.specs.Sets.{with_set, IsNoted};
 use crate::SetRef;
 use boxcar::Vec;
 use er_event::{Lockset, NoRoom};
+use er_keys::{HashKeys, NumberHasher};
 use indexmap::IndexMap;
 use std::alloc::{AllocError, Global};
 use std::marker::Model;
@@ -18,7 +19,7 @@ pub type Sets = Vec<Lockset>;
 /// Which sets a table has, and where each stands. Contracts see the sets, and how many there may be.
 #[derive(Drop)]
 pub struct Book {
-    places: IndexMap<Lockset, usize>,
+    places: IndexMap<Lockset, usize, NumberHasher>,
     max_sets: usize,
 }
 
@@ -34,13 +35,21 @@ impl Model for Book {
 }
 
 impl Book {
-    /// A book with no sets.
+    /// A book with no sets. Whoever chooses the sets can make it slow.
     pub fn new(alloc: Global, max_sets: usize) -> Book
         ensures sets { result.sets ≡ [] }
         ensures limit { result.limit ≡ max_sets }
     {
+        Book::keyed(alloc, max_sets, HashKeys::KNOWN)
+    }
+
+    /// The same, with sets that are hashed by these keys.
+    pub(crate) fn keyed(alloc: Global, max_sets: usize, keys: HashKeys) -> Book
+        ensures sets { result.sets ≡ [] }
+        ensures limit { result.limit ≡ max_sets }
+    {
         Book {
-            places: IndexMap::new(alloc),
+            places: IndexMap::with_hasher(alloc, NumberHasher::new(keys)),
             max_sets,
         }
     }
@@ -98,7 +107,7 @@ impl Book {
 // Pushes a set that isn't here yet, and notes where it stands.
 #[inline]
 fn append<R: Wait>(
-    places: &mut IndexMap<Lockset, usize>,
+    places: &mut IndexMap<Lockset, usize, NumberHasher>,
     rt: &R,
     sets: &Sets,
     set: &Lockset,

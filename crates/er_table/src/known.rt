@@ -13,6 +13,7 @@ ghost use Rattle.er_table.specs.Sets.{with_set, set_at, AreDistinct, most_sets, 
 use crate::LocksetTable;
 use crate::numbers::Numbers;
 use er_event::{Lockset, NoRoom};
+use er_keys::NumberHasher;
 use std::alloc::{AllocError, Global};
 use std::collections::HashMap;
 use std::marker::Model;
@@ -32,7 +33,7 @@ struct Pair {
 #[derive(Drop)]
 pub struct Known<'t> {
     numbers: Numbers<'t>,
-    meets: HashMap<Pair, u32>,
+    meets: HashMap<Pair, u32, NumberHasher>,
 }
 
 impl<'t> Model for Known<'t> {
@@ -55,7 +56,7 @@ impl<'t> Known<'t> {
     {
         Ok(Known {
             numbers: Numbers::new(alloc, table)?,
-            meets: HashMap::new(alloc),
+            meets: HashMap::with_hasher(alloc, NumberHasher::new(table.keys())),
         })
     }
 
@@ -138,7 +139,7 @@ impl<'t> Known<'t> {
 // The number of what the sets of a pair have in common, found anew. It is remembered unless as many as may be are.
 fn number_anew<R: Wait>(
     numbers: &mut Numbers<'_>,
-    meets: &mut HashMap<Pair, u32>,
+    meets: &mut HashMap<Pair, u32, NumberHasher>,
     rt: &R,
     pair: Pair,
 ) -> Result<u32, NoRoom>

@@ -6,6 +6,7 @@ ghost use Rattle.er_table.specs.Sets.{with_set, set_at, AreDistinct, most_sets};
 
 use crate::LocksetTable;
 use er_event::{Lockset, NoRoom};
+use er_keys::NumberHasher;
 use indexmap::IndexSet;
 use std::alloc::{AllocError, Global};
 use std::marker::Model;
@@ -16,7 +17,7 @@ use std::sync::Wait;
 pub(crate) struct Numbers<'t> {
     table: &'t LocksetTable,
     empty: Lockset,
-    others: IndexSet<&'t Lockset>,
+    others: IndexSet<&'t Lockset, NumberHasher>,
     limit: u32,
 }
 
@@ -39,7 +40,7 @@ impl<'t> Numbers<'t> {
         Ok(Numbers {
             table,
             empty: Lockset::new(alloc),
-            others: IndexSet::with_capacity(alloc, 1)?,
+            others: IndexSet::with_capacity_and_hasher(alloc, 1, NumberHasher::new(table.keys()))?,
             limit: table.max_sets(),
         })
     }
@@ -170,7 +171,7 @@ impl<'t> Numbers<'t> {
 // Gives a set that has no number the next one.
 #[inline]
 fn append<'t, R: Wait>(
-    others: &mut IndexSet<&'t Lockset>,
+    others: &mut IndexSet<&'t Lockset, NumberHasher>,
     table: &'t LocksetTable,
     rt: &R,
     set: &Lockset,

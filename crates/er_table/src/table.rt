@@ -6,6 +6,7 @@ ghost use Rattle.er_table.specs.Sets.{most_sets};
 use crate::{Book, SetRef, Sets};
 use boxcar::Vec;
 use er_event::{Lockset, NoRoom};
+use er_keys::HashKeys;
 use std::alloc::{AllocError, Global};
 use std::marker::Model;
 use std::sync::{Mutex, Wait};
@@ -17,6 +18,7 @@ pub struct LocksetTable {
     sets: Sets,
     book: Mutex<Book>,
     max_sets: u32,
+    keys: HashKeys,
 }
 
 impl Model for LocksetTable {
@@ -34,16 +36,31 @@ impl Model for LocksetTable {
 }
 
 impl LocksetTable {
-    /// A table with no sets, which takes `max_sets` of them.
+    /// A table with no sets, which takes `max_sets` of them. Whoever chooses the sets can make it slow: see
+    /// [`keyed`](LocksetTable::keyed).
     pub fn new(alloc: Global, max_sets: u32) -> Result<LocksetTable, AllocError>
+        requires some { 1 ≤ max_sets }
+        requires few { max_sets ≤ most_sets }
+        ensures { IfOk result (λ table. table.limit ≡ max_sets) }
+    {
+        LocksetTable::keyed(alloc, max_sets, HashKeys::KNOWN)
+    }
+
+    /// The same, with sets and numbers of sets that are hashed by these keys, also at each owner of the table.
+    pub fn keyed(
+        alloc: Global,
+        max_sets: u32,
+        keys: HashKeys,
+    ) -> Result<LocksetTable, AllocError>
         requires some { 1 ≤ max_sets }
         requires few { max_sets ≤ most_sets }
         ensures { IfOk result (λ table. table.limit ≡ max_sets) }
     {
         Ok(LocksetTable {
             sets: Vec::new(alloc)?,
-            book: Mutex::new(Book::new(alloc, max_sets as usize)),
+            book: Mutex::new(Book::keyed(alloc, max_sets as usize, keys)),
             max_sets,
+            keys,
         })
     }
 
@@ -76,5 +93,10 @@ impl LocksetTable {
         ensures few { result ≤ most_sets }
     {
         self.max_sets
+    }
+
+    /// The keys by which it and its owners hash.
+    pub(crate) fn keys(&self) -> HashKeys {
+        self.keys
     }
 }

@@ -275,7 +275,7 @@ pub fn report_both<R: Wait, D: Read, V: Watch>(
     ensures failed { FailsBy (has_failed reader.new) false result }
     ensures taken { taken_of reader.new ≤ taken_of reader.old + options.now.byte_limit + bytes_past_limit }
 {
-    let table = LocksetTable::new(alloc, options.max_sets)?;
+    let table = LocksetTable::keyed(alloc, options.max_sets, options.keys)?;
     let found = report_with(rt, alloc, &table, reader, suppressions, options, watcher);
     drop(table);
     found

@@ -110,7 +110,7 @@ fn places_in<A: Read>(
 ) -> Result<Places, ReadFault>
     requires { has_failed again.old ≡ false }
 {
-    let mut wanted = Wanted::new(alloc);
+    let mut wanted = Wanted::new(alloc, options.keys);
     let found = places_for(alloc, again, options, report, other, &mut wanted);
     drop(wanted);
     found

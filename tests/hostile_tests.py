@@ -1,0 +1,139 @@
+#!/usr/bin/env python3
+"""Texts that were made to take long, or to take much memory: those of `bench/hostile`.
+
+`tests/run` calls `answers` and `costs`. By itself this file runs these tests alone.
+
+- each kind is answered as the references answer it: by locks and by happens-before, with reasons, by several workers, and also if the system gives no
+  random bytes to hash by
+- no text takes more than 400 bytes of memory for each of its own, beside 32 MiB. The dearest line takes a page: 4,096 bytes by locks, and 2,048 by
+  happens-before
+- a text that is four times as long takes at most 5.5 times the instructions, as valgrind counts them. What compares each with all others takes up to 16
+  times as many, and what keeps all for each does so too
+"""
+
+import functools
+import os
+import pathlib
+import re
+import resource
+import subprocess
+import sys
+import tempfile
+
+sys.path.insert(0, str(pathlib.Path(__file__).parent))
+sys.dont_write_bytecode = True
+import analysis_tests
+import reference
+from alone import program, run_alone
+from site_tests import preloaded
+
+PROGRAM = program("eraser")
+HOSTILE = pathlib.Path(__file__).resolve().parent.parent / "bench/hostile"
+HAPPENS_BEFORE, EXPLAIN = ["--analysis", "happens-before"], ["--explain"]
+FEW = 60
+BYTES_FOR_A_BYTE, BYTES_BESIDE = 400, 32 << 20
+LONGER, MOST_TIMES = 4, 5.5
+# What is replayed of each kind: how many there are in the shorter text, and by which options.
+COSTS = {
+    "thread-names": (1000, [[], HAPPENS_BEFORE]),
+    "lock-names": (1000, [[], HAPPENS_BEFORE]),
+    "site-names": (1000, [[], HAPPENS_BEFORE]),
+    "pages": (1000, [[], EXPLAIN, HAPPENS_BEFORE, [*HAPPENS_BEFORE, *EXPLAIN]]),
+    "locksets": (2000, [[], EXPLAIN]),
+    "meets": (2000, [[]]),
+    "threads": (4000, [[], HAPPENS_BEFORE]),
+    "lines": (2000, [["--by-site", *EXPLAIN]]),
+    "readers": (2000, [HAPPENS_BEFORE, [*HAPPENS_BEFORE, *EXPLAIN]]),
+    "handed-on": (2000, [[], HAPPENS_BEFORE]),
+    "own-locks": (2000, [[], HAPPENS_BEFORE]),
+}
+COUNTED = ["valgrind", "--tool=cachegrind", "--cache-sim=no", "--cachegrind-out-file=/dev/null"]
+
+
+@functools.lru_cache(maxsize=None)
+def made(kind, count):
+    return subprocess.run([HOSTILE, kind, str(count)], capture_output=True, check=True).stdout
+
+
+def run(words, text=b"", before=(), **more):
+    done = subprocess.run([*map(str, before), str(PROGRAM), "replay", *map(str, words)], input=text, capture_output=True, timeout=300, **more)
+    return done.stdout, done.stderr, done.returncode
+
+
+# ---- Answers
+
+
+def twice(kind, text):
+    """What a few more lines make of a text: each of its keys is looked up again, by a second thread too, and there are races."""
+    body = text.partition(b"\n")[2]
+    second = body.replace(b"t1 ", b"t2 ")
+    if kind == "pages":
+        reuses = b"".join(b"t1 reuse %s 8\n" % line.split()[2] for line in body.splitlines()[::2])
+        return text + second + reuses + body.replace(b"t1 write", b"t3 read") + second
+    return text + second + b"t2 write 0x1000\nt3 write 0x1000\n"
+
+
+def answers(record, preloaded):
+    kinds = subprocess.run([HOSTILE, "--kinds"], capture_output=True, text=True, check=True).stdout.split()
+    record("hostile: each kind has its costs", kinds == list(COSTS), f"{kinds}")
+    with tempfile.TemporaryDirectory() as folder:
+        library, noted = preloaded(folder, "no_random"), pathlib.Path(folder) / "noted"
+        without = {**os.environ, "LD_PRELOAD": str(library), "RANDOM_NOTED": str(noted)}
+        for kind in kinds:
+            text = twice(kind, made(kind, FEW))
+            for explain in ([], EXPLAIN):
+                output, errors, status = reference.replay(text, b"", explain=bool(explain))
+                record(f"hostile: {kind} have races", explain or status == 1, f"{status}")
+                rows = [([*explain, *workers], (output.encode(), errors.encode(), status)) for workers in ([], ["--workers", "4"], ["--workers", "3", "--shards", "5"])]
+                for analysis in ("happens-before", "both"):
+                    rows.append(([*explain, "--analysis", analysis], analysis_tests.expected(text, None, analysis, explain=bool(explain))))
+                for options, wanted in rows:
+                    for env, name in ((None, ""), (without, " without random bytes")):
+                        found = run([*options, "-"], text, env=env)
+                        is_right = found == wanted and noted.exists() == (env is without)
+                        record(f"hostile: {kind} with {options}{name}", is_right, f"{found}"[:1000])
+                        noted.unlink(missing_ok=True)
+
+
+# ---- Costs
+
+
+def limited(size):
+    """Lets the program have so much memory as a text of this size may take."""
+    bytes_of_memory = BYTES_FOR_A_BYTE * size + BYTES_BESIDE
+    resource.setrlimit(resource.RLIMIT_AS, (bytes_of_memory, bytes_of_memory))
+
+
+def instructions(words):
+    """How many instructions a replay takes."""
+    _, errors, _ = run(words, before=COUNTED)
+    return int(re.search(rb"I +refs: +([\d,]+)", errors)[1].replace(b",", b""))
+
+
+def costs(record):
+    with tempfile.TemporaryDirectory() as folder:
+        short, long = pathlib.Path(folder) / "short.trace", pathlib.Path(folder) / "long.trace"
+        for kind, (count, rows) in COSTS.items():
+            short.write_bytes(made(kind, count))
+            long.write_bytes(made(kind, LONGER * count))
+            size = long.stat().st_size
+            longer = size / short.stat().st_size / LONGER
+            steps = sum(bool(line) for line in long.read_bytes().splitlines()) - 1
+            for options in rows:
+                name = f"hostile: {kind} {' '.join(options)}"
+                found = run([*options, long], preexec_fn=functools.partial(limited, size))
+                is_whole = b"steps %d, " % steps in found[0] and found[1] == b"" and found[2] < 2
+                record(f"{name}: memory of a text of {size} bytes", is_whole, f"{found}"[:300])
+                # What takes too much memory isn't run without a limit.
+                if is_whole:
+                    few, many = instructions([*options, short]), instructions([*options, long])
+                    record(f"{name}: instructions", many <= MOST_TIMES * longer * few, f"{few} and {many}, {many / few / longer:.2f} times as many")
+
+
+def tests(record, preloaded):
+    answers(record, preloaded)
+    costs(record)
+
+
+if __name__ == "__main__":
+    run_alone(tests, preloaded)
