@@ -23,7 +23,7 @@ SCHEMA = TOP / "docs/report.schema.json"
 REFUSED = re.compile(r"line (\d+): refused: (\S+) (\S+)(?: (\S+))?: ([^:]+)")
 SHOWN = re.compile(r"line (\d+): state (0x[0-9a-f]{12}): (\S+?)(?:, candidates (.*)| (\S+))?")
 STOPPED = re.compile(r"line (\d+): stopped: (.*)")
-TOTALS = re.compile(r"steps (\d+), races (\d+), suppressed (\d+), refused (\d+)")
+TOTALS = re.compile(r"steps (\d+), races (\d+), suppressed (\d+), refused (\d+)(?:, lost (\d+))?")
 
 
 # ---- The document of a report's text
@@ -52,7 +52,8 @@ def document_of(report):
         elif stopped:
             found["stop"] = {"line": int(stopped[1]), "why": stopped[2]}
         elif totals:
-            found["totals"] = {"steps": int(totals[1]), "races": int(totals[2]), "suppressed": int(totals[3]), "refused": int(totals[4])}
+            counts = zip(("steps", "races", "suppressed", "refused", "lost"), totals.groups())
+            found["totals"] = {name: int(count) for name, count in counts if count is not None}
         else:
             found["suppressions"].append(int(re.fullmatch(r"suppression \d+: (\d+)", line)[1]))
     return found
