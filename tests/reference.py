@@ -138,10 +138,12 @@ def events_of(text):
 
 
 def lost_of(text):
-    """How many events a text 3 says were lost, in its last line. None if it says nothing of the sort."""
+    """How many events the last comment of a text 3 says were lost. None if it says nothing of the sort."""
     version = next((words[-1] for _, words in content_of(text) if words), None)
-    found = re.search(rb"(?:\A|\n)# incomplete: [0-9]+ events, ([1-9][0-9]*) lost\n?\Z", text)
-    return int(found[1]) if found and version == b"3" else None
+    comment = next((line for line in reversed(text.split(b"\n")) if line.startswith(b"#")), b"")
+    found = re.fullmatch(rb"# incomplete: ([0-9]+) events, ([0-9]+) lost", comment)
+    counts = [int(count) for count in found.groups()] if found and version == b"3" else [0, 0]
+    return counts[1] if counts[1] > 0 and max(counts) < 2**64 else None
 
 
 def lost_part(text):
@@ -370,9 +372,8 @@ def random_trace(seed):
     if version == "3" and dice.randrange(2):
         lines += [dice.choice(["end", " end\t"])] + [random_line(dice, version, acting)] * (dice.randrange(6) == 0)
     for _ in range(dice.randrange(3)):
-        lines.insert(dice.randrange(len(lines) + 1), dice.choice(["", "# a comment", "  \t"]))
-    if dice.randrange(4) == 0:
-        lines.append(f"# incomplete: {dice.randrange(99)} events, {dice.choice([1, 30175])} lost")
+        lossy = f"# incomplete: {len(lines)} events, {dice.choice([0, 1, 30175])} lost"
+        lines.insert(dice.randrange(len(lines) + 1), dice.choice(["", "# a comment", "  \t", lossy]))
     text = "\n".join(lines).encode() + dice.choice([b"", b"\n"])
     if dice.randrange(4) == 0:
         at = dice.randrange(len(text) + 1)
