@@ -95,7 +95,7 @@ def unordered_report(text, rules, explain=False):
         lines.append((step.line, told + f"\n  unordered with: line {other.line}, {other.thread} {other.verb}" * explain))
     found = [line for _, line in sorted(lines)]
     found += [f"suppression {number}: {count}" for number, count in enumerate(taken, 1)]
-    found.append(f"steps {noting.steps}, unordered {races}, suppressed {sum(taken)}, refused {noting.refused}")
+    found.append(f"steps {noting.steps}, unordered {races}, suppressed {sum(taken)}, refused {noting.refused}{reference.lost_part(text)}")
     return "".join(line + "\n" for line in found), 1 if races else 0
 
 

@@ -36,8 +36,8 @@ def output_of(joined):
     return "".join(f"{line.replace(' x', ' ' + OUT)}\n" for line in lines(joined)).encode()
 
 
-def totals(steps, races, suppressed, refused):
-    return f"steps {steps}, races {races}, suppressed {suppressed}, refused {refused}"
+def totals(steps, races, suppressed, refused, lost=None):
+    return f"steps {steps}, races {races}, suppressed {suppressed}, refused {refused}" + ("" if lost is None else f", lost {lost}")
 
 
 def told(name, joined, report, counts, status=0, header="eraser trace 1", rules=None):
@@ -123,6 +123,12 @@ REPLAYED = [
     Case("an_end_without_line_feed", b"eraser trace 3\nend", output_of(totals(0, 0, 0, 0))),
     Case("no_last_end", b"eraser trace 1\nt1 write 0x1000", output_of(totals(1, 0, 0, 0))),
     Case("skipped_lines", b"\n# c\neraser trace 1\nt1 show 4\n", output_of(f"line 4: state 0x000000000004: virgin; {totals(1, 0, 0, 0)}")),
+    told("lost_events", "t1 write x; t2 write x; # incomplete: 2 events, 30175 lost", f"line 3: {RACE}", (2, 1, 0, 0, 30175), 1, header=ORDERED),
+    told("a_lost_event_and_a_rule", "t1 write 0; t2 write 0; # incomplete: 2 events, 1 lost", "suppression 1: 1", (2, 0, 1, 0, 1), header=ORDERED, rules="words 0 4"),
+    Case("lost_events_without_line_feed", b"eraser trace 3\nt1 unlock a\n# incomplete: 1 events, 9007199254740991 lost",
+         output_of(f"line 2: refused: t1 unlock a: not held; {totals(1, 0, 0, 1, 2**53 - 1)}")),
+    told("no_lost_event", "t1 write x; # complete: 1 events, none lost; end", "", (1, 0, 0, 0), header=ORDERED),
+    told("lost_events_of_text_two", "t1 write x; # incomplete: 1 events, 2 lost", "", (1, 0, 0, 0), header="eraser trace 2"),
     Case("longest_comment", b"eraser trace 1\n#" + b"a" * 1023 + b"\n", output_of(totals(0, 0, 0, 0))),
 ]
 

@@ -24,7 +24,7 @@ import browser
 import reference
 import site_tests
 from alone import OUTCOMES, each_refused, outcome_of, run_alone
-from json_tests import document_of
+from json_tests import LOSSY, document_of
 from site_tests import TOP, preloaded, run, run_with
 
 PAGE = re.compile(rb'(.*<script type="application/json" id="report">\n)(.*)(</script>\n<script type="application/json" id="sources">\n)(.*)(\n</script>\n<script>.*)', re.S)
@@ -412,6 +412,14 @@ def first_races_tests(record, one, folder):
         record(f"the rows of a site of {count} races", found == [caption, [f"{2 * k + 3}" for k in range(min(count, 50))]], f"{found}")
 
 
+def lost_tests(record, one, folder):
+    """A page of a part of a run says so before all else."""
+    for lost, notice in ((1, "1 event was lost"), (30175, "30,175 events were lost")):
+        opened(run(["replay", "--format", "html", "-"], LOSSY.replace(b"30175", str(lost).encode()))[0], folder, one)
+        first, is_seen = one.value("(part => [part.textContent, part.checkVisibility() && part.getBoundingClientRect().bottom <= innerHeight])(document.querySelector('main :is(h1, p)'))")
+        record(f"the first line of a page of {lost} lost events", is_calm(one) and (first, is_seen) == (f"{notice}: this page shows a part of the run.", True), f"{first}, {is_seen}, {one.troubles}")
+
+
 def large_tests(record, one, folder):
     """300,000 races: the page groups them, and makes rows and pictures as they are asked for."""
     lines = [f"{thread} write {4 * k} part{k % 2000}.cpp:{k % 700 + 1}" for k in range(300_000) for thread in ("t1", "t2")]
@@ -440,6 +448,7 @@ def browser_tests(record):
         hostile_tests(record, one, folder)
         screen_tests(record, one, folder)
         first_races_tests(record, one, folder)
+        lost_tests(record, one, folder)
         large_tests(record, one, folder)
 
 

@@ -23,7 +23,8 @@ SCHEMA = TOP / "docs/report.schema.json"
 REFUSED = re.compile(r"line (\d+): refused: (\S+) (\S+)(?: (\S+))?: ([^:]+)")
 SHOWN = re.compile(r"line (\d+): state (0x[0-9a-f]{12}): (\S+?)(?:, candidates (.*)| (\S+))?")
 STOPPED = re.compile(r"line (\d+): stopped: (.*)")
-TOTALS = re.compile(r"steps (\d+), races (\d+), suppressed (\d+), refused (\d+)")
+LOSSY = b"eraser trace 3\nt1 write 0\n# incomplete: 1 events, 30175 lost\n"
+TOTALS = re.compile(r"steps (\d+), races (\d+), suppressed (\d+), refused (\d+)(?:, lost (\d+))?")
 
 
 # ---- The document of a report's text
@@ -52,7 +53,8 @@ def document_of(report):
         elif stopped:
             found["stop"] = {"line": int(stopped[1]), "why": stopped[2]}
         elif totals:
-            found["totals"] = {"steps": int(totals[1]), "races": int(totals[2]), "suppressed": int(totals[3]), "refused": int(totals[4])}
+            counts = zip(("steps", "races", "suppressed", "refused", "lost"), totals.groups())
+            found["totals"] = {name: int(count) for name, count in counts if count is not None}
         else:
             found["suppressions"].append(int(re.fullmatch(r"suppression \d+: (\d+)", line)[1]))
     return found
@@ -160,6 +162,11 @@ def schema_tests(record, schema):
     document = json.loads(output)
     full = all(document[name] for name in ("races", "refused", "shown")) and document["races"][0]["reasons"] and document["shown"][-1]["candidates"] == []
     record("a document with all that there is", full and (errors, status) == (b"", 1) and not list(faults(document, schema, schema)), f"{output}")
+    document_of_part = json.loads(run(["replay", "--format", "json", "-"], LOSSY)[0])
+    record("a document of lost events", document_of_part["totals"] == {"steps": 1, "races": 0, "suppressed": 0, "refused": 0, "lost": 30175} and not list(faults(document_of_part, schema, schema)))
+    for lost in (0, "1", None):
+        document_of_part["totals"]["lost"] = lost
+        record(f"a document with {lost} lost events is none", list(faults(document_of_part, schema, schema)))
     for name, other in changed(document):
         record(f"a document with {name} is none", list(faults(other, schema, schema)), f"{other}")
 

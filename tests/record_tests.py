@@ -152,7 +152,7 @@ class Recording:
         """What is wrong with it, or None."""
         if self.done.returncode != status or printed is not None and self.done.stdout != printed:
             return f"status {self.done.returncode}, printed {self.done.stdout!r}, {self.done.stderr!r}"
-        if not re.search(r"^steps .*, refused 0$", self.report, re.M):
+        if not re.search(r"^steps .*, refused 0(, lost \d+)?$", self.report, re.M):
             return f"report {self.report!r}"
         if races(self.report) != expected:
             return f"races {sorted(races(self.report))}, expected {sorted(expected)}"

@@ -137,6 +137,21 @@ def events_of(text):
     return events
 
 
+def lost_of(text):
+    """How many events the last comment of a text 3 says were lost. None if it says nothing of the sort."""
+    version = next((words[-1] for _, words in content_of(text) if words), None)
+    comment = next((line for line in reversed(text.split(b"\n")) if line.startswith(b"#")), b"")
+    found = re.fullmatch(rb"# incomplete: ([0-9]+) events, ([0-9]+) lost", comment)
+    counts = [int(count) for count in found.groups()] if found and version == b"3" else [0, 0]
+    return counts[1] if counts[1] > 0 and max(counts) < 2**64 else None
+
+
+def lost_part(text):
+    """What the line of totals ends with."""
+    lost = lost_of(text)
+    return "" if lost is None else f", lost {lost}"
+
+
 def rule_of(line, words):
     """A site, or the first and the last word of a run of bytes, which are the wrong way round where it is of no byte."""
     wanted = {b"site": 1, b"words": 2}.get(words[0])
@@ -316,7 +331,7 @@ def replay(text, rules=b"", explain=False):
     for line, (thread, verb, operands) in events:
         run.step(line, thread, verb, operands)
     run.lines += [f"suppression {number}: {count}" for number, count in enumerate(run.taken, 1)]
-    run.lines.append(f"steps {run.steps}, races {run.races}, suppressed {sum(run.taken)}, refused {run.refused}")
+    run.lines.append(f"steps {run.steps}, races {run.races}, suppressed {sum(run.taken)}, refused {run.refused}{lost_part(text)}")
     return "".join(line + "\n" for line in run.lines), "", 1 if run.races else 0
 
 
@@ -357,7 +372,8 @@ def random_trace(seed):
     if version == "3" and dice.randrange(2):
         lines += [dice.choice(["end", " end\t"])] + [random_line(dice, version, acting)] * (dice.randrange(6) == 0)
     for _ in range(dice.randrange(3)):
-        lines.insert(dice.randrange(len(lines) + 1), dice.choice(["", "# a comment", "  \t"]))
+        lossy = f"# incomplete: {len(lines)} events, {dice.choice([0, 1, 30175])} lost"
+        lines.insert(dice.randrange(len(lines) + 1), dice.choice(["", "# a comment", "  \t", lossy]))
     text = "\n".join(lines).encode() + dice.choice([b"", b"\n"])
     if dice.randrange(4) == 0:
         at = dice.randrange(len(text) + 1)

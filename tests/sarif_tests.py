@@ -107,18 +107,21 @@ def suppressed_of(rules, counts):
             }
 
 
-def text_of(results):
+def text_of(results, lost=None):
     driver = plain({"driver": {"name": "eraser", "rules": RULES}})
     rows = ",".join("\n" + plain(result) for result in results)
     schema = "https://json.schemastore.org/sarif-2.1.0.json"
-    return f'{{"$schema":"{schema}",\n"version":"2.1.0",\n"runs":[{{\n"tool":{driver},\n"results":[{rows}]}}]}}\n'
+    notice = {"level": "warning", "message": {"text": f"{lost} events were lost: the report is of a part of the run"}}
+    invocations = "" if lost is None else ',\n"invocations":' + plain([{"executionSuccessful": True, "toolExecutionNotifications": [notice]}])
+    return f'{{"$schema":"{schema}",\n"version":"2.1.0",\n"runs":[{{\n"tool":{driver},\n"results":[{rows}]{invocations}}}]}}\n'
 
 
 def expected(text, rules, is_file=False):
     output, errors, status = reference.replay(text, rules or b"", explain=True)
     if status < 2:
         document = document_of(output)
-        output = text_of([*results_of(document, places_in(text) if is_file else {}), *suppressed_of(reference.rules_of(rules or b""), document["suppressions"])])
+        results = [*results_of(document, places_in(text) if is_file else {}), *suppressed_of(reference.rules_of(rules or b""), document["suppressions"])]
+        output = text_of(results, document["totals"].get("lost"))
     return output.encode(), errors.encode(), status
 
 
@@ -133,6 +136,10 @@ def faults(log):
         driver = each.get("tool", {}).get("driver", {})
         if not driver.get("name"):
             yield "no name of the tool"
+        for invocation in each.get("invocations", []):
+            notices = invocation.get("toolExecutionNotifications", [])
+            if not isinstance(invocation.get("executionSuccessful"), bool) or not all(notice.get("message", {}).get("text") for notice in notices):
+                yield "no success of the invocation, or no message of a notification"
         rules = [rule.get("id") for rule in driver.get("rules", [])]
         for result in each.get("results", []):
             if not result.get("message", {}).get("text"):
@@ -215,12 +222,13 @@ def refusal_tests(record, preloaded):
 
 def required_tests(record):
     """The check of what SARIF requires finds what is missing."""
-    good = json.loads(expected(b"eraser trace 1\nt1 write 0 a:1\nt2 write 0 a:1\nt1 write 4 b:1\nt2 write 4 b:1\n", b"site b:1\n")[0])
+    good = json.loads(expected(b"eraser trace 3\nt1 write 0 a:1\nt2 write 0 a:1\nt1 write 4 b:1\nt2 write 4 b:1\n# incomplete: 4 events, 2 lost\n", b"site b:1\n")[0])
     record("a log with one result and a suppressed one", not list(faults(good)) and len(good["runs"][0]["results"]) == 2)
     for path in (["version"], ["runs"], ["runs", 0, "tool"], ["runs", 0, "tool", "driver", "name"], ["runs", 0, "tool", "driver", "rules", 1], ["runs", 0, "results", 0, "message"],
                  ["runs", 0, "results", 0, "level"], ["runs", 0, "results", 0, "occurrenceCount"], ["runs", 0, "results", 0, "partialFingerprints"],
                  ["runs", 0, "results", 0, "locations", 0, "physicalLocation", "artifactLocation"], ["runs", 0, "results", 0, "locations", 0, "physicalLocation", "region"],
-                 ["runs", 0, "results", 0, "relatedLocations", 0, "message"], ["runs", 0, "results", 1, "suppressions", 0, "kind"]):
+                 ["runs", 0, "results", 0, "relatedLocations", 0, "message"], ["runs", 0, "results", 1, "suppressions", 0, "kind"],
+                 ["runs", 0, "invocations", 0, "executionSuccessful"], ["runs", 0, "invocations", 0, "toolExecutionNotifications", 0, "message"]):
         other = json.loads(json.dumps(good))
         owner = other
         for name in path[:-1]:

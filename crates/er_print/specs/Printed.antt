@@ -1,5 +1,5 @@
 -- The bytes of a report: each word here is the text of one thing, and a line ends with its LF.
-use Rattle.std.specs.Prelude.{ℕ, zero, suc, ◌+◌, ◌-◌, ◌*◌, ◌/◌, ◌%◌, Bool, cond, List, [], ◌∷◌, ◌++◌, flat_map, slice_index_or, Option, Some, None, codes, decimal}
+use Rattle.std.specs.Prelude.{ℕ, zero, suc, ◌+◌, ◌-◌, ◌*◌, ◌/◌, ◌%◌, Bool, cond, nat_lt, List, [], ◌∷◌, ◌++◌, flat_map, slice_index_or, Option, Some, None, codes, decimal}
 use Rattle.std.specs.Char.{digit_char}
 use Rattle.er_event.specs.Lockset.{is_level_lock, level_base}
 use Rattle.er_trace.specs.Names.{NameTable}
@@ -147,10 +147,15 @@ abbrev pub counts_text : ℕ → List ℕ → List ℕ
 counts_text number [] = []
 counts_text number (count ∷ counts) = count_text number count ++ counts_text (number + 1) counts
 
+-- how many events were lost, between these two texts, if some were
+unfoldable pub lost_text : List ℕ → List ℕ → Option ℕ → List ℕ
+lost_text before after None = []
+lost_text before after (Some n) = cond (nat_lt 0 n) (before ++ decimal n ++ after) []
+
 abbrev pub totals_text : Summary → List ℕ
 totals_text s =
     codes "steps " ++ decimal s.steps ++ codes ", races " ++ decimal s.races ++ codes ", suppressed " ++ decimal s.suppressed
-    ++ codes ", refused " ++ decimal s.refused ++ 10 ∷ []
+    ++ codes ", refused " ++ decimal s.refused ++ lost_text (codes ", lost ") [] s.lost ++ 10 ∷ []
 
 -- the whole text
 unfoldable pub report_text : NameTable → Summary → List ℕ

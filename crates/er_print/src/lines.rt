@@ -4,7 +4,7 @@ ghost use Rattle.er_event.specs.Refusal.{text_of};
 ghost use Rattle.er_report.specs.Lines.{line_view};
 ghost use Rattle.er_report.specs.Names.{HasLabelName, HasLockNames, HasEventNames, HasNames, HasReasonNames, HasStateNames};
 ghost use Rattle.er_report.specs.Report.{told};
-ghost use Rattle.er_print.specs.Printed.{name_at, site_text, locks_text, kind_text, address_text, event_text, state_text, label_text, place_text, reason_text, own_text, line_text, stop_text, count_text, counts_text, totals_text};
+ghost use Rattle.er_print.specs.Printed.{name_at, site_text, locks_text, kind_text, address_text, event_text, state_text, label_text, place_text, reason_text, own_text, line_text, stop_text, count_text, counts_text, lost_text, totals_text};
 
 use crate::naming::{put_event, put_lock, put_locks, put_site, put_state, put_thread};
 use crate::numbers::{put_address, put_number};
@@ -235,7 +235,27 @@ pub fn put_totals(out: &mut Vec<u8>, report: &Report) -> Result<(), AllocError>
     put_labelled(out, b", races ", report.races)?;
     put_labelled(out, b", suppressed ", report.suppressed)?;
     put_labelled(out, b", refused ", report.refused)?;
+    put_lost(out, b", lost ", report.lost, b"")?;
     out.extend_from_slice(b"\n")
+}
+
+/// Puts how many events were lost, between these two texts, or nothing if none was.
+#[tactic(auto, unfolding(crate::specs::Printed::lost_text))]
+pub fn put_lost(
+    out: &mut Vec<u8>,
+    before: &[u8],
+    lost: Option<u64>,
+    after: &[u8],
+) -> Result<(), AllocError>
+    ensures { OnOk result (out.new.items ≡ out.old.items ++ lost_text before.now after.now lost) }
+{
+    match lost {
+        Some(lost) if lost > 0 => {
+            put_labelled(out, before, lost)?;
+            out.extend_from_slice(after)
+        }
+        _ => Ok(()),
+    }
 }
 
 // Puts a number behind a label.

@@ -76,8 +76,8 @@ answered_within steps (Some stop) = omega (arith, length-take stop.at steps)
 
 -- reports by their parts
 pub same_summary : (k l : List LineView) (o p : Option (ℕ × NoRoom)) (a b : List ℕ) (m n q r s t u v : ℕ) → k ≡ l → o ≡ p → a ≡ b → m ≡ n → q ≡ r → s ≡ t → u ≡ v
-    → (let one : Summary = record { lines = k; stop = o; rule_counts = a; steps = m; races = q; suppressed = s; refused = u } in
-    let two : Summary = record { lines = l; stop = p; rule_counts = b; steps = n; races = r; suppressed = t; refused = v } in
+    → (let one : Summary = record { lines = k; stop = o; rule_counts = a; steps = m; races = q; suppressed = s; refused = u; lost = None } in
+    let two : Summary = record { lines = l; stop = p; rule_counts = b; steps = n; races = r; suppressed = t; refused = v; lost = None } in
     one ≡ two)
 same_summary k l o p a b m n q r s t u v ek eo ea em eq es eu = cc
 

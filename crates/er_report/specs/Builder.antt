@@ -33,6 +33,7 @@ report_below_by answers r rules n =
       races = count_below (is_printed_by answers r rules) n;
       suppressed = count_below (λ k. is_some (matching_rule_by answers r rules k)) n;
       refused = count_below (λ k. is_refused (answers k)) n;
+      lost = None;
     }
 
 -- and with those of the lockset rule

@@ -32,6 +32,7 @@ pub record Summary : Type 0 where
   pub races : ℕ
   pub suppressed : ℕ
   pub refused : ℕ
+  pub lost : Option ℕ
 
 -- what a report holds
 abbrev pub told : Report → Summary
@@ -44,6 +45,7 @@ told r =
       races = r.races;
       suppressed = r.suppressed;
       refused = r.refused;
+      lost = r.lost;
     }
 
 -- the line of a race or of a show, and none of another reply; these are the locks that the thread holds, and why it is a race
@@ -130,7 +132,7 @@ abbrev pub stop_line : Recording → Option Stopped → Option (ℕ × NoRoom)
 stop_line r None = None
 stop_line r (Some stop) = Some (slice_index r.lines stop.at, stop.cause)
 
--- the report of a run with these answers and reasons under these rules, which stopped so or not at all
+-- the report of a run with these answers and reasons under these rules, which stopped so or not at all. Steps say nothing of lost events
 abbrev pub report_by : Answering → (ℕ → List Because) → Recording → List Target → Option Stopped → Summary
 report_by answers reasons r rules stop =
     let n = length (answered_steps r.steps stop) in
@@ -142,6 +144,7 @@ report_by answers reasons r rules stop =
       races = count_below (is_printed_by answers r rules) n;
       suppressed = count_below (λ k. is_some (matching_rule_by answers r rules k)) n;
       refused = count_below (λ k. is_refused (answers k)) n;
+      lost = None;
     }
 
 -- each race is the answer to an access

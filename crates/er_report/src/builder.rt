@@ -27,6 +27,7 @@ use std::alloc::{AllocError, Global};
 use std::marker::Model;
 
 /// The report of the steps so far, under some rules. It keeps no step: a line has what a report says of its step.
+/// Of lost events its report says nothing.
 ///
 /// If reasons are wanted, each step that was added by itself is to be explained right after it, and the builder keeps the books of all
 /// words.
@@ -310,6 +311,7 @@ fn empty_report(alloc: Global, rules: usize) -> Result<Report, AllocError>
         races: 0,
         suppressed: 0,
         refused: 0,
+        lost: None,
     })
 }
 

@@ -87,4 +87,6 @@ pub struct Report {
     pub suppressed: u64,
     /// How many steps were refused.
     pub refused: u64,
+    /// How many events the trace says were lost. None if it says nothing of lost events.
+    pub lost: Option<u64>,
 }

@@ -23,6 +23,7 @@ pub fn keep_first_races(alloc: Global, report: Report, most: u64) -> Result<Repo
         races,
         suppressed,
         refused,
+        lost,
     } = report;
     Ok(Report {
         lines: first_lines(alloc, lines, most)?,
@@ -32,6 +33,7 @@ pub fn keep_first_races(alloc: Global, report: Report, most: u64) -> Result<Repo
         races,
         suppressed,
         refused,
+        lost,
     })
 }
 

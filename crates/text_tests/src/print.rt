@@ -23,6 +23,7 @@ fn stopped_report(alloc: Global) -> Report
         races: 0,
         suppressed: 0,
         refused: 0,
+        lost: None,
     }
 }
 

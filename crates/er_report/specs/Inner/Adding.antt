@@ -8,7 +8,7 @@ use Rattle.er_report.specs.Report.{Summary, answer_line, is_refused}
 
 -- the report before any step, with so many rules
 abbrev pub empty_report : ℕ → Summary
-empty_report rules = record { lines = []; stop = None; rule_counts = replicate rules 0; steps = 0; races = 0; suppressed = 0; refused = 0 }
+empty_report rules = record { lines = []; stop = None; rule_counts = replicate rules 0; steps = 0; races = 0; suppressed = 0; refused = 0; lost = None }
 
 -- one more race for the rule that takes it
 abbrev pub one_more : List ℕ → ℕ → List ℕ
@@ -25,6 +25,7 @@ with_answer s number locks step answer None =
       races = s.races + cond (is_race answer) 1 0;
       suppressed = s.suppressed;
       refused = s.refused + cond (is_refused answer) 1 0;
+      lost = s.lost;
     }
 with_answer s number locks step answer (Some i) =
     record {
@@ -35,6 +36,7 @@ with_answer s number locks step answer (Some i) =
       races = s.races;
       suppressed = s.suppressed + 1;
       refused = s.refused;
+      lost = s.lost;
     }
 
 -- no count is above that of the steps, and each of so many rules has one
