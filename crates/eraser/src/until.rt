@@ -51,17 +51,13 @@ enum Again<'a> {
 }
 
 /// Writes the notes, then the damage, and then the fault with what helps people. If a write fails, the rest is left out.
-pub(crate) fn report_cut<R, E>(
-    rt: &R,
-    replay: &Replay<'_>,
-    cut: &Cut,
-    errors: &mut Device<E>,
-) -> u8
+pub(crate) fn report_cut<R, E>(rt: &R, replay: &Replay<'_>, cut: &Cut, errors: &mut Device<E>) -> u8
 where
     R: Files + AllocGlobal,
     E: Write,
     requires { has_failed errors.old ≡ false }
-    ensures { result ≡ fault_status cut.now.fault }
+    ensures status { result ≡ fault_status cut.now.fault }
+    ensures range { (2 ≤ result) × (result ≤ 4) }
 {
     put(errors, &cut.notes);
     if let Some(damage) = cut.damage
