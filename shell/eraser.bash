@@ -41,7 +41,7 @@ _eraser() {
     case $command:$word in
     :-*) _eraser_words "--help --version -h -V" ;;
     :*) _eraser_words "replay explain demo help" ;;
-    replay:-?*) _eraser_words "--analysis --suppress --write-rules --unused-rules --max-races --explain --by-site --format --source --strict --until-fault --progress --workers --shards --byte-limit --help -h" ;;
+    replay:-?*) _eraser_words "--analysis --suppress --write-rules --unused-rules --max-races --explain --by-site --format --source --strict --until-fault --progress --hints --workers --shards --byte-limit --help -h" ;;
     replay:*) _eraser_files ;;
     explain:-?*) _eraser_words "--byte-limit --help -h" ;;
     explain:*) _eraser_files ;;

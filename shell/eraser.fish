@@ -21,6 +21,7 @@ complete -c eraser -n '__fish_seen_subcommand_from replay' -l source -x -a '(__f
 complete -c eraser -n '__fish_seen_subcommand_from replay' -l strict -d 'End with 2 if the trace is damaged, and write no report'
 complete -c eraser -n '__fish_seen_subcommand_from replay' -l until-fault -d 'Report the steps before the first faulty line of the trace, and then its fault'
 complete -c eraser -n '__fish_seen_subcommand_from replay' -l progress -d 'Show on standard error, about twice a second, how far the replay has come'
+complete -c eraser -n '__fish_seen_subcommand_from replay' -l hints -d 'Write on standard error, as on a terminal, what helps people behind the line of a fault'
 complete -c eraser -n '__fish_seen_subcommand_from replay' -l workers -x -a '(seq 16)' -d 'How many threads replay the trace, 1 to 16'
 complete -c eraser -n '__fish_seen_subcommand_from replay' -l shards -x -a '1 2 4 8 16 32 64' -d 'Into how many parts several workers cut the words, 1 to 64'
 complete -c eraser -n '__fish_seen_subcommand_from replay' -l byte-limit -x -d 'The most bytes that a text may have, 1 to 4611686018427387904'

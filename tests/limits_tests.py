@@ -253,7 +253,7 @@ FORMS = {
     "HTML": (["--format", "html"], b"<!doctype html>\n", None),
 }
 FORMS_OF = {"lockset": set(FORMS), "happens-before": {"text", "no form"}, "both": {"text", "no form", "by site"}}
-OTHERS = ([], ["--explain"], ["--until-fault"], ["--workers", "2"], ["--write-rules", "known.rules"], ["--unused-rules"], ["--max-races", "1"], ["--source", "."])
+OTHERS = ([], ["--explain"], ["--until-fault"], ["--workers", "2"], ["--write-rules", "known.rules"], ["--unused-rules"], ["--max-races", "1"], ["--source", "."], ["--hints"])
 
 
 def goes_together(analysis, form, strict, other):
@@ -265,6 +265,34 @@ def goes_together(analysis, form, strict, other):
     if other[:1] == ["--max-races"] and form == "by site":
         return False
     return analysis != "both" or other[:1] not in (["--write-rules"], ["--unused-rules"], ["--max-races"])
+
+
+def files_of_rules(record, folder):
+    """Each file of rules has the byte limit for itself, and is judged before the next one is opened."""
+    paths = [folder / f"of{n}.rules" for n in range(2)]
+    words = [word for path in paths for word in ("--suppress", path)]
+    limit = len(SOUND)
+    for sizes, errors, status in (((limit, limit), b"", 1), ((limit + 1, limit), b"suppressions file 1 line 1: text too long\n", 2),
+                                  ((limit, limit + 1), b"suppressions file 2 line 1: text too long\n", 2)):
+        for path, size in zip(paths, sizes):
+            path.write_bytes(b"# ".ljust(size - 1, b"x") + b"\n")
+        found = run(["replay", "--byte-limit", limit, *words, "-"], SOUND)
+        record(f"limits: files of rules with {sizes} bytes", found[1:] == (errors, status), f"{found}")
+    for path, text in zip(paths, (b"hop\n", None)):
+        path.write_bytes(text) if text else path.unlink()
+    record("limits: a file of rules before one that isn't there", run(["replay", *words, "-"], SOUND) == (b"", b"suppressions file 1 line 1: bad verb\n", 2))
+    record("limits: a file of rules behind one that isn't there", run(["replay", *words[2:], *words[:2], "-"], SOUND) == (b"", b"cannot open suppressions file 1\n", 4))
+
+
+def races_left_out(record, folder):
+    """Races that a rule takes have no line in any report, so they aren't left out."""
+    trace = b"eraser trace 1\n" + b"".join(b"t%d write %d a.c:%d\n" % (thread, 4 * word, word) for word in range(4) for thread in (1, 2))
+    rules = folder / "left.rules"
+    rules.write_bytes(b"site a.c:1\n")
+    for most, left in ((0, 3), (1, 2), (2, 1), (3, 0), (4, 0)):
+        found = run(["replay", "--max-races", most, "--suppress", rules, "-"], trace)
+        wanted = b"races left out: %d\n" % left if left else b""
+        record(f"limits: {most} races and one that a rule takes", found[0].count(b": race: ") == min(most, 3) and found[1:] == (wanted, 1), f"{found}")
 
 
 def together(record, folder):
@@ -315,6 +343,8 @@ def tests(record, preloaded):
     numbers(record)
     with tempfile.TemporaryDirectory() as folder:
         many_rules(record, pathlib.Path(folder))
+        files_of_rules(record, pathlib.Path(folder))
+        races_left_out(record, pathlib.Path(folder))
         together(record, pathlib.Path(folder))
 
 

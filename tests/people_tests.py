@@ -1,5 +1,5 @@
 #!/usr/bin/env python3
-"""What is written behind a fault's line if standard error is a terminal, and that nothing is if it isn't.
+"""What is written behind a fault's line if standard error is a terminal or `--hints` is given, and that nothing is else.
 
 `tests/run` calls `tests`. By itself this file runs these tests alone. A row has a file's bytes, and what a person is shown of it below the fault's line.
 
@@ -131,6 +131,16 @@ def shown(words, folder, text=b"", **more):
     return b"".join(pieces), done.stdout, done.returncode
 
 
+def piped(words, folder, text=b""):
+    """The same if the errors are no terminal."""
+    done = subprocess.run([str(PROGRAM), *words], cwd=folder, input=text, capture_output=True, timeout=120)
+    return done.stderr, done.stdout, done.returncode
+
+
+def with_hints(words, folder, text=b""):
+    return piped([words[0], "--hints", *words[1:]], folder, text)
+
+
 def advice(path, line, hint):
     told = f"  in {path}:\n" if path else ""
     if line:
@@ -151,8 +161,8 @@ def texts(record, folder):
             wanted = f"{fault}\n{advice(path, line, hint)}".encode()
             found = shown(words, folder)
             record(f"for people: {name}", found == (wanted, b"", 2) and is_tame(wanted), f"{found[0].decode()}\nwanted {wanted.decode()}")
-            plain = subprocess.run([str(PROGRAM), *words], cwd=folder, capture_output=True)
-            record(f"not for people: {name}", (plain.stderr, plain.stdout, plain.returncode) == (f"{fault}\n".encode(), b"", 2), f"{plain}")
+            record(f"not for people: {name}", piped(words, folder) == (f"{fault}\n".encode(), b"", 2), f"{piped(words, folder)}")
+            record(f"with --hints: {name}", with_hints(words, folder) == found, f"{with_hints(words, folder)}")
     (folder / "t.trace").write_bytes(HEADER + b"t1 read 4\n")
     found = shown(["replay", "--byte-limit", "20", "t.trace"], folder)
     wanted = b"line 2: text too long\n" + advice("t.trace", ("t1 read 4", 0), "the option --byte-limit BYTES takes a longer text").encode()
@@ -180,11 +190,21 @@ def files(record, folder):
     for words, fault, path, more, status in rows:
         found = shown(["replay", *words], folder)
         record(f"for people: {words}", found[0] == f"{fault}\n  in {path}:\n{more}".encode() and found[2] == status, f"{found}")
+        record(f"with --hints: {words}", with_hints(["replay", *words], folder) == found, f"{with_hints(['replay', *words], folder)}")
     found = shown(["replay", "--write-rules", "none/w.rules", "good.trace"], folder)
     wanted = b"cannot write rules\n  in none/w.rules:\n    No such file or directory (os error 2)\n"
     record("for people: rules that can't be written", (found[0], found[2]) == (wanted, 4), f"{found}")
     found = shown(["replay", "-"], folder, HEADER + b"t1 hop\n")
     record("for people: the standard input", found[0] == f"line 2: bad verb\n  hint: {VERBS}\n".encode(), f"{found}")
+    record("with --hints: the standard input", with_hints(["replay", "-"], folder, HEAD + b"t1 hop\n") == found)
+    text = HEAD + b"t1 write 0\nt2 write 0\nt1 hop\n"
+    found = shown(["replay", "--hints", "--until-fault", "-"], folder, text)
+    wanted = f"line 4: bad verb\n  hint: {VERBS}\n".encode(), b"line 3: race: t2 write 0x000000000000 at -, holds none\nsteps 2, races 1, suppressed 0, refused 0\n", 2
+    record("for people: the lines before a fault", found == wanted, f"{found}")
+    record("with --hints: the lines before a fault", with_hints(["replay", "--until-fault", "-"], folder, text) == wanted)
+    for words in (["explain", "--hints", "2", "-"], ["demo", "--hints", "racy-counter"]):
+        found = piped(words, folder, text)
+        record(f"with --hints: {words[0]} has no such option", found[1:] == (b"", 2) and b"unexpected argument" in found[0], f"{found}")
     os.mkfifo(folder / "fifo")
     feeder = threading.Thread(target=lambda: (folder / "fifo").write_bytes(HEADER + b"t1 hop\n"))
     feeder.start()

@@ -36,21 +36,23 @@ from site_tests import PROGRAM, preloaded, run
 HEAD, THIRD = b"eraser trace 1\n", b"eraser trace 3\n"
 RACE = b"t1 write 0x1000 a.c:1\nt2 write 0x1000 a.c:2\n"
 MORE = b"t1 write 0x2000 b.c:1\nt2 write 0x2000 b.c:2\n"
-LINE = re.compile(rb"progress: (\d+) bytes, (\d+) steps, (\d+) steps a second, (\d+) races\n")
-SHOWN = re.compile(rb"\rprogress: (\d+) bytes, (\d+) steps, (\d+) steps a second, (\d+) races\x1b\[K")
+# A share of the file stands behind all else, so who reads a line from its front finds what stands in a line without it.
+FRONT, SHARE = rb"progress: (\d+) bytes, (\d+) steps, (\d+) steps a second, (\d+) races", rb"(?:, (\d+) %)?"
+LINE = re.compile(FRONT + SHARE + rb"\n")
+SHOWN = re.compile(rb"\r" + FRONT + SHARE + rb"\x1b\[K")
 CLEAR = b"\r\x1b[K"
 # A batch of one worker, and how many of them are given at most until a line comes.
 BATCH = b"t1 read 0x3000\n" * 1024
 MOST_PIECES = 600
 OPTIONS = ([], ["--explain"], ["--by-site"], ["--format", "json"], ["--format", "sarif"], ["--format", "html"], ["--strict"], ["--until-fault"],
-    ["--workers", "3"], ["--workers", "2", "--explain"], ["--analysis", "happens-before"], ["--analysis", "happens-before", "--explain"],
+    ["--hints"], ["--until-fault", "--hints"], ["--workers", "3"], ["--workers", "2", "--explain"], ["--analysis", "happens-before"], ["--analysis", "happens-before", "--explain"],
     ["--analysis", "both"], ["--analysis", "both", "--by-site"], ["--max-races", "1"], ["--until-fault", "--strict", "--explain"],
     ["--analysis", "happens-before", "--max-races", "1"], ["--until-fault", "--workers", "2"])
 
 
 def parted(errors):
-    """The numbers of the lines of progress, and the errors without them."""
-    found = [tuple(int(number) for number in numbers) for numbers in LINE.findall(errors)]
+    """The numbers of the lines of progress, the share of the file last, which is None if there is none, and the errors without these lines."""
+    found = [tuple(int(number) if number else None for number in numbers) for numbers in LINE.findall(errors)]
     return found, LINE.sub(b"", errors)
 
 
@@ -80,6 +82,8 @@ def same_replays(record, folder):
                 title = f"progress: {name} {' '.join(options)} {words[0] == '-'}"
                 record(title, (output, rest, status) == plain, f"{(output, errors, status)}, {plain}"[:1000])
                 record(f"{title}: its lines come first", errors == errors[:len(errors) - len(rest)] + rest, f"{errors}")
+                shares = [None if words == ["-"] else 100 * line[0] // len(text) for line in lines]
+                record(f"{title}: the share of a file", [line[4] for line in lines] == shares, f"{errors}")
                 if plain[2] <= 1:
                     record(f"{title}: the last line", bool(lines) and lines[-1][:2] == (len(text), total(text, b"steps")), f"{errors}, {len(text)}")
                     if not {"happens-before", "both"} & set(options):
@@ -99,6 +103,21 @@ def numbers(record, folder):
     record("progress: the lines before a fault", rest == b"line 6: missing operand\n" and len(lines) >= 1 and lines[-1][:2] == (len(text), 4), f"{lines} {rest}")
     lines, rest = parted(run(["replay", "--progress", "-"], HEAD + BATCH + b"fault\n")[1])
     record("progress: the batches before a fault", rest == b"line 1026: missing operand\n" and len(lines) == 1 and lines[-1][1] <= 1024, f"{lines} {rest}")
+    # The lines before a fault are a part of the file. What is no ordinary file has no share.
+    whole, path = HEAD + RACE + MORE + b"fault\n" + RACE * 9, folder / "n.trace"
+    path.write_bytes(whole)
+    lines, _ = parted(run(["replay", "--progress", "--until-fault", str(path)])[1])
+    record("progress: the share of the lines before a fault", len(lines) >= 1 and lines[-1][4] == 100 * len(text) // len(whole) < 100, f"{lines}")
+    os.mkfifo(folder / "n.fifo")
+    feeder = threading.Thread(target=lambda: (folder / "n.fifo").write_bytes(text))
+    feeder.start()
+    lines, _ = parted(run(["replay", "--progress", str(folder / "n.fifo")])[1])
+    feeder.join()
+    record("progress: a FIFO has no share", len(lines) >= 1 and lines[-1][4] is None, f"{lines}")
+    # A file of the name - is none that a trace is read from.
+    (folder / "-").write_bytes(whole)
+    lines, _ = parted(run(["replay", "--progress", "-"], text, cwd=folder)[1])
+    record("progress: a file named - gives no share", len(lines) >= 1 and lines[-1][4] is None, f"{lines}")
     lines, rest = parted(run(["replay", "--progress", "-"], b"fault\n")[1])
     record("progress: a fault of the first batch", lines == [] and rest == b"line 1: no header\n", f"{lines} {rest}")
 
@@ -172,7 +191,7 @@ def second_pass(record):
     lines, rest = parted(errors)
     record("progress: a late fault", (output, rest) == (run(["replay", "-"], HEAD + RACE)[0], b"line 4: missing operand\n") and len(lines) == 1, f"{output} {errors}")
     # A rate is cut to a whole number, so its steps took more milliseconds than by the next greater one. Less than one counts as one.
-    least = [1000 * steps / (rate + 1) for _, steps, rate, _ in lines]
+    least = [1000 * steps / (rate + 1) for _, steps, rate, *_ in lines]
     record("progress: a second pass begins anew", all(each <= max(took, 1) for each in least), f"{least} {took}")
 
 

@@ -119,6 +119,7 @@ WORKED = (
     ("a text 3 with its end", THIRD + b"t1 start t2\nt2 write 0\nend\n", b""),
     ("a text 3 with its end and a comment", THIRD + b"end\n\n# done\n", b""),
     ("a text 3 whose end has no line feed", THIRD + b"end", b"line 2: no line feed\n"),
+    ("a thread named as the header's first word", THIRD + b"main start eraser\neraser write 0\nend\n", b""),
     ("a text 3 without an end", THIRD + b"t1 write 0\n", b"line 2: no end\n"),
     ("a header of a text 3", THIRD, b"line 1: no end\n"),
     ("a cut text 3", THIRD + b"t1 write 0\nt1 wri", None),

@@ -44,6 +44,8 @@ pub struct Replay<'a> {
     pub until_fault: bool,
     /// Whether standard error shows how far the replay has come.
     pub progress: bool,
+    /// Whether what helps people follows the line of a fault, as on a terminal.
+    pub hints: bool,
     /// In how many shards the words are, from 1 to 64.
     pub shards: u32,
     /// How many workers replay the trace, from 1 to 16.
@@ -158,7 +160,7 @@ const BYTE_LIMIT: Row = Row {
     help: "The most bytes that a text may have, 1 to 4611686018427387904",
 };
 
-static REPLAY: [Row; 16] = [
+static REPLAY: [Row; 17] = [
     Row {
         name: "analysis",
         value: "ANALYSIS",
@@ -254,6 +256,14 @@ static REPLAY: [Row; 16] = [
         takes: ValueParser::Bool,
         without: None,
         help: "Show on standard error, about twice a second, how far the replay has come",
+    },
+    Row {
+        name: "hints",
+        value: "",
+        shape: Shape::Flag,
+        takes: ValueParser::Bool,
+        without: None,
+        help: "Write on standard error, as on a terminal, what helps people behind the line of a fault",
     },
     Row {
         name: "workers",
@@ -562,6 +572,7 @@ fn replay_of<'a>(found: &ArgMatches<'a>, way: Way<'a>, suppressions: Vec<&'a str
         strict: found.get_flag("strict"),
         until_fault: found.get_flag("until-fault"),
         progress: found.get_flag("progress"),
+        hints: found.get_flag("hints"),
         shards: way.limits.shards,
         workers: way.limits.workers,
         byte_limit: way.limits.byte_limit,
@@ -668,7 +679,7 @@ fn conflict_of(request: &Request<'_>) -> Option<&'static str> {
     }
     if lacks_form(request) {
         return Some(
-            "--format and --strict go with --analysis lockset alone, and --by-site with lockset or both",
+            "--format json, sarif and html and --strict go with --analysis lockset alone, and --by-site with lockset or both",
         );
     }
     if asks_more_of_both(request) {

@@ -1,43 +1,39 @@
 //! What the words of a command line ask for.
 ghost use Rattle.std.specs.Prelude.{◌≡◌, true, IfOk};
-ghost use Rattle.er_request.specs.Words.{asks_progress, asks_until_fault, names_progress, names_until_fault};
+ghost use Rattle.er_request.specs.Words.{asks_hints, asks_progress, asks_until_fault, names, names_hints, names_progress, names_until_fault};
 
 use crate::request::{self, Request};
 use clap::Error;
 use std::alloc::Global;
 
 /// Reads a command line, of which the first word is the program's name. Steps before a fault are asked for only if a word asks for them,
-/// and so is how far a replay has come.
+/// and so are how far a replay has come, and what helps people.
 pub fn read_request<'a>(alloc: Global, words: &'a [String]) -> Result<Request<'a>, Error>
     ensures until_fault { IfOk result (λ request. asks_until_fault request ≡ true → names_until_fault words.now ≡ true) }
     ensures progress { IfOk result (λ request. asks_progress request ≡ true → names_progress words.now ≡ true) }
+    ensures hints { IfOk result (λ request. asks_hints request ≡ true → names_hints words.now ≡ true) }
 {
     let request = request::read_request(alloc, words)?;
-    Ok(if_named(request, names_until_fault(words), names_progress(words)))
+    Ok(if_named(request, words))
 }
 
-// Whether one of the words is `--until-fault`. The parser decides whether it is that option, and no name of a file.
-fn names_until_fault(words: &[String]) -> bool
-    ensures { result ≡ names_until_fault words.now }
+// Whether one of the words is this option. The parser decides whether it is that option, and no name of a file.
+fn names(words: &[String], option: &str) -> bool
+    ensures { result ≡ names option.now words.now }
 {
-    words.iter().any(|word| word.as_str() == "--until-fault")
+    words.iter().any(|word| word.as_str() == option)
 }
 
-// The same of `--progress`.
-fn names_progress(words: &[String]) -> bool
-    ensures { result ≡ names_progress words.now }
-{
-    words.iter().any(|word| word.as_str() == "--progress")
-}
-
-fn if_named(request: Request<'_>, until_fault: bool, progress: bool) -> Request<'_>
-    ensures until_fault { asks_until_fault result ≡ true → until_fault ≡ true }
-    ensures progress { asks_progress result ≡ true → progress ≡ true }
+fn if_named<'a>(request: Request<'a>, words: &[String]) -> Request<'a>
+    ensures until_fault { asks_until_fault result ≡ true → names_until_fault words.now ≡ true }
+    ensures progress { asks_progress result ≡ true → names_progress words.now ≡ true }
+    ensures hints { asks_hints result ≡ true → names_hints words.now ≡ true }
 {
     match request {
         Request::Replay(mut replay) => {
-            replay.until_fault = replay.until_fault && until_fault;
-            replay.progress = replay.progress && progress;
+            replay.until_fault = replay.until_fault && names(words, "--until-fault");
+            replay.progress = replay.progress && names(words, "--progress");
+            replay.hints = replay.hints && names(words, "--hints");
             Request::Replay(replay)
         }
         other => other,

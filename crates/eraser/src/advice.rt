@@ -14,23 +14,22 @@ use std::fs;
 use std::io::Write;
 use std::rt::Files;
 
-/// Writes the line of a fault, and returns its status. For people what helps them follows, as far as it is known.
+/// Writes the line of a fault, and returns its status. What helps people follows if it is asked for, as far as it is known.
 pub(crate) fn report_replay_fault<R, E>(
     rt: &R,
     replay: &Replay<'_>,
     fault: Fault,
     errors: &mut Device<E>,
-    for_people: bool,
 ) -> u8
 where
     R: Files + AllocGlobal,
     E: Write,
     requires { has_failed errors.old ≡ false }
     ensures status { result ≡ fault_status fault }
-    ensures line { for_people ≡ false → GetsLine (E.contents (inner_of errors.old)) (E.contents (inner_of errors.new)) (fault_line fault) (has_failed errors.new) }
+    ensures line { replay.now.hints ≡ false → GetsLine (E.contents (inner_of errors.old)) (E.contents (inner_of errors.new)) (fault_line fault) (has_failed errors.new) }
 {
     let status = report_fault(rt.alloc(), fault, errors);
-    if for_people {
+    if replay.hints {
         advise_on(rt, replay, fault, errors);
     }
     status
@@ -79,8 +78,8 @@ fn trace_trouble<'a>(replay: &Replay<'a>, fault: TextFault) -> Trouble<'a> {
     }
 }
 
-// The path of the trace, if it isn't the standard input.
-fn trace_path<'a>(replay: &Replay<'a>) -> Option<&'a str> {
+/// The path of the trace, if it isn't the standard input.
+pub(crate) fn trace_path<'a>(replay: &Replay<'a>) -> Option<&'a str> {
     if replay.trace == "-" {
         return None;
     }

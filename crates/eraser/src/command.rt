@@ -12,15 +12,16 @@ ghost use Rattle.eraser.specs.Notes.{AsksNoNotes, GetsNotes};
 ghost use Rattle.er_unordered.specs.declared.replay.Analysis.{Analysis as Order};
 ghost use Rattle.eraser.specs.Replays.{EndsAs, EndsBy, IsPlain, IsPlainBy, ReplaysTo};
 
-use crate::advice::report_replay_fault;
+use crate::advice::trace_path;
 use crate::again::replay_form;
 use crate::analyses::{order_of, replay_by_order};
 use crate::faults::fault_of;
 use crate::meter::Meter;
 use crate::rules::suppressions_of;
 use crate::sorting::{Ended, asks_more, replay_and_sort, status_of};
+use crate::sources::size_of;
 use crate::stories::explain_step;
-use crate::until::end_until_fault;
+use crate::until::{Cut, cut_by, replay_trace, report_cut};
 use clap::error::ErrorKind;
 use er_device::Device;
 use er_exit::{Fault, put, report_fault, run_demo};
@@ -31,7 +32,6 @@ use er_rules::Suppressions;
 use er_run::{Options, Verdict, Watch, replay_text_watched};
 use er_trace::NameKeys;
 use std::alloc::Global;
-use std::fs::File;
 use std::io::{Read, Write};
 use std::random::RandomSource;
 use std::rt::{Clock, Files};
@@ -40,8 +40,8 @@ use std::thread::Threads;
 
 /// Runs one command line, whose first word is the program's name, and returns the exit status: 0 if no race was printed,
 /// 1 if some race was, 2 for wrong arguments or a text with a fault, 3 for want of room, 4 for a file that can't be
-/// opened, read or written. If the errors are read by people, the line of a replay's fault is followed by what helps them. `progress`
-/// writes to the same place as the errors, and gets how far a replay has come and nothing else.
+/// opened, read or written. If the errors are a terminal, what helps people follows the line of a replay's fault, as with `--hints`.
+/// `progress` writes to the same place as the errors, and gets how far a replay has come and nothing else.
 pub fn command<R, I, O, E, P>(
     rt: &R,
     words: &[String],
@@ -49,7 +49,7 @@ pub fn command<R, I, O, E, P>(
     output: &mut Device<O>,
     errors: &mut Device<E>,
     progress: &mut Device<P>,
-    for_people: bool,
+    on_terminal: bool,
 ) -> u8
 where
     R: Files + Clock + RandomSource + AllocGlobal + Threads + Wait + Sync,
@@ -71,7 +71,7 @@ where
     ensures unwatched { names_progress words.now ≡ false → Keeps (P.contents (inner_of progress.old)) (P.contents (inner_of progress.new)) }
 {
     match read_request(rt.alloc(), words) {
-        Ok(request) => run_request(rt, request, input, output, errors, progress, for_people),
+        Ok(request) => run_request(rt, request, input, output, errors, progress, on_terminal),
         Err(error) => {
             let status = refused(rt.alloc(), &error, output, errors);
             drop(error);
@@ -87,7 +87,7 @@ fn run_request<R, I, O, E, P>(
     output: &mut Device<O>,
     errors: &mut Device<E>,
     progress: &mut Device<P>,
-    for_people: bool,
+    on_terminal: bool,
 ) -> u8
 where
     R: Files + Clock + RandomSource + AllocGlobal + Threads + Wait + Sync,
@@ -105,13 +105,9 @@ where
     ensures unwatched { asks_progress request.entry ≡ false → Keeps (P.contents (inner_of progress.old)) (P.contents (inner_of progress.new)) }
 {
     match request {
-        Request::Replay(replay) if replay.until_fault => {
-            let status = end_until_fault(rt, &replay, input, output, errors, progress, for_people);
-            drop(replay);
-            status
-        }
-        Request::Replay(replay) => {
-            let status = end_replay(rt, &replay, input, output, errors, progress, for_people);
+        Request::Replay(mut replay) => {
+            replay.hints = replay.hints || on_terminal;
+            let status = end_replay(rt, &replay, input, output, errors, progress, on_terminal);
             drop(replay);
             status
         }
@@ -128,7 +124,7 @@ fn end_replay<R, I, O, E, P>(
     output: &mut Device<O>,
     errors: &mut Device<E>,
     progress: &mut Device<P>,
-    for_people: bool,
+    on_terminal: bool,
 ) -> u8
 where
     R: Files + Clock + RandomSource + AllocGlobal + Threads + Wait + Sync,
@@ -142,12 +138,16 @@ where
     ensures status { result ≤ 4 }
     ensures quiet { result ≤ 1 → GetsNotes (E.contents (inner_of errors.old)) (E.contents (inner_of errors.new)) (has_failed errors.new) }
     ensures silent { replay.now.unused_rules ≡ false → replay.now.max_races ≡ None → result ≤ 1 → Keeps (E.contents (inner_of errors.old)) (E.contents (inner_of errors.new)) }
-    ensures refused { result ≡ 2 → Keeps (O.contents (inner_of output.old)) (O.contents (inner_of output.new)) }
+    ensures refused { replay.now.until_fault ≡ false → result ≡ 2 → Keeps (O.contents (inner_of output.old)) (O.contents (inner_of output.new)) }
     ensures unwatched { replay.now.progress ≡ false → Keeps (P.contents (inner_of progress.old)) (P.contents (inner_of progress.new)) }
 {
-    match run_shown(rt, replay, input, output, progress, for_people) {
+    match run_shown(rt, replay, input, output, progress, on_terminal) {
         Ok(ended) => note(ended, errors),
-        Err(fault) => report_replay_fault(rt, replay, fault, errors, for_people),
+        Err(cut) => {
+            let status = report_cut(rt, replay, &cut, errors);
+            drop(cut);
+            status
+        }
     }
 }
 
@@ -158,8 +158,8 @@ fn run_shown<R, I, O, P>(
     input: &mut Device<I>,
     output: &mut Device<O>,
     progress: &mut Device<P>,
-    for_people: bool,
-) -> Result<Ended, Fault>
+    on_terminal: bool,
+) -> Result<Ended, Cut>
 where
     R: Files + Clock + RandomSource + AllocGlobal + Threads + Wait + Sync,
     I: Read,
@@ -170,15 +170,19 @@ where
     ensures status { IfOk result (λ ended. (ended.status ≤ 4) × (ended.status ≢ 2)) }
     ensures notes { IfOk result (λ ended. AreNotes ended.notes.items) }
     ensures silent { replay.now.unused_rules ≡ false → replay.now.max_races ≡ None → IfOk result (λ ended. ended.notes.items ≡ []) }
-    ensures nothing { IfErr result (LeavesOutput (O.contents (inner_of output.old)) (O.contents (inner_of output.new))) }
+    ensures nothing { replay.now.until_fault ≡ false → IfErr result (λ cut. LeavesOutput (O.contents (inner_of output.old)) (O.contents (inner_of output.new)) cut.fault) }
     ensures unwatched { replay.now.progress ≡ false → Keeps (P.contents (inner_of progress.old)) (P.contents (inner_of progress.new)) }
 {
     if replay.progress {
-        let mut meter = Meter::new(rt, progress, for_people);
+        let mut meter = Meter::new(rt, progress, on_terminal, size_of_trace(rt, replay));
         return run_replay(rt, replay, input, output, &mut meter);
     }
     let mut meter: Meter<'_, R, P> = Meter::off(rt);
     run_replay(rt, replay, input, output, &mut meter)
+}
+
+fn size_of_trace<R: Files>(rt: &R, replay: &Replay<'_>) -> Option<u64> {
+    size_of(rt, trace_path(replay)?)
 }
 
 // Writes the story of a step, or why there is none.
@@ -197,13 +201,13 @@ where
     requires input { has_failed input.old ≡ false }
     requires output { has_failed output.old ≡ false }
     requires errors { has_failed errors.old ≡ false }
-    ensures status { result ≤ 4 }
+    ensures status { (result ≤ 4) × (result ≢ 1) }
     ensures quiet { result ≤ 1 → GetsNotes (E.contents (inner_of errors.old)) (E.contents (inner_of errors.new)) (has_failed errors.new) }
     ensures silent { result ≤ 1 → Keeps (E.contents (inner_of errors.old)) (E.contents (inner_of errors.new)) }
     ensures refused { result ≡ 2 → Keeps (O.contents (inner_of output.old)) (O.contents (inner_of output.new)) }
 {
     match explain_step(rt, asked, input, output) {
-        Ok(ended) => note(ended, errors),
+        Ok(()) => 0,
         Err(fault) => report_fault(rt.alloc(), fault, errors),
     }
 }
@@ -221,8 +225,8 @@ where
     ensures silent { result ≤ 1 → Keeps (E.contents (inner_of errors.old)) (E.contents (inner_of errors.new)) }
     ensures refused { result ≡ 2 → Keeps (O.contents (inner_of output.old)) (O.contents (inner_of output.new)) }
 {
-    match run_workload_of(rt, demo, output) {
-        Ok(ended) => note(ended, errors),
+    match run_demo(rt, rt.alloc(), Workload::ALL[demo.place], output) {
+        Ok(status) => status,
         Err(fault) => report_fault(rt.alloc(), fault, errors),
     }
 }
@@ -239,25 +243,6 @@ pub(crate) fn note<E: Write>(ended: Ended, errors: &mut Device<E>) -> u8
     put(errors, &notes);
     drop(notes);
     status
-}
-
-fn run_workload_of<R, O>(rt: &R, demo: Demo, output: &mut Device<O>) -> Result<Ended, Fault>
-where
-    R: AllocGlobal + Threads + Wait + Sync,
-    O: Write,
-    requires output { has_failed output.old ≡ false }
-    ensures status { IfOk result (λ ended. (ended.status ≤ 4) × (ended.status ≢ 2)) }
-    ensures notes { IfOk result (λ ended. AreNotes ended.notes.items) }
-    ensures silent { IfOk result (λ ended. ended.notes.items ≡ []) }
-    ensures nothing { IfErr result (LeavesOutput (O.contents (inner_of output.old)) (O.contents (inner_of output.new))) }
-{
-    match run_demo(rt, rt.alloc(), Workload::ALL[demo.place], output) {
-        Ok(status) => Ok(Ended {
-            status,
-            notes: Vec::new(rt.alloc()),
-        }),
-        Err(fault) => Err(fault),
-    }
 }
 
 /// By which keys names and pages are hashed: by those that nobody can foretell, if the system gives random bytes.
@@ -287,7 +272,7 @@ fn run_replay<R, I, O, V>(
     input: &mut Device<I>,
     output: &mut Device<O>,
     watcher: &mut V,
-) -> Result<Ended, Fault>
+) -> Result<Ended, Cut>
 where
     R: Files + RandomSource + AllocGlobal + Threads + Wait + Sync,
     I: Read,
@@ -300,54 +285,17 @@ where
     ensures silent { replay.now.unused_rules ≡ false → replay.now.max_races ≡ None → IfOk result (λ ended. ended.notes.items ≡ []) }
     ensures report { IsPlain replay.now → replay.now.suppressions.items ≡ [] → replay.now.trace.now ≡ codes "-" → IfOk result (λ ended. IfSome (I.remaining (inner_of input.old)) (λ text. ReplaysTo text replay.now.byte_limit replay.now.explain (O.contents (inner_of output.old)) (O.contents (inner_of output.new)) ended.status)) }
     ensures report_by { (analysis : Order) → IsPlainBy analysis replay.now → replay.now.suppressions.items ≡ [] → replay.now.trace.now ≡ codes "-" → IfOk result (λ ended. IfSome (I.remaining (inner_of input.old)) (λ text. EndsBy analysis text replay.now.byte_limit [] replay.now.explain (O.contents (inner_of output.old)) (O.contents (inner_of output.new)) ended.status)) }
-    ensures nothing { IfErr result (LeavesOutput (O.contents (inner_of output.old)) (O.contents (inner_of output.new))) }
+    ensures nothing { replay.now.until_fault ≡ false → IfErr result (λ cut. LeavesOutput (O.contents (inner_of output.old)) (O.contents (inner_of output.new)) cut.fault) }
 {
     let options = options_of(replay, keys_from(rt));
-    let suppressions = suppressions_of(rt, &replay.suppressions, options.byte_limit)?;
-    let ended = replay_trace(rt, replay, &suppressions, &options, input, output, watcher);
-    drop(suppressions);
-    ended
-}
-
-fn replay_trace<R, I, O, V>(
-    rt: &R,
-    replay: &Replay<'_>,
-    suppressions: &Suppressions,
-    options: &Options,
-    input: &mut Device<I>,
-    output: &mut Device<O>,
-    watcher: &mut V,
-) -> Result<Ended, Fault>
-where
-    R: Files + AllocGlobal + Threads + Wait + Sync,
-    I: Read,
-    O: Write,
-    V: Watch,
-    requires input { has_failed input.old ≡ false }
-    requires output { has_failed output.old ≡ false }
-    ensures status { IfOk result (λ ended. (ended.status ≤ 4) × (ended.status ≢ 2)) }
-    ensures notes { IfOk result (λ ended. AreNotes ended.notes.items) }
-    ensures silent { replay.now.unused_rules ≡ false → replay.now.max_races ≡ None → IfOk result (λ ended. ended.notes.items ≡ []) }
-    ensures report { IsPlain replay.now → replay.now.trace.now ≡ codes "-" → IfOk result (λ ended. IfSome (I.remaining (inner_of input.old)) (λ text. EndsAs text options.now.byte_limit (targets_of suppressions.now) options.now.explain (O.contents (inner_of output.old)) (O.contents (inner_of output.new)) ended.status)) }
-    ensures report_by { (analysis : Order) → IsPlainBy analysis replay.now → replay.now.trace.now ≡ codes "-" → IfOk result (λ ended. IfSome (I.remaining (inner_of input.old)) (λ text. EndsBy analysis text options.now.byte_limit (targets_of suppressions.now) options.now.explain (O.contents (inner_of output.old)) (O.contents (inner_of output.new)) ended.status)) }
-    ensures nothing { IfErr result (LeavesOutput (O.contents (inner_of output.old)) (O.contents (inner_of output.new))) }
-{
-    if replay.trace == "-" {
-        return replay_from(rt, replay, input, output, suppressions, options, watcher);
+    match suppressions_of(rt, &replay.suppressions, options.byte_limit) {
+        Ok(suppressions) => {
+            let ended = replay_trace(rt, replay, &suppressions, &options, input, output, watcher);
+            drop(suppressions);
+            ended
+        }
+        Err(fault) => Err(cut_by(rt.alloc(), fault)),
     }
-    let Ok(file) = File::open(rt, replay.trace) else {
-        return Err(Fault::OpenTrace);
-    };
-    let mut source = Device::new(file);
-    replay_from(
-        rt,
-        replay,
-        &mut source,
-        output,
-        suppressions,
-        options,
-        watcher,
-    )
 }
 
 /// Replays what the reader gives, and writes what was asked for.

@@ -36,7 +36,7 @@ fn words_of(rt: &HostRuntime) -> Result<Vec<String>, Fault> {
 }
 
 fn main(rt: HostRuntime) -> ExitCode {
-    let for_people = rt.stderr().is_terminal();
+    let on_terminal = rt.stderr().is_terminal();
     let mut errors = Device::new(rt.stderr());
     let status = match words_of(&rt) {
         Ok(words) => {
@@ -47,7 +47,7 @@ fn main(rt: HostRuntime) -> ExitCode {
                 &mut Device::new(rt.stdout()),
                 &mut errors,
                 &mut Device::new(rt.stderr()),
-                for_people,
+                on_terminal,
             );
             drop(words);
             status

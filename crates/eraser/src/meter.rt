@@ -22,6 +22,8 @@ pub(crate) struct Meter<'a, R, P> {
     writer: Option<&'a mut Device<P>>,
     /// Whether each line takes the place of the one before, as on a terminal.
     on_one_line: bool,
+    /// How many bytes the trace has, if that is known.
+    size: Option<u64>,
     /// Whether the terminal's line has something to clear.
     has_line: bool,
     /// When the replay began. None if the clock can't be read.
@@ -39,6 +41,7 @@ impl<'a, R: Clock + AllocGlobal, P: Write> Meter<'a, R, P> {
             rt,
             writer: None,
             on_one_line: false,
+            size: None,
             has_line: false,
             start: None,
             due: PAUSE,
@@ -46,12 +49,18 @@ impl<'a, R: Clock + AllocGlobal, P: Write> Meter<'a, R, P> {
         }
     }
 
-    /// Shows it on this writer, on one line or on a line each time.
-    pub(crate) fn new(rt: &'a R, writer: &'a mut Device<P>, on_one_line: bool) -> Meter<'a, R, P> {
+    /// Shows it on this writer, on one line or on a line each time, beside the size of the trace if that is known.
+    pub(crate) fn new(
+        rt: &'a R,
+        writer: &'a mut Device<P>,
+        on_one_line: bool,
+        size: Option<u64>,
+    ) -> Meter<'a, R, P> {
         Meter {
             rt,
             writer: Some(writer),
             on_one_line,
+            size,
             has_line: false,
             start: Instant::now(rt).ok(),
             due: PAUSE,
@@ -69,7 +78,7 @@ impl<'a, R: Clock + AllocGlobal, P: Write> Meter<'a, R, P> {
     // Writes the line of this moment. If there is no memory for it, or a write has failed, there is no line.
     fn show(&mut self, progress: Progress, millis: u128) {
         self.unshown = None;
-        let Ok(line) = line_of(self.rt, progress, millis, self.on_one_line) else {
+        let Ok(line) = line_of(self.rt, progress, millis, self.size, self.on_one_line) else {
             return;
         };
         self.write(line.as_bytes());
@@ -123,6 +132,7 @@ fn line_of<R: AllocGlobal>(
     rt: &R,
     progress: Progress,
     millis: u128,
+    size: Option<u64>,
     on_one_line: bool,
 ) -> Result<String, AllocError> {
     let Progress {
@@ -131,12 +141,24 @@ fn line_of<R: AllocGlobal>(
         races,
     } = progress;
     let rate = u128::from(steps) * 1000 / millis.max(1);
-    if on_one_line {
-        return format!(in rt.alloc();
-            "\rprogress: {bytes} bytes, {steps} steps, {rate} steps a second, {races} races\x1b[K"
-        );
-    }
+    let share = share_of(rt, bytes, size)?;
+    let (front, back) = if on_one_line {
+        ("\r", "\x1b[K")
+    } else {
+        ("", "\n")
+    };
     format!(in rt.alloc();
-        "progress: {bytes} bytes, {steps} steps, {rate} steps a second, {races} races\n"
+        "{front}progress: {bytes} bytes, {steps} steps, {rate} steps a second, {races} races{share}{back}"
     )
+}
+
+// How much of the trace was read, in hundredths, if its size is known.
+fn share_of<R: AllocGlobal>(rt: &R, bytes: u64, size: Option<u64>) -> Result<String, AllocError> {
+    match size {
+        Some(size) if size > 0 => {
+            let percent = (u128::from(bytes) * 100 / u128::from(size)).min(100);
+            format!(in rt.alloc(); ", {percent} %")
+        }
+        _ => Ok(String::new(rt.alloc())),
+    }
 }

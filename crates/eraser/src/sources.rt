@@ -187,9 +187,14 @@ fn place_of(site: &str) -> Option<(&str, u64)> {
 
 /// Whether it is an ordinary file: a FIFO could wait for ever.
 pub(crate) fn is_ordinary<R: Files>(rt: &R, path: &str) -> bool {
+    size_of(rt, path).is_some()
+}
+
+/// How many bytes an ordinary file has. None if it is no such file.
+pub(crate) fn size_of<R: Files>(rt: &R, path: &str) -> Option<u64> {
     match fs::metadata(rt, path) {
-        Ok(found) => found.is_file(),
-        Err(_) => false,
+        Ok(found) if found.is_file() => Some(found.len()),
+        _ => None,
     }
 }
 

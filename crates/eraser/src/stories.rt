@@ -1,12 +1,10 @@
 //! The story of one step of a trace.
-ghost use Rattle.std.specs.Prelude.{◌≡◌, ◌≤◌, ◌^◌, [], false, codes, IfErr, IfOk, IfSome, OnOk};
+ghost use Rattle.std.specs.Prelude.{◌≡◌, ◌≤◌, ◌^◌, false, codes, IfErr, IfOk, IfSome, OnOk};
 ghost use Rattle.er_device.specs.Device.{inner_of, has_failed};
 ghost use Rattle.er_exit.specs.Writes.{LeavesOutput};
-ghost use Rattle.er_triage.specs.Notes.{AreNotes};
 ghost use Rattle.eraser.specs.Stories.{ExplainsTo, FailsOutput, IsExplainFault, IsStoryFault, WritesStory};
 
 use crate::command::keys_from;
-use crate::sorting::Ended;
 use er_device::Device;
 use er_exit::Fault;
 use er_print::WriteFault;
@@ -22,33 +20,6 @@ use std::rt::Files;
 
 /// Writes the story of the step that was asked for.
 pub(crate) fn explain_step<R, I, O>(
-    rt: &R,
-    asked: &Explain<'_>,
-    input: &mut Device<I>,
-    output: &mut Device<O>,
-) -> Result<Ended, Fault>
-where
-    R: Files + RandomSource + AllocGlobal,
-    I: Read,
-    O: Write,
-    requires input { has_failed input.old ≡ false }
-    requires output { has_failed output.old ≡ false }
-    ensures status { IfOk result (λ ended. ended.status ≡ 0) }
-    ensures notes { IfOk result (λ ended. AreNotes ended.notes.items) }
-    ensures silent { IfOk result (λ ended. ended.notes.items ≡ []) }
-    ensures story { asked.now.trace.now ≡ codes "-" → OnOk result (IfSome (I.remaining (inner_of input.old)) (λ text. ExplainsTo text asked.now.byte_limit asked.now.line (O.contents (inner_of output.old)) (O.contents (inner_of output.new)))) }
-    ensures nothing { IfErr result (LeavesOutput (O.contents (inner_of output.old)) (O.contents (inner_of output.new))) }
-    ensures fault { asked.now.trace.now ≡ codes "-" → IfErr result (λ why. IfSome (I.remaining (inner_of input.old)) (λ text. IsExplainFault text asked.now.byte_limit asked.now.line why)) }
-    ensures failed { FailsOutput (has_failed output.new) result }
-{
-    write_asked(rt, asked, input, output)?;
-    Ok(Ended {
-        status: 0,
-        notes: Vec::new(rt.alloc()),
-    })
-}
-
-fn write_asked<R, I, O>(
     rt: &R,
     asked: &Explain<'_>,
     input: &mut Device<I>,

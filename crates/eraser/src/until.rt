@@ -2,18 +2,17 @@
 //!
 //! It has two passes. The first replays the text as ever. If it ends in a fault of the text, the lines before that one are read again by a
 //! reader that ends there, and are replayed as any other text.
-ghost use Rattle.std.specs.Prelude.{◌≡◌, ◌≢◌, ◌≤◌, [], false, None, codes, IfOk, IfSome};
-ghost use Rattle.std.specs.Io.KnownBytes.{Keeps};
+ghost use Rattle.std.specs.Prelude.{◌≡◌, ◌≢◌, ◌≤◌, [], false, None, codes, IfOk, IfErr, IfSome};
 ghost use Rattle.er_device.specs.Device.{inner_of, has_failed};
+ghost use Rattle.er_exit.specs.Statuses.{fault_status};
+ghost use Rattle.er_exit.specs.Writes.{LeavesOutput};
 ghost use Rattle.er_rules.specs.Rules.{targets_of};
 ghost use Rattle.er_triage.specs.Notes.{AreNotes};
-ghost use Rattle.eraser.specs.Notes.{GetsNotes};
-ghost use Rattle.eraser.specs.Replays.{EndsAs, IsPlain, ReplaysTo};
+ghost use Rattle.er_unordered.specs.declared.replay.Analysis.{Analysis as Order};
+ghost use Rattle.eraser.specs.Replays.{EndsAs, EndsBy, IsPlain, IsPlainBy};
 
 use crate::advice::report_replay_fault;
-use crate::command::{keys_from, note, options_of, replay_from};
-use crate::meter::Meter;
-use crate::rules::suppressions_of;
+use crate::command::replay_from;
 use crate::sorting::Ended;
 use crate::sources::is_ordinary;
 use er_damage::Damage;
@@ -27,20 +26,19 @@ use er_text::TextFault;
 use std::alloc::Global;
 use std::fs::File;
 use std::io::{Read, Write};
-use std::random::RandomSource;
-use std::rt::{Clock, Files};
+use std::rt::Files;
 use std::sync::Wait;
 use std::thread::Threads;
 
 /// Where a replay was cut off.
 #[derive(Drop)]
-struct Cut {
+pub(crate) struct Cut {
     /// What the report of the lines before has for standard error.
     notes: Vec<u8>,
     /// What is damaged in these lines, if the replay is strict. They have no report then.
     damage: Option<Damage>,
     /// Why it goes no further.
-    fault: Fault,
+    pub(crate) fault: Fault,
 }
 
 /// The lines of a text that can be read again.
@@ -52,82 +50,14 @@ enum Again<'a> {
     Kept(&'a [u8]),
 }
 
-/// Runs a replay up to the first faulty line of its text, writes its notes, and then the fault, if there is one, and what helps people.
-pub(crate) fn end_until_fault<R, I, O, E, P>(
-    rt: &R,
-    replay: &Replay<'_>,
-    input: &mut Device<I>,
-    output: &mut Device<O>,
-    errors: &mut Device<E>,
-    progress: &mut Device<P>,
-    for_people: bool,
-) -> u8
-where
-    R: Files + Clock + RandomSource + AllocGlobal + Threads + Wait + Sync,
-    I: Read,
-    O: Write,
-    E: Write,
-    P: Write,
-    requires input { has_failed input.old ≡ false }
-    requires output { has_failed output.old ≡ false }
-    requires errors { has_failed errors.old ≡ false }
-    ensures status { result ≤ 4 }
-    ensures quiet { result ≤ 1 → GetsNotes (E.contents (inner_of errors.old)) (E.contents (inner_of errors.new)) (has_failed errors.new) }
-    ensures silent { replay.now.unused_rules ≡ false → replay.now.max_races ≡ None → result ≤ 1 → Keeps (E.contents (inner_of errors.old)) (E.contents (inner_of errors.new)) }
-    ensures unwatched { replay.now.progress ≡ false → Keeps (P.contents (inner_of progress.old)) (P.contents (inner_of progress.new)) }
-{
-    match run_shown(rt, replay, input, output, progress, for_people) {
-        Ok(ended) => note(ended, errors),
-        Err(cut) => {
-            let status = report_cut(rt, replay, &cut, errors, for_people);
-            drop(cut);
-            status
-        }
-    }
-}
-
-// Runs a replay up to the first faulty line, and shows how far it has come if that is asked for.
-fn run_shown<R, I, O, P>(
-    rt: &R,
-    replay: &Replay<'_>,
-    input: &mut Device<I>,
-    output: &mut Device<O>,
-    progress: &mut Device<P>,
-    for_people: bool,
-) -> Result<Ended, Cut>
-where
-    R: Files + Clock + RandomSource + AllocGlobal + Threads + Wait + Sync,
-    I: Read,
-    O: Write,
-    P: Write,
-    requires input { has_failed input.old ≡ false }
-    requires output { has_failed output.old ≡ false }
-    ensures status { IfOk result (λ ended. (ended.status ≤ 4) × (ended.status ≢ 2)) }
-    ensures notes { IfOk result (λ ended. AreNotes ended.notes.items) }
-    ensures silent { replay.now.unused_rules ≡ false → replay.now.max_races ≡ None → IfOk result (λ ended. ended.notes.items ≡ []) }
-    ensures unwatched { replay.now.progress ≡ false → Keeps (P.contents (inner_of progress.old)) (P.contents (inner_of progress.new)) }
-{
-    if replay.progress {
-        let mut meter = Meter::new(rt, progress, for_people);
-        return run_until_fault(rt, replay, input, output, &mut meter);
-    }
-    let mut meter: Meter<'_, R, P> = Meter::off(rt);
-    run_until_fault(rt, replay, input, output, &mut meter)
-}
-
-// Writes the notes, then the damage, and then the fault. If a write fails, the rest is left out.
-fn report_cut<R, E>(
-    rt: &R,
-    replay: &Replay<'_>,
-    cut: &Cut,
-    errors: &mut Device<E>,
-    for_people: bool,
-) -> u8
+/// Writes the notes, then the damage, and then the fault with what helps people. If a write fails, the rest is left out.
+pub(crate) fn report_cut<R, E>(rt: &R, replay: &Replay<'_>, cut: &Cut, errors: &mut Device<E>) -> u8
 where
     R: Files + AllocGlobal,
     E: Write,
     requires { has_failed errors.old ≡ false }
-    ensures { (2 ≤ result) × (result ≤ 4) }
+    ensures status { result ≡ fault_status cut.now.fault }
+    ensures range { (2 ≤ result) × (result ≤ 4) }
 {
     put(errors, &cut.notes);
     if let Some(damage) = cut.damage
@@ -138,11 +68,13 @@ where
     if errors.failed() {
         return cut.fault.status();
     }
-    report_replay_fault(rt, replay, cut.fault, errors, for_people)
+    report_replay_fault(rt, replay, cut.fault, errors)
 }
 
-// A replay that comes to no report for this reason.
-fn cut_by(alloc: Global, fault: Fault) -> Cut {
+/// A replay that comes to no report for this reason.
+pub(crate) fn cut_by(alloc: Global, fault: Fault) -> Cut
+    ensures { result.fault ≡ fault }
+{
     Cut {
         notes: Vec::new(alloc),
         damage: None,
@@ -150,39 +82,8 @@ fn cut_by(alloc: Global, fault: Fault) -> Cut {
     }
 }
 
-// The suppressions are opened and read before the trace is opened.
-fn run_until_fault<R, I, O, V>(
-    rt: &R,
-    replay: &Replay<'_>,
-    input: &mut Device<I>,
-    output: &mut Device<O>,
-    watcher: &mut V,
-) -> Result<Ended, Cut>
-where
-    R: Files + RandomSource + AllocGlobal + Threads + Wait + Sync,
-    I: Read,
-    O: Write,
-    V: Watch,
-    requires input { has_failed input.old ≡ false }
-    requires output { has_failed output.old ≡ false }
-    ensures status { IfOk result (λ ended. (ended.status ≤ 4) × (ended.status ≢ 2)) }
-    ensures notes { IfOk result (λ ended. AreNotes ended.notes.items) }
-    ensures silent { replay.now.unused_rules ≡ false → replay.now.max_races ≡ None → IfOk result (λ ended. ended.notes.items ≡ []) }
-    ensures report { IsPlain replay.now → replay.now.suppressions.items ≡ [] → replay.now.trace.now ≡ codes "-" → IfOk result (λ ended. IfSome (I.remaining (inner_of input.old)) (λ text. ReplaysTo text replay.now.byte_limit replay.now.explain (O.contents (inner_of output.old)) (O.contents (inner_of output.new)) ended.status)) }
-{
-    let options = options_of(replay, keys_from(rt));
-    match suppressions_of(rt, &replay.suppressions, options.byte_limit) {
-        Ok(suppressions) => {
-            let ended = replay_trace(rt, replay, &suppressions, &options, input, output, watcher);
-            drop(suppressions);
-            ended
-        }
-        Err(fault) => Err(cut_by(rt.alloc(), fault)),
-    }
-}
-
-// What is no ordinary file may not be there a second time, so it is kept.
-fn replay_trace<R, I, O, V>(
+/// Replays the trace, up to its first faulty line if that is asked for.
+pub(crate) fn replay_trace<R, I, O, V>(
     rt: &R,
     replay: &Replay<'_>,
     suppressions: &Suppressions,
@@ -202,16 +103,18 @@ where
     ensures notes { IfOk result (λ ended. AreNotes ended.notes.items) }
     ensures silent { replay.now.unused_rules ≡ false → replay.now.max_races ≡ None → IfOk result (λ ended. ended.notes.items ≡ []) }
     ensures report { IsPlain replay.now → replay.now.trace.now ≡ codes "-" → IfOk result (λ ended. IfSome (I.remaining (inner_of input.old)) (λ text. EndsAs text options.now.byte_limit (targets_of suppressions.now) options.now.explain (O.contents (inner_of output.old)) (O.contents (inner_of output.new)) ended.status)) }
+    ensures report_by { (analysis : Order) → IsPlainBy analysis replay.now → replay.now.trace.now ≡ codes "-" → IfOk result (λ ended. IfSome (I.remaining (inner_of input.old)) (λ text. EndsBy analysis text options.now.byte_limit (targets_of suppressions.now) options.now.explain (O.contents (inner_of output.old)) (O.contents (inner_of output.new)) ended.status)) }
+    ensures nothing { replay.now.until_fault ≡ false → IfErr result (λ cut. LeavesOutput (O.contents (inner_of output.old)) (O.contents (inner_of output.new)) cut.fault) }
 {
     if replay.trace == "-" {
-        return replay_kept(rt, replay, input, output, suppressions, options, watcher);
+        return replay_once(rt, replay, input, output, suppressions, options, watcher);
     }
     let Ok(file) = File::open(rt, replay.trace) else {
         return Err(cut_by(rt.alloc(), Fault::OpenTrace));
     };
     let mut source = Device::new(file);
-    if !is_ordinary(rt, replay.trace) {
-        return replay_kept(
+    if !replay.until_fault || !is_ordinary(rt, replay.trace) {
+        return replay_once(
             rt,
             replay,
             &mut source,
@@ -247,8 +150,8 @@ where
     }
 }
 
-// Replays what can be read only once.
-fn replay_kept<R, D, O, V>(
+// Replays what is read only once. It is kept if the lines before a fault may be asked for.
+fn replay_once<R, D, O, V>(
     rt: &R,
     replay: &Replay<'_>,
     source: &mut Device<D>,
@@ -268,7 +171,15 @@ where
     ensures notes { IfOk result (λ ended. AreNotes ended.notes.items) }
     ensures silent { replay.now.unused_rules ≡ false → replay.now.max_races ≡ None → IfOk result (λ ended. ended.notes.items ≡ []) }
     ensures report { IsPlain replay.now → IfOk result (λ ended. IfSome (D.remaining (inner_of source.old)) (λ text. EndsAs text options.now.byte_limit (targets_of suppressions.now) options.now.explain (O.contents (inner_of output.old)) (O.contents (inner_of output.new)) ended.status)) }
+    ensures report_by { (analysis : Order) → IsPlainBy analysis replay.now → IfOk result (λ ended. IfSome (D.remaining (inner_of source.old)) (λ text. EndsBy analysis text options.now.byte_limit (targets_of suppressions.now) options.now.explain (O.contents (inner_of output.old)) (O.contents (inner_of output.new)) ended.status)) }
+    ensures nothing { replay.now.until_fault ≡ false → IfErr result (λ cut. LeavesOutput (O.contents (inner_of output.old)) (O.contents (inner_of output.new)) cut.fault) }
 {
+    if !replay.until_fault {
+        return match replay_from(rt, replay, source, output, suppressions, options, watcher) {
+            Ok(ended) => Ok(ended),
+            Err(fault) => Err(cut_by(rt.alloc(), fault)),
+        };
+    }
     let mut keeping = Device::new(Keeping::new(rt.alloc(), source));
     let first = replay_from(
         rt,
