@@ -23,7 +23,7 @@
 /* Threads add to one of these counters what they cannot record. */
 #define LOST_COUNTERS 64
 
-/* Name of the ring's file, as it stands in /proc/PID/maps, and of the variable by which the program finds it. */
+/* Name of the ring's file, as it stands in /proc/PID/maps with a number behind it, and of the variable by which the program finds it. */
 #define RING_FILE_NAME "eraser-record"
 #define RING_VARIABLE "ERASER_RECORD"
 
@@ -71,6 +71,25 @@ struct slot {
     uint64_t second;
 };
 
+/* The first program that is recorded takes the first ring. Each further one asks there for a ring of its own. So many may ask at a time. */
+#define RING_ASKERS 64
+enum asker_state {
+    ASKER_NONE,    /* nobody asks here */
+    ASKER_COMES,   /* a program writes down who it is */
+    ASKER_WAITS,   /* for a ring */
+    ASKER_TAKEN,   /* a writer makes one */
+    ASKER_HAS,     /* its ring is /proc/WRITER/fd/FILE */
+    ASKER_REFUSED, /* there is none for it */
+};
+struct asker {
+    _Atomic uint32_t state;
+    uint32_t process;
+    uint32_t writer, file;
+};
+
+/* Bytes of a program's name, with the zero that ends it. */
+#define RING_NAME_BYTES 64
+
 struct lost_counter {
     _Alignas(64) _Atomic uint64_t count;
 };
@@ -82,10 +101,15 @@ struct ring {
     uint32_t orders; /* not 0: what orders threads is recorded as well */
     _Atomic uint32_t stop;       /* the writer takes no more events */
     _Atomic uint32_t owner;      /* process id of the program that is recorded, 0 before there is one */
-    _Atomic uint32_t others;     /* programs that found another one recorded already */
+    _Atomic uint32_t others;     /* programs that found another one recorded already, and got no ring */
     _Atomic uint32_t forks;      /* children that the recorded program forked */
     _Atomic uint32_t threads;    /* numbers given to threads */
     _Atomic uint64_t abandoned;  /* some ticket below this one may never be published */
+    char program[RING_NAME_BYTES]; /* the name of the program's file, once there is an owner */
+    /* Of the first ring alone. */
+    _Atomic uint32_t server;     /* process id of who gives out further rings, or 0 */
+    _Atomic uint32_t bell;       /* changes if the server has something to look at */
+    struct asker askers[RING_ASKERS];
     _Alignas(128) _Atomic uint64_t tail; /* next ticket */
     _Alignas(128) _Atomic uint64_t head; /* first ticket that the writer has not taken */
     _Alignas(128) struct lost_counter lost[LOST_COUNTERS];
