@@ -33,7 +33,7 @@ complete -c eraser-record -n __eraser_record_before_program -l exit-status -x -a
 complete -c eraser-record -n __eraser_record_before_program -l order -d 'Record what orders threads as well: starts and joins, semaphores, atomic operations ..'
 complete -c eraser-record -n __eraser_record_before_program -l limit -x -d 'Of a trace that is kept: keep at most BYTES of text; 0: no limit. With -o the default is 268435456'
 complete -c eraser-record -n __eraser_record_before_program -l root -x -a '(__fish_complete_directories)' -d 'Name sites by their paths below DIR. The default is the folder that has all sources of the program'
-complete -c eraser-record -n __eraser_record_before_program -l paths -d 'Name sites by their whole path'
+complete -c eraser-record -n __eraser_record_before_program -l paths -d 'Name sites by their paths as the compiler has them'
 complete -c eraser-record -n __eraser_record_before_program -s q -l quiet -d 'Say nothing on standard error beside the report, unless something went wrong'
 complete -c eraser-record -n __eraser_record_before_program -s h -l help -d 'Print this help'
 complete -c eraser-record -n __eraser_record_before_program -s V -l version -d 'Print the version'

@@ -523,15 +523,22 @@ int main()
     other.join();
 }
 """)
+    (folder / "link").symlink_to(folder / "tree")
     ways = {"gcc": ["gcc", "-g", "-fsanitize=thread"], "clang": [TOP / "record/cc"]}
     settings = {**os.environ, "ERASER_CC": "clang"}
     for compiler, words in ways.items():
         for where, paths in (("src", ["main.c", "a/util.c", "b/util.c"]), ("", ["src/main.c", "src/../src/a/util.c", "./src/b/util.c"])):
             built = command([*words, *paths, "-o", folder / "tree/program"], cwd=folder / "tree" / where, env=settings)
-            for more, front in (([], ""), (["--root", folder / "tree"], "src/"), (["--root", ".."], f"{folder.name}/tree/src/"), (["--paths"], f"{place}/"), (["--root", place / "a"], None)):
+            for more, front in (([], ""), (["--root", folder / "tree"], "src/"), (["--root", ".."], f"{folder.name}/tree/src/"), (["--root", folder / "link"], "src/"), (["--root", place / "a"], None)):
                 found = command([RUN, "-q", "--report", "-", *more, folder / "tree/program"], cwd=folder)
                 wanted = {f"{front}a/util.c:3", f"{front}b/util.c:3"} if front is not None else {"util.c:3", f"{place}/b/util.c:3"}
                 findings.check(f"sites by {compiler} in /{where} {more}", built.returncode == 0 and races(found.stdout) == wanted, f"{built} {found}, not {wanted}")
+    found = command([RUN, "-q", "--report", "-", "--paths", folder / "tree/program"])
+    findings.check("sites by --paths", {site.rsplit("/", 2)[-2] for site in races(found.stdout)} == {"a", "b"}, f"{found}")
+    command(["sh", "-c", f"cd {folder}/link && gcc -g -fsanitize=thread src/main.c src/a/util.c src/b/util.c -o program"])
+    for where in ("tree", "link"):
+        found = command(["sh", "-c", f"cd {folder}/{where} && {RUN} -q --report - --root . ./program"])
+        findings.check(f"the root is where a link leads, in {where}", races(found.stdout) == {"src/a/util.c:3", "src/b/util.c:3"}, f"{found}")
     found = command([RUN, "-q", "--report", "-", "--root", "tree", "--format", "sarif", "tree/program"], cwd=folder)
     places = set(re.findall(r'"uri": ?"([^"]*util[^"]*)"', found.stdout))
     findings.check("a code host finds the files", places == {"src/a/util.c", "src/b/util.c"} and all((folder / "tree" / path).exists() for path in places), f"{found}")

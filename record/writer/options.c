@@ -39,7 +39,7 @@ static const char usage[] =
     "      --order             record what orders threads as well: starts and joins, semaphores, atomic operations ..\n"
     "      --limit BYTES       of a trace that is kept: keep at most BYTES of text; 0: no limit. With -o the default is 268435456\n"
     "      --root DIR          name sites by their paths below DIR. The default is the folder that has all sources of the program\n"
-    "      --paths             name sites by their whole path\n"
+    "      --paths             name sites by their paths as the compiler has them\n"
     "  -q, --quiet             say nothing on standard error beside the report, unless something went wrong\n"
     "  -h, --help              print this help\n"
     "  -V, --version           print the version\n"

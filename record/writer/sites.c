@@ -142,9 +142,7 @@ static void whole_path(char *to, const char *folder, const char *name)
 void sites_set_root(const char *folder)
 {
     char real[PATH_BYTES];
-    snprintf(root, sizeof root, "%s", realpath(folder, real) ? real : folder);
-    if (strcmp(root, "/") == 0)
-        root[0] = 0;
+    whole_path(root, NULL, realpath(folder, real) ? real : folder);
     is_root_known = true;
 }
 
@@ -317,6 +315,15 @@ static const char *line_of(Dwfl_Module *file, uint64_t place, int *number, const
     return NULL;
 }
 
+/* What stands behind the root in a path, or the path if the file isn't below the root. A compiler may have come there by a link. */
+static const char *behind_root(const char *path)
+{
+    static char real[PATH_BYTES];
+    if (!root[0] || is_below(path, root))
+        return root[0] ? path + strlen(root) + 1 : path;
+    return *path == '/' && realpath(path, real) && is_below(real, root) ? real + strlen(root) + 1 : path;
+}
+
 static void describe(uint64_t place, char *text, size_t room)
 {
     Dwfl *all = get_files();
@@ -327,10 +334,9 @@ static void describe(uint64_t place, char *text, size_t room)
     if (name) {
         char path[PATH_BYTES];
         whole_path(path, folder, name);
-        if (!sites_have_paths && !is_root_known)
+        if (!is_root_known)
             find_root(all);
-        bool is_shorter = !sites_have_paths && root[0] && is_below(path, root);
-        snprintf(text, room, "%s:%d", is_shorter ? path + strlen(root) + 1 : path, number);
+        snprintf(text, room, "%s:%d", sites_have_paths ? name : behind_root(path), number);
         return;
     }
     Dwarf_Addr begin = 0;

@@ -13,7 +13,7 @@ struct site {
     uint32_t bytes;
 };
 
-/* If set before the first look-up, sites have their whole path. */
+/* If set before the first look-up, sites have their paths as the compiler has them. */
 extern bool sites_have_paths;
 /* Before the first look-up: sites of files below this folder have their paths from there on. Else it is the folder that all sources of the
  * program's own lie below. */
