@@ -33,9 +33,10 @@ enum event_kind {
     EVENT_WRITE,      /* the same */
     EVENT_LOCK,       /* first: lock, acquired in write mode, size: enum lock_kind */
     EVENT_READ_LOCK,  /* first: lock, acquired in read mode, size: enum lock_kind */
-    EVENT_UNLOCK,     /* first: lock, released in whichever mode the thread holds it */
+    EVENT_UNLOCK,     /* first: lock, released in whichever mode the thread holds it, size: enum lock_kind and perhaps LOCK_FAILED, second: program counter */
+    EVENT_LOCK_TWICE, /* first: lock that the thread holds and waits for, which lasts for ever; size: enum lock_kind, second: program counter */
     EVENT_LOCK_BEGIN, /* first: lock that begins a new life */
-    EVENT_LOCK_END,   /* first: lock whose life ends */
+    EVENT_LOCK_END,   /* first: lock whose life ends, second: program counter */
     EVENT_REUSE,      /* first: address, second: bytes that are put to a new use */
     EVENT_IGNORE_ON,
     EVENT_IGNORE_OFF,
@@ -57,6 +58,9 @@ enum event_kind {
 };
 
 enum lock_kind { LOCK_MUTEX, LOCK_RWLOCK, LOCK_SPIN, LOCK_USER };
+#define LOCK_KINDS 4
+/* The release failed, and whoever held the lock holds it still. */
+#define LOCK_FAILED 4
 
 /* What threads signal and await. */
 enum object_kind { OBJECT_ATOMIC, OBJECT_SEMAPHORE, OBJECT_BARRIER, OBJECT_CONDITION, OBJECT_ONCE, OBJECT_USER };

@@ -430,6 +430,35 @@ def several_programs(folder, findings, made):
     findings.check("a file in the place of a folder that is named", (found.returncode, found.stdout) == (125, "") and "Not a directory" in found.stderr, f"{found}")
 
 
+# ---- Misuse of locks ----
+
+
+def misuse(folder, findings):
+    """What tests/record/misuse does wrong with locks is said on standard error and in the trace, and the steps are refused. Of right.c nothing is said."""
+    for source in sorted((SOURCES / "misuse").glob("*.c")):
+        wanted = [(source.name, number, *match) for number, line in enumerate(source.read_text().splitlines(), 1) for match in re.findall(r"MISUSE (\w+) (\w+) (\w+)", line)]
+        wanted = {rf"t\d {verb} {lock} at {name}:{number}, which {'t.' if holder == 'another' else holder} holds" for name, number, verb, lock, holder in wanted}
+        refused = sum("destroys" not in line for line in wanted)
+        for compiler, level in (("gcc", "-O0"), ("clang", "-O0"), ("gcc", "-O2"), ("clang", "-O2")):
+            program, built = build(folder, source, compiler, level)
+            for more in ([], ["--order"]):
+                trace = folder / "misuse.trace"
+                found = command([RUN, "-o", trace, "--replay", *more, program])
+                text = trace.read_text()
+                said = [line.removeprefix("record: ") for line in found.stderr.splitlines() if " holds" in line]
+                comments = [line.removeprefix("# ") for line in text.splitlines() if line.startswith("# ") and " holds" in line]
+                fits = said == comments and len(said) == len(wanted) and all(any(re.fullmatch(one, line) for line in said) for one in wanted)
+                lines = re.findall(r"^line \d+: refused: (t\d) (\w+) (\w+): ", found.stderr, re.M)
+                held = sorted((line.split()[0], line.split()[2]) for line in said if "destroys" not in line)
+                is_refused = sorted((thread, lock) for thread, _, lock in lines) == held and f", refused {refused}\n" in found.stderr
+                is_whole = text.endswith("none lost\nend\n") and found.returncode == built.returncode == 0 and built.stderr == ""
+                findings.check(f"misuse of locks, {program.name} {more}", fits and is_refused and is_whole, f"{built.stderr} {found} {comments}, not {wanted}")
+        findings.check(f"what {source.name} does wrong", bool(wanted) == (source.stem != "right"), f"{wanted}")
+    program, _ = build(folder, SOURCES / "misuse/unlocks.c", "gcc", "-O0")
+    found = command([RUN, "-q", "--report", "-", program])
+    findings.check("misuse of locks, quietly", found.stderr == "" and re.search(r"refused: t\d unlock never: not held", found.stdout), f"{found}")
+
+
 # ---- On a terminal ----
 
 
@@ -820,6 +849,7 @@ def tests(record):
         several_programs(folder, findings, made)
         terminal(folder, findings, counter, made[SOURCES / "recursive.cpp", "gcc", "-O0"], busy)
         sites(folder, findings)
+        misuse(folder, findings)
         hangups(folder, findings)
         late_interrupt(folder, findings, counter)
         hints(folder, findings, counter)
