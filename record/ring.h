@@ -23,7 +23,7 @@
 /* Threads add to one of these counters what they cannot record. */
 #define LOST_COUNTERS 64
 
-/* Name of the ring's file, as it stands in /proc/PID/maps, and of the variable by which the program finds it. */
+/* Name of the ring's file, as it stands in /proc/PID/maps with a number behind it, and of the variable by which the program finds it. */
 #define RING_FILE_NAME "eraser-record"
 #define RING_VARIABLE "ERASER_RECORD"
 
@@ -33,9 +33,10 @@ enum event_kind {
     EVENT_WRITE,      /* the same */
     EVENT_LOCK,       /* first: lock, acquired in write mode, size: enum lock_kind */
     EVENT_READ_LOCK,  /* first: lock, acquired in read mode, size: enum lock_kind */
-    EVENT_UNLOCK,     /* first: lock, released in whichever mode the thread holds it */
+    EVENT_UNLOCK,     /* first: lock, released in whichever mode the thread holds it, size: enum lock_kind and perhaps LOCK_FAILED, second: program counter */
+    EVENT_LOCK_TWICE, /* first: lock that the thread holds and waits for, which lasts for ever; size: enum lock_kind, second: program counter */
     EVENT_LOCK_BEGIN, /* first: lock that begins a new life */
-    EVENT_LOCK_END,   /* first: lock whose life ends */
+    EVENT_LOCK_END,   /* first: lock whose life ends, second: program counter */
     EVENT_REUSE,      /* first: address, second: bytes that are put to a new use */
     EVENT_IGNORE_ON,
     EVENT_IGNORE_OFF,
@@ -57,6 +58,9 @@ enum event_kind {
 };
 
 enum lock_kind { LOCK_MUTEX, LOCK_RWLOCK, LOCK_SPIN, LOCK_USER };
+#define LOCK_KINDS 4
+/* The release failed, and whoever held the lock holds it still. */
+#define LOCK_FAILED 4
 
 /* What threads signal and await. */
 enum object_kind { OBJECT_ATOMIC, OBJECT_SEMAPHORE, OBJECT_BARRIER, OBJECT_CONDITION, OBJECT_ONCE, OBJECT_USER };
@@ -71,6 +75,25 @@ struct slot {
     uint64_t second;
 };
 
+/* The first program that is recorded takes the first ring. Each further one asks there for a ring of its own. So many may ask at a time. */
+#define RING_ASKERS 64
+enum asker_state {
+    ASKER_NONE,    /* nobody asks here */
+    ASKER_COMES,   /* a program writes down who it is */
+    ASKER_WAITS,   /* for a ring */
+    ASKER_TAKEN,   /* a writer makes one */
+    ASKER_HAS,     /* its ring is /proc/WRITER/fd/FILE */
+    ASKER_REFUSED, /* there is none for it */
+};
+struct asker {
+    _Atomic uint32_t state;
+    uint32_t process;
+    uint32_t writer, file;
+};
+
+/* Bytes of a program's name, with the zero that ends it. */
+#define RING_NAME_BYTES 64
+
 struct lost_counter {
     _Alignas(64) _Atomic uint64_t count;
 };
@@ -82,10 +105,15 @@ struct ring {
     uint32_t orders; /* not 0: what orders threads is recorded as well */
     _Atomic uint32_t stop;       /* the writer takes no more events */
     _Atomic uint32_t owner;      /* process id of the program that is recorded, 0 before there is one */
-    _Atomic uint32_t others;     /* programs that found another one recorded already */
+    _Atomic uint32_t others;     /* programs that found another one recorded already, and got no ring */
     _Atomic uint32_t forks;      /* children that the recorded program forked */
     _Atomic uint32_t threads;    /* numbers given to threads */
     _Atomic uint64_t abandoned;  /* some ticket below this one may never be published */
+    char program[RING_NAME_BYTES]; /* the name of the program's file, once there is an owner */
+    /* Of the first ring alone. */
+    _Atomic uint32_t server;     /* process id of who gives out further rings, or 0 */
+    _Atomic uint32_t bell;       /* changes if the server has something to look at */
+    struct asker askers[RING_ASKERS];
     _Alignas(128) _Atomic uint64_t tail; /* next ticket */
     _Alignas(128) _Atomic uint64_t head; /* first ticket that the writer has not taken */
     _Alignas(128) struct lost_counter lost[LOST_COUNTERS];

@@ -6,7 +6,7 @@ _eraser_record() {
     while ((place < COMP_CWORD)); do
         case ${COMP_WORDS[place]} in
         --) place=$((place + 1)) && break ;;
-        --output | -o | --report | --suppress | --analysis | --format | --exit-status | --limit)
+        --output | -o | --report | --suppress | --analysis | --format | --exit-status | --limit | --root)
             option=${COMP_WORDS[place]}
             [ "${COMP_WORDS[place + 1]}" != = ] || place=$((place + 1))
             place=$((place + 2))
@@ -22,7 +22,7 @@ _eraser_record() {
         return
     elif ((place == COMP_CWORD)); then
         case $word in
-        -*) _eraser_record_words "--output --replay --report --suppress --analysis --explain --by-site --format --strict --until-fault --exit-status --order --limit --paths --quiet --help --version -o -q -h -V" ;;
+        -*) _eraser_record_words "--output --replay --report --suppress --analysis --explain --by-site --format --strict --until-fault --exit-status --order --limit --root --paths --quiet --help --version -o -q -h -V" ;;
         *) _eraser_record_programs ;;
         esac
         return
@@ -30,6 +30,7 @@ _eraser_record() {
     [ "$word" != = ] || word=
     case $option in
     --output | -o | --report | --suppress) _eraser_record_files ;;
+    --root) _eraser_record_folders ;;
     --analysis) _eraser_record_words "lockset happens-before both" ;;
     --format) _eraser_record_words "text json sarif html" ;;
     --exit-status) _eraser_record_words "program report" ;;
@@ -44,6 +45,11 @@ _eraser_record_words() {
 _eraser_record_files() {
     compopt -o filenames 2>/dev/null
     mapfile -t COMPREPLY < <(compgen -f -- "$word")
+}
+
+_eraser_record_folders() {
+    compopt -o filenames 2>/dev/null
+    mapfile -t COMPREPLY < <(compgen -d -- "$word")
 }
 
 # Commands and folders. A word with a slash is a command's path.

@@ -6,7 +6,7 @@ function __eraser_record_before_program
     set -e words[1]
     while set -q words[1]
         switch $words[1]
-            case --output -o --report --suppress --analysis --format --exit-status --limit
+            case --output -o --report --suppress --analysis --format --exit-status --limit --root
                 set -e words[1]
             case '-*'
             case '*'
@@ -17,11 +17,11 @@ function __eraser_record_before_program
     return 0
 end
 
-complete -c eraser-record -x -a '(__fish_complete_subcommand -- --output -o --report --suppress --analysis --format --exit-status --limit)'
+complete -c eraser-record -x -a '(__fish_complete_subcommand -- --output -o --report --suppress --analysis --format --exit-status --limit --root)'
 
-complete -c eraser-record -n __eraser_record_before_program -s o -l output -r -F -d 'Keep the trace in FILE, and replay nothing'
+complete -c eraser-record -n __eraser_record_before_program -s o -l output -r -F -d 'Keep the trace in FILE, and replay nothing; a folder takes that of each program'
 complete -c eraser-record -n __eraser_record_before_program -l replay -d 'With -o: replay as well'
-complete -c eraser-record -n __eraser_record_before_program -l report -r -F -d 'Write the report to FILE instead of standard error; - is standard output'
+complete -c eraser-record -n __eraser_record_before_program -l report -r -F -d 'Write the report to FILE instead of standard error; - is standard output; a folder takes that of each program'
 complete -c eraser-record -n __eraser_record_before_program -l suppress -r -F -d 'Leave out the races that these rules take'
 complete -c eraser-record -n __eraser_record_before_program -l analysis -x -a 'lockset happens-before both' -d 'Report by lockset (the default), happens-before or both; the last two record with --order'
 complete -c eraser-record -n __eraser_record_before_program -l explain -d 'Name the accesses that make each race'
@@ -31,8 +31,9 @@ complete -c eraser-record -n __eraser_record_before_program -l strict -d 'End th
 complete -c eraser-record -n __eraser_record_before_program -l until-fault -d 'Report the steps before the first faulty line of the trace, and then its fault'
 complete -c eraser-record -n __eraser_record_before_program -l exit-status -x -a 'program report' -d 'End with the status of the program (the default) or of the report'
 complete -c eraser-record -n __eraser_record_before_program -l order -d 'Record what orders threads as well: starts and joins, semaphores, atomic operations ..'
-complete -c eraser-record -n __eraser_record_before_program -l limit -x -d 'With -o: keep at most BYTES of text; 0: no limit. The default is 268435456'
-complete -c eraser-record -n __eraser_record_before_program -l paths -d 'Name sites by their whole path'
+complete -c eraser-record -n __eraser_record_before_program -l limit -x -d 'Of a trace that is kept: keep at most BYTES of text; 0: no limit. With -o the default is 268435456'
+complete -c eraser-record -n __eraser_record_before_program -l root -x -a '(__fish_complete_directories)' -d 'Name sites by their paths below DIR. The default is the folder that has all sources of the program'
+complete -c eraser-record -n __eraser_record_before_program -l paths -d 'Name sites by their paths as the compiler has them'
 complete -c eraser-record -n __eraser_record_before_program -s q -l quiet -d 'Say nothing on standard error beside the report, unless something went wrong'
 complete -c eraser-record -n __eraser_record_before_program -s h -l help -d 'Print this help'
 complete -c eraser-record -n __eraser_record_before_program -s V -l version -d 'Print the version'

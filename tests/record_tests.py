@@ -274,8 +274,8 @@ def ways_to_use(folder, findings, counter, queue):
     passed_on = found.stdout == "given\n" and found.stderr.startswith("one two words\n") and found.returncode == 9
     findings.check("arguments, streams and status of any program", passed_on, f"{found}")
     findings.check("a program without the library has no report", "nothing was recorded" in found.stderr and "steps" not in found.stderr, f"{found}")
-    found = command([RUN, "-q", "sh", "-c", f"{counter}; {counter}; exit 0"])
-    findings.check("two programs, of which one is recorded", "record: 1 further program" in found.stderr and found.stdout == "30\n30\n", f"{found}")
+    found = command([RUN, "-q", "-o", trace, "sh", "-c", f"{counter}; {counter}; exit 0"])
+    findings.check("two programs, and room for one trace", "record: 1 further program" in found.stderr and found.stdout == "30\n30\n", f"{found}")
     findings.check("a program that is not there", command([RUN, folder / "nothing"]).returncode == 127)
     findings.check("a program that can't be started", command([RUN, folder]).returncode == 126)
     for words in (["--wrong"], ["--limit", "10x"], ["--limit", "-1"], ["--limit", ""], ["--exit-status", "other"], ["--format", "xml"], ["--format", "json", "--by-site"]):
@@ -325,6 +325,7 @@ def ways_to_end(folder, made):
 
     right, racy, ends, busy = program("recursive"), program("queue"), program("ends"), program("busy")
     limited = ["-o", folder / "lost.trace", "--limit", "100000"]
+    several = ["--report", f"{folder}/several/"]
     failing, ended = as_script(folder, "failing", "cat >/dev/null; exit 4\n"), as_script(folder, "ended", "cat >/dev/null; kill -TERM $$\n")
     return {
         "wrong options, or a file that can't be opened": (["-o", folder / "no/where"], [right], {}),
@@ -341,7 +342,10 @@ def ways_to_end(folder, made):
         "the program is not instrumented": ([], ["true"], {}),
         "no instrumented code ran": ([], [program("empty")], {}),
         "events were lost": (limited, [busy, "3000"], {}),
-        "one more instrumented program was started": ([], ["sh", "-c", f"{right}; {right}"], {}),
+        "one more instrumented program was started, and `-o FILE` is given": (["-o", folder / "one.trace"], ["sh", "-c", f"{right}; {right}"], {}),
+        "of several programs one lost events": ([*limited[2:], "-o", f"{folder}/lost/"], ["sh", "-c", f"{right}; {busy} 3000"], {}),
+        "of several programs one has a race": (several, ["sh", "-c", f"{right}; {racy}"], {}),
+        "of several programs none has a race": (several, ["sh", "-c", f"{right}; {right}"], {}),
         "there is a race": ([], [racy], {}),
         "there is no race": ([], [right], {}),
     }
@@ -358,13 +362,225 @@ def exit_statuses(folder, findings, made):
     findings.check("the exit statuses: each row has a run", [row[0] for row in rows] == list(ways), f"{rows}")
     for title, by_default, by_report, line in rows:
         options, words, settings = ways[title]
-        pattern = re.sub(r"\b(FILE|PROGRAM|REPLAY)\b", r"\\S+", re.sub(r"\bN\b", r"\\d+", re.escape(line.strip("`"))))
+        pattern = re.sub(r"\b(FILE|FOLDER|PROGRAM|REPLAY)\b", r"\\S+", re.sub(r"\bN\b", r"\\d+", re.escape(line.strip("`"))))
         plain, strict = re.fullmatch(r"(\d+)(?:, with `--strict` (\d+))?", by_report).groups()
         ends = ((["--exit-status", "report"], plain), (["--exit-status", "report", "--strict", "-q"], strict or plain), (["--replay"], by_default))
         for more, status in ends:
             found = command([RUN, *more, *options, *words], env={**os.environ, **settings})
-            is_said = re.search(rf"^{pattern}$", found.stderr, re.M) or "0 lost" in line and "-q" in more or "--replay" in more
+            is_said = re.search(rf"^{pattern}$", found.stderr, re.M) or "-q" in more and ("0 lost" in line or "programs recorded" in line) or "--replay" in more
             findings.check(f"the exit status {more}: {title}", str(found.returncode) == status and is_said, f"{found}, not {status} {pattern}")
+
+
+def listed(folder):
+    """What the list of a folder says of each file."""
+    return dict(line.split(": ", 1) for line in (folder / "list.txt").read_text().splitlines())
+
+
+def several_programs(folder, findings, made):
+    """Each program that a command starts is recorded: one after the other, side by side, in another's place, one by another."""
+    right, racy, forking, ends = (made[SOURCES / name, "gcc", "-O0"] for name in ("recursive.cpp", "queue.cpp", "forks.c", "ends.c"))
+    place = folder / "eraser.out"
+    orders = {
+        "one after the other": (f"{right}; {racy}; {right}", {"recursive-gcc-O0", "queue-gcc-O0"}, 1),
+        "side by side": (f"{right} & {racy} & {right} & {racy}; wait", {"recursive-gcc-O0", "queue-gcc-O0"}, 2),
+        "of which one takes another's place": (f"{ends} exec; exec {racy}", {"ends-gcc-O0", "queue-gcc-O0"}, None),
+    }
+    for way, (text, wanted, racing) in orders.items():
+        found = command([RUN, "sh", "-c", text], cwd=folder)
+        has = listed(place)
+        names = {name.split("-", 1)[1].removesuffix(".txt") for name in has}
+        numbers = sorted(int(name.split("-")[0]) for name in has)
+        is_told = all(f"eraser.out/{name}: {says}\n" in found.stderr for name, says in has.items())
+        totals = re.search(rf"^record: {len(has)} programs recorded, (\d+) with races; reports in eraser\.out/$", found.stderr, re.M)
+        findings.check(f"several programs, {way}", names == wanted and numbers == list(range(1, len(has) + 1)) and is_told and totals, f"{found} {has}")
+        findings.check(f"how many have races, {way}", totals and racing in (None, int(totals[1])) and int(totals[1]) == sum(says.endswith(": races") for says in has.values()), f"{has}")
+        files = {path.name for path in place.iterdir()}
+        findings.check(f"their files, {way}", files == {*has, "list.txt"}, f"{files}")
+        for name, says in has.items():
+            lines = (place / name).read_text()
+            sites = marked(SOURCES / "queue.cpp", "RACE") if "queue" in name else races(lines)
+            is_whole = re.search(r"^steps .*, refused 0$", lines, re.M) and races(lines) == sites and bool(sites) == says.endswith(": races")
+            findings.check(f"the report {name}, {way}", is_whole and re.match(r"\d+ events, 0 lost: ", says), f"{says} {lines}")
+    (place / "mine.txt").write_text("")
+    found = command([RUN, "-q", "--report", "-", "sh", "-c", f"{racy}; {right}"], cwd=folder)
+    kept = {path.name for path in place.iterdir()} == {"01-queue-gcc-O0.txt", "02-recursive-gcc-O0.txt", "list.txt", "mine.txt"}
+    findings.check("the files of the run before are gone, and no other", kept and found.stderr == "" and found.stdout.count("eraser.out/") == 2, f"{found}")
+    found = command([RUN, "-o", "traces/", "sh", "-c", f"{right}; {racy}"], cwd=folder)
+    has = {name: (folder / "traces" / name).read_text() for name in listed(folder / "traces")}
+    is_whole = set(has) == {"01-recursive-gcc-O0.trace", "02-queue-gcc-O0.trace"} and all(text.endswith("none lost\nend\n") for text in has.values())
+    findings.check("traces of several programs", is_whole and "record: 2 programs recorded; traces in traces/\n" in found.stderr and "steps" not in found.stderr, f"{found} {set(has)}")
+    found = command([RUN, "-q", "-o", "traces/", "--format", "json", "--report", "forms/", "sh", "-c", f"{racy}; {racy}"], cwd=folder)
+    documents = [json.loads((folder / "forms" / f"0{number}-queue-gcc-O0.json").read_text()) for number in (1, 2)]
+    sites = [{race["site"] for race in document["races"]} for document in documents]
+    findings.check("traces and reports of several programs", sites == 2 * [marked(SOURCES / "queue.cpp", "RACE")] and len(listed(folder / "traces")) == 2, f"{found} {sites}")
+    found = command([RUN, "-q", "--report", "one/", racy], cwd=folder)
+    findings.check("a folder for the report of one program", list(listed(folder / "one")) == ["01-queue-gcc-O0.txt"], f"{found}")
+    found = command([RUN, "--exit-status", "report", "--report", "-", "sh", "-c", f"{forking}; {right}; exit 7"], cwd=folder)
+    is_told = "record: the program forked 1 time" in found.stderr and "\neraser.out/02-recursive-gcc-O0.txt: " in found.stdout
+    findings.check("several programs, and a status of the command", found.returncode == 7 and is_told, f"{found}")
+    many = f"i=0; while [ $i -lt 40 ]; do {right} & i=$((i+1)); done; wait"
+    found = command([RUN, "-q", "--exit-status", "report", "--report", "many/", "sh", "-c", many], cwd=folder)
+    findings.check("40 programs side by side", found.returncode == 0 and len(listed(folder / "many")) == 40, f"{found}")
+    (folder / "taken").mkdir()
+    (folder / "taken/eraser.out").write_text("")
+    found = command([RUN, "--exit-status", "report", "sh", "-c", f"{right}; {right}"], cwd=folder / "taken")
+    is_told = "record: cannot write eraser.out: Not a directory\n" in found.stderr and "record: 1 further program" in found.stderr
+    findings.check("a file in the place of the folder", found.returncode == 125 and is_told, f"{found}")
+    found = command([RUN, "--report", "taken/eraser.out/", racy], cwd=folder)
+    findings.check("a file in the place of a folder that is named", (found.returncode, found.stdout) == (125, "") and "Not a directory" in found.stderr, f"{found}")
+
+
+# ---- Misuse of locks ----
+
+
+def misuse(folder, findings):
+    """What tests/record/misuse does wrong with locks is said on standard error and in the trace, and the steps are refused. Of right.c nothing is said."""
+    for source in sorted((SOURCES / "misuse").glob("*.c")):
+        wanted = [(source.name, number, *match) for number, line in enumerate(source.read_text().splitlines(), 1) for match in re.findall(r"MISUSE (\w+) (\w+) (\w+)", line)]
+        wanted = {rf"t\d {verb} {lock} at {name}:{number}, which {'t.' if holder == 'another' else holder} holds" for name, number, verb, lock, holder in wanted}
+        refused = sum("destroys" not in line for line in wanted)
+        for compiler, level in (("gcc", "-O0"), ("clang", "-O0"), ("gcc", "-O2"), ("clang", "-O2")):
+            program, built = build(folder, source, compiler, level)
+            for more in ([], ["--order"]):
+                trace = folder / "misuse.trace"
+                found = command([RUN, "-o", trace, "--replay", *more, program])
+                text = trace.read_text()
+                said = [line.removeprefix("record: ") for line in found.stderr.splitlines() if " holds" in line]
+                comments = [line.removeprefix("# ") for line in text.splitlines() if line.startswith("# ") and " holds" in line]
+                fits = said == comments and len(said) == len(wanted) and all(any(re.fullmatch(one, line) for line in said) for one in wanted)
+                lines = re.findall(r"^line \d+: refused: (t\d) (\w+) (\w+): ", found.stderr, re.M)
+                held = sorted((line.split()[0], line.split()[2]) for line in said if "destroys" not in line)
+                is_refused = sorted((thread, lock) for thread, _, lock in lines) == held and f", refused {refused}\n" in found.stderr
+                is_whole = text.endswith("none lost\nend\n") and found.returncode == built.returncode == 0 and built.stderr == ""
+                findings.check(f"misuse of locks, {program.name} {more}", fits and is_refused and is_whole, f"{built.stderr} {found} {comments}, not {wanted}")
+        findings.check(f"what {source.name} does wrong", bool(wanted) == (source.stem != "right"), f"{wanted}")
+    program, _ = build(folder, SOURCES / "misuse/unlocks.c", "gcc", "-O0")
+    found = command([RUN, "-q", "--report", "-", program])
+    findings.check("misuse of locks, quietly", found.stderr == "" and re.search(r"refused: t\d unlock never: not held", found.stdout), f"{found}")
+
+
+# ---- On a terminal ----
+
+
+def on_terminal(words, **more):
+    """Runs it with a terminal as standard error. Gives status, standard output, and what the terminal shows."""
+    terminal, shown = os.openpty()
+    recorder = subprocess.Popen([str(word) for word in words], stdout=subprocess.PIPE, stderr=shown, **more)
+    os.close(shown)
+    text = b""
+    patience = threading.Timer(PATIENCE, recorder.kill)
+    patience.start()
+    while True:
+        try:
+            got = os.read(terminal, 65536)
+        except OSError:
+            break
+        if not got:
+            break
+        text += got
+    output = recorder.stdout.read()
+    patience.cancel()
+    os.close(terminal)
+    return recorder.wait(), output.decode(), text.decode().replace("\r\n", "\n")
+
+
+def terminal(folder, findings, counter, right, busy):
+    """On a terminal the report is what `replay --analysis both --by-site --explain` prints of the trace, unless an option says how to report."""
+    site = next(iter(marked(SOURCES / "counter.c", "RACE")))
+    place, trace = folder / "temporary", folder / "terminal.trace"
+    place.mkdir()
+    settings = {**os.environ, "TMPDIR": str(place)}
+    status, output, text = on_terminal([RUN, counter], env=settings)
+    is_whole = re.match(rf"races in this run\nwords .*\n1 .* {site}\n\n{site}:\n(?s:.*)\n    at {site}", text) and re.search(r"\nsteps .*\nrecord: \d+ events recorded, 0 lost\n\Z", text)
+    findings.check("on a terminal", (status, output) == (3, "30\n") and is_whole, f"{status} {output} {text}")
+    status, output, text = on_terminal([RUN, "-o", trace, "--replay", counter], env=settings)
+    replayed = command([TOP / "eraser", "replay", "--analysis", "both", "--by-site", "--explain", trace])
+    is_whole = text.startswith(replayed.stdout) and len(replayed.stdout) > 100 and trace.read_text().endswith("none lost\nend\n")
+    findings.check("on a terminal, with a trace that is kept", status == 3 and is_whole, f"{status} {text} {replayed}")
+    findings.check("nothing is left of a temporary file", not list(place.iterdir()), f"{list(place.iterdir())}")
+    status, output, text = on_terminal([RUN, "-q", "--exit-status", "report", right], env=settings)
+    findings.check("on a terminal, the exit status of the report", status == 0 and text.startswith("races in this run: none\n"), f"{status} {text}")
+    for words in (["--analysis", "lockset"], ["--explain"], ["--until-fault"], ["--strict"], ["--format", "text"]):
+        status, output, text = on_terminal([RUN, *words, counter])
+        findings.check(f"on a terminal, {words[0]}", status == 3 and races(text) == {site} and "unordered" not in text, f"{status} {text}")
+    report = folder / "terminal.report"
+    on_terminal([RUN, "--report", report, counter])
+    findings.check("on a terminal, a report elsewhere", races(report.read_text()) == {site}, report.read_text())
+    status, output, text = on_terminal([RUN, "-o", trace, counter])
+    findings.check("on a terminal, a trace alone", re.fullmatch(r"record: \d+ events recorded, 0 lost\n", text), text)
+    status, output, text = on_terminal([RUN, "--limit", "100000", busy, "3000"], env=settings)
+    is_told = text.startswith("record: the trace has reached its limit of 100000 bytes") and re.search(r"^record: \d+ events recorded, [1-9]\d* lost: the trace is incomplete", text, re.M)
+    findings.check("on a terminal, a limit", (status, output) == (0, "done\n") and is_told, f"{status} {text}")
+    status, output, text = on_terminal([RUN, counter], env={**os.environ, "TMPDIR": str(folder / "nowhere")})
+    findings.check("on a terminal, no folder for temporary files", (status, output) == (125, "") and f"cannot write a temporary file in {folder}/nowhere" in text, f"{status} {text}")
+    status, output, text = on_terminal([RUN, "sh", "-c", f"{counter}; {counter}"], cwd=folder)
+    lines = (folder / "eraser.out/02-counter-gcc-O2.txt").read_text()
+    findings.check("on a terminal, several programs", "record: 2 programs recorded, 2 with races" in text and lines.startswith("races in this run\n"), f"{status} {text} {lines}")
+
+
+# ---- Sites ----
+
+
+def sites(folder, findings):
+    """Sites are paths below the folder of all sources, or below the one that is named."""
+    place = folder / "tree/src"
+    for name in ("a", "b"):
+        (place / name).mkdir(parents=True)
+        (place / name / "util.c").write_text(f"extern int word_{name};\nvoid use_{name}(void);\nvoid use_{name}(void) {{ word_{name}++; }}\n")
+    (place / "main.c").write_text("""#include <pthread.h>
+int word_a, word_b;
+void use_a(void);
+void use_b(void);
+static void *use(void *nothing) { use_a(); use_b(); return nothing; }
+int main(void)
+{
+    pthread_t one, other;
+    pthread_create(&one, NULL, use, NULL);
+    pthread_create(&other, NULL, use, NULL);
+    pthread_join(one, NULL);
+    return pthread_join(other, NULL);
+}
+""")
+    (place / "vector.cpp").write_text("""#include <thread>
+#include <vector>
+std::vector<int> words;
+int main()
+{
+    std::thread one([] { words.push_back(1); });
+    one.join();
+    std::thread other([] { words.push_back(2); });
+    other.join();
+}
+""")
+    (folder / "link").symlink_to(folder / "tree")
+    ways = {"gcc": ["gcc", "-g", "-fsanitize=thread"], "clang": [TOP / "record/cc"]}
+    settings = {**os.environ, "ERASER_CC": "clang"}
+    for compiler, words in ways.items():
+        for where, paths in (("src", ["main.c", "a/util.c", "b/util.c"]), ("", ["src/main.c", "src/../src/a/util.c", "./src/b/util.c"])):
+            built = command([*words, *paths, "-o", folder / "tree/program"], cwd=folder / "tree" / where, env=settings)
+            for more, front in (([], ""), (["--root", folder / "tree"], "src/"), (["--root", ".."], f"{folder.name}/tree/src/"), (["--root", folder / "link"], "src/"), (["--root", place / "a"], None)):
+                found = command([RUN, "-q", "--report", "-", *more, folder / "tree/program"], cwd=folder)
+                wanted = {f"{front}a/util.c:3", f"{front}b/util.c:3"} if front is not None else {"util.c:3", f"{place}/b/util.c:3"}
+                findings.check(f"sites by {compiler} in /{where} {more}", built.returncode == 0 and races(found.stdout) == wanted, f"{built} {found}, not {wanted}")
+    found = command([RUN, "-q", "--report", "-", "--paths", folder / "tree/program"])
+    findings.check("sites by --paths", {site.rsplit("/", 2)[-2] for site in races(found.stdout)} == {"a", "b"}, f"{found}")
+    command(["sh", "-c", f"cd {folder}/link && gcc -g -fsanitize=thread src/main.c src/a/util.c src/b/util.c -o program"])
+    for where in ("tree", "link"):
+        found = command(["sh", "-c", f"cd {folder}/{where} && {RUN} -q --report - --root . ./program"])
+        findings.check(f"the root is where a link leads, in {where}", races(found.stdout) == {"src/a/util.c:3", "src/b/util.c:3"}, f"{found}")
+    found = command([RUN, "-q", "--report", "-", "--root", "tree", "--format", "sarif", "tree/program"], cwd=folder)
+    places = set(re.findall(r'"uri": ?"([^"]*util[^"]*)"', found.stdout))
+    findings.check("a code host finds the files", places == {"src/a/util.c", "src/b/util.c"} and all((folder / "tree" / path).exists() for path in places), f"{found}")
+    found = command([RUN, "-q", "--report", "-", "--root", "tree", "--format", "html", "tree/program"], cwd=folder)
+    command([RUN, "-o", "tree/trace", "--root", "tree", "tree/program"], cwd=folder)
+    found = command([TOP / "eraser", "replay", "--format", "html", "--source", "tree", "tree/trace"], cwd=folder)
+    findings.check("the page finds the source lines", "word_a++" in found.stdout and "word_b++" in found.stdout, f"{found.returncode}")
+    built = command(["g++", "-g", "-fsanitize=thread", "src/vector.cpp", "-o", "program"], cwd=folder / "tree")
+    found = command([RUN, "-q", "-o", "tree/trace", "tree/program"], cwd=folder)
+    text = (folder / "tree/trace").read_text()
+    findings.check("a file elsewhere has its whole path", " vector.cpp:6\n" in text and re.search(r" /usr/include/c\+\+/\S+\n", text) and " stl_" not in text, f"{built} {found}")
+    found = command([RUN, "--root", "", "true"])
+    findings.check("no root", (found.returncode, found.stderr) == (125, "record: --root wants a folder, not ''\n"), f"{found}")
 
 
 def forks(findings, program):
@@ -375,11 +591,33 @@ def forks(findings, program):
 
 
 def hangups(folder, findings):
-    """A program that is recorded under `nohup` ignores hangups, as it does without the recorder."""
+    """What is ignored when the recorder starts, as by `nohup` and by what a shell runs in the background, the program ignores too."""
     words = [RUN, "-q", "-o", folder / "hangup.trace", "grep", "SigIgn", "/proc/self/status"]
-    found = command(["sh", "-c", 'trap "" HUP; exec "$@"', "sh", *words])
-    ignored = re.fullmatch(r"SigIgn:\s+([0-9a-f]+)\n", found.stdout)
-    findings.check("a hangup that is ignored", ignored and int(ignored[1], 16) & 1, f"{found}")
+    for ignores, wanted in (("", 0), ("HUP", 1), ("INT", 2), ("QUIT", 4), ("TERM", 1 << 14), ("HUP INT QUIT TERM", 0x4007)):
+        found = command(["sh", "-c", f'[ -z "{ignores}" ] || trap "" {ignores}; exec "$@"', "sh", *words])
+        ignored = re.fullmatch(r"SigIgn:\s+([0-9a-f]+)\n", found.stdout)
+        findings.check(f"signals that are ignored: {ignores}", ignored and int(ignored[1], 16) & 0x4007 == wanted, f"{found}")
+
+
+def late_interrupt(folder, findings, counter):
+    """An interrupt after the program has ended stops the replay."""
+    begun = folder / "replaying"
+    replay = as_script(folder, "endless", f"cat >/dev/null; touch {begun}; exec sleep 1000\n")
+    recorder = subprocess.Popen([RUN, counter], env={**os.environ, "ERASER": replay}, stdout=subprocess.DEVNULL, stderr=subprocess.PIPE, text=True)
+    is_begun = wait_for(begun)
+    recorder.send_signal(signal.SIGINT)
+    _, errors = recorder.communicate(timeout=PATIENCE)
+    findings.check("an interrupt stops the replay", is_begun and recorder.returncode == 3 and "record: the replay was ended by signal 15" in errors, f"{recorder.returncode} {errors}")
+
+
+def hints(folder, findings, counter):
+    """A replay that can say what helps against a fault is asked to."""
+    for name, has in (("helps", True), ("helps-not", False)):
+        line = "      --hints              Say what helps" if has else "      --explain  Also --hints"
+        replay = as_script(folder, name, f'if [ "$2" = --help ]; then echo "{line}"; else cat >/dev/null; echo "$@"; fi\n')
+        found = command([RUN, "-q", "--report", "-", counter], env={**os.environ, "ERASER": replay, "ERASER_RECORD_PREPARE": replay})
+        words = found.stdout.split()
+        findings.check(f"hints: {has}", ("--hints" in words) == has and words[-1] == "-", f"{found}")
 
 
 def large_report(folder, findings, program):
@@ -575,17 +813,19 @@ def unwritable(folder, findings, counter):
 
 
 def as_the_readme_says(folder, findings):
-    """The README's first commands, and its report: the addresses and the lines' numbers differ, the rest doesn't."""
+    """The README's first commands, and its report on a terminal: addresses, lines' numbers, and which access came first differ, the rest doesn't."""
     readme = (TOP / "README.md").read_text()
     build, run = re.search(r"```sh\n(g\+\+ .*?) +#.*\n(record/run .*)\n```", readme).groups()
     shown = re.search(r"```text\n(2000 of.*?)```", readme, re.S)[1]
     built = command(["sh", "-c", build.replace("-o pool", f"-o {folder}/pool")], cwd=TOP)
-    found = command(["sh", "-c", f"{shlex.quote(str(TOP))}/{run} 2>&1"], cwd=folder)
+    _, printed, shown_here = on_terminal(["sh", "-c", f"{shlex.quote(str(TOP))}/{run}"], cwd=folder)
+    found = printed + shown_here
 
     def plain(text):
+        text = re.sub(r"\b(read|write|wrote) +", "used ", text)
         return re.sub(r"0x[0-9a-f]+|\bline \d+|\bt\d+ |^\d+ of|\d+ events|steps \d+", "", text, flags=re.M).splitlines()
 
-    findings.check("as the README says", built.returncode == 0 and sorted(plain(found.stdout)) == sorted(plain(shown)), f"{found}")
+    findings.check("as the README says", built.returncode == 0 and plain(found) == plain(shown), f"{found}")
     trace = folder / "pool.trace"
     kept = command([RUN, "-o", trace, folder / "pool", "--jobs", "4"])
     replayed = command([TOP / "eraser", "replay", trace])
@@ -606,7 +846,13 @@ def tests(record):
         exit_statuses(folder, findings, made)
         forks(findings, made[SOURCES / "forks.c", "gcc", "-O0"])
         large_report(folder, findings, counter)
+        several_programs(folder, findings, made)
+        terminal(folder, findings, counter, made[SOURCES / "recursive.cpp", "gcc", "-O0"], busy)
+        sites(folder, findings)
+        misuse(folder, findings)
         hangups(folder, findings)
+        late_interrupt(folder, findings, counter)
+        hints(folder, findings, counter)
         early_ends(folder, findings, busy)
         memory(folder, findings, busy)
         interrupts(folder, findings, busy)

@@ -220,14 +220,14 @@ def groff_test(record, name):
 # ---- The recorder
 
 def told_of_recorder():
-    """Each option of record/run: its short form, the name of its value, what that is (files, the words there are, or anything) and its sentence."""
+    """Each option of record/run: its short form, the name of its value, what that is (files, folders, the words there are, or anything) and its sentence."""
     found = {}
     for line in command([RECORD, "--help"]).stdout.splitlines():
         match = re.match(r"^ +(?:(-\w), )?(--[\w-]+)(?: ([A-Z]+))? +(.*)$", line)
         if match:
             short, long, value, says = match.groups()
             listed = re.findall(r"`([\w-]+)`", says)
-            takes = None if not value else " ".join(listed) if len(listed) > 1 else "files" if value in ("FILE", "RULES") else "anything"
+            takes = None if not value else " ".join(listed) if len(listed) > 1 else "files" if value in ("FILE", "RULES") else "folders" if value == "DIR" else "anything"
             says = says.replace("`", "").replace(" (docs/FORMATS.md)", "")
             found[long] = (short, value, takes, says[0].upper() + says[1:])
     return found
@@ -244,6 +244,8 @@ def recorder_bash_tests(record, options):
             found, begun = completes(name, ""), completes(name, "READ")
             if takes == "files":
                 record(f"bash: eraser-record {name}: files", begun == {"README.md"}, f"{begun}")
+            elif takes == "folders":
+                record(f"bash: eraser-record {name}: folders", completes(name, "examp") == {"examples"} and not begun, f"{found}, {begun}")
             elif takes == "anything":
                 record(f"bash: eraser-record {name}: nothing that could be known", found == set() == begun, f"{found}, {begun}")
             elif takes:
@@ -261,10 +263,10 @@ def recorder_bash_tests(record, options):
 def recorder_file_tests(record, options):
     """The files for zsh and fish, and the manual page, have each option as --help says it."""
     page, found = (SHELL / "_eraser-record").read_text(), {}
-    line = r"^ +(?:'\((-\w) (--[\w-]+)\)'\{\1,\2\}'|'(--[\w-]+))\[(.*?)\](?::(\w+)(?::(_files|\(.*\)))?)?' \\$"
+    line = r"^ +(?:'\((-\w) (--[\w-]+)\)'\{\1,\2\}'|'(--[\w-]+))\[(.*?)\](?::(\w+)(?::(_files(?: -/)?|\(.*\)))?)?' \\$"
     for short, both, alone, says, value, action in re.findall(line, page, re.M):
-        takes = "files" if action == "_files" else action.strip("()") or "anything" if value else None
-        found[both or alone] = (short or None, value.upper() or None, takes, says)
+        takes = {"_files": "files", "_files -/": "folders"}.get(action) or action.strip("()") or "anything" if value else None
+        found[both or alone] = (short or None, {"folder": "DIR"}.get(value, value.upper()) or None, takes, says)
     record("zsh: options of eraser-record", found == options and page.startswith("#compdef eraser-record\n"), f"\n  {found}\n  {options}")
     if shutil.which("zsh"):
         done = command(["zsh", "-n", SHELL / "_eraser-record"])
@@ -273,8 +275,8 @@ def recorder_file_tests(record, options):
     text, found = (SHELL / "eraser-record.fish").read_text(), {}
     begin = "complete -c eraser-record -n __eraser_record_before_program"
     for short, long, more, says in re.findall(begin + r"(?: -s (\w))? -l ([\w-]+)(.*) -d '(.*)'$", text, re.M):
-        words = re.fullmatch(r" -x -a '(.*)'", more)
-        found["--" + long] = ("-" + short if short else None, words[1] if words else {"": None, " -r -F": "files", " -x": "anything"}.get(more, more), says)
+        words = re.fullmatch(r" -x -a '(?!\()(.*)'", more)
+        found["--" + long] = ("-" + short if short else None, words[1] if words else {"": None, " -r -F": "files", " -x -a '(__fish_complete_directories)'": "folders", " -x": "anything"}.get(more, more), says)
     record("fish: options of eraser-record", found == {long: (short, takes, says) for long, (short, _, takes, says) in options.items()}, f"\n  {found}\n  {options}")
     valued = [name for long, (short, _, takes, _) in options.items() if takes for name in filter(None, (long, short))]
     lists = re.findall(r"__fish_complete_subcommand -- (.*)\)'$", text, re.M) + re.findall(r"^            case (--.*)$", text, re.M)

@@ -9,7 +9,7 @@ HOOK void eraser_ignore_on(void) { emit(EVENT_IGNORE_ON, 0, 0, 0); }
 HOOK void eraser_ignore_off(void) { emit(EVENT_IGNORE_OFF, 0, 0, 0); }
 HOOK void eraser_read_lock(const volatile void *lock) { emit(EVENT_READ_LOCK, LOCK_USER, (uintptr_t)lock, 0); }
 HOOK void eraser_write_lock(const volatile void *lock) { emit(EVENT_LOCK, LOCK_USER, (uintptr_t)lock, 0); }
-HOOK void eraser_unlock(const volatile void *lock) { emit(EVENT_UNLOCK, 0, (uintptr_t)lock, 0); }
+HOOK void eraser_unlock(const volatile void *lock) { emit(EVENT_UNLOCK, LOCK_USER, (uintptr_t)lock, 0); }
 
 /* ---- ThreadSanitizer's interface for locks of the program's own ---- */
 
@@ -30,7 +30,7 @@ HOOK void __tsan_mutex_post_lock(void *lock, unsigned how, int depth)
 HOOK int __tsan_mutex_pre_unlock(void *lock, unsigned how)
 {
     (void)how;
-    emit(EVENT_UNLOCK, 0, (uintptr_t)lock, 0);
+    emit(EVENT_UNLOCK, LOCK_USER, (uintptr_t)lock, 0);
     return 0;
 }
 
@@ -78,7 +78,7 @@ HOOK void AnnotateRWLockReleased(const char *file, int line, const volatile void
     (void)file;
     (void)line;
     (void)is_write;
-    emit(EVENT_UNLOCK, 0, (uintptr_t)lock, 0);
+    emit(EVENT_UNLOCK, LOCK_USER, (uintptr_t)lock, 0);
 }
 
 HOOK void AnnotateNewMemory(const char *file, int line, const volatile void *address, size_t size)

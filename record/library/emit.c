@@ -4,6 +4,7 @@
 #include <dlfcn.h>
 #include <errno.h>
 #include <fcntl.h>
+#include <linux/futex.h>
 #include <pthread.h>
 #include <signal.h>
 #include <string.h>
@@ -181,7 +182,91 @@ static struct attachment *map_attachment(void)
     return page == MAP_FAILED || madvise(page, 4096, MADV_WIPEONFORK) != 0 ? NULL : page;
 }
 
-/* Begins to record if `record/run` started this program and none was recorded before it. */
+/* ---- A ring for a further program ---- */
+
+static char *put_digits(char *at, uint32_t number)
+{
+    if (number > 9)
+        at = put_digits(at, number / 10);
+    *at = (char)('0' + number % 10);
+    return at + 1;
+}
+
+/* Without the C library's functions, which may not be ready yet. */
+static void put_path(char *at, const struct asker *asker)
+{
+    __builtin_memcpy(at, "/proc/", 6);
+    at = put_digits(at + 6, asker->writer);
+    __builtin_memcpy(at, "/fd/", 4);
+    at = put_digits(at + 4, asker->file);
+    *at = 0;
+}
+
+static bool is_there(uint32_t process)
+{
+    return process && (syscall(SYS_kill, process, 0) == 0 || errno != ESRCH);
+}
+
+static struct asker *find_seat(struct ring *first)
+{
+    for (;;) {
+        for (unsigned i = 0; i < RING_ASKERS; i++) {
+            uint32_t none = ASKER_NONE;
+            if (atomic_compare_exchange_strong(&first->askers[i].state, &none, ASKER_COMES))
+                return &first->askers[i];
+        }
+        struct timespec pause = {0, 1000000};
+        syscall(SYS_nanosleep, &pause, NULL);
+        if (!is_there(atomic_load(&first->server)))
+            return NULL;
+    }
+}
+
+/* The ring that the server gives to this program, or NULL. */
+static struct ring *ask_for_ring(struct ring *first)
+{
+    struct asker *asker = is_there(atomic_load(&first->server)) ? find_seat(first) : NULL;
+    struct timespec pause = {0, 100000000};
+    char path[64];
+    uint32_t state;
+    if (!asker)
+        return NULL;
+    asker->process = (uint32_t)syscall(SYS_getpid);
+    atomic_store(&asker->state, ASKER_WAITS);
+    atomic_fetch_add(&first->bell, 1);
+    syscall(SYS_futex, &first->bell, FUTEX_WAKE, 1, NULL, NULL, 0);
+    while ((state = atomic_load(&asker->state)) == ASKER_WAITS || state == ASKER_TAKEN) {
+        syscall(SYS_futex, &asker->state, FUTEX_WAIT, state, &pause, NULL, 0);
+        if (!is_there(atomic_load(&first->server)))
+            return NULL;
+    }
+    if (state == ASKER_HAS) {
+        put_path(path, asker);
+        return map_ring(path);
+    }
+    atomic_store(&asker->state, ASKER_NONE);
+    return NULL;
+}
+
+/* Takes a ring, if no other program has it. */
+static bool own(struct ring *ring, struct attachment *page)
+{
+    uint32_t nobody = 0;
+    char path[4096];
+    long length = syscall(SYS_readlinkat, AT_FDCWD, "/proc/self/exe", path, sizeof path);
+    if (!atomic_compare_exchange_strong(&ring->owner, &nobody, (uint32_t)syscall(SYS_getpid)))
+        return false;
+    long begin = length;
+    while (begin > 0 && path[begin - 1] != '/')
+        begin--;
+    for (long i = begin; i < length && i - begin < RING_NAME_BYTES - 1; i++)
+        ring->program[i - begin] = path[i];
+    page->ring = ring;
+    page->orders = ring->orders;
+    return true;
+}
+
+/* Begins to record if `record/run` started this program: in the first ring, or in one of its own if another program was first. */
 void attach(void)
 {
     static atomic_int was_called;
@@ -189,19 +274,21 @@ void attach(void)
     if (atomic_exchange(&was_called, 1))
         return;
     int error = errno;
-    struct ring *ring = read_setting(path, sizeof path) ? map_ring(path) : NULL;
-    if (ring) {
-        struct attachment *page = map_attachment();
-        uint32_t nobody = 0;
-        if (page && atomic_compare_exchange_strong(&ring->owner, &nobody, (uint32_t)syscall(SYS_getpid))) {
-            page->ring = ring;
-            page->orders = ring->orders;
-            attached = page;
-            emit(EVENT_THREAD, 0, (uint64_t)pthread_self(), 0);
-        } else {
-            atomic_fetch_add(&ring->others, 1);
-            syscall(SYS_munmap, ring, sizeof *ring);
-        }
+    struct ring *first = read_setting(path, sizeof path) ? map_ring(path) : NULL;
+    struct attachment *page = first ? map_attachment() : NULL;
+    bool is_first = page && own(first, page);
+    if (page && !is_first) {
+        struct ring *mine = ask_for_ring(first);
+        if (!mine || !own(mine, page))
+            page = NULL;
+    }
+    if (first && !page)
+        atomic_fetch_add(&first->others, 1);
+    if (first && !is_first)
+        syscall(SYS_munmap, first, sizeof *first);
+    if (page) {
+        attached = page;
+        emit(EVENT_THREAD, 0, (uint64_t)pthread_self(), 0);
     }
     errno = error;
 }

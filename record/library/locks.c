@@ -5,8 +5,10 @@
 
 #include <errno.h>
 #include <pthread.h>
+#include <sys/syscall.h>
 #include <threads.h>
 #include <time.h>
+#include <unistd.h>
 
 /* A mutex whose owner died is acquired, too. */
 static bool is_acquired(int result)
@@ -24,9 +26,9 @@ static void emit_read_lock(enum lock_kind kind, volatile void *lock)
     emit(EVENT_READ_LOCK, kind, (uintptr_t)lock, 0);
 }
 
-static void emit_unlock(volatile void *lock)
+static void emit_unlock(enum lock_kind kind, volatile void *lock, uint64_t site)
 {
-    emit(EVENT_UNLOCK, 0, (uintptr_t)lock, 0);
+    emit(EVENT_UNLOCK, kind, (uintptr_t)lock, site);
 }
 
 static void emit_begin(volatile void *lock)
@@ -34,9 +36,9 @@ static void emit_begin(volatile void *lock)
     emit(EVENT_LOCK_BEGIN, 0, (uintptr_t)lock, 0);
 }
 
-static void emit_end(volatile void *lock)
+static void emit_end(volatile void *lock, uint64_t site)
 {
-    emit(EVENT_LOCK_END, 0, (uintptr_t)lock, 0);
+    emit(EVENT_LOCK_END, 0, (uintptr_t)lock, site);
 }
 
 /* The forms in which a lock of one kind is acquired: NAME PARAMETERS calls the real one with ARGUMENTS. */
@@ -49,11 +51,18 @@ static void emit_end(volatile void *lock)
         return result;                                       \
     }
 
-#define RELEASE(name, type)                                  \
+/* A release fails if the lock is not held by its thread, of some kinds of mutexes. So its place among the events is drawn before it, and what it
+ * was is known after it. It never waits, so nobody waits long for this event. */
+#define RELEASE(kind, name, type)                            \
     HOOK int name(type *lock)                                \
     {                                                        \
-        emit_unlock(lock);                                   \
-        return REAL(name)(lock);                             \
+        __typeof__(&name) release = REAL(name);              \
+        struct draft draft;                                  \
+        bool is_drawn = emit_draw(&draft);                   \
+        int result = release(lock);                          \
+        if (is_drawn)                                        \
+            emit_publish(&draft, EVENT_UNLOCK, result == 0 ? kind : kind | LOCK_FAILED, (uintptr_t)lock, CALLER); \
+        return result;                                       \
     }
 
 /* Before it happens, since the memory may be another lock's right after. The writer leaves a lock alone that is held, and can't be
@@ -61,7 +70,7 @@ static void emit_end(volatile void *lock)
 #define DESTROY(name, type)                                  \
     HOOK int name(type *lock)                                \
     {                                                        \
-        emit_end(lock);                                      \
+        emit_end(lock, CALLER);                              \
         return REAL(name)(lock);                             \
     }
 
@@ -80,14 +89,42 @@ typedef const struct timespec *until;
 
 INITIALISE(pthread_mutex_init, (pthread_mutex_t *lock, const pthread_mutexattr_t *how), (lock, how))
 DESTROY(pthread_mutex_destroy, pthread_mutex_t)
-ACQUIRE(emit_lock, LOCK_MUTEX, pthread_mutex_lock, (pthread_mutex_t *lock), (lock))
+/* A thread that waits for a mutex which it holds, and which doesn't count, waits for ever. The C library notes who holds it. Mutexes that
+ * processes share, and those that say so instead of waiting, are left out. */
+static bool is_held_by_self(const pthread_mutex_t *lock)
+{
+    static __thread int thread __attribute__((tls_model("initial-exec")));
+    int owner = __atomic_load_n(&lock->__data.__owner, __ATOMIC_RELAXED), kind = lock->__data.__kind & 255;
+    if (!owner || (kind != PTHREAD_MUTEX_TIMED_NP && kind != PTHREAD_MUTEX_ADAPTIVE_NP))
+        return false;
+    if (!thread)
+        thread = (int)syscall(SYS_gettid);
+    return owner == thread;
+}
+
+static void emit_twice(void *lock, uint64_t site)
+{
+    if (UNLIKELY(is_recording()) && is_held_by_self(lock))
+        emit(EVENT_LOCK_TWICE, LOCK_MUTEX, (uintptr_t)lock, site);
+}
+
+HOOK int pthread_mutex_lock(pthread_mutex_t *lock)
+{
+    emit_twice(lock, CALLER);
+    int result = REAL(pthread_mutex_lock)(lock);
+    if (is_acquired(result))
+        emit_lock(LOCK_MUTEX, lock);
+    return result;
+}
+
 ACQUIRE(emit_lock, LOCK_MUTEX, pthread_mutex_trylock, (pthread_mutex_t *lock), (lock))
 ACQUIRE(emit_lock, LOCK_MUTEX, pthread_mutex_timedlock, (pthread_mutex_t *restrict lock, until restrict when), (lock, when))
 ACQUIRE(emit_lock, LOCK_MUTEX, pthread_mutex_clocklock, (pthread_mutex_t *restrict lock, clockid_t clock, until restrict when), (lock, clock, when))
-RELEASE(pthread_mutex_unlock, pthread_mutex_t)
+RELEASE(LOCK_MUTEX, pthread_mutex_unlock, pthread_mutex_t)
 
 /* Older programs call the same functions by these names. */
 HOOK int __pthread_mutex_lock(pthread_mutex_t *lock) { return pthread_mutex_lock(lock); }
+HOOK int __pthread_mutex_trylock(pthread_mutex_t *lock) { return pthread_mutex_trylock(lock); }
 HOOK int __pthread_mutex_unlock(pthread_mutex_t *lock) { return pthread_mutex_unlock(lock); }
 
 /* ---- Reader-writer locks ---- */
@@ -102,7 +139,7 @@ ACQUIRE(emit_lock, LOCK_RWLOCK, pthread_rwlock_wrlock, (pthread_rwlock_t *lock),
 ACQUIRE(emit_lock, LOCK_RWLOCK, pthread_rwlock_trywrlock, (pthread_rwlock_t *lock), (lock))
 ACQUIRE(emit_lock, LOCK_RWLOCK, pthread_rwlock_timedwrlock, (pthread_rwlock_t *restrict lock, until restrict when), (lock, when))
 ACQUIRE(emit_lock, LOCK_RWLOCK, pthread_rwlock_clockwrlock, (pthread_rwlock_t *restrict lock, clockid_t clock, until restrict when), (lock, clock, when))
-RELEASE(pthread_rwlock_unlock, pthread_rwlock_t)
+RELEASE(LOCK_RWLOCK, pthread_rwlock_unlock, pthread_rwlock_t)
 
 /* ---- Spin locks ---- */
 
@@ -110,19 +147,29 @@ INITIALISE(pthread_spin_init, (pthread_spinlock_t *lock, int is_shared), (lock, 
 DESTROY(pthread_spin_destroy, pthread_spinlock_t)
 ACQUIRE(emit_lock, LOCK_SPIN, pthread_spin_lock, (pthread_spinlock_t *lock), (lock))
 ACQUIRE(emit_lock, LOCK_SPIN, pthread_spin_trylock, (pthread_spinlock_t *lock), (lock))
-RELEASE(pthread_spin_unlock, pthread_spinlock_t)
+RELEASE(LOCK_SPIN, pthread_spin_unlock, pthread_spinlock_t)
 
 /* ---- Mutexes of C11 ---- */
 
 INITIALISE(mtx_init, (mtx_t *lock, int kind), (lock, kind))
-ACQUIRE(emit_lock, LOCK_MUTEX, mtx_lock, (mtx_t *lock), (lock))
+
+/* It is one of the mutexes above. */
+HOOK int mtx_lock(mtx_t *lock)
+{
+    emit_twice(lock, CALLER);
+    int result = REAL(mtx_lock)(lock);
+    if (is_acquired(result))
+        emit_lock(LOCK_MUTEX, lock);
+    return result;
+}
+
 ACQUIRE(emit_lock, LOCK_MUTEX, mtx_trylock, (mtx_t *lock), (lock))
 ACQUIRE(emit_lock, LOCK_MUTEX, mtx_timedlock, (mtx_t *restrict lock, until restrict when), (lock, when))
-RELEASE(mtx_unlock, mtx_t)
+RELEASE(LOCK_MUTEX, mtx_unlock, mtx_t)
 
 HOOK void mtx_destroy(mtx_t *lock)
 {
-    emit_end(lock);
+    emit_end(lock, CALLER);
     REAL(mtx_destroy)(lock);
 }
 
@@ -138,7 +185,7 @@ static void lock_after_cancel(void *lock)
     HOOK int name parameters                                 \
     {                                                        \
         int result;                                          \
-        emit_unlock(lock);                                   \
+        emit_unlock(LOCK_MUTEX, lock, CALLER);               \
         pthread_cleanup_push(lock_after_cancel, lock);       \
         result = REAL(name) arguments;                       \
         pthread_cleanup_pop(0);                              \

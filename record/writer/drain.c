@@ -223,8 +223,9 @@ static void change_ignoring(uint32_t number, bool begins)
 static void take_rare(const struct slot *slot)
 {
     switch (slot->kind) {
-    case EVENT_LOCK_BEGIN:
-    case EVENT_LOCK_END: locks_renew(slot->first); break;
+    case EVENT_LOCK_TWICE: locks_wait_for_own(slot->thread, slot->first, slot->second); break;
+    case EVENT_LOCK_BEGIN: locks_begin(slot->first); break;
+    case EVENT_LOCK_END: locks_end(slot->thread, slot->first, slot->second); break;
     case EVENT_IGNORE_ON: change_ignoring(slot->thread, true); break;
     case EVENT_IGNORE_OFF: change_ignoring(slot->thread, false); break;
     case EVENT_THREAD:
@@ -258,7 +259,9 @@ static void take(const struct slot *slot)
     case EVENT_READ_LOCK:
         locks_acquire(slot->thread, slot->first, (enum lock_kind)(slot->size & 3), slot->kind == EVENT_READ_LOCK);
         break;
-    case EVENT_UNLOCK: locks_release(slot->thread, slot->first); break;
+    case EVENT_UNLOCK:
+        locks_release(slot->thread, slot->first, (struct release){(enum lock_kind)(slot->size % LOCK_KINDS), slot->size & LOCK_FAILED, slot->second});
+        break;
     case EVENT_SIGNAL: signal_object(slot, (enum object_kind)(slot->size % OBJECT_KINDS)); break;
     case EVENT_AWAIT: await_object(slot, (enum object_kind)(slot->size % OBJECT_KINDS)); break;
     case EVENT_REUSE: pages_reuse(trace_thread(slot->thread), slot->first, slot->second); break;

@@ -1,10 +1,14 @@
 #define _GNU_SOURCE
 #include "locks.h"
 
+#include <stdio.h>
 #include <stdlib.h>
 
 #include "names.h"
+#include "options.h"
 #include "pages.h"
+#include "recording.h"
+#include "sites.h"
 #include "trace.h"
 
 /* More locks than this no thread of a trace may hold. */
@@ -106,10 +110,120 @@ static void drop_holders(struct lock *lock)
         remove_holder(lock, &lock->holders[lock->holder_count - 1]);
 }
 
+/* ---- Locks that are no more, though they are held ---- */
+
+/* A program may say that memory gets a new use while it holds a lock there, and release that lock later. */
+struct forgotten {
+    struct forgotten *next;
+    uint64_t address;
+    uint32_t thread, depth;
+};
+static struct forgotten *forgotten;
+static unsigned forgotten_count;
+#define MOST_FORGOTTEN 1024
+
+static void add_forgotten(uint64_t address, const struct holder *holder)
+{
+    if (forgotten_count == MOST_FORGOTTEN)
+        return;
+    forgotten_count++;
+    struct forgotten *one = get_memory(NULL, sizeof *one);
+    *one = (struct forgotten){forgotten, address, holder->thread, holder->depth};
+    forgotten = one;
+}
+
+/* Where the lock of this address and thread stands. Thread 0: of any. */
+static struct forgotten **find_forgotten(uint64_t address, uint32_t thread)
+{
+    struct forgotten **place = &forgotten;
+    while (*place && ((*place)->address != address || (thread && (*place)->thread != thread)))
+        place = &(*place)->next;
+    return place;
+}
+
+static void drop_forgotten(struct forgotten **place)
+{
+    struct forgotten *one = *place;
+    *place = one->next;
+    free(one);
+    forgotten_count--;
+}
+
+/* True if the release is of such a lock. */
+static bool releases_forgotten(uint32_t thread, uint64_t address)
+{
+    struct forgotten **place = find_forgotten(address, thread);
+    if (!*place)
+        return false;
+    if (--(*place)->depth == 0)
+        drop_forgotten(place);
+    return true;
+}
+
+/* ---- Misuse ---- */
+
+/* So many lines say it on standard error. Comments in the trace say it each time. */
+#define MOST_SAID 16
+
+/* If events were lost, a thread may hold what it seems not to hold. */
+static bool is_certain(void)
+{
+    return !recording_lost() && forgotten_count < MOST_FORGOTTEN;
+}
+
+/* Who holds the lock, for a sentence. */
+static const char *holder_name(const struct lock *lock, char text[16])
+{
+    const struct thread *thread = lock->holder_count ? trace_thread(lock->holders[0].thread) : NULL;
+    if (!thread)
+        return "nobody";
+    snprintf(text, 16, "%.*s", thread->bytes - 1, thread->text);
+    return text;
+}
+
+static void say_misuse(uint32_t number, const char *verb, const struct lock *lock, uint64_t place, const char *holder)
+{
+    static unsigned said;
+    const struct thread *thread = trace_thread(number);
+    const struct site *site = site_of(place);
+    char text[2 * NAME_BYTES + 64];
+    snprintf(text, sizeof text, "%.*s %s %s at%.*s, which %s", thread->bytes - 1, thread->text, verb, lock->name, (int)site->bytes, site->text, holder);
+    trace_comment(text);
+    if (options.is_quiet || said > MOST_SAID)
+        return;
+    if (said++ < MOST_SAID)
+        fprintf(stderr, "record: %s\n", text);
+    else
+        fputs("record: and so on: the trace has a comment for each misuse of a lock\n", stderr);
+}
+
+/* The step as it was made, which the replay refuses. Then the lock is free, unless the release failed. */
+static void release_of_other(struct lock *lock, uint32_t thread, struct release release)
+{
+    char name[16], holds[32];
+    bool reads = lock->holder_count && lock->holders[0].reads;
+    snprintf(holds, sizeof holds, "%s holds", holder_name(lock, name));
+    say_misuse(thread, "unlocks", lock, release.place, holds);
+    trace_lock(trace_thread(thread), reads ? "runlock" : "unlock", lock->name);
+}
+
+void locks_wait_for_own(uint32_t thread, uint64_t address, uint64_t place)
+{
+    struct lock *lock = find_lock(address);
+    if (!lock || !find_holder(lock, thread))
+        return;
+    say_misuse(thread, "locks", lock, place, "it holds");
+    trace_lock(trace_thread(thread), "lock", lock->name);
+}
+
+/* ---- Acquires and releases ---- */
+
 void locks_acquire(uint32_t thread, uint64_t address, enum lock_kind kind, bool reads)
 {
     struct lock *lock = get_lock(address, kind);
     struct holder *holder = find_holder(lock, thread);
+    for (struct forgotten **place; forgotten && *(place = find_forgotten(address, 0));)
+        drop_forgotten(place);
     if (holder) {
         holder->depth++;
         return;
@@ -119,16 +233,21 @@ void locks_acquire(uint32_t thread, uint64_t address, enum lock_kind kind, bool 
     add_holder(lock, thread, reads);
 }
 
-void locks_release(uint32_t thread, uint64_t address)
+void locks_release(uint32_t thread, uint64_t address, struct release release)
 {
     struct lock *lock = find_lock(address);
-    if (!lock)
+    struct holder *holder = lock ? find_holder(lock, thread) : NULL;
+    if (!holder && releases_forgotten(thread, address))
         return;
-    struct holder *holder = find_holder(lock, thread);
+    /* A lock of the program's own may be one that another thread releases. */
+    if (!holder && release.kind != LOCK_USER && is_certain()) {
+        lock = get_lock(address, release.kind);
+        release_of_other(lock, thread, release);
+    }
     /* A mutex that one thread acquired and another one releases is free then. */
-    if (!holder && is_held_to_write(lock))
+    if (!holder && lock && is_held_to_write(lock))
         holder = &lock->holders[0];
-    if (holder && --holder->depth == 0)
+    if (holder && !release.has_failed && --holder->depth == 0)
         remove_holder(lock, holder);
 }
 
@@ -137,6 +256,8 @@ void locks_release(uint32_t thread, uint64_t address)
 static void remove_lock(struct lock **place)
 {
     struct lock *lock = *place;
+    for (uint32_t i = 0; i < lock->holder_count; i++)
+        add_forgotten(lock->address, &lock->holders[i]);
     drop_holders(lock);
     *place = lock->next;
     free(lock->name);
@@ -144,13 +265,33 @@ static void remove_lock(struct lock **place)
     free(lock);
 }
 
-void locks_renew(uint64_t address)
+/* Where the lock of this address stands. */
+static struct lock **place_of(uint64_t address)
 {
     struct lock **place = bucket_of(address);
     while (*place && (*place)->address != address)
         place = &(*place)->next;
+    return place;
+}
+
+void locks_begin(uint64_t address)
+{
+    struct lock **place = place_of(address);
     if (*place && !(*place)->holder_count)
         remove_lock(place);
+}
+
+/* A trace has no step for it. */
+void locks_end(uint32_t thread, uint64_t address, uint64_t at)
+{
+    struct lock *lock = *place_of(address);
+    char name[16], holds[32];
+    if (lock && lock->holder_count && at && is_certain()) {
+        bool is_own = lock->holders[0].thread == thread;
+        snprintf(holds, sizeof holds, "%s holds", is_own ? "it" : holder_name(lock, name));
+        say_misuse(thread, "destroys", lock, at, holds);
+    }
+    locks_begin(address);
 }
 
 void locks_forget(uint64_t address, uint64_t bytes)

@@ -9,10 +9,18 @@
 
 /* A thread acquired a lock. Only the outermost acquire is written. */
 void locks_acquire(uint32_t thread, uint64_t address, enum lock_kind kind, bool reads);
-/* A thread is about to release a lock, in whichever mode it holds it. */
-void locks_release(uint32_t thread, uint64_t address);
+struct release {
+    enum lock_kind kind;
+    bool has_failed; /* whoever holds it holds it still */
+    uint64_t place;  /* program counter of the call */
+};
+/* A thread is about to release a lock, in whichever mode it holds it. If it doesn't, that is said. */
+void locks_release(uint32_t thread, uint64_t address, struct release release);
+/* A thread waits for a lock that it holds. */
+void locks_wait_for_own(uint32_t thread, uint64_t address, uint64_t place);
 /* A lock's life begins or ends: the next acquire at this address is another lock's, unless this one is held now. */
-void locks_renew(uint64_t address);
+void locks_begin(uint64_t address);
+void locks_end(uint32_t thread, uint64_t address, uint64_t place);
 /* Memory is put to a new use: the locks in it are no more. */
 void locks_forget(uint64_t address, uint64_t bytes);
 

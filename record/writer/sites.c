@@ -2,6 +2,7 @@
 #include "sites.h"
 
 #include <ctype.h>
+#include <dwarf.h>
 #include <elfutils/libdwfl.h>
 #include <stdio.h>
 #include <stdlib.h>
@@ -104,6 +105,126 @@ static Dwfl *get_files(void)
     return files;
 }
 
+/* ---- Paths of sources ---- */
+
+#define PATH_BYTES 4096
+
+/* The folder whose files have shorter sites, once it is known: empty if there is none. */
+static char root[PATH_BYTES];
+static bool is_root_known;
+
+/* Adds the parts of a path to one that has no `.` and no `..`. */
+static void add_parts(char *to, const char *parts)
+{
+    while (*parts) {
+        size_t length = strcspn(parts, "/"), used = strlen(to);
+        if (length == 2 && strncmp(parts, "..", 2) == 0 && strrchr(to, '/'))
+            *strrchr(to, '/') = 0;
+        else if (length && !(length == 1 && *parts == '.') && used + length + 2 < PATH_BYTES)
+            sprintf(to + used, "/%.*s", (int)length, parts);
+        parts += length + (parts[length] == '/');
+    }
+}
+
+/* The path of a file from the root of the file system on, or the name as it is if nobody knows its folder. */
+static void whole_path(char *to, const char *folder, const char *name)
+{
+    to[0] = 0;
+    if (*name != '/' && (!folder || *folder != '/')) {
+        snprintf(to, PATH_BYTES, "%s", name);
+        return;
+    }
+    if (*name != '/')
+        add_parts(to, folder);
+    add_parts(to, name);
+}
+
+void sites_set_root(const char *folder)
+{
+    char real[PATH_BYTES];
+    whole_path(root, NULL, realpath(folder, real) ? real : folder);
+    is_root_known = true;
+}
+
+static bool is_below(const char *path, const char *folder)
+{
+    size_t length = strlen(folder);
+    return strncmp(path, folder, length) == 0 && path[length] == '/';
+}
+
+/* The folder of compilation: names of files that don't begin at the root are below it. */
+static const char *folder_of(Dwarf_Die *unit)
+{
+    Dwarf_Attribute found;
+    return dwarf_formstring(dwarf_attr(unit, DW_AT_comp_dir, &found));
+}
+
+/* Whether a file is instrumented: it asks for names that begin with __tsan_. */
+static bool is_instrumented(Dwfl_Module *file)
+{
+    GElf_Sym symbol;
+    int count = dwfl_module_getsymtab(file);
+    for (int i = 1; i < count; i++) {
+        const char *name = dwfl_module_getsym(file, i, &symbol, NULL);
+        if (name && symbol.st_shndx == SHN_UNDEF && strncmp(name, "__tsan_", 7) == 0)
+            return true;
+    }
+    return false;
+}
+
+/* The folder that has this path and what it had before. */
+static void widen_root(const char *path)
+{
+    size_t same = 0, length = (size_t)(strrchr(path, '/') - path);
+    if (!is_root_known) {
+        snprintf(root, sizeof root, "%.*s", (int)length, path);
+        is_root_known = true;
+        return;
+    }
+    while (root[same] && same < length && root[same] == path[same])
+        same++;
+    /* Both have a part that ends here, or one goes back to the end of the part before. */
+    if ((root[same] && root[same] != '/') || (same < length && path[same] != '/'))
+        while (same > 0 && root[--same] != '/')
+            ;
+    root[same] = 0;
+}
+
+/* Whose sources count: first those that don't belong to the system, and if there are none, those that are no headers of it. */
+static const char *const systems[2][3] = {{"/usr", "/lib", "/lib64"}, {"/usr/include", "/usr/lib", "/usr/local/include"}};
+
+static bool is_of_system(const char *path, int turn)
+{
+    return is_below(path, systems[turn][0]) || is_below(path, systems[turn][1]) || is_below(path, systems[turn][2]);
+}
+
+static int look_for_sources(Dwfl_Module *file, void **place, const char *name, Dwarf_Addr begin, void *turn)
+{
+    Dwarf_Addr bias;
+    char path[PATH_BYTES];
+    (void)place, (void)begin;
+    if (is_of_system(name, *(int *)turn) || !is_instrumented(file))
+        return DWARF_CB_OK;
+    for (Dwarf_Die *unit = NULL; (unit = dwfl_module_nextcu(file, unit, &bias)) != NULL;) {
+        const char *source = dwarf_diename(unit);
+        if (!source || *source == '<')
+            continue;
+        whole_path(path, folder_of(unit), source);
+        /* gcc links a piece of ThreadSanitizer's library into every program. */
+        if (*path == '/' && !strstr(path, "/libsanitizer/") && !is_of_system(path, *(int *)turn))
+            widen_root(path);
+    }
+    return DWARF_CB_OK;
+}
+
+/* It stays what it was when the first site was named, also if more files are loaded. */
+static void find_root(Dwfl *all)
+{
+    for (int turn = 0; turn < 2 && !is_root_known; turn++)
+        dwfl_getmodules(all, look_for_sources, &turn, 0);
+    is_root_known = true;
+}
+
 /* ---- Program counters ---- */
 
 /* Which compilation unit of a file has which places. gcc writes a table for this, which libdw reads; clang leaves it out, so it is made
@@ -181,10 +302,11 @@ static Dwarf_Die *unit_of(Dwfl_Module *file, uint64_t place, Dwarf_Addr *bias)
 
 /* Code that a compiler merged from several lines has line 0. Then the line before serves, which is that of the same function nearly
  * always. */
-static const char *line_of(Dwfl_Module *file, uint64_t place, int *number)
+static const char *line_of(Dwfl_Module *file, uint64_t place, int *number, const char **folder)
 {
     Dwarf_Addr bias = 0;
     Dwarf_Die *unit = unit_of(file, place, &bias);
+    *folder = unit ? folder_of(unit) : NULL;
     for (unsigned back = 0; unit && back < 64; back++) {
         Dwarf_Line *line = dwarf_getsrc_die(unit, place - bias - back);
         if (line && dwarf_lineno(line, number) == 0 && *number > 0)
@@ -193,16 +315,28 @@ static const char *line_of(Dwfl_Module *file, uint64_t place, int *number)
     return NULL;
 }
 
+/* What stands behind the root in a path, or the path if the file isn't below the root. A compiler may have come there by a link. */
+static const char *behind_root(const char *path)
+{
+    static char real[PATH_BYTES];
+    if (!root[0] || is_below(path, root))
+        return root[0] ? path + strlen(root) + 1 : path;
+    return *path == '/' && realpath(path, real) && is_below(real, root) ? real + strlen(root) + 1 : path;
+}
+
 static void describe(uint64_t place, char *text, size_t room)
 {
     Dwfl *all = get_files();
     Dwfl_Module *file = all ? dwfl_addrmodule(all, place) : NULL;
     int number = 0;
     /* The call stands before the place that it returns to. */
-    const char *name = file ? line_of(file, place - 1, &number) : NULL;
+    const char *folder, *name = file ? line_of(file, place - 1, &number, &folder) : NULL;
     if (name) {
-        const char *base = strrchr(name, '/');
-        snprintf(text, room, "%s:%d", base && !sites_have_paths ? base + 1 : name, number);
+        char path[PATH_BYTES];
+        whole_path(path, folder, name);
+        if (!is_root_known)
+            find_root(all);
+        snprintf(text, room, "%s:%d", sites_have_paths ? name : behind_root(path), number);
         return;
     }
     Dwarf_Addr begin = 0;

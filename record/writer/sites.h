@@ -13,8 +13,11 @@ struct site {
     uint32_t bytes;
 };
 
-/* If set before the first look-up, sites have their whole path. */
+/* If set before the first look-up, sites have their paths as the compiler has them. */
 extern bool sites_have_paths;
+/* Before the first look-up: sites of files below this folder have their paths from there on. Else it is the folder that all sources of the
+ * program's own lie below. */
+void sites_set_root(const char *folder);
 
 /* The program's mapped files are those of this text, which has the form of /proc/PID/maps. */
 void sites_set_maps(const char *text, size_t bytes);

@@ -265,12 +265,12 @@ void trace_ignore(struct thread *thread, const char *verb)
 
 /* ---- Comments ---- */
 
-static void comment(const char *text)
+void trace_comment(const char *text)
 {
     char *at = is_beyond_limit() ? NULL : line();
     if (!at)
         return;
-    at = put(put(at, "# ", 2), text, strlen(text));
+    at = put(put(at, "# ", 2), text, strnlen(text, LINE_BYTES - 4));
     *at++ = '\n';
     used = (size_t)(at - buffer);
 }
@@ -280,7 +280,7 @@ void trace_thread_name(struct thread *thread, const char *name)
     char legal[NAME_BYTES + 1], text[NAME_BYTES + 32];
     legal_name(legal, name);
     snprintf(text, sizeof text, "%.*s is named %s", thread->bytes - 1, thread->text, legal);
-    comment(text);
+    trace_comment(text);
 }
 
 void trace_begin(const char *program)
@@ -292,7 +292,7 @@ void trace_begin(const char *program)
     used = (size_t)(put(at, "eraser trace 3\n", 15) - buffer);
     legal_name(legal, program);
     snprintf(text, sizeof text, "recorded from %s", legal);
-    comment(text);
+    trace_comment(text);
 }
 
 /* The last comment says if anything is missing, and `end` that nothing is. They have room even if the limit is reached. */

@@ -47,6 +47,7 @@ void trace_lock(struct thread *thread, const char *verb, const char *lock);
 void trace_other_thread(uint32_t number, const char *verb, uint32_t other);
 void trace_ignore(struct thread *thread, const char *verb);
 void trace_thread_name(struct thread *thread, const char *name);
+void trace_comment(const char *text);
 
 /* Writes all bytes. Returns 0, or errno of the write that failed. */
 int write_all(int file, const char *text, size_t bytes);

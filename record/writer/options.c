@@ -1,0 +1,217 @@
+#define _GNU_SOURCE
+#include "options.h"
+
+#include <errno.h>
+#include <getopt.h>
+#include <stdio.h>
+#include <stdlib.h>
+#include <string.h>
+#include <sys/stat.h>
+#include <unistd.h>
+
+#include "sites.h"
+#include "trace.h"
+
+/* How many bytes of text are kept in a file if nothing else is said: what a replay takes if nothing else is said. */
+#define USUAL_LIMIT 268435456u
+
+struct options options;
+
+/* That of the program `eraser`. tests/shell_tests.py compares them. */
+static const char version[] = "eraser-record 0.1.0\n";
+
+/* Behind the line with the name by which the recorder was called. */
+static const char usage[] =
+    "\n"
+    "Runs a program that was built with -fsanitize=thread, records what its threads do, and reports its races.\n"
+    "\n"
+    "  -o, --output FILE       keep the trace in FILE, and replay nothing; a folder takes that of each program\n"
+    "      --replay            with -o: replay as well\n"
+    "      --report FILE       write the report to FILE instead of standard error; `-` is standard output; a folder takes that of each program\n"
+    "      --suppress RULES    leave out the races that these rules take (docs/FORMATS.md)\n"
+    "      --analysis RULE     report by `lockset` (the default), `happens-before` or `both`; the last two record with --order\n"
+    "      --explain           name the accesses that make each race\n"
+    "      --by-site           report the races by their sites, most words first\n"
+    "      --format FORM       write the report as `text` (the default), `json`, `sarif` or `html`\n"
+    "      --strict            end the replay with 2 if the trace is damaged, and write no report\n"
+    "      --until-fault       report the steps before the first faulty line of the trace, and then its fault\n"
+    "      --exit-status WHOSE end with the status of the `program` (the default) or of the `report`\n"
+    "      --order             record what orders threads as well: starts and joins, semaphores, atomic operations ..\n"
+    "      --limit BYTES       of a trace that is kept: keep at most BYTES of text; 0: no limit. With -o the default is 268435456\n"
+    "      --root DIR          name sites by their paths below DIR. The default is the folder that has all sources of the program\n"
+    "      --paths             name sites by their paths as the compiler has them\n"
+    "  -q, --quiet             say nothing on standard error beside the report, unless something went wrong\n"
+    "  -h, --help              print this help\n"
+    "  -V, --version           print the version\n"
+    "\n"
+    "On a terminal the report is by both analyses, by site and explained, unless an option says how to report: then the trace is kept in a\n"
+    "temporary file until it has been replayed. If the command starts several programs that can be recorded, the report of each goes to a\n"
+    "file of its own, below the folder eraser.out.\n"
+    "\n"
+    "It ends with the program's exit status, or 128 and the number of the signal that ended it; 125 if the recorder failed, 126 or 127\n"
+    "if the program cannot be started. The report comes on standard error when the program has ended.\n"
+    "\n"
+    "With --exit-status report: 0 if the program ended with 0, all of it was recorded and there is no race; 1 if there is a race; 125 if\n"
+    "nothing or not everything was recorded; 2 to 4 if the replay failed. A program that failed ends it with its own status, and with 123\n"
+    "in place of 1.\n";
+
+
+void fail(const char *what, const char *name)
+{
+    fprintf(stderr, "record: %s%s%s: %s\n", what, name ? " " : "", name ? name : "", strerror(errno));
+    exit(STATUS_FAILED);
+}
+
+static uint64_t read_bytes(const char *text)
+{
+    char *end;
+    errno = 0;
+    unsigned long long value = strtoull(text, &end, 10);
+    if (errno || *end || end == text || *text == '-') {
+        fprintf(stderr, "record: --limit wants a number of bytes, not '%s'\n", text);
+        exit(STATUS_FAILED);
+    }
+    return value;
+}
+
+static const char *read_folder(const char *text)
+{
+    if (!*text) {
+        fputs("record: --root wants a folder, not ''\n", stderr);
+        exit(STATUS_FAILED);
+    }
+    return text;
+}
+
+static bool is_report(const char *text)
+{
+    if (strcmp(text, "report") != 0 && strcmp(text, "program") != 0) {
+        fprintf(stderr, "record: --exit-status is 'program' or 'report', not '%s'\n", text);
+        exit(STATUS_FAILED);
+    }
+    return *text == 'r';
+}
+
+/* What the replay would refuse is refused before the program has run. */
+static const char *read_format(const char *text)
+{
+    static const char *const forms[] = {"text", "json", "sarif", "html"};
+    for (size_t place = 0; place < sizeof forms / sizeof *forms; place++)
+        if (strcmp(text, forms[place]) == 0) return text;
+    fprintf(stderr, "record: --format is 'text', 'json', 'sarif' or 'html', not '%s'\n", text);
+    exit(STATUS_FAILED);
+}
+
+static const char *read_analysis(const char *text)
+{
+    static const char *const analyses[] = {"lockset", "happens-before", "both"};
+    for (size_t place = 0; place < sizeof analyses / sizeof *analyses; place++)
+        if (strcmp(text, analyses[place]) == 0) return text;
+    fprintf(stderr, "record: --analysis is 'lockset', 'happens-before' or 'both', not '%s'\n", text);
+    exit(STATUS_FAILED);
+}
+
+/* Whether accesses are looked for that were not ordered. */
+static bool needs_order(void)
+{
+    return options.analysis && strcmp(options.analysis, "lockset") != 0;
+}
+
+/* The limit is of a file that grows. A replay takes what comes. */
+static void set_limit(void)
+{
+    if (options.trace || options.is_for_people)
+        output.limit = options.has_limit ? options.limit : options.trace ? USUAL_LIMIT : 0;
+    else if (options.has_limit && options.limit && !options.is_quiet)
+        fputs("record: --limit is of a trace that -o keeps: nothing is kept, and all is recorded\n", stderr);
+}
+
+/* What is asked of the report, beside where it goes. */
+static bool says_how_to_report(void)
+{
+    return options.explains || options.by_site || options.is_strict || options.until_fault || options.format || options.analysis;
+}
+
+/* Somebody who looks at a terminal gets what explains most. */
+static void report_for_people(void)
+{
+    if (!options.replays || options.report || says_how_to_report() || !isatty(STDERR_FILENO))
+        return;
+    options.is_for_people = options.by_site = options.explains = true;
+    options.analysis = "both";
+}
+
+/* A folder that is not there yet is known by the slash behind it. */
+static bool is_folder(const char *path)
+{
+    struct stat found;
+    return path && *path && (path[strlen(path) - 1] == '/' || (stat(path, &found) == 0 && S_ISDIR(found.st_mode)));
+}
+
+static void print_usage(const char *name, FILE *to)
+{
+    fprintf(to, "Usage: %s [OPTIONS] PROGRAM [ARGUMENTS..]\n%s", name, usage);
+}
+
+/* Ends the recorder, of which nothing but a text was wanted. */
+static void end_printed(void)
+{
+    if (fflush(stdout) != 0)
+        fail("cannot write", "standard output");
+    exit(0);
+}
+
+void read_options(int count, char **words)
+{
+    enum { REPLAY = 256, REPORT, SUPPRESS, EXPLAIN, BY_SITE, STRICT, UNTIL_FAULT, FORMAT, ANALYSIS, EXIT_STATUS, ORDER, LIMIT, ROOT, PATHS };
+    static const struct option names[] = {
+        {"output", 1, NULL, 'o'},         {"replay", 0, NULL, REPLAY}, {"report", 1, NULL, REPORT}, {"suppress", 1, NULL, SUPPRESS},
+        {"exit-status", 1, NULL, EXIT_STATUS}, {"limit", 1, NULL, LIMIT},   {"paths", 0, NULL, PATHS},   {"quiet", 0, NULL, 'q'},
+        {"root", 1, NULL, ROOT},
+        {"explain", 0, NULL, EXPLAIN},    {"by-site", 0, NULL, BY_SITE}, {"format", 1, NULL, FORMAT}, {"help", 0, NULL, 'h'},
+        {"order", 0, NULL, ORDER},        {"analysis", 1, NULL, ANALYSIS}, {"strict", 0, NULL, STRICT},
+        {"until-fault", 0, NULL, UNTIL_FAULT}, {"version", 0, NULL, 'V'},
+        {NULL, 0, NULL, 0},
+    };
+    for (int got; (got = getopt_long(count, words, "+o:qhV", names, NULL)) != -1;)
+        switch (got) {
+        case 'o': options.trace = optarg; break;
+        case REPLAY: options.replays = true; break;
+        case REPORT: options.report = optarg; break;
+        case SUPPRESS: options.rules = optarg; break;
+        case EXPLAIN: options.explains = true; break;
+        case BY_SITE: options.by_site = true; break;
+        case ANALYSIS: options.analysis = read_analysis(optarg); break;
+        case STRICT: options.is_strict = true; break;
+        case UNTIL_FAULT: options.until_fault = true; break;
+        case FORMAT: options.format = read_format(optarg); break;
+        case EXIT_STATUS: options.ends_as_report = is_report(optarg); break;
+        case ORDER: options.orders = true; break;
+        case LIMIT: options.limit = read_bytes(optarg); options.has_limit = true; break;
+        case ROOT: sites_set_root(read_folder(optarg)); break;
+        case PATHS: sites_have_paths = true; break;
+        case 'q': options.is_quiet = true; break;
+        case 'h': print_usage(words[0], stdout); end_printed(); break;
+        case 'V': fputs(version, stdout); end_printed(); break;
+        default: fputs("record: --help says what there is\n", stderr); exit(STATUS_FAILED);
+        }
+    if (options.format && options.by_site) {
+        fputs("record: --by-site and --format are not given together\n", stderr);
+        exit(STATUS_FAILED);
+    }
+    if (needs_order() && (options.format || options.is_strict || (options.by_site && strcmp(options.analysis, "both") != 0))) {
+        fputs("record: --format and --strict go with --analysis lockset alone, and --by-site with lockset or both\n", stderr);
+        exit(STATUS_FAILED);
+    }
+    if (optind == count) {
+        print_usage(words[0], stderr);
+        exit(STATUS_FAILED);
+    }
+    options.replays |= !options.trace || options.report || options.rules || says_how_to_report() || options.ends_as_report;
+    options.has_report_folder = is_folder(options.report);
+    options.has_trace_folder = is_folder(options.trace);
+    report_for_people();
+    options.orders |= needs_order();
+    set_limit();
+}
+

@@ -1,0 +1,39 @@
+/* What record/run was asked for. */
+#ifndef ERASER_OPTIONS_H
+#define ERASER_OPTIONS_H
+
+#include <stdbool.h>
+#include <stdint.h>
+
+/* Exit statuses of its own, as env and timeout have them. */
+#define STATUS_FAILED 125
+#define STATUS_NOT_EXECUTABLE 126
+#define STATUS_NOT_FOUND 127
+
+struct options {
+    const char *trace;
+    const char *report;
+    const char *rules;
+    bool replays;
+    bool explains;
+    bool by_site;
+    bool is_strict;
+    bool until_fault;
+    const char *format;
+    const char *analysis;
+    bool ends_as_report;
+    bool orders; /* what orders threads is recorded as well */
+    bool is_quiet;
+    bool has_limit;
+    uint64_t limit; /* what --limit says */
+    bool has_report_folder, has_trace_folder; /* --report and --output name folders, for files of several programs */
+    bool is_for_people; /* nothing says how to report, and the report goes to a terminal: the trace is kept, if only until it is replayed */
+};
+extern struct options options;
+
+/* Reads the words in front of the program. Ends the recorder if they are wrong, or if nothing but a text was wanted. */
+void read_options(int count, char **words);
+/* Ends the recorder: what it cannot do, to what, and errno's reason. */
+void fail(const char *what, const char *name);
+
+#endif

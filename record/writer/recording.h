@@ -1,0 +1,29 @@
+/* The recording of one program: its ring, and the loop that empties it. */
+#ifndef ERASER_RECORDING_H
+#define ERASER_RECORDING_H
+
+#include <stdbool.h>
+#include <stdint.h>
+#include <sys/types.h>
+
+#include "../ring.h"
+
+struct recording {
+    struct ring *ring;
+    int file;          /* the ring's */
+    unsigned number;   /* of the ring, from 1 on */
+    pid_t command;     /* what was started, or 0 if this is the recording of a program that the command started */
+    int command_status;
+    bool has_command_ended;
+};
+extern struct recording recording;
+
+/* Makes the ring of this number. Ends the recorder if there is none. */
+void recording_make_ring(unsigned number);
+/* Empties the ring until the command has ended, and the program that is recorded, too. */
+void recording_run(void);
+/* Events that are in no trace. */
+uint64_t recording_lost(void);
+void sleep_for(long nanoseconds);
+
+#endif
