@@ -12,7 +12,7 @@ use Rattle.er_text.specs.declared.faults.ReadFault.TheVariants as fault
 use Rattle.er_text.specs.declared.reading.Batch.{Batch}
 use Rattle.er_text.specs.declared.reading.Batch.TheVariants.{More, End}
 use Rattle.er_text.specs.declared.verbs.Version.{Version}
-use Rattle.er_text.specs.Places.{Reached}
+use Rattle.er_text.specs.Places.{Reached, no_tail}
 use Rattle.er_text.specs.Batches.{joined, HasRead, GivesBatch}
 use Rattle.er_text.specs.Lines.{Placed, placed, has_content, words, width, is_ascii}
 use Rattle.er_text.specs.Events.{EventLine, Operation, Acquires, Releases, Accesses, Reuses, IgnoresOn, IgnoresOff, Shows, Levels, Starts, Joins, Signals, Awaits, with_operation}
@@ -21,11 +21,11 @@ use Rattle.er_text.specs.declared.stages.Stage.TheVariants.{Front, Events, Ended
 use Rattle.er_text.specs.Trace.{version_in, is_end, IsTrace, IsFault}
 use Rattle.er_text.specs.Inner.Parsing.{parsed_of}
 use Rattle.er_text.specs.Inner.Idle.{order_fault, idle_past}
-use Rattle.er_text.specs.Inner.Endings.{KeepsCut, BatchesCut}
+use Rattle.er_text.specs.Inner.Endings.{KeepsTail, BatchesTail}
 use Rattle.er_text.specs.Inner.Lending.{lines_left}
 use Rattle.er_text.specs.Inner.Reading.{read_line, go_on, read_lines, Continues}
 use Rattle.er_text.specs.Inner.Traces.{Progress, at_front, progress, skip, add_event, add_parsed, open_with, closed, read_words, read_content, finish_as, finish, Batches}
-use Rattle.er_text.proofs.CutLemmas.{cut_goes_on}
+use Rattle.er_text.proofs.TailLemmas.{tail_goes_on}
 use Rattle.er_text.proofs.TraceLaws.{trace_is, fault_is}
 
 abbrev recording : NameTable → List Step → List ℕ → Recording
@@ -175,23 +175,23 @@ known_gives text steps lines old new None before after_it t u result shown same 
 known_gives text steps lines old new (Some left) before after_it t u result shown same read batch =
     left_gives text steps lines old.place.limit new left (lines_left new.place after_it) None (progress old t) u after_it result same refl (rw shown at read) batch
 
-with_cut : (text : List ℕ) (steps : List Step) (lines : List ℕ) (old new : Reached) (left rest : Option (List Placed)) (after_it : Option (List ℕ)) (u : Recording)
-    (result : Result Batch ReadFault) → lines_left new.place after_it ≡ rest → KeepsCut (Some (placed text)) left false old.cut → BatchesCut left rest old.cut new.cut result
+with_tail : (text : List ℕ) (steps : List Step) (lines : List ℕ) (old new : Reached) (left rest : Option (List Placed)) (after_it : Option (List ℕ)) (u : Recording)
+    (result : Result Batch ReadFault) → lines_left new.place after_it ≡ rest → KeepsTail (Some (placed text)) left no_tail old.tail → BatchesTail left rest old.tail new.tail result
     → GivesLines text steps lines new after_it u result → GivesBatch text steps lines new after_it u result
-with_cut text steps lines old new left rest after_it u (Ok More) shown on cut gives =
-    (gives, rw shown (cut_goes_on (Some (placed text)) left rest false old.cut new.cut on cut))
-with_cut text steps lines old new left rest after_it u (Ok End) shown on cut gives = gives
-with_cut text steps lines old new left rest after_it u (Err (fault.Text f)) shown on cut gives = gives
-with_cut text steps lines old new left rest after_it u (Err fault.Memory) shown on cut gives = gives
-with_cut text steps lines old new left rest after_it u (Err fault.Read) shown on cut gives = gives
+with_tail text steps lines old new left rest after_it u (Ok More) shown on tail gives =
+    (gives, rw shown (tail_goes_on (Some (placed text)) left rest no_tail old.tail new.tail on tail))
+with_tail text steps lines old new left rest after_it u (Ok End) shown on tail gives = gives
+with_tail text steps lines old new left rest after_it u (Err (fault.Text f)) shown on tail gives = gives
+with_tail text steps lines old new left rest after_it u (Err fault.Memory) shown on tail gives = gives
+with_tail text steps lines old new left rest after_it u (Err fault.Read) shown on tail gives = gives
 
 pub batch_gives : (text : List ℕ) (steps : List Step) (lines : List ℕ) (old new : Reached) (before after_it : Option (List ℕ)) (t u : Recording)
     (result : Result Batch ReadFault) → new.place.limit ≡ old.place.limit → HasRead text steps lines old before t
     → Batches old.place.limit (lines_left old.place before) (lines_left new.place after_it) (progress old t) (progress new u) result
-    → BatchesCut (lines_left old.place before) (lines_left new.place after_it) old.cut new.cut result
+    → BatchesTail (lines_left old.place before) (lines_left new.place after_it) old.tail new.tail result
     → GivesBatch text steps lines new after_it u result
-batch_gives text steps lines old new before after_it t u result same read batch cut =
-    with_cut text steps lines old new (lines_left old.place before) (lines_left new.place after_it) after_it u result refl read.1 cut
+batch_gives text steps lines old new before after_it t u result same read batch tail =
+    with_tail text steps lines old new (lines_left old.place before) (lines_left new.place after_it) after_it u result refl read.1 tail
     (known_gives text steps lines old new (lines_left old.place before) before after_it t u result refl same read.0 batch)
 
 -- a trace whose steps are taken away is seen as it was

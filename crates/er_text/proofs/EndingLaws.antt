@@ -1,5 +1,5 @@
--- What a reader knows at the end of a text: how many lines there were, whether the last lacks its LF, and the stage of the text.
-use Rattle.std.proofs.Common.{◌≡◌, ℕ, ◌+◌, false, List, [], ◌∷◌, length, Option, Some, None, IfOk, Result, Ok, Err, refl, subst, sym, ap, ◌∙◌, arith}
+-- What a reader knows at the end of a text: how many lines there were, how they end, and the stage of the text.
+use Rattle.std.proofs.Common.{◌≡◌, ℕ, ◌+◌, List, [], ◌∷◌, length, Option, Some, None, IfOk, Result, Ok, Err, refl, subst, sym, ap, ◌∙◌, arith}
 use Rattle.er_trace.specs.Trace.{Recording}
 use Rattle.er_event.specs.declared.steps.Step.{Step}
 use Rattle.er_text.specs.declared.faults.TextKind.{TextKind}
@@ -7,12 +7,12 @@ use Rattle.er_text.specs.declared.faults.ReadFault.{ReadFault}
 use Rattle.er_text.specs.declared.reading.Batch.{Batch}
 use Rattle.er_text.specs.declared.reading.Batch.TheVariants.{More, End}
 use Rattle.er_text.specs.Batches.{HasRead}
-use Rattle.er_text.specs.Ending.{is_cut_after, lacks_end, KnowsEnd}
+use Rattle.er_text.specs.Ending.{if_any_lost, KnowsEnd}
 use Rattle.er_text.specs.FirstFault.{known_after}
 use Rattle.er_text.specs.Lines.{Placed, placed}
-use Rattle.er_text.specs.Places.{Reached}
+use Rattle.er_text.specs.Places.{Tail, Reached, no_tail}
 use Rattle.er_text.specs.Trace.{Known, nothing_known, known_past}
-use Rattle.er_text.specs.Inner.Endings.{KeepsCut, BatchesCut}
+use Rattle.er_text.specs.Inner.Endings.{tail_after, KeepsTail, BatchesTail}
 use Rattle.er_text.specs.Inner.Lending.{lines_left}
 use Rattle.er_text.specs.Inner.Reading.{read_line, go_on, read_lines, Continues}
 use Rattle.er_text.specs.Inner.Traces.{Progress, at_front, progress, read_content, Batches}
@@ -46,25 +46,30 @@ ends_at limit (line ∷ lines) p q known stands e =
 
 -- a reader at the end of a text, by what its lines come to
 whole_ends : (text : List ℕ) (steps : List Step) (lines : List ℕ) (limit : ℕ) (new : Reached) (u : Recording)
-    → read_lines limit read_content (placed text) at_front ≡ Ok (after steps lines (progress new u)) → is_cut_after false (placed text) ≡ new.cut → KnowsEnd text new
-whole_ends text steps lines limit new u read cut =
+    → read_lines limit read_content (placed text) at_front ≡ Ok (after steps lines (progress new u)) → tail_after no_tail (placed text) ≡ new.tail → KnowsEnd text new
+whole_ends text steps lines limit new u read tail =
     let at = ends_at limit (placed text) at_front (after steps lines (progress new u)) nothing_known front_stands read in
     let number = at.number in
-    record { lines = omega arith; cut = sym cut; open_end = ap lacks_end at.stands.stage }
+    record {
+      lines = omega arith;
+      cut = sym (ap (λ (t : Tail). t.cut) tail);
+      comment = sym (ap (λ (t : Tail). if_any_lost t.comment) tail);
+      stage = at.stands.stage;
+    }
 
 left_ends : (text : List ℕ) (steps : List Step) (lines : List ℕ) (limit : ℕ) (old new : Reached) (left rest : Option (List Placed)) (t u : Recording)
-    → Continues limit read_content (Some (placed text)) left at_front (after steps lines (progress old t)) → KeepsCut (Some (placed text)) left false old.cut
-    → Batches limit left rest (progress old t) (progress new u) (Ok End) → BatchesCut left rest old.cut new.cut (Ok End) → KnowsEnd text new
-left_ends text steps lines limit old new None rest t u on cut batch last = absurd on
-left_ends text steps lines limit old new (Some left) rest t u on cut batch last =
-    whole_ends text steps lines limit new u (on ∙ lines_after limit steps lines left (progress old t) ∙ ap (mapped (after steps lines)) batch.0) (cut ∙ last)
+    → Continues limit read_content (Some (placed text)) left at_front (after steps lines (progress old t)) → KeepsTail (Some (placed text)) left no_tail old.tail
+    → Batches limit left rest (progress old t) (progress new u) (Ok End) → BatchesTail left rest old.tail new.tail (Ok End) → KnowsEnd text new
+left_ends text steps lines limit old new None rest t u on tail batch last = absurd on
+left_ends text steps lines limit old new (Some left) rest t u on tail batch last =
+    whole_ends text steps lines limit new u (on ∙ lines_after limit steps lines left (progress old t) ∙ ap (mapped (after steps lines)) batch.0) (tail ∙ last)
 
 pub batch_ends : (text : List ℕ) (steps : List Step) (lines : List ℕ) (old new : Reached) (before after_it : Option (List ℕ)) (t u : Recording)
     (result : Result Batch ReadFault) → HasRead text steps lines old before t
     → Batches old.place.limit (lines_left old.place before) (lines_left new.place after_it) (progress old t) (progress new u) result
-    → BatchesCut (lines_left old.place before) (lines_left new.place after_it) old.cut new.cut result
+    → BatchesTail (lines_left old.place before) (lines_left new.place after_it) old.tail new.tail result
     → IfOk result (λ batch. batch ≡ End → KnowsEnd text new)
-batch_ends text steps lines old new before after_it t u (Ok More) read batch cut = λ end. absurd (cc)
-batch_ends text steps lines old new before after_it t u (Ok End) read batch cut = λ end.
-    left_ends text steps lines old.place.limit old new (lines_left old.place before) (lines_left new.place after_it) t u read.0 read.1 batch cut
-batch_ends text steps lines old new before after_it t u (Err e) read batch cut = tt
+batch_ends text steps lines old new before after_it t u (Ok More) read batch tail = λ end. absurd (cc)
+batch_ends text steps lines old new before after_it t u (Ok End) read batch tail = λ end.
+    left_ends text steps lines old.place.limit old new (lines_left old.place before) (lines_left new.place after_it) t u read.0 read.1 batch tail
+batch_ends text steps lines old new before after_it t u (Err e) read batch tail = tt

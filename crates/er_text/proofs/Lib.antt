@@ -24,7 +24,7 @@ pub mod NamedLaws
 pub mod RuleLaws
 pub mod RuleTexts
 pub mod PlaceLemmas
-pub mod CutLemmas
+pub mod TailLemmas
 pub mod BatchLaws
 pub mod EndingLaws
 pub mod BlockLemmas
@@ -33,5 +33,6 @@ pub mod IdleLemmas
 pub mod EventWords
 pub mod PieceLemmas
 pub mod AppendedLemmas
+pub mod CommentLemmas
 pub mod PieceLaws
 pub mod PieceGives

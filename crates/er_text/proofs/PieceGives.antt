@@ -1,5 +1,5 @@
 -- A piece of the lines in front gives what a reading of these lines gives.
-use Rattle.std.proofs.Common.{◌≡◌, ℕ, ◌+◌, ◌^◌, ◌&&◌, nat_eq, ◌<◌, ◌≤◌, Bool, true, false, List, [], ◌∷◌, ◌++◌, append_assoc, length, map, take, drop, Option, Some, None, Ok, refl, subst, sym, ap, ◌∙◌, arith}
+use Rattle.std.proofs.Common.{◌≡◌, ℕ, ◌+◌, ◌^◌, ◌&&◌, nat_eq, ◌<◌, ◌≤◌, Bool, true, false, List, [], ◌∷◌, ◌++◌, append_assoc, length, map, take, drop, Option, Some, None, IfSome, Ok, refl, subst, sym, ap, ◌∙◌, arith}
 use Rattle.std.proofs.lemmas.Bool.Decides.{nat_tests}
 use Rattle.std.proofs.lemmas.List.{take-append-drop, length-take-le}
 use Rattle.std.proofs.lemmas.List.Elements.{All-nil}
@@ -8,22 +8,24 @@ use Rattle.er_event.specs.declared.steps.Step.{Step}
 use Rattle.er_trace.specs.Appended.{appended, renumbered_step, with_table}
 use Rattle.er_trace.specs.Names.{NameTable}
 use Rattle.er_trace.specs.Trace.{Recording, IsNamed, no_steps, with_steps}
+use Rattle.er_text.specs.declared.endings.Lost.{Lost}
 use Rattle.er_text.specs.declared.reading.Batch.TheVariants.{More}
 use Rattle.er_text.specs.declared.stages.Stage.{Stage}
 use Rattle.er_text.specs.declared.stages.Stage.TheVariants.{Events}
 use Rattle.er_text.specs.declared.verbs.Version.{Version}
 use Rattle.er_text.specs.Batches.{HasRead}
-use Rattle.er_text.specs.Ending.{is_cut_after}
+use Rattle.er_text.specs.Ending.{is_cut_after, comment_after}
 use Rattle.er_text.specs.Lines.{Line, lines_of, placed_from}
 use Rattle.er_text.specs.Pieces.{ReadPiece, StandsInFront, AreWhole, IsReady}
-use Rattle.er_text.specs.Places.{Place, Reached}
-use Rattle.er_text.specs.Inner.Endings.{BatchesCut}
+use Rattle.er_text.specs.Places.{Place, Tail, Reached}
+use Rattle.er_text.specs.Inner.Endings.{tail_after, BatchesTail}
 use Rattle.er_text.specs.Inner.Lending.{lines_left, past_lines}
-use Rattle.er_text.specs.Inner.Pieces.{AreRead}
+use Rattle.er_text.specs.Inner.Pieces.{AreRead, comment_behind}
 use Rattle.er_text.specs.Inner.Reading.{read_lines}
 use Rattle.er_text.specs.Inner.Traces.{at_line, progress, read_content, Batches}
 use Rattle.er_text.proofs.AppendedLemmas.{nothing_appended}
 use Rattle.er_text.proofs.BatchLaws.{batch_gives}
+use Rattle.er_text.proofs.CommentLemmas.{comments_on, comments_above, IsAbove}
 use Rattle.er_text.proofs.PieceLaws.{Named, lines_on, cut_on, same_cut, lines_below, few_lines}
 use Rattle.er_text.proofs.WholeLemmas.{lines_append, widths, widths_all}
 
@@ -51,8 +53,8 @@ front_widths : (at : Place) (len : ℕ) → len ≤ length at.ahead → widths (
 front_widths at len fits = widths_all (take len at.ahead) ∙ length-take-le len at.ahead fits
 
 -- what stands behind a reader once it has passed over a piece
-abbrev pub past_piece : Reached → ReadPiece → Bool → Reached
-past_piece old piece cut = record { place = past_lines old.place piece.lines piece.len; stage = old.stage; idle = old.idle; cut = cut }
+abbrev pub past_piece : Reached → ReadPiece → Tail → Reached
+past_piece old piece tail = record { place = past_lines old.place piece.lines piece.len; stage = old.stage; idle = old.idle; tail = tail }
 
 reads_front : (old : Reached) (piece : ReadPiece) (t : Recording) (front : StandsInFront old piece) → piece.whole ≡ true → (ys : List ℕ)
     → read_lines old.place.limit read_content (placed_from old.place.number old.place.start (lines_of (old.place.ahead ++ ys))) (at_line old.place.number (Events front.version) [] t)
@@ -71,11 +73,11 @@ reads_front old piece t front whole ys =
     ∙ ap (λ (w : ℕ). read_lines at.limit read_content (placed_from (at.number + piece.lines) (at.start + w) (lines_of (drop piece.len at.ahead ++ ys)))
     (at_line (at.number + piece.lines) (Events front.version) [] (appended at.number t piece.told))) size
 
-reads_known : (old : Reached) (piece : ReadPiece) (cut : Bool) (t : Recording) (front : StandsInFront old piece) → piece.whole ≡ true → (known : Option (List ℕ))
-    → Batches old.place.limit (lines_left old.place known) (lines_left (past_piece old piece cut).place known) (progress old t)
-    (progress (past_piece old piece cut) (appended old.place.number t piece.told)) (Ok More)
-reads_known old piece cut t front whole None = tt
-reads_known old piece cut t front whole (Some ys) =
+reads_known : (old : Reached) (piece : ReadPiece) (tail : Tail) (t : Recording) (front : StandsInFront old piece) → piece.whole ≡ true → (known : Option (List ℕ))
+    → Batches old.place.limit (lines_left old.place known) (lines_left (past_piece old piece tail).place known) (progress old t)
+    (progress (past_piece old piece tail) (appended old.place.number t piece.told)) (Ok More)
+reads_known old piece tail t front whole None = tt
+reads_known old piece tail t front whole (Some ys) =
     let P : Stage → List Bool → Type 0 = λ stage idle.
     read_lines old.place.limit read_content (placed_from old.place.number old.place.start (lines_of (old.place.ahead ++ ys))) (at_line old.place.number stage idle t)
     ≡ read_lines old.place.limit read_content (placed_from (old.place.number + piece.lines) (old.place.start + piece.len) (lines_of (drop piece.len old.place.ahead ++ ys)))
@@ -99,22 +101,35 @@ lines_cut v m k j start to len t (b ∷ bytes) (line ∷ lines) more before cut 
     cut_on v 0 m k j start to no_steps t line lines more before are
     ∙ ap (λ (c : Bool). is_cut_after c (placed_from j to more)) (sym (past.0 some))
 
-cuts_known : (old : Reached) (piece : ReadPiece) (cut : Bool) (front : StandsInFront old piece) → piece.whole ≡ true → cut_past piece.len old.cut cut → (known : Option (List ℕ))
-    → BatchesCut (lines_left old.place known) (lines_left (past_piece old piece cut).place known) old.cut cut (Ok More)
-cuts_known old piece cut front whole past None = tt
-cuts_known old piece cut front whole past (Some ys) =
+-- how the lines end behind a piece
+pub record IsPast (old : Reached) (piece : ReadPiece) (tail : Tail) : Type 0 where
+  pub cut : cut_past piece.len old.tail.cut tail.cut
+  pub comment : tail.comment ≡ comment_behind old.place.number old.tail.comment piece.comment
+
+tails_known : (old : Reached) (piece : ReadPiece) (tail : Tail) (front : StandsInFront old piece) → piece.whole ≡ true → IsPast old piece tail → (known : Option (List ℕ))
+    → BatchesTail (lines_left old.place known) (lines_left (past_piece old piece tail).place known) old.tail tail (Ok More)
+tails_known old piece tail front whole past None = tt
+tails_known old piece tail front whole past (Some ys) =
     let at = old.place in
-    ap (λ (ls : List Line). is_cut_after old.cut (placed_from at.number at.start ls)) (split_lines at piece.len ys front.lines)
-    ∙ lines_cut front.version piece.lines at.number (at.number + piece.lines) at.start (at.start + piece.len) piece.len piece.told (take piece.len at.ahead)
-    (lines_of (take piece.len at.ahead)) (lines_of (drop piece.len at.ahead ++ ys)) old.cut cut refl (length-take-le piece.len at.ahead front.fits) (front.read.1 whole) past
+    let lines = lines_of (take piece.len at.ahead) in
+    let more = lines_of (drop piece.len at.ahead ++ ys) in
+    let number : at.number ≡ at.number + 0 = omega arith in
+    let cut = lines_cut front.version piece.lines at.number (at.number + piece.lines) at.start (at.start + piece.len) piece.len piece.told (take piece.len at.ahead)
+    lines more old.tail.cut tail.cut refl (length-take-le piece.len at.ahead front.fits) (front.read.1 whole) past.cut in
+    let comment = comments_on front.version at.number 0 piece.lines at.number at.start 0 (at.start + piece.len) no_steps piece.told lines more old.tail.comment None number (front.read.1 whole)
+    ∙ ap (λ (c : Option Lost). comment_after (comment_behind at.number old.tail.comment c) (placed_from (at.number + piece.lines) (at.start + piece.len) more)) (sym (front.read.2 whole))
+    ∙ ap (λ (c : Option Lost). comment_after c (placed_from (at.number + piece.lines) (at.start + piece.len) more)) (sym past.comment) in
+    ap (λ (ls : List Line). tail_after old.tail (placed_from at.number at.start ls)) (split_lines at piece.len ys front.lines)
+    ∙ ap (λ (b : Bool). record { cut = b; comment = comment_after old.tail.comment (placed_from at.number at.start (lines ++ more)) }) cut
+    ∙ ap (λ (c : Option Lost). record { cut = is_cut_after tail.cut (placed_from (at.number + piece.lines) (at.start + piece.len) more); comment = c }) comment
 
 -- what was read of the text goes on behind a piece
-pub piece_gives : (text : List ℕ) (steps : List Step) (lines : List ℕ) (old : Reached) (piece : ReadPiece) (cut : Bool) (known : Option (List ℕ)) (t : Recording)
-    → StandsInFront old piece → piece.whole ≡ true → cut_past piece.len old.cut cut → HasRead text steps lines old known t
-    → HasRead text steps lines (past_piece old piece cut) known (appended old.place.number t piece.told)
-piece_gives text steps lines old piece cut known t front whole past read =
-    batch_gives text steps lines old (past_piece old piece cut) known known t (appended old.place.number t piece.told) (Ok More) refl read
-    (reads_known old piece cut t front whole known) (cuts_known old piece cut front whole past known)
+pub piece_gives : (text : List ℕ) (steps : List Step) (lines : List ℕ) (old : Reached) (piece : ReadPiece) (tail : Tail) (known : Option (List ℕ)) (t : Recording)
+    → StandsInFront old piece → piece.whole ≡ true → IsPast old piece tail → HasRead text steps lines old known t
+    → HasRead text steps lines (past_piece old piece tail) known (appended old.place.number t piece.told)
+piece_gives text steps lines old piece tail known t front whole past read =
+    batch_gives text steps lines old (past_piece old piece tail) known known t (appended old.place.number t piece.told) (Ok More) refl read
+    (reads_known old piece tail t front whole known) (tails_known old piece tail front whole past known)
 
 -- a piece has no more lines than bytes
 pub piece_few : (old : Reached) (piece : ReadPiece) → StandsInFront old piece → piece.whole ≡ true → piece.lines ≤ piece.len
@@ -129,19 +144,20 @@ piece_small old piece front whole =
     lines_below front.version 0 piece.lines no_steps piece.told (lines_of (take piece.len old.place.ahead)) (front.read.1 whole) (All-nil (λ line. line < 0))
 
 -- the same of what the code has, which keeps the mark of a line without its LF if there is no byte
-pub added_gives : (text : List ℕ) (steps : List Step) (lines : List ℕ) (old : Reached) (at : Place) (piece : ReadPiece) (before : ℕ) (cut : Bool) (known : Option (List ℕ)) (t u : Recording)
+pub added_gives : (text : List ℕ) (steps : List Step) (lines : List ℕ) (old : Reached) (at : Place) (piece : ReadPiece) (before : ℕ) (tail : Tail) (known : Option (List ℕ)) (t u : Recording)
     → StandsInFront old piece → piece.whole ≡ true → before ≡ old.place.number → u ≡ appended before t piece.told → at ≡ past_lines old.place piece.lines piece.len
-    → cut ≡ (old.cut && nat_eq piece.len 0) → HasRead text steps lines old known t
-    → HasRead text steps lines (record { place = at; stage = old.stage; idle = old.idle; cut = cut }) known u
-added_gives text steps lines old at piece before cut known t u front whole number told passed is read =
-    let past : cut_past piece.len old.cut cut = (
-      (λ some. is ∙ (let other : nat_eq piece.len 0 ≡ false = grind (arith, nat_tests, some) in rw other (and_false old.cut))),
-      (λ none. is ∙ (rw none (and_true old.cut))),
+    → tail.cut ≡ (old.tail.cut && nat_eq piece.len 0) → tail.comment ≡ comment_behind before old.tail.comment piece.comment → HasRead text steps lines old known t
+    → HasRead text steps lines (record { place = at; stage = old.stage; idle = old.idle; tail = tail }) known u
+added_gives text steps lines old at piece before tail known t u front whole number told passed is says read =
+    let cut : cut_past piece.len old.tail.cut tail.cut = (
+      (λ some. is ∙ (let other : nat_eq piece.len 0 ≡ false = grind (arith, nat_tests, some) in rw other (and_false old.tail.cut))),
+      (λ none. is ∙ (rw none (and_true old.tail.cut))),
     ) in
+    let past : IsPast old piece tail = record { cut = cut; comment = says ∙ ap (λ (n : ℕ). comment_behind n old.tail.comment piece.comment) number } in
     let same : u ≡ appended old.place.number t piece.told = told ∙ ap (λ (n : ℕ). appended n t piece.told) number in
-    subst (λ (r : Recording). HasRead text steps lines (record { place = at; stage = old.stage; idle = old.idle; cut = cut }) known r) (sym same)
-    (subst (λ (p : Place). HasRead text steps lines (record { place = p; stage = old.stage; idle = old.idle; cut = cut }) known (appended old.place.number t piece.told)) (sym passed)
-    (piece_gives text steps lines old piece cut known t front whole past read))
+    subst (λ (r : Recording). HasRead text steps lines (record { place = at; stage = old.stage; idle = old.idle; tail = tail }) known r) (sym same)
+    (subst (λ (p : Place). HasRead text steps lines (record { place = p; stage = old.stage; idle = old.idle; tail = tail }) known (appended old.place.number t piece.told)) (sym passed)
+    (piece_gives text steps lines old piece tail known t front whole past read))
 
 -- the numbers of the piece's lines fit behind those of the text
 pub piece_fits : (old : Reached) (piece : ReadPiece) (before : ℕ) → StandsInFront old piece → piece.whole ≡ true → before ≤ old.place.limit + 1 → old.place.limit ≤ 2 ^ 62
@@ -151,6 +167,19 @@ piece_fits old piece before front whole number limit i d h =
     let few = piece_few old piece front whole in
     let within = front.within in
     omega (arith, small, few, within, number, limit)
+
+fits_above : (before lines : ℕ) (comment : Option Lost) → before + lines < 2 ^ 64 → IsAbove lines comment → IfSome comment (λ lost. before + lost.line < 2 ^ 64)
+fits_above before lines None fits above = tt
+fits_above before lines (Some lost) fits above = omega (arith, fits, above)
+
+-- and so does the number of its comment
+pub comment_fits : (old : Reached) (piece : ReadPiece) (before : ℕ) → StandsInFront old piece → piece.whole ≡ true → before ≤ old.place.limit + 1 → old.place.limit ≤ 2 ^ 62
+    → IfSome piece.comment (λ lost. before + lost.line < 2 ^ 64)
+comment_fits old piece before front whole number limit =
+    let above = comments_above front.version 0 piece.lines 0 no_steps piece.told (lines_of (take piece.len old.place.ahead)) None (front.read.1 whole) tt in
+    let few = piece_few old piece front whole in
+    let within = front.within in
+    fits_above before piece.lines piece.comment (omega (arith, few, within, number, limit)) (subst (λ (c : Option Lost). IsAbove piece.lines c) (sym (front.read.2 whole)) above)
 
 -- steps, their lines and names
 abbrev parts : List Step → List ℕ → NameTable → Recording

@@ -1,14 +1,17 @@
 -- Lines that are read apart from those before them say the same behind these.
-use Rattle.std.proofs.Common.{◌≡◌, ℕ, ◌+◌, ◌-◌, ◌<◌, ◌≤◌, Bool, true, List, [], ◌∷◌, append-nil, length, take, drop, Ok, refl, sym, ap, ◌∙◌, subst, arith, length-take-le}
+use Rattle.std.proofs.Common.{◌≡◌, ℕ, ◌+◌, ◌-◌, ◌<◌, ◌≤◌, Bool, true, List, [], ◌∷◌, append-nil, length, take, drop, Option, Ok, refl, sym, ap, ◌∙◌, subst, arith, length-take-le}
 use Rattle.std.specs.List.{position_or_len}
 use Rattle.std.proofs.lemmas.List.{take_all, drop_all, drop-drop, length-drop}
 use Rattle.er_trace.specs.Trace.{Recording}
 use Rattle.er_text.specs.declared.stages.Stage.{Stage}
 use Rattle.er_text.specs.declared.stages.Stage.TheVariants.{Events}
 use Rattle.er_text.specs.declared.verbs.Version.{Version}
-use Rattle.er_text.specs.Lines.{Line, is_end, lines_of}
+use Rattle.er_text.specs.declared.endings.Lost.{Lost}
+use Rattle.er_text.specs.Ending.{comment_past, comment_after}
+use Rattle.er_text.specs.Lines.{Line, is_end, lines_of, placed_from, width as line_width}
 use Rattle.er_text.specs.Inner.Pieces.{AreRead, IsReadInFront}
 use Rattle.er_text.specs.Inner.Traces.{at_line, plain_at}
+use Rattle.er_text.proofs.CommentLemmas.{same_comments}
 use Rattle.er_text.proofs.LineLemmas.{lines_whole}
 
 first_line : (bytes : List ℕ) (len : ℕ) → len ≡ position_or_len is_end bytes → len < length bytes
@@ -51,3 +54,21 @@ pub next_then : (v : Version) (n m at width : ℕ) (bytes : List ℕ) (r s t : R
 next_then v n m at width bytes r s t within front more =
     let here = rw (rest_is at bytes within) at front in
     front_then v n m (drop at bytes) width r s t here (subst (λ (b : List ℕ). AreRead v (lines_of b) (n + 1) s m t) (sym (drop-drop width at bytes)) more)
+
+-- no comment is left
+pub no_comment_left : (n : ℕ) (bytes : List ℕ) → length bytes ≤ n → (k : ℕ) (last : Option Lost) → last ≡ comment_after last (placed_from k 0 (lines_of (drop n bytes)))
+no_comment_left n bytes all k last = subst (λ (b : List ℕ). last ≡ comment_after last (placed_from k 0 (lines_of b))) (sym (drop_all n bytes all)) refl
+
+-- what the last comment says behind the line in front
+pub next_comment : (v : Version) (n at width : ℕ) (bytes : List ℕ) (r s : Recording) (last here : Option Lost) → at ≤ length bytes
+    → IsReadInFront v n (take (length bytes - at) (drop at bytes)) width r s → here ≡ comment_past last n (take (width - 1) (drop at bytes))
+    → comment_after here (placed_from (n + 1) 0 (lines_of (drop (at + width) bytes))) ≡ comment_after last (placed_from n 0 (lines_of (drop at bytes)))
+next_comment v n at width bytes r s last here within front says =
+    let lines : lines_of (drop at bytes) ≡ record { bytes = take (width - 1) (drop at bytes); ended = true } ∷ lines_of (drop width (drop at bytes)) =
+    (rw (rest_is at bytes within) at front).lines in
+    let more = lines_of (drop width (drop at bytes)) in
+    let first : Line = record { bytes = take (width - 1) (drop at bytes); ended = true } in
+    ap (λ (c : Option Lost). comment_after c (placed_from (n + 1) 0 (lines_of (drop (at + width) bytes)))) says
+    ∙ ap (λ (b : List ℕ). comment_after (comment_past last n first.bytes) (placed_from (n + 1) 0 (lines_of b))) (sym (drop-drop width at bytes))
+    ∙ same_comments (n + 1) 0 (0 + line_width first) more (comment_past last n first.bytes)
+    ∙ ap (λ (ls : List Line). comment_after last (placed_from n 0 ls)) (sym lines)

@@ -1,15 +1,15 @@
 -- What a reader of batches has read of a text.
-use Rattle.std.specs.Prelude.{ℕ, ◌++◌, false, List, Option, Some, Result, Ok, Err}
+use Rattle.std.specs.Prelude.{ℕ, ◌++◌, List, Option, Some, Result, Ok, Err}
 use Rattle.er_trace.specs.Trace.{Recording}
 use Rattle.er_event.specs.declared.steps.Step.{Step}
 use Rattle.er_text.specs.declared.faults.ReadFault.{ReadFault}
 use Rattle.er_text.specs.declared.faults.ReadFault.TheVariants as fault
 use Rattle.er_text.specs.declared.reading.Batch.{Batch}
 use Rattle.er_text.specs.declared.reading.Batch.TheVariants.{More, End}
-use Rattle.er_text.specs.Places.{Reached}
+use Rattle.er_text.specs.Places.{Reached, no_tail}
 use Rattle.er_text.specs.Lines.{placed}
 use Rattle.er_text.specs.Trace.{IsTrace, IsFault}
-use Rattle.er_text.specs.Inner.Endings.{KeepsCut}
+use Rattle.er_text.specs.Inner.Endings.{KeepsTail}
 use Rattle.er_text.specs.Inner.Lending.{lines_left}
 use Rattle.er_text.specs.Inner.Reading.{Continues}
 use Rattle.er_text.specs.Inner.Traces.{progress, at_front, read_content}
@@ -23,7 +23,7 @@ joined steps lines trace = record { steps = steps ++ trace.steps; lines = lines 
 abbrev pub HasRead : List ℕ → List Step → List ℕ → Reached → Option (List ℕ) → Recording → Type 0
 HasRead text steps lines reader known trace =
     Continues reader.place.limit read_content (Some (placed text)) (lines_left reader.place known) at_front (progress reader (joined steps lines trace))
-    × KeepsCut (Some (placed text)) (lines_left reader.place known) false reader.cut
+    × KeepsTail (Some (placed text)) (lines_left reader.place known) no_tail reader.tail
 
 -- what a batch gives of a text that has been read so far: more steps behind the others, or the whole trace, or the text's fault
 abbrev pub GivesBatch : List ℕ → List Step → List ℕ → Reached → Option (List ℕ) → Recording → Result Batch ReadFault → Type 0

@@ -1,14 +1,16 @@
 -- Pieces of a text, which are read apart from what stands before them.
-use Rattle.std.specs.Prelude.{◌≡◌, ℕ, ◌+◌, ◌<◌, ◌≤◌, ◌^◌, Bool, true, List, [], length, map, take}
+use Rattle.std.specs.Prelude.{◌≡◌, ℕ, ◌+◌, ◌<◌, ◌≤◌, ◌^◌, Bool, true, List, [], Option, None, length, map, take}
 use Rattle.std.specs.List.{All, list_all}
 use Rattle.er_event.specs.declared.steps.Step.{Step}
 use Rattle.er_trace.specs.Appended.{AreNumbers, renumbered_step}
 use Rattle.er_trace.specs.Names.{NameTable}
 use Rattle.er_trace.specs.Trace.{Recording, IsNamed, no_steps}
 use Rattle.er_trace.specs.declared.appending.NewTable.{NewTable}
+use Rattle.er_text.specs.declared.endings.Lost.{Lost}
 use Rattle.er_text.specs.declared.verbs.Version.{Version}
 use Rattle.er_text.specs.declared.stages.Stage.TheVariants.{Events}
-use Rattle.er_text.specs.Lines.{lines_of}
+use Rattle.er_text.specs.Ending.{comment_after}
+use Rattle.er_text.specs.Lines.{lines_of, placed_from}
 use Rattle.er_text.specs.Places.{Reached}
 use Rattle.er_text.specs.Inner.Pieces.{AreRead}
 
@@ -23,16 +25,17 @@ pub record StaysAt (old new : Reached) : Type 0 where
   pub start : new.place.start ≡ old.place.start
   pub stage : new.stage ≡ old.stage
   pub idle : new.idle ≡ old.idle
-  pub cut : new.cut ≡ old.cut
+  pub tail : new.tail ≡ old.tail
 
--- what was read of a piece: its steps under names of its own, their lines counted from 0, how many lines and bytes it has, and whether all of it was
--- read; then the numbers that its names have in the trace that it is added to, how many lines of that text stand before its own, and its steps and lines
+-- what was read of a piece: its steps under names of its own, their lines counted from 0, how many lines and bytes it has, whether all of it was
+-- read, and what its last comment says, whose line is counted from 0 too; then the numbers that its names have in the trace that it is added to, how many lines of that text stand before its own, and its steps and lines
 -- by these numbers
 pub record ReadPiece : Type 0 where
   pub told : Recording
   pub lines : ℕ
   pub len : ℕ
   pub whole : Bool
+  pub comment : Option Lost
   pub numbers : NewTable
   pub before : ℕ
   pub steps : List Step
@@ -40,7 +43,9 @@ pub record ReadPiece : Type 0 where
 
 -- the piece is these bytes, and if all of it was read, it says what they say
 abbrev pub IsPieceOf : Version → List ℕ → ReadPiece → Type 0
-IsPieceOf v bytes piece = (piece.len ≡ length bytes) × (piece.whole ≡ true → AreRead v (lines_of bytes) 0 no_steps piece.lines piece.told)
+IsPieceOf v bytes piece =
+    (piece.len ≡ length bytes) × (piece.whole ≡ true → AreRead v (lines_of bytes) 0 no_steps piece.lines piece.told)
+    × (piece.whole ≡ true → piece.comment ≡ comment_after None (placed_from 0 0 (lines_of bytes)))
 
 -- the piece was read of the lines in front of a reader that has come to event lines, and no thread is idle
 pub record StandsInFront (reader : Reached) (piece : ReadPiece) : Type 0 where
@@ -59,6 +64,7 @@ pub record IsEntered (before : ℕ) (names : NameTable) (old new : ReadPiece) : 
   pub told : new.told ≡ old.told
   pub lines : new.lines ≡ old.lines
   pub len : new.len ≡ old.len
+  pub comment : new.comment ≡ old.comment
 
 -- it can be numbered by what it knows
 pub record CanBeNumbered (piece : ReadPiece) : Type 0 where
@@ -74,6 +80,7 @@ pub record IsNumbered (old new : ReadPiece) : Type 0 where
   pub named : All (IsNamed old.told.names) old.told.steps
   pub lines : new.lines ≡ old.lines
   pub len : new.len ≡ old.len
+  pub comment : new.comment ≡ old.comment
 
 -- a piece that was read has come to this one, whose steps have their numbers among these names
 pub record IsReady (before : ℕ) (names : NameTable) (old new : ReadPiece) : Type 0 where
@@ -83,6 +90,7 @@ pub record IsReady (before : ℕ) (names : NameTable) (old new : ReadPiece) : Ty
   pub named : All (IsNamed old.told.names) old.told.steps
   pub lines : new.lines ≡ old.lines
   pub len : new.len ≡ old.len
+  pub comment : new.comment ≡ old.comment
 
 -- it stands in front of a reader, all of it was read, and the trace that it is added to has names for its steps
 pub record MayBeAdded (reader : Reached) (trace : Recording) (piece : ReadPiece) : Type 0 where

@@ -1,5 +1,6 @@
 -- How far a reader has come in a text.
-use Rattle.std.specs.Prelude.{ℕ, Bool, List}
+use Rattle.std.specs.Prelude.{ℕ, Bool, false, List, Option, None}
+use Rattle.er_text.specs.declared.endings.Lost.{Lost}
 use Rattle.er_text.specs.declared.stages.Stage.{Stage}
 
 -- a place in a text: the most bytes of the text, the number of the next line, the bytes before that line, and those that were read ahead
@@ -9,10 +10,18 @@ pub record Place : Type 0 where
   pub start : ℕ
   pub ahead : List ℕ
 
--- the place, how far the text has come, which threads, by number, are named in lines before and don't act there, and whether the line before lacks
--- its LF
+-- how the lines before end: whether the last lacks its LF, and what the last comment says
+pub record Tail : Type 0 where
+  pub cut : Bool
+  pub comment : Option Lost
+
+-- no line is before
+abbrev pub no_tail : Tail
+no_tail = record { cut = false; comment = None }
+
+-- the place, how far the text has come, which threads, by number, are named in lines before and don't act there, and how these lines end
 pub record Reached : Type 0 where
   pub place : Place
   pub stage : Stage
   pub idle : List Bool
-  pub cut : Bool
+  pub tail : Tail

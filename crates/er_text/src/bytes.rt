@@ -2,6 +2,7 @@
 ghost use Rattle.std.specs.Prelude.{◌≡◌, ◌≤◌, not, position, length, take, drop};
 ghost use Rattle.std.specs.List.{list_all, position_or_len};
 ghost use Rattle.er_text.specs.Lines.{is_end, is_gap, is_ascii, is_comment, first_of, words, word_at, says_something};
+ghost use Rattle.er_text.specs.Ending.{is_space, before_space, behind_space};
 ghost use Rattle.er_text.specs.Pieces.{AreWhole};
 
 use memchr::{memchr, memrchr};
@@ -51,6 +52,23 @@ fn find_word(bytes: &[u8]) -> Option<usize>
     bytes
         .iter()
         .position(|byte| !(*byte == b' ' || *byte == b'\t'))
+}
+
+fn find_space(bytes: &[u8]) -> Option<usize>
+    ensures { result ≡ position is_space bytes.now }
+{
+    bytes.iter().position(|byte| *byte == b' ')
+}
+
+/// What stands before the first space, and what behind it: all of it and nothing if there is none.
+pub(crate) fn split_at_space(bytes: &[u8]) -> (&[u8], &[u8])
+    ensures before { result.0.now ≡ before_space bytes.now }
+    ensures behind { result.1.now ≡ behind_space bytes.now }
+{
+    match find_space(bytes) {
+        Some(at) => (&bytes[..at], &bytes[at + 1..]),
+        None => (bytes, &bytes[bytes.len()..]),
+    }
 }
 
 /// How many bytes stand before the first gap, or before the end.

@@ -8,7 +8,8 @@
 //! What they promise, by the names of clauses: the answer for a text is its trace, or its rules, or its fault by the grammar
 //! (`told`), and every text has exactly one of these (`trace_or_fault`, `rules_or_fault`); batches, one after another, are the
 //! trace of the whole text, also if the caller clears the trace between them (`told` of `next_batch`, `a_batch_may_be_forgotten`);
-//! at the end of a text the reader of batches knows whether its last line lacks its LF, and whether a text 3 has its line `end` (`ends`);
+//! at the end of a text the reader of batches knows whether its last line lacks its LF, whether a text 3 has its line `end`, and how many
+//! events are lost by its last comment (`ends`);
 //! a fault of the reader is reported if and only if the reader failed (`failed`); no reading takes more than `byte_limit` and 1,025
 //! bytes (`taken`).
 //!
@@ -23,7 +24,7 @@
 //! ```
 #![tactic(auto)]
 
-pub use endings::Ending;
+pub use endings::{Ending, Lost};
 pub use faults::{ReadFault, TextFault, TextKind};
 pub use laws::{a_batch_may_be_forgotten, rules_or_fault, steps_are_named, trace_or_fault};
 pub use pieces::Piece;

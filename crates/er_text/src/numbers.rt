@@ -18,7 +18,7 @@ fn digit_value(byte: u8) -> u64
 
 /// The number that the digits write, where there is a digit, each is one, and it is small enough.
 #[inline(always)]
-fn value_in(radix: u64, digits: &[u8]) -> Option<u64>
+pub(crate) fn value_in(radix: u64, digits: &[u8]) -> Option<u64>
     requires low { 2 ≤ radix }
     requires high { radix ≤ 36 }
     ensures { result ≡ value_in radix digits.now }

@@ -1,16 +1,18 @@
 //! Pieces of a text: lines that are read apart from those before them, over names of their own.
-ghost use Rattle.std.specs.Prelude.{◌≡◌, ◌+◌, ◌≤◌, ◌^◌, ◌&&◌, nat_eq, ℕ, List, Option, drop, length, OnOk, IfSome, IsTrue, [], true};
+ghost use Rattle.std.specs.Prelude.{◌≡◌, ◌+◌, ◌-◌, ◌<◌, ◌≤◌, ◌^◌, ◌&&◌, nat_eq, ℕ, List, Option, take, drop, length, OnOk, IfSome, IsTrue, [], true};
 ghost use Rattle.er_event.specs.declared.steps.Step.{Step as Steps};
 ghost use Rattle.er_text.specs.Batches.{HasRead};
 ghost use Rattle.er_text.specs.Inner.Lending.{taken_by};
-ghost use Rattle.er_text.specs.Inner.Pieces.{AreRead, IsReadInFront};
-ghost use Rattle.er_text.specs.Lines.{bytes_past_limit, lines_of};
+ghost use Rattle.er_text.specs.Inner.Pieces.{AreRead, IsReadInFront, comment_behind};
+ghost use Rattle.er_text.specs.Ending.{comment_past, comment_after};
+ghost use Rattle.er_text.specs.Lines.{bytes_past_limit, lines_of, placed_from};
 ghost use Rattle.er_text.specs.Pieces.{ReadPiece, CanBeNumbered, IsEntered, IsNumbered, IsPieceOf, IsReady, MayBeAdded, StandsInFront};
 ghost use Rattle.er_trace.specs.Appended.{with_table};
 ghost use Rattle.er_trace.specs.Names.{NameTable};
 ghost use Rattle.er_trace.specs.Trace.{with_steps};
 
 use crate::bytes::line_len;
+use crate::endings::Lost;
 use crate::reading::{Header, TraceReader};
 use crate::stages::Stage;
 use crate::verbs::Version;
@@ -35,6 +37,7 @@ pub struct Piece {
     lines: u64,
     len: usize,
     whole: bool,
+    comment: Option<Lost>,
     numbers: NewTable,
     before: u64,
     steps: Vec<Step>,
@@ -46,7 +49,7 @@ impl Model for Piece {
 
     ghost Value = { ReadPiece };
 
-    ghost view = { λ p. record { told = p.trace; lines = p.lines; len = p.len; whole = p.whole; numbers = p.numbers; before = p.before; steps = p.steps.items; places = p.places.items } };
+    ghost view = { λ p. record { told = p.trace; lines = p.lines; len = p.len; whole = p.whole; comment = p.comment; numbers = p.numbers; before = p.before; steps = p.steps.items; places = p.places.items } };
 }
 
 impl Piece {
@@ -59,6 +62,7 @@ impl Piece {
             lines: 0,
             len: 0,
             whole: false,
+            comment: None,
             numbers: NewTable::none(alloc),
             before: 0,
             steps: Vec::new(alloc),
@@ -92,6 +96,7 @@ impl Piece {
         match read_lines(&mut header, version, &mut self.trace, bytes) {
             Some(lines) => {
                 self.lines = lines;
+                self.comment = header.comment;
                 self.whole = true;
             }
             None => self.whole = false,
@@ -127,7 +132,8 @@ impl Piece {
 /// Reads lines behind a header, and says how many they are. None if one of them can't be read apart, or memory was refused.
 fn read_lines(header: &mut Header, version: Version, trace: &mut Trace, bytes: &[u8]) -> Option<u64>
     requires open { (header.old.stage ≡ Stage.Events version) × (header.old.idle ≡ []) }
-    ensures { IfSome result (λ lines. AreRead version (lines_of bytes.now) 0 trace.old lines trace.new) }
+    ensures read { IfSome result (λ lines. AreRead version (lines_of bytes.now) 0 trace.old lines trace.new) }
+    ensures comment { IfSome result (λ lines. header.new.comment ≡ comment_after header.old.comment (placed_from 0 0 (lines_of bytes.now))) }
 {
     let mut at = 0;
     let mut line = 0;
@@ -151,6 +157,7 @@ fn read_front(
     ensures open { IfSome result (λ width. (header.new.stage ≡ Stage.Events version) × (header.new.idle ≡ [])) }
     ensures some { IfSome result (λ width. 1 ≤ width) }
     ensures within { IfSome result (λ width. width ≤ length bytes.now) }
+    ensures comment { IfSome result (λ width. header.new.comment ≡ comment_past header.old.comment line (take (width - 1) bytes.now)) }
     ensures read { IfSome result (λ width. IsReadInFront version line bytes.now width trace.old trace.new) }
 {
     let len = line_len(bytes);
@@ -172,6 +179,20 @@ fn cut_behind(before: bool, len: usize) -> bool
     ensures { result ≡ (before && nat_eq len 0) }
 {
     before && len == 0
+}
+
+/// What the last comment says behind a piece, whose first line has this number.
+fn comment_behind(number: u64, last: Option<Lost>, comment: Option<Lost>) -> Option<Lost>
+    requires { IfSome comment (λ lost. number + lost.line < 2 ^ 64) }
+    ensures { result ≡ comment_behind number last comment }
+{
+    match comment {
+        Some(lost) => Some(Lost {
+            line: number + lost.line,
+            events: lost.events,
+        }),
+        None => last,
+    }
 }
 
 impl TraceReader {
@@ -217,10 +238,11 @@ impl TraceReader {
         ensures taken { taken_by self.new.place ≡ taken_by self.old.place }
         ensures most { taken_by self.new.place ≤ self.new.place.limit + bytes_past_limit }
     {
-        let _line = self.lines.number();
+        let line = self.lines.number();
         trace.add_steps(piece.steps.as_slice(), piece.places.as_slice())?;
         self.lines.pass_lines(piece.lines, piece.len);
         self.cut = cut_behind(self.cut, piece.len);
+        self.header.comment = comment_behind(line, self.header.comment, piece.comment);
         Ok(())
     }
 }

@@ -1,15 +1,16 @@
 //! Traces, line by line, and batch by batch.
-ghost use Rattle.std.specs.Prelude.{◌≡◌, ◌+◌, ◌++◌, ◌<◌, ◌≤◌, ◌^◌, length, OnOk, IfOk, IfSome, IfErr, IsErrOf, IsTrue, Ok, Err, true, false, Option, ℕ, List, [], Some};
+ghost use Rattle.std.specs.Prelude.{◌≡◌, ◌+◌, ◌++◌, ◌<◌, ◌≤◌, ◌^◌, length, OnOk, IfOk, IfSome, IfErr, IsErrOf, IsTrue, Ok, Err, true, false, Option, ℕ, List, [], Some, None};
 ghost use Rattle.er_device.specs.Device.{inner_of, has_failed, taken_of};
-ghost use Rattle.er_text.specs.Lines.{bytes_past_limit};
+ghost use Rattle.er_text.specs.Lines.{bytes_past_limit, is_comment};
 ghost use Rattle.er_text.specs.Trace.{Tells, HasFailedBy};
 ghost use Rattle.er_trace.specs.Trace.{Recording, no_steps};
 ghost use Rattle.er_event.specs.declared.steps.Step.{Step};
 ghost use Rattle.er_text.specs.Named.{Grows};
 ghost use Rattle.er_text.specs.Batches.{HasRead, GivesBatch};
 ghost use Rattle.er_text.specs.Pieces.{AreWhole, StaysAt};
-ghost use Rattle.er_text.specs.Ending.{KnowsEnd, IsEndingOf};
-ghost use Rattle.er_text.specs.Inner.Endings.{PassesCut, BatchesCut};
+ghost use Rattle.er_text.specs.Places.{no_tail};
+ghost use Rattle.er_text.specs.Ending.{KnowsEnd, IsEndingOf, comment_past};
+ghost use Rattle.er_text.specs.Inner.Endings.{PassesTail, BatchesTail};
 ghost use Rattle.er_text.specs.Inner.Lending.{taken_by, lines_from, lines_left};
 ghost use Rattle.er_text.specs.Inner.Reading.{Continues, Reads, Turns};
 ghost use Rattle.er_text.specs.Inner.FastPath.{ReadsUsual};
@@ -19,7 +20,7 @@ ghost use Rattle.er_text.specs.Inner.Traces.{progress, at_front, at_line, open_w
 
 use crate::adding::add_steps;
 use crate::bytes::{is_ascii, says_something};
-use crate::endings::{Ending, lacks_end};
+use crate::endings::{Ending, Lost, comment_past, if_any_lost, is_of_third, lacks_end};
 use crate::fast_path::add_usual;
 use crate::faults::{ReadFault, TextKind, fault_at};
 use crate::lines::LineReader;
@@ -32,11 +33,12 @@ use std::alloc::{AllocError, Global};
 use std::io::Read;
 use std::marker::Model;
 
-/// What the lines so far make known: the stage of the text, and the threads that are named but don't act yet.
+/// What the lines so far make known: the stage of the text, the threads that are named but don't act yet, and what the last comment says.
 #[derive(Drop)]
 pub(crate) struct Header {
     pub(crate) stage: Stage,
     pub(crate) idle: IdleThreads,
+    pub(crate) comment: Option<Lost>,
 }
 
 impl Header {
@@ -44,10 +46,12 @@ impl Header {
     pub(crate) fn behind(alloc: Global, version: Version) -> Header
         ensures stage { result.stage ≡ Stage.Events version }
         ensures idle { result.idle ≡ [] }
+        ensures comment { result.comment ≡ None }
     {
         Header {
             stage: Stage::Events(version),
             idle: IdleThreads::new(alloc),
+            comment: None,
         }
     }
 
@@ -63,6 +67,7 @@ impl Header {
     fn open(&mut self, line: u64, words: &Words<'_>) -> Result<(), ReadFault>
         ensures read { (told : Recording) → Reads line (at_line (line + 1) self.new.stage self.new.idle told) result
             (open_with (at_line line self.old.stage self.old.idle told) (version_of words.now.first.now words.now.second.now words.now.third.now words.now.fourth.now)) }
+        ensures comment { self.new.comment ≡ self.old.comment }
         ensures failed { IsErrOf result ReadFault.Read → ⊥ }
     {
         let Some(version) = words.version() else {
@@ -80,6 +85,7 @@ impl Header {
         parsed: &ParsedLine<'_>,
     ) -> Result<(), ReadFault>
         ensures read { Reads line (at_line (line + 1) self.new.stage self.new.idle trace.new) result (add_parsed line (at_line line self.old.stage self.old.idle trace.old) (Ok (event_line parsed.now))) }
+        ensures comment { self.new.comment ≡ self.old.comment }
         ensures failed { IsErrOf result ReadFault.Read → ⊥ }
     {
         if let Some(kind) = self.idle.fault(trace.names(), parsed) {
@@ -96,10 +102,12 @@ impl Header {
     /// Reads a line of ASCII.
     fn read(&mut self, trace: &mut Trace, line: u64, bytes: &[u8]) -> Result<(), ReadFault>
         ensures read { Reads line (at_line (line + 1) self.new.stage self.new.idle trace.new) result (read_at (at_line line self.old.stage self.old.idle trace.old) line bytes.now) }
+        ensures comment { OnOk result (self.new.comment ≡ comment_past self.old.comment line bytes.now) }
         ensures failed { IsErrOf result ReadFault.Read → ⊥ }
     {
         let words = split_words(bytes);
         if !says_something(words.first, bytes) {
+            self.comment = comment_past(self.comment, line, bytes);
             return Ok(());
         }
         match self.stage {
@@ -122,6 +130,8 @@ impl Header {
     #[inline(always)]
     fn read_usual(&mut self, trace: &mut Trace, line: u64, bytes: &[u8]) -> Result<bool, AllocError>
         ensures stage { self.new.stage ≡ self.old.stage }
+        ensures comment { self.new.comment ≡ self.old.comment }
+        ensures no_comment { IfOk result (λ read. IsTrue read → is_comment bytes.now ≡ false) }
         ensures read { ReadsUsual line self.old.stage bytes.now self.old.idle self.new.idle trace.old trace.new result }
     {
         let Stage::Events(version) = self.stage else {
@@ -137,6 +147,7 @@ impl Header {
     /// Reads a line in the limits, in whatever form.
     fn read_any(&mut self, trace: &mut Trace, line: u64, bytes: &[u8]) -> Result<(), ReadFault>
         ensures read { Reads line (at_line (line + 1) self.new.stage self.new.idle trace.new) result (plain_at (at_line line self.old.stage self.old.idle trace.old) line bytes.now) }
+        ensures comment { OnOk result (self.new.comment ≡ comment_past self.old.comment line bytes.now) }
         ensures failed { IsErrOf result ReadFault.Read → ⊥ }
     {
         if !is_ascii(bytes) {
@@ -154,6 +165,7 @@ impl Header {
         bytes: &[u8],
     ) -> Result<(), ReadFault>
         ensures read { Reads line (at_line (line + 1) self.new.stage self.new.idle trace.new) result (plain_at (at_line line self.old.stage self.old.idle trace.old) line bytes.now) }
+        ensures comment { OnOk result (self.new.comment ≡ comment_past self.old.comment line bytes.now) }
         ensures failed { IsErrOf result ReadFault.Read → ⊥ }
     {
         if self.read_usual(trace, line, bytes)? {
@@ -184,11 +196,11 @@ pub struct TraceReader {
 }
 
 impl Model for TraceReader {
-    ghost use Rattle.er_text.specs.Places.{Reached};
+    ghost use Rattle.er_text.specs.Places.{Reached, Tail};
 
     ghost Value = { Reached };
 
-    ghost view = { λ r. record { place = r.lines; stage = r.header.stage; idle = r.header.idle; cut = r.cut } };
+    ghost view = { λ r. record { place = r.lines; stage = r.header.stage; idle = r.header.idle; tail = record { cut = r.cut; comment = r.header.comment } } };
 }
 
 impl TraceReader {
@@ -200,7 +212,7 @@ impl TraceReader {
         ensures start { IfOk result (λ r. r.place.start ≡ 0) }
         ensures ahead { IfOk result (λ r. length r.place.ahead ≡ 0) }
         ensures stage { IfOk result (λ r. r.stage ≡ Stage.Front) }
-        ensures cut { IfOk result (λ r. r.cut ≡ false) }
+        ensures tail { IfOk result (λ r. r.tail ≡ no_tail) }
         ensures starts { IfOk result (λ r. (text : List ℕ) → HasRead text [] [] r (Some text) no_steps) }
     {
         let lines = LineReader::new(alloc, limit)?;
@@ -216,7 +228,7 @@ impl TraceReader {
         ensures start { IfOk result (λ r. r.place.start ≡ 0) }
         ensures ahead { IfOk result (λ r. length r.place.ahead ≡ 0) }
         ensures stage { IfOk result (λ r. r.stage ≡ Stage.Front) }
-        ensures cut { IfOk result (λ r. r.cut ≡ false) }
+        ensures tail { IfOk result (λ r. r.tail ≡ no_tail) }
         ensures starts { IfOk result (λ r. (text : List ℕ) → HasRead text [] [] r (Some text) no_steps) }
     {
         let lines = LineReader::with_window(alloc, limit, size)?;
@@ -230,7 +242,7 @@ impl TraceReader {
         requires ahead { length lines.ahead ≡ 0 }
         ensures place { result.place ≡ lines }
         ensures stage { result.stage ≡ Stage.Front }
-        ensures cut { result.cut ≡ false }
+        ensures tail { result.tail ≡ no_tail }
         ensures starts { (text : List ℕ) → HasRead text [] [] result (Some text) no_steps }
     {
         TraceReader {
@@ -238,6 +250,7 @@ impl TraceReader {
             header: Header {
                 stage: Stage::Front,
                 idle: IdleThreads::new(alloc),
+                comment: None,
             },
             cut: false,
         }
@@ -282,7 +295,7 @@ impl TraceReader {
         requires { has_failed reader.old ≡ false }
         ensures turn { Turns self.old.place.limit read_content (lines_left self.old.place (R.remaining (inner_of reader.old)))
             (lines_left self.new.place (R.remaining (inner_of reader.new))) (progress self.old trace.old) (progress self.new trace.new) result }
-        ensures cut { PassesCut (lines_left self.old.place (R.remaining (inner_of reader.old))) (lines_left self.new.place (R.remaining (inner_of reader.new))) self.old.cut self.new.cut result }
+        ensures tail { PassesTail (lines_left self.old.place (R.remaining (inner_of reader.old))) (lines_left self.new.place (R.remaining (inner_of reader.new))) self.old.tail self.new.tail result }
         ensures grows { OnOk result (Grows trace.old trace.new) }
         ensures limit { self.new.place.limit ≡ self.old.place.limit }
         ensures more { IfOk result (λ more. more ≡ true → self.old.place.start < self.new.place.start) }
@@ -342,7 +355,7 @@ impl TraceReader {
         requires { has_failed reader.old ≡ false }
         ensures batch { Batches self.old.place.limit (lines_left self.old.place (R.remaining (inner_of reader.old)))
             (lines_left self.new.place (R.remaining (inner_of reader.new))) (progress self.old trace.old) (progress self.new trace.new) result }
-        ensures cut { BatchesCut (lines_left self.old.place (R.remaining (inner_of reader.old))) (lines_left self.new.place (R.remaining (inner_of reader.new))) self.old.cut self.new.cut result }
+        ensures tail { BatchesTail (lines_left self.old.place (R.remaining (inner_of reader.old))) (lines_left self.new.place (R.remaining (inner_of reader.new))) self.old.tail self.new.tail result }
         ensures grows { OnOk result (Grows trace.old trace.new) }
         ensures limit { self.new.place.limit ≡ self.old.place.limit }
         ensures more { IfOk result (λ batch. batch ≡ Batch.More → self.old.place.start + most_lines ≤ self.new.place.start) }
@@ -407,7 +420,9 @@ impl TraceReader {
         Ending {
             lines: self.lines.number().saturating_sub(1),
             is_cut: self.cut,
+            is_text_3: is_of_third(self.header.stage),
             is_open: lacks_end(self.header.stage),
+            lost: if_any_lost(self.header.comment),
         }
     }
 }

@@ -1,6 +1,7 @@
 -- Lines that are read apart from those before them. Of public clauses those of pieces alone cite it.
-use Rattle.std.specs.Prelude.{◌≡◌, ℕ, ◌+◌, ◌-◌, ◌≤◌, true, List, [], ◌∷◌, Ok, length, take, drop}
+use Rattle.std.specs.Prelude.{◌≡◌, ℕ, ◌+◌, ◌-◌, ◌≤◌, true, List, [], ◌∷◌, Ok, length, take, drop, Option, Some, None}
 use Rattle.er_trace.specs.Trace.{Recording}
+use Rattle.er_text.specs.declared.endings.Lost.{Lost}
 use Rattle.er_text.specs.declared.verbs.Version.{Version}
 use Rattle.er_text.specs.declared.stages.Stage.TheVariants.{Events}
 use Rattle.er_text.specs.Lines.{Line, lines_of}
@@ -19,3 +20,8 @@ pub record IsReadInFront (v : Version) (n : ℕ) (bytes : List ℕ) (width : ℕ
   pub lines : lines_of bytes ≡ record { bytes = take (width - 1) bytes; ended = true } ∷ lines_of (drop width bytes)
   pub short : length (take (width - 1) bytes) ≤ 1024
   pub read : plain_at (at_line n (Events v) [] r) n (take (width - 1) bytes) ≡ Ok (at_line (n + 1) (Events v) [] s)
+
+-- what the last comment says behind lines that were read apart, the first of which has this number: what theirs says, or the one before them
+abbrev pub comment_behind : ℕ → Option Lost → Option Lost → Option Lost
+comment_behind number last None = last
+comment_behind number last (Some lost) = Some (record { line = number + lost.line; events = lost.events })

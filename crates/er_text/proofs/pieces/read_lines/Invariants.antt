@@ -3,7 +3,8 @@ use Rattle.std.proofs.Common.{◌≡◌, ℕ, ◌-◌, ◌≤◌, [], length, dr
 use Rattle.er_trace.specs.Trace.{Recording}
 use Rattle.er_text.specs.declared.stages.Stage.TheVariants.{Events}
 use Rattle.er_text.specs.Inner.Pieces.{AreRead}
-use Rattle.er_text.specs.Lines.{lines_of}
+use Rattle.er_text.specs.Ending.{comment_after}
+use Rattle.er_text.specs.Lines.{lines_of, placed_from}
 use Rattle.er_text.proofs.pieces.read_lines.Given as goal
 
 abbrev pub invariant-loop-at : goal.invariant-loop-at
@@ -13,6 +14,7 @@ invariant-loop-at l = record {
   within : l.at ≤ length l.bytes;
   few : l.line ≤ l.at;
   goes_on : (m : ℕ) (t : Recording) → AreRead l.version (lines_of (drop l.at l.bytes)) l.line l.trace m t → AreRead l.version (lines_of l.bytes) 0 l.fn.trace m t;
+  comments : comment_after l.header.comment (placed_from l.line 0 (lines_of (drop l.at l.bytes))) ≡ comment_after l.fn.header.comment (placed_from 0 0 (lines_of l.bytes));
 }
 
 abbrev pub decreases-loop-at : goal.decreases-loop-at

@@ -1,5 +1,5 @@
 -- What the window shows is the next line of what is left.
-use Rattle.std.proofs.Common.{◌≤◌, ◌<◌, Err, true, false, length, subst, arith}
+use Rattle.std.proofs.Common.{◌≤◌, ◌<◌, Err, length, subst, arith}
 use Rattle.er_device.specs.Device.{inner_of}
 use Rattle.er_text.specs.declared.lines.FrontLine.{FrontLine}
 use Rattle.er_text.specs.Places.{Place}

@@ -1,5 +1,5 @@
 -- What was read is numbered by what the piece knows.
-use Rattle.std.proofs.Common.{◌≡◌, ℕ, ◌+◌, ◌∙◌, length, map, refl, subst, sym, ap}
+use Rattle.std.proofs.Common.{ℕ, ◌+◌, ◌∙◌, length, refl, subst, sym, ap}
 use Rattle.std.proofs.lemmas.List.{length-map}
 use Rattle.er_text.specs.Pieces.{ReadPiece, IsNumbered, CanBeNumbered}
 use Rattle.er_trace.specs.Appended.{renumbered_step}
@@ -12,6 +12,7 @@ returns c =
       lines = c.self.inside.lines;
       len = c.self.inside.len;
       whole = c.self.inside.whole;
+      comment = c.self.inside.comment;
       numbers = c.self.inside.numbers;
       before = c.self.inside.before;
       steps = c.self.inside.steps.items;
@@ -24,6 +25,7 @@ returns c =
       lines = c.self.inside.lines;
       len = c.self.inside.len;
       whole = c.self.inside.whole;
+      comment = c.self.inside.comment;
       numbers = c.self.inside.numbers;
       before = c.self.inside.before;
       steps = c.take_numbered.new.steps.items;
@@ -39,5 +41,6 @@ returns c =
       named = is.named;
       lines = refl;
       len = refl;
+      comment = refl;
     } in
     subst (λ (p : ReadPiece). IsNumbered p numbered) c.self.view_is all

@@ -1,12 +1,14 @@
 -- The piece comes behind what was read.
-use Rattle.std.proofs.Common.{◌≡◌, ℕ, ◌≤◌, ◌&&◌, nat_eq, Bool, refl, subst, sym, ap, ◌∙◌, arith}
+use Rattle.std.proofs.Common.{◌≡◌, ℕ, ◌+◌, ◌<◌, ◌≤◌, ◌^◌, ◌&&◌, nat_eq, Option, IfSome, refl, subst, sym, ap, ◌∙◌, arith}
 use Rattle.er_text.specs.Batches.{HasRead}
+use Rattle.er_text.specs.declared.endings.Lost.{Lost}
 use Rattle.er_text.specs.Inner.Lending.{past_lines}
+use Rattle.er_text.specs.Inner.Pieces.{comment_behind}
 use Rattle.er_text.specs.Pieces.{ReadPiece, StandsInFront, IsReady}
-use Rattle.er_text.specs.Places.{Place, Reached}
+use Rattle.er_text.specs.Places.{Tail, Reached}
 use Rattle.er_trace.specs.Appended.{with_table}
 use Rattle.er_trace.specs.Trace.{Recording}
-use Rattle.er_text.proofs.PieceGives.{added_gives, piece_few, ready_appended}
+use Rattle.er_text.proofs.PieceGives.{added_gives, comment_fits, piece_few, ready_appended}
 use Rattle.er_text.proofs.reading.TraceReader.add_piece.Goals as goal
 
 pub pass_lines-requires-clause-lines : goal.pass_lines-requires-clause-lines
@@ -16,9 +18,18 @@ pass_lines-requires-clause-lines c =
     let same : c.args.piece.now.lines ≤ c.args.piece.now.len = omega (arith, few, ready.lines, ready.len) in
     subst (λ (p : ReadPiece). p.lines ≤ p.len) (sym c.piece.view_is) same
 
+pub comment_behind-self-inside-requires : goal.comment_behind-self-inside-requires
+comment_behind-self-inside-requires c =
+    let inside : Reached = record { place = c.self.inside.lines; stage = c.self.inside.header.stage; idle = c.self.inside.header.idle; tail = record { cut = c.self.inside.cut; comment = c.self.inside.header.comment } } in
+    let read = c.requires.read in
+    let fits = comment_fits inside read c.number-line.result (subst (λ (r : Reached). StandsInFront r read) (sym c.self.view_is) c.requires.front) c.requires.whole c.number-line.ensures.bound c.number-line.ensures.most_limit in
+    let same : c.args.piece.now.comment ≡ read.comment = c.requires.ready.comment in
+    subst (λ (p : ReadPiece). IfSome p.comment (λ lost. c.number-line.result + lost.line < 2 ^ 64)) (sym c.piece.view_is)
+    (subst (λ (l : Option Lost). IfSome l (λ lost. c.number-line.result + lost.line < 2 ^ 64)) (sym same) fits)
+
 pub returns-clause-told : goal.returns-clause-told
 returns-clause-told c = λ text steps lines known names read front whole ready had.
-    let inside : Reached = record { place = c.self.inside.lines; stage = c.self.inside.header.stage; idle = c.self.inside.header.idle; cut = c.self.inside.cut } in
+    let inside : Reached = record { place = c.self.inside.lines; stage = c.self.inside.header.stage; idle = c.self.inside.header.idle; tail = record { cut = c.self.inside.cut; comment = c.self.inside.header.comment } } in
     let t : Recording = record c.args.trace.now { names = names } in
     let u : Recording = record c.add_steps.new.self { names = with_table names read.told.names } in
     let piece : ReadPiece = record {
@@ -26,6 +37,7 @@ returns-clause-told c = λ text steps lines known names read front whole ready h
       lines = c.piece.inside.lines;
       len = c.piece.inside.len;
       whole = c.piece.inside.whole;
+      comment = c.piece.inside.comment;
       numbers = c.piece.inside.numbers;
       before = c.piece.inside.before;
       steps = c.piece.inside.steps.items;
@@ -38,7 +50,12 @@ returns-clause-told c = λ text steps lines known names read front whole ready h
     c.in_ok-add_steps.ensures.ok c.as_slice.ensures.value c.as_slice-2.ensures.value known_ready in
     let passed : c.pass_lines.new.self ≡ past_lines inside.place read.lines read.len =
     c.pass_lines.ensures ∙ ap (λ (n : ℕ). past_lines inside.place n piece.len) known_ready.lines ∙ ap (λ (n : ℕ). past_lines inside.place read.lines n) known_ready.len in
-    let cut : c.cut_behind-self-inside.result ≡ (inside.cut && nat_eq read.len 0) = c.cut_behind-self-inside.ensures ∙ ap (λ (n : ℕ). inside.cut && nat_eq n 0) known_ready.len in
-    added_gives text steps lines inside c.pass_lines.new.self read inside.place.number c.cut_behind-self-inside.result known t u
-    (subst (λ (r : Reached). StandsInFront r read) (sym c.self.view_is) front) whole refl told passed cut
+    let cut : c.cut_behind-self-inside.result ≡ (inside.tail.cut && nat_eq read.len 0) = c.cut_behind-self-inside.ensures ∙ ap (λ (n : ℕ). inside.tail.cut && nat_eq n 0) known_ready.len in
+    let comment : c.comment_behind-self-inside.result ≡ comment_behind inside.place.number inside.tail.comment read.comment =
+    c.comment_behind-self-inside.ensures
+    ∙ ap (λ (n : ℕ). comment_behind n inside.tail.comment piece.comment) c.number-line.ensures.value
+    ∙ ap (λ (l : Option Lost). comment_behind inside.place.number inside.tail.comment l) known_ready.comment in
+    let tail : Tail = record { cut = c.cut_behind-self-inside.result; comment = c.comment_behind-self-inside.result } in
+    added_gives text steps lines inside c.pass_lines.new.self read inside.place.number tail known t u
+    (subst (λ (r : Reached). StandsInFront r read) (sym c.self.view_is) front) whole refl told passed cut comment
     (subst (λ (r : Reached). HasRead text steps lines r known t) (sym c.self.view_is) had)

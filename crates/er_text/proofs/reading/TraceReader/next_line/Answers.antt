@@ -14,8 +14,8 @@ pub returns-in_err-read_plain-clause-turn : goal.returns-in_err-read_plain-claus
 returns-in_err-read_plain-clause-turn g c =
     let e = err_from_is_err_and c.from_residual-in_err-read_plain.result c.from_residual-in_err-read_plain.ensures.1 in
     let found = rw c.in-Some.is at c.in_ok-front.ensures.found in
-    let inside : Reached = record { place = c.self.inside.lines; stage = c.self.inside.header.stage; idle = c.self.inside.header.idle; cut = c.self.inside.cut } in
-    let new : Reached = record { place = c.find.new.self; stage = c.read_plain.new.self.stage; idle = c.read_plain.new.self.idle; cut = c.self.inside.cut } in
+    let inside : Reached = record { place = c.self.inside.lines; stage = c.self.inside.header.stage; idle = c.self.inside.header.idle; tail = record { cut = c.self.inside.cut; comment = c.self.inside.header.comment } } in
+    let new : Reached = record { place = c.find.new.self; stage = c.read_plain.new.self.stage; idle = c.read_plain.new.self.idle; tail = record { cut = c.self.inside.cut; comment = c.self.inside.header.comment } } in
     let P : Reached → Type 0 = λ r. Turns r.place.limit read_content (lines_left r.place (g.R.Read.remaining (inner_of c.args.reader.now)))
     (lines_left c.find.new.self (g.R.Read.remaining (inner_of c.find.new.reader))) (progress r c.args.trace.now) (progress new c.read_plain.new.trace) c.from_residual-in_err-read_plain.result in
     subst P c.self.view_is (rw (e.1, e.2) (trace_fails inside c.find.new.self c.in-Some.front _ _ _ c.args.trace.now c.number-line.result c.bytes-bytes.result.now _ (at_line (c.number-line.result + 1) c.read_plain.new.self.stage c.read_plain.new.self.idle c.read_plain.new.trace) c.in_err-read_plain.field-0.0

@@ -5,8 +5,8 @@ use Rattle.er_text.specs.Places.{Reached}
 use Rattle.er_text.specs.Inner.Lending.{lines_left, taken_by}
 use Rattle.er_text.specs.Inner.Reading.{Turns}
 use Rattle.er_text.specs.Inner.Traces.{Progress, progress, read_content}
-use Rattle.er_text.proofs.CutLemmas.{cut_start, cut_goes_on}
 use Rattle.er_text.proofs.GrowthLemmas.{grows_not, grows_on}
+use Rattle.er_text.proofs.TailLemmas.{tail_start, tail_goes_on}
 use Rattle.er_text.proofs.TurnLemmas.{at_start, goes_on}
 use Rattle.er_text.proofs.reading.TraceReader.read_batch.Goals as goal
 
@@ -16,7 +16,7 @@ loop-init g c =
     let Q : Reached → Type 0 = λ r. taken_by r.place ≤ r.place.limit + 1025 in
     record {
       goes_on = at_start c.args.self.now.place.limit read_content (lines_left c.args.self.now.place (g.R.Read.remaining (inner_of c.args.reader.now))) (progress c.args.self.now c.args.trace.now);
-      cut = cut_start (lines_left c.args.self.now.place (g.R.Read.remaining (inner_of c.args.reader.now))) c.args.self.now.cut;
+      tail = tail_start (lines_left c.args.self.now.place (g.R.Read.remaining (inner_of c.args.reader.now))) c.args.self.now.tail;
       grows = grows_not c.args.trace.now;
       limit = refl;
       within = subst P c.self.view_is c.number-line.ensures.within;
@@ -43,7 +43,7 @@ loop-preserved g c =
     let passed = step.more more in
     record {
       goes_on = goes_on c.args.self.now.place.limit read_content _ left rest _ t u old.goes_on (subst L old.limit turned);
-      cut = cut_goes_on _ left rest c.args.self.now.cut c.loop.self.cut c.next_line.new.self.cut old.cut (rw more at step.cut);
+      tail = tail_goes_on _ left rest c.args.self.now.tail c.loop.self.tail c.next_line.new.self.tail old.tail (rw more at step.tail);
       grows = grows_on _ _ _ old.grows step.grows;
       limit = step.limit ∙ old.limit;
       within = step.within;

@@ -2,7 +2,7 @@
 use Rattle.std.proofs.Common.{◌≡◌, ◌+◌, ◌≤◌, false}
 use Rattle.er_device.specs.Device.{inner_of, has_failed, taken_of}
 use Rattle.er_text.specs.Named.{Grows}
-use Rattle.er_text.specs.Inner.Endings.{KeepsCut}
+use Rattle.er_text.specs.Inner.Endings.{KeepsTail}
 use Rattle.er_text.specs.Inner.Lending.{taken_by, lines_left}
 use Rattle.er_text.specs.Inner.Reading.{Continues}
 use Rattle.er_text.specs.Inner.Traces.{progress, read_content}
@@ -12,7 +12,7 @@ abbrev pub invariant-loop : goal.invariant-loop
 invariant-loop g l = record {
   goes_on : Continues l.fn.self.place.limit read_content (lines_left l.fn.self.place (g.R.Read.remaining (inner_of l.fn.reader))) (lines_left l.self.place (g.R.Read.remaining (inner_of l.reader)))
       (progress l.fn.self l.fn.trace) (progress l.self l.trace);
-  cut : KeepsCut (lines_left l.fn.self.place (g.R.Read.remaining (inner_of l.fn.reader))) (lines_left l.self.place (g.R.Read.remaining (inner_of l.reader))) l.fn.self.cut l.self.cut;
+  tail : KeepsTail (lines_left l.fn.self.place (g.R.Read.remaining (inner_of l.fn.reader))) (lines_left l.self.place (g.R.Read.remaining (inner_of l.reader))) l.fn.self.tail l.self.tail;
   grows : Grows l.fn.trace l.trace;
   limit : l.self.place.limit ≡ l.fn.self.place.limit;
   within : l.self.place.start ≤ l.self.place.limit;

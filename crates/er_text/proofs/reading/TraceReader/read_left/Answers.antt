@@ -1,11 +1,11 @@
 -- A fault of the next line is the text's, and so is the want of a header.
-use Rattle.std.proofs.Common.{◌≡◌, ℕ, Err, Ok, false, subst, rules}
+use Rattle.std.proofs.Common.{ℕ, Err, subst}
 use Rattle.std.proofs.lemmas.Result.{err_from_is_err_and}
 use Rattle.er_device.specs.Device.{inner_of}
 use Rattle.er_text.specs.Inner.Lending.{lines_left}
 use Rattle.er_text.specs.Inner.Reading.{Turns}
 use Rattle.er_text.specs.Inner.Traces.{Progress, progress, read_content}
-use Rattle.er_text.proofs.PlaceLemmas.{fault_ends, header_missing}
+use Rattle.er_text.proofs.PlaceLemmas.{fault_ends}
 use Rattle.er_text.proofs.reading.TraceReader.read_left.Goals as goal
 
 pub returns-in_err-next_line-clause-fault : goal.returns-in_err-next_line-clause-fault
