@@ -8,7 +8,7 @@ moved: a path in a table becomes that of the one file that now has the function 
 - each crate is once, in the order of crates.txt, in the diagram and in the table of docs/ARCHITECTURE.md, under the same headings;
   the table's sentence is that of crates.txt, and a crate comes after those that it uses
 - each walk of docs/ARCHITECTURE.md names a function of the file that it names, and docs/GLOSSARY.md a word of it
-- each name that docs/DEFINITIONS.md reads out is defined
+- each name that docs/DEFINITIONS.md reads out is defined, and its last table has each other file of definitions that docs/PROMISES.md cites
 - the table of docs/PROOF.md has the numbers that tools/believed counts
 - nothing is beyond tests/budget.toml, and each wrong body can be put into its crate's code; how many of tests/wrong_bodies were not tried
   since their crate changed is only printed, and so are the minutes of the last gate
@@ -252,6 +252,28 @@ def definition_faults():
                 yield f"docs/DEFINITIONS.md:{number}: nothing defines {name.split()[0]}"
 
 
+def not_read_out(text):
+    """The files of definitions that a row of docs/PROMISES.md cites and of which docs/DEFINITIONS.md names no word above its last table."""
+    cited = re.findall(r"`(er_\w+/specs/[\w/]+\.antt)`", (DOCS / "PROMISES.md").read_text())
+    named = {word for name in re.findall(r"`([^`]*)`", text) for word in re.findall(r"[\w'-]+", name)}
+    return [path for path in sorted(set(cited)) if not named & set(tool("believed").module(module_of(path))[0])]
+
+
+OTHERS = "| File | It has |\n|---|---|\n"
+
+
+def others_faults():
+    """What no sentence of docs/DEFINITIONS.md reads out stands in its last table, in the words of the file's first line."""
+    text, _, rows = (DOCS / "DEFINITIONS.md").read_text().partition(OTHERS)
+    if rows != other_rows(text):
+        yield "docs/DEFINITIONS.md: its last table isn't what docs/PROMISES.md cites besides; --mend writes it"
+
+
+def other_rows(text):
+    heads = {path: text_of(CRATES / path).partition("\n")[0].removeprefix("-- ") for path in not_read_out(text)}
+    return "".join(f"| `crates/{path}` | {head} |\n" for path, head in heads.items())
+
+
 def glossary_faults():
     rows = tables((DOCS / "GLOSSARY.md").read_text(), ["The field says", "We say", "It is", "Defined in"])
     if len(rows) < 50:
@@ -412,6 +434,7 @@ CHECKS = {
     "the map of crates": map_faults,
     "walks": walk_faults,
     "the budget": budget_faults,
+    "where definitions are": others_faults,
     "what must be believed": lambda: tool("believed").faults(),
     "must-fail edits": edit_faults,
     "definitions": definition_faults,
@@ -474,6 +497,10 @@ def mended_map(text):
 
 
 def mend():
+    definitions = DOCS / "DEFINITIONS.md"
+    text, head, _ = definitions.read_text().partition(OTHERS)
+    definitions.write_text(text + head + other_rows(text))
+    tool("believed").mend()
     architecture = DOCS / "ARCHITECTURE.md"
     architecture.write_text(mended_map(architecture.read_text()))
     for name in ("PROMISES", "ARCHITECTURE", "GLOSSARY"):
