@@ -47,11 +47,7 @@ impl LocksetTable {
     }
 
     /// The same, with sets and numbers of sets that are hashed by these keys, also at each owner of the table.
-    pub fn keyed(
-        alloc: Global,
-        max_sets: u32,
-        keys: HashKeys,
-    ) -> Result<LocksetTable, AllocError>
+    pub fn keyed(alloc: Global, max_sets: u32, keys: HashKeys) -> Result<LocksetTable, AllocError>
         requires some { 1 ≤ max_sets }
         requires few { max_sets ≤ most_sets }
         ensures { IfOk result (λ table. table.limit ≡ max_sets) }
