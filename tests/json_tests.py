@@ -162,11 +162,11 @@ def schema_tests(record, schema):
     document = json.loads(output)
     full = all(document[name] for name in ("races", "refused", "shown")) and document["races"][0]["reasons"] and document["shown"][-1]["candidates"] == []
     record("a document with all that there is", full and (errors, status) == (b"", 1) and not list(faults(document, schema, schema)), f"{output}")
-    document_of_part = json.loads(run(["replay", "--format", "json", "-"], LOSSY)[0])
-    record("a document of lost events", document_of_part["totals"] == {"steps": 1, "races": 0, "suppressed": 0, "refused": 0, "lost": 30175} and not list(faults(document_of_part, schema, schema)))
+    lossy = json.loads(run(["replay", "--format", "json", "-"], LOSSY)[0])
+    record("a document of lost events", lossy["totals"] == {"steps": 1, "races": 0, "suppressed": 0, "refused": 0, "lost": 30175} and not list(faults(lossy, schema, schema)))
     for lost in (0, "1", None):
-        document_of_part["totals"]["lost"] = lost
-        record(f"a document with {lost} lost events is none", list(faults(document_of_part, schema, schema)))
+        lossy["totals"]["lost"] = lost
+        record(f"a document with {lost} lost events is none", list(faults(lossy, schema, schema)))
     for name, other in changed(document):
         record(f"a document with {name} is none", list(faults(other, schema, schema)), f"{other}")
 

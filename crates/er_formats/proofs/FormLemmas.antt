@@ -41,10 +41,10 @@ of-json old new names table rules report (Err writing.Memory) written = written
 of-json old new names table rules report (Err writing.Write) written = (json_text names (summary report), (refl, written))
 
 pub of-sarif : {X : Type 0} (old new : Option (List ℕ)) (names : NameTable) (table : PlaceTable) (rules : List Target) (report : Report) (result : Result X WriteFault)
-    → WritesReport old new (sarif_text names table report.lines.items report.rule_counts.items rules) result → WritesForm Sarif old new names table rules report result
-of-sarif old new names table rules report (Ok x) written = (sarif_text names table report.lines.items report.rule_counts.items rules, (refl, written))
+    → WritesReport old new (sarif_text names table report rules) result → WritesForm Sarif old new names table rules report result
+of-sarif old new names table rules report (Ok x) written = (sarif_text names table report rules, (refl, written))
 of-sarif old new names table rules report (Err writing.Memory) written = written
-of-sarif old new names table rules report (Err writing.Write) written = (sarif_text names table report.lines.items report.rule_counts.items rules, (refl, written))
+of-sarif old new names table rules report (Err writing.Write) written = (sarif_text names table report rules, (refl, written))
 
 pub of-html : {X : Type 0} (old new : Option (List ℕ)) (names : NameTable) (table : PlaceTable) (rules : List Target) (report : Report) (result : Result X WriteFault)
     → WritesReport old new (html_text names (summary report) []) result → WritesForm Html old new names table rules report result

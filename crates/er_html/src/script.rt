@@ -179,8 +179,10 @@ function headOf(report, sites) {
   const title = verdictOf(report, sites);
   document.title = `${title} \u2014 eraser`;
   const head = make("header", {}, make("h1", {}, title), make("p", {}, exitOf(report)));
+  const { lost } = report.totals;
+  if (lost) head.prepend(make("p", { class: "notice" }, `${counted(lost, "event was", "events were")} lost: this page shows a part of the run.`));
   const totals = make("dl", { class: "totals" });
-  for (const name of ["steps", "races", "suppressed", "refused"]) totals.append(make("div", {}, make("dt", {}, name), make("dd", {}, report.totals[name].toLocaleString("en"))));
+  for (const [name, count] of Object.entries(report.totals)) totals.append(make("div", {}, make("dt", {}, name), make("dd", {}, count.toLocaleString("en"))));
   head.append(totals);
   if (report.races.length < report.totals.races) {
     head.append(make("p", { class: "notice" }, `This page has the first ${counted(report.races.length, "race", "races")} alone.`));

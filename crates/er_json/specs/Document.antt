@@ -13,7 +13,7 @@ use Rattle.er_event.specs.declared.steps.Mode.TheVariants as mode
 use Rattle.er_event.specs.declared.steps.Step.{Step}
 use Rattle.er_event.specs.declared.steps.WordState.{WordState}
 use Rattle.er_event.specs.declared.steps.WordState.TheVariants.{Virgin, Exclusive, Shared, SharedModified}
-use Rattle.er_print.specs.Printed.{address_text, name_at, order_text}
+use Rattle.er_print.specs.Printed.{address_text, lost_text, name_at, order_text}
 use Rattle.er_report.specs.Lines.{LineView, RaceView, RefusedView, ShownView}
 use Rattle.er_report.specs.Report.{Summary}
 use Rattle.er_report.specs.declared.report.Because.{Because}
@@ -211,7 +211,8 @@ count_member name count = name ++ decimal count
 unfoldable pub totals_member : Summary → List ℕ
 totals_member s =
     count_member (codes ",\n\"totals\":{\"steps\":") s.steps ++ count_member (codes ",\"races\":") s.races
-    ++ count_member (codes ",\"suppressed\":") s.suppressed ++ count_member (codes ",\"refused\":") s.refused ++ codes "}}\n"
+    ++ count_member (codes ",\"suppressed\":") s.suppressed ++ count_member (codes ",\"refused\":") s.refused
+    ++ lost_text (codes ",\"lost\":") [] s.lost ++ codes "}}\n"
 
 -- the rows of a list, behind its name
 unfoldable pub list_text : List ℕ → List (List ℕ) → List ℕ

@@ -12,7 +12,7 @@ use crate::members::{put_line, put_why};
 use crate::rows::{put_access, put_context, put_refused, put_shown};
 use er_device::Device;
 use er_event::NoRoom;
-use er_print::{WriteFault, put_number};
+use er_print::{WriteFault, put_lost, put_number};
 use er_report::{Line, Report};
 use er_trace::Names;
 use std::alloc::{AllocError, Global};
@@ -254,6 +254,7 @@ fn put_totals(out: &mut Vec<u8>, report: &Report) -> Result<(), AllocError>
     put_count(out, b",\"races\":", report.races)?;
     put_count(out, b",\"suppressed\":", report.suppressed)?;
     put_count(out, b",\"refused\":", report.refused)?;
+    put_lost(out, b",\"lost\":", report.lost, b"")?;
     out.extend_from_slice(b"}}\n")?;
     Ok(())
 }

@@ -7,12 +7,13 @@ use Rattle.er_json.specs.Document.{access_verb, array_text, escaped_text, lock_t
 use Rattle.er_places.specs.Places.{PlaceTable}
 use Rattle.er_places.specs.Reasons.{reason_place}
 use Rattle.er_places.specs.declared.place.Place.{Place}
-use Rattle.er_print.specs.Printed.{address_text, name_at, site_text}
+use Rattle.er_print.specs.Printed.{address_text, lost_text, name_at, site_text}
 use Rattle.er_report.specs.declared.report.Because.{Because}
 use Rattle.er_report.specs.declared.report.Label.{Label}
 use Rattle.er_report.specs.declared.report.Label.TheVariants as label
 use Rattle.er_report.specs.declared.report.Line.{Line}
 use Rattle.er_report.specs.declared.report.Line.TheVariants.{Race, Refused, Shown}
+use Rattle.er_report.specs.declared.report.Report.{Report}
 use Rattle.er_rules.specs.Rules.{Target, AtSite, AtWords}
 use Rattle.er_sarif.specs.Places.{file_end}
 use Rattle.er_sarif.specs.Uris.{uri_text}
@@ -217,10 +218,17 @@ suppressed_rule_text = codes "{\"id\":\"race/suppressed\",\"shortDescription\":{
 unfoldable pub start_text : List ℕ
 start_text = version_text ++ read_rule_text ++ write_rule_text ++ suppressed_rule_text
 
--- and after them
-unfoldable pub end_text : List ℕ
-end_text = codes "]}]}\n"
+-- what is said of the run, between these, if events were lost
+abbrev pub before_lost : List ℕ
+before_lost = codes ",\n\"invocations\":[{\"executionSuccessful\":true,\"toolExecutionNotifications\":[{\"level\":\"warning\",\"message\":{\"text\":\""
+
+abbrev pub after_lost : List ℕ
+after_lost = codes " events were lost: the report is of a part of the run\"}}]}]"
+
+-- what stands after the results
+unfoldable pub end_text : Option ℕ → List ℕ
+end_text lost = codes "]" ++ lost_text before_lost after_lost lost ++ codes "}]}\n"
 
 -- the whole document; each reason says where its access was, as far as this table knows
-unfoldable pub sarif_text : NameTable → PlaceTable → List Line → List ℕ → List Target → List ℕ
-sarif_text names table lines counts targets = start_text ++ rows_text (all_results names table lines counts targets) ++ end_text
+unfoldable pub sarif_text : NameTable → PlaceTable → Report → List Target → List ℕ
+sarif_text names table r targets = start_text ++ rows_text (all_results names table r.lines.items r.rule_counts.items targets) ++ end_text r.lost

@@ -10,8 +10,8 @@ use crate::results::put_results;
 use crate::suppressed::put_suppressed;
 use er_device::Device;
 use er_places::Places;
-use er_print::WriteFault;
-use er_report::{Line, Report};
+use er_print::{WriteFault, put_lost};
+use er_report::Report;
 use er_rules::Suppressions;
 use er_sites::count_races;
 use er_trace::Names;
@@ -30,18 +30,11 @@ pub fn write_sarif<W: Write>(
 ) -> Result<(), WriteFault>
     requires open { has_failed writer.old ≡ false }
     requires names { All (HasNames names.now) report.now.lines.items }
-    ensures bytes { WritesReport (W.contents (inner_of writer.old)) (W.contents (inner_of writer.new)) (sarif_text names.now places.now report.now.lines.items report.now.rule_counts.items (targets_of rules.now)) result }
+    ensures bytes { WritesReport (W.contents (inner_of writer.old)) (W.contents (inner_of writer.new)) (sarif_text names.now places.now report.now (targets_of rules.now)) result }
     ensures failed { FailsWriting (has_failed writer.new) result }
     ensures taken { taken_of writer.new ≡ taken_of writer.old }
 {
-    let Ok(text) = sarif_text(
-        alloc,
-        &report.lines,
-        &report.rule_counts,
-        names,
-        rules,
-        places,
-    ) else {
+    let Ok(text) = sarif_text(alloc, report, names, rules, places) else {
         return Err(WriteFault::Memory);
     };
     if writer.write_all(&text).is_err() {
@@ -53,21 +46,21 @@ pub fn write_sarif<W: Write>(
 #[tactic(auto, unfolding(crate::specs::Document::sarif_text))]
 fn sarif_text(
     alloc: Global,
-    lines: &[Line],
-    rule_counts: &[u64],
+    report: &Report,
     names: &Names,
     rules: &Suppressions,
     places: &Places,
 ) -> Result<Vec<u8>, AllocError>
-    requires { All (HasNames names.now) lines.now }
-    ensures { IfOk result (λ text. text.items ≡ sarif_text names.now places.now lines.now rule_counts.now (targets_of rules.now)) }
+    requires { All (HasNames names.now) report.now.lines.items }
+    ensures { IfOk result (λ text. text.items ≡ sarif_text names.now places.now report.now (targets_of rules.now)) }
 {
+    let lines = report.lines.as_slice();
     let total = count_races(alloc, lines)?;
     let mut text = Vec::new(alloc);
     put_start(&mut text)?;
     let is_first = put_results(alloc, &mut text, names, places, lines, &total)?;
-    put_suppressed(alloc, &mut text, rule_counts, rules, is_first)?;
-    put_end(&mut text)?;
+    put_suppressed(alloc, &mut text, &report.rule_counts, rules, is_first)?;
+    put_end(&mut text, report.lost)?;
     Ok(text)
 }
 
@@ -91,8 +84,16 @@ fn put_start(out: &mut Vec<u8>) -> Result<(), AllocError>
 }
 
 #[tactic(auto, unfolding(crate::specs::Document::end_text))]
-fn put_end(out: &mut Vec<u8>) -> Result<(), AllocError>
-    ensures { OnOk result (out.new.items ≡ out.old.items ++ end_text) }
+fn put_end(out: &mut Vec<u8>, lost: Option<u64>) -> Result<(), AllocError>
+    ensures { OnOk result (out.new.items ≡ out.old.items ++ end_text lost) }
 {
-    out.extend_from_slice(b"]}]}\n")
+    out.extend_from_slice(b"]")?;
+    put_lost(
+        out,
+        b",\n\"invocations\":[{\"executionSuccessful\":true,\"toolExecutionNotifications\":[{\"level\":\"warning\",\"message\":{\"text\":\"",
+        lost,
+        b" events were lost: the report is of a part of the run\"}}]}]",
+    )?;
+    out.extend_from_slice(b"}]}\n")?;
+    Ok(())
 }

@@ -1,7 +1,7 @@
 -- The bytes of a report of unordered accesses: as those of a report of races, but for the label of an access and its total.
 use Rattle.std.specs.Prelude.{ℕ, List, ◌∷◌, [], ◌++◌, flat_map, codes, decimal}
 use Rattle.er_event.specs.declared.steps.Kind.{Kind}
-use Rattle.er_print.specs.Printed.{address_text, counts_text, kind_text, line_text, locks_text, name_at, place_text, reason_text, site_text}
+use Rattle.er_print.specs.Printed.{address_text, counts_text, kind_text, line_text, locks_text, lost_text, name_at, place_text, reason_text, site_text}
 use Rattle.er_report.specs.Lines.{LineView, RaceView, RefusedView, ShownView}
 use Rattle.er_report.specs.Report.{Summary}
 use Rattle.er_trace.specs.Names.{NameTable}
@@ -22,7 +22,7 @@ unordered_line names (ShownView number word state) = line_text names (ShownView 
 abbrev pub unordered_totals : Summary → List ℕ
 unordered_totals s =
     codes "steps " ++ decimal s.steps ++ codes ", unordered " ++ decimal s.races ++ codes ", suppressed " ++ decimal s.suppressed
-    ++ codes ", refused " ++ decimal s.refused ++ 10 ∷ []
+    ++ codes ", refused " ++ decimal s.refused ++ lost_text (codes ", lost ") [] s.lost ++ 10 ∷ []
 
 -- the whole text; a replay by happens-before never stops
 unfoldable pub unordered_text : NameTable → Summary → List ℕ

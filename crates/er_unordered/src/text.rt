@@ -11,8 +11,8 @@ ghost use Rattle.er_unordered.specs.Text.{access_text, unordered_line, unordered
 use er_device::Device;
 use er_event::{Kind, Lockset, Site, ThreadId, Word};
 use er_print::{
-    WriteFault, put_address, put_kind, put_line, put_locks, put_number, put_place, put_reasons,
-    put_rule_counts, put_site, put_thread, report_text,
+    WriteFault, put_address, put_kind, put_line, put_locks, put_lost, put_number, put_place,
+    put_reasons, put_rule_counts, put_site, put_thread, report_text,
 };
 use er_report::{Line, Report};
 use er_trace::Names;
@@ -145,5 +145,6 @@ pub fn put_unordered_totals(out: &mut Vec<u8>, report: &Report) -> Result<(), Al
     put_number(out, report.suppressed)?;
     out.extend_from_slice(b", refused ")?;
     put_number(out, report.refused)?;
+    put_lost(out, b", lost ", report.lost, b"")?;
     out.extend_from_slice(b"\n")
 }
