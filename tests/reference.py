@@ -137,13 +137,19 @@ def events_of(text):
     return events
 
 
-def lost_of(text):
-    """How many events the last comment of a text 3 says were lost. None if it says nothing of the sort."""
-    version = next((words[-1] for _, words in content_of(text) if words), None)
-    comment = next((line for line in reversed(text.split(b"\n")) if line.startswith(b"#")), b"")
+def loss_of(text):
+    """The line of the last comment, and how many events it says were lost. None if it says nothing of the sort."""
+    comments = [(line, comment) for line, comment in enumerate(text.split(b"\n"), 1) if comment.startswith(b"#")]
+    line, comment = comments[-1] if comments else (0, b"")
     found = re.fullmatch(rb"# incomplete: ([0-9]+) events, ([0-9]+) lost", comment)
-    counts = [int(count) for count in found.groups()] if found and version == b"3" else [0, 0]
-    return counts[1] if counts[1] > 0 and max(counts) < 2**64 else None
+    counts = [int(count) for count in found.groups()] if found else [0, 0]
+    return (line, counts[1]) if counts[1] > 0 and max(counts) < 2**64 else None
+
+
+def lost_of(text):
+    """How many events a report says were lost: those that the last comment of a text 3 says."""
+    version, loss = next((words[-1] for _, words in content_of(text) if words), None), loss_of(text)
+    return loss[1] if loss and version == b"3" else None
 
 
 def lost_part(text):

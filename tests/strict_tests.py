@@ -4,10 +4,12 @@
 `tests/run` calls `tests`. By itself this file runs these tests alone.
 
 - worked traces: each kind of damage alone, all at once, none, locks to read of two threads, a thread that takes what it has, the formats
-  1, 2 and 3 with a last line feed and without, with `end` and without; by path and by standard input
+  1, 2 and 3 with a last line feed and without, with `end` and without, with comments that say that events are lost and with comments that
+  nearly do; by path and by standard input
 - examples, worked traces and random ones: a damaged trace gives a line for each kind and nothing on the output, and any other gives what
   it gives without --strict, in each form, explained, by several workers and under rules
 - each allocation refused in turn: `out of memory`, or the whole answer
+- long traces with a comment at each of many places, which several workers read in pieces
 - steps on both sides of the ends of batches, and threads that hold one lock to read, as many as a count of them may grow to
 """
 
@@ -81,6 +83,8 @@ def damage_of(text):
         (None if text.endswith(b"\n") else last, "no line feed"),
         (last if words[0][2] == b"3" and words[-1] != [b"end"] else None, "no end"),
     ]
+    loss = reference.loss_of(text)
+    found += [(loss[0], f"events lost: {loss[1]}")] if loss else []
     return "".join(f"line {line}: {kind}\n" for line, kind in found if line is not None).encode()
 
 
@@ -126,6 +130,29 @@ WORKED = (
     ("a cut text 3 that can be read", THIRD + b"t1 write 0\nt1 write 0x1", b"line 3: no line feed\nline 3: no end\n"),
     ("a text 1 needs no end", HEAD + b"t1 write 0\n", b""),
     ("all at once", THIRD + b"t1 unlock m\nt1 lock m\nt2 lock m\nt2 write 0", b"line 2: refused step\nline 4: lock held twice\nline 5: no line feed\nline 5: no end\n"),
+    ("events of a text 3 are lost", THIRD + b"t1 write 0\n# incomplete: 1 events, 30175 lost\n", b"line 3: no end\nline 3: events lost: 30175\n"),
+    ("events of a text 2 are lost", b"eraser trace 2\n# incomplete: 0 events, 1 lost\n", b"line 2: events lost: 1\n"),
+    ("events of a text 1 are lost", HEAD + b"t1 write 0\n\n# incomplete: 1 events, 18446744073709551615 lost\n", b"line 4: events lost: 18446744073709551615\n"),
+    ("events are lost and the line feed too", HEAD + b"# incomplete: 01 events, 007 lost", b"line 2: no line feed\nline 2: events lost: 7\n"),
+    ("events are lost before the header", b"# incomplete: 1 events, 2 lost\n" + HEAD, b"line 1: events lost: 2\n"),
+    ("events are lost in mid-text", HEAD + b"t1 write 0\n# incomplete: 1 events, 2 lost\nt1 write 0\n", b"line 3: events lost: 2\n"),
+    ("events are lost before the end", THIRD + b"# incomplete: 1 events, 2 lost\nend\n", b"line 2: events lost: 2\n"),
+    ("events are lost behind the end", THIRD + b"end\n# incomplete: 1 events, 2 lost\n", b"line 3: events lost: 2\n"),
+    ("the last of two comments", HEAD + b"# incomplete: 1 events, 2 lost\n# incomplete: 1 events, 3 lost\n", b"line 3: events lost: 3\n"),
+    ("behind a comment that none is lost", HEAD + b"# complete: 1 events, none lost\n# incomplete: 1 events, 3 lost\n", b"line 3: events lost: 3\n"),
+    ("another comment behind lost events", HEAD + b"# incomplete: 1 events, 2 lost\n# done\n", b""),
+    ("an empty comment behind lost events", HEAD + b"# incomplete: 1 events, 2 lost\n#\n", b""),
+    ("no lost event behind lost events", HEAD + b"# incomplete: 1 events, 2 lost\n# incomplete: 1 events, 0 lost\n", b""),
+    ("none lost", THIRD + b"# complete: 1 events, none lost\nend\n", b""),
+    *((f"not quite {line!r}", HEAD + line + b"\n", b"") for line in (
+        b"# incomplete: 1 events, 0 lost", b"# complete: 1 events, 2 lost", b"# incomplete: 1 events, 18446744073709551616 lost",
+        b"# incomplete: 18446744073709551616 events, 1 lost", b"# incomplete: events, 2 lost", b"# incomplete: x events, 2 lost",
+        b"# incomplete: 1 events, 0x2 lost", b"# incomplete: 1 events, -2 lost", b"# incomplete: 1 events, lost", b"# incomplete: 1 events,  lost",
+        b"#incomplete: 1 events, 2 lost", b"#  incomplete: 1 events, 2 lost", b"# incomplete:  1 events, 2 lost", b"# incomplete:\t1 events, 2 lost",
+        b"# incomplete: 1 events,  2 lost", b"# incomplete: 1 events, 2  lost", b"# incomplete: 1 events, 2 lost ", b"# incomplete: 1 events, 2 lost\r",
+        b"# incomplete: 1 events, 2 lost x", b"# incomplete: 1 events, 2", b"# incomplete: 1 event, 2 lost", b"# incomplete 1 events, 2 lost",
+        b"# Incomplete: 1 events, 2 lost", b"## incomplete: 1 events, 2 lost", b"#", b"# ", b"#     ", b"# incomplete:",
+    )),
     ("a fault before damage", HEAD + b"t1 unlock m\nt1 fly\n", None),
     ("an empty text", b"", None),
 )
@@ -172,10 +199,23 @@ def batches(record):
     record("strict: no reader is left", run(["replay", "--strict", "-"], text + b"t2999 runlock m\nt lock m\n")[1:] == (b"", 0))
 
 
+def long_comments(record):
+    """A comment anywhere in a trace that several workers read in pieces, and one behind it that says nothing."""
+    for before, behind in ((60, 700_000), (150_000, 550_000), (350_000, 350_000), (699_000, 1000)):
+        text = THIRD + b"t1 write 0\n" * before + b"# incomplete: 7 events, 8 lost\n" + b"t1 write 0\n" * behind
+        damage = b"line %d: no end\nline %d: events lost: 8\n" % (before + behind + 2, before + 2)
+        for crew in ([], ["--workers", "2"], ["--workers", "3"], ["--workers", "4"]):
+            name = f"strict: lost behind {before} lines {crew}"
+            record(name, run(["replay", "--strict", *crew, "-"], text) == (b"", damage, 2))
+            record(f"{name}, in the report", run(["replay", *crew, "-"], text)[0] == b"steps %d, races 0, suppressed 0, refused 0, lost 8\n" % (before + behind))
+            record(f"{name}, and said no more", run(["replay", "--strict", *crew, "-"], text + b"#\nend\n")[1:] == (b"", 0))
+
+
 def refusals(record, preloaded):
     with tempfile.TemporaryDirectory() as folder:
         library, trace = preloaded(folder, "refuse"), pathlib.Path(folder) / "t.trace"
-        for text, crew in ((WORKED[-3][1], []), (WORKED[1][1], []), (WORKED[-3][1], ["--workers", "2"])):
+        everything = next(text for name, text, _ in WORKED if name == "all at once")
+        for text, crew in ((everything, []), (WORKED[1][1], []), (everything, ["--workers", "2"])):
             trace.write_bytes(text)
             words, told = ["replay", "--strict", *crew, str(trace)], 0
             whole = run(words)
@@ -193,6 +233,7 @@ def tests(record, preloaded):
     worked_traces(record)
     all_traces(record)
     batches(record)
+    long_comments(record)
     refusals(record, preloaded)
 
 

@@ -2,6 +2,8 @@
 ghost use Rattle.std.specs.Prelude.{◌≡◌, ℕ, List};
 ghost use Rattle.er_damage.specs.Damaged.{has_damage};
 
+use er_text::Lost;
+
 /// What is damaged in a trace: for each kind of damage the line of its first place, if it has one.
 #[derive(Clone, Copy, Debug, PartialEq, Eq)]
 pub struct Damage {
@@ -13,6 +15,8 @@ pub struct Damage {
     pub no_line_feed: Option<u64>,
     /// A text 3 has no line `end`, and the line is its last one.
     pub no_end: Option<u64>,
+    /// The last comment says that events are lost.
+    pub lost: Option<Lost>,
 }
 
 impl Damage {
@@ -24,5 +28,6 @@ impl Damage {
             || self.held_twice.is_some()
             || self.no_line_feed.is_some()
             || self.no_end.is_some()
+            || self.lost.is_some()
     }
 }

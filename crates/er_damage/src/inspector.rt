@@ -75,6 +75,7 @@ impl Inspector {
             held_twice: self.held_twice,
             no_line_feed: ending.is_cut.then_some(ending.lines),
             no_end: ending.is_open.then_some(ending.lines),
+            lost: ending.lost,
         }
     }
 

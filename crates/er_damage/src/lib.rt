@@ -1,4 +1,5 @@
-//! What is damaged in a trace: a refused step, a lock that two threads hold at once, a last line without its LF, and a missing `end`.
+//! What is damaged in a trace: a refused step, a lock that two threads hold at once, a last line without its LF, a missing `end`, and events
+//! that are lost by the last comment.
 //!
 //! Begin with [`Inspector`]. It follows the steps of a trace, batch by batch, and knows the line of the first step that is refused and
 //! that of the first step by which a lock is held twice. A recorder that works writes neither: a thread that takes a lock that another

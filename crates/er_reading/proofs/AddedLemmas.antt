@@ -1,5 +1,5 @@
 -- Pieces that are added to a trace: first their names, then the numbers of their steps, then the steps.
-use Rattle.std.proofs.Common.{◌≡◌, ℕ, zero, suc, ◌+◌, ◌<◌, ◌≤◌, ◌^◌, true, false, List, [], ◌∷◌, ◌++◌, append-nil, append_assoc, length, length-append, map, take, drop, Option, refl, sym, ap, ◌∙◌, subst, arith}
+use Rattle.std.proofs.Common.{◌≡◌, ℕ, zero, suc, ◌+◌, ◌<◌, ◌≤◌, ◌^◌, true, List, [], ◌∷◌, ◌++◌, append-nil, append_assoc, length, length-append, map, take, drop, Option, refl, sym, ap, ◌∙◌, subst, arith}
 use Rattle.std.specs.List.{All}
 use Rattle.std.proofs.Math.Seq.{drop-append_seam}
 use Rattle.std.proofs.lemmas.List.{length-take-le, take-append-drop, take-append-le, take_all}
@@ -15,7 +15,7 @@ use Rattle.er_text.specs.Batches.{HasRead}
 use Rattle.er_text.specs.Named.{Grows, KeepsNames}
 use Rattle.er_text.specs.declared.verbs.Version.{Version}
 use Rattle.er_text.specs.Pieces.{AreWhole, IsPieceOf, ReadPiece, CanBeNumbered, IsEntered, IsNumbered, IsReady, MayBeAdded, StandsInFront}
-use Rattle.er_text.specs.Places.{Reached}
+use Rattle.er_text.specs.Places.{Reached, no_tail}
 use Rattle.er_reading.specs.Inner.Adding.{StandInFront, IsWhole, FitBehind, names_behind, AreEntered, AreNumbered, AreReady, MayAllBeAdded}
 use Rattle.er_reading.specs.Pieces.{ArePiecesOf}
 use Rattle.er_reading.proofs.PieceLemmas.{first_in_front, others_in_front}
@@ -32,6 +32,7 @@ ready_of before names p q z entered numbered =
       named = subst (λ (r : Recording). All (IsNamed r.names) r.steps) entered.told numbered.named;
       lines = numbered.lines ∙ entered.lines;
       len = numbered.len ∙ entered.len;
+      comment = numbered.comment ∙ entered.comment;
     }
 
 all_ready : (before : ℕ) (names : NameTable) (ps qs zs : List ReadPiece) → AreEntered before names ps qs → AreNumbered qs zs → AreReady before names ps zs
@@ -74,7 +75,7 @@ fit_behind reader (p ∷ ps) before room all whole bound small =
     let within = front.within in (
       (λ i d h. let less = below i d h in omega (arith, less, few, within, bound, small)),
       omega (arith, few, within, bound, small),
-      fit_behind (past_piece reader p false) ps (before + p.lines) room (others_in_front reader (past_piece reader p false) p ps all refl refl refl refl refl)
+      fit_behind (past_piece reader p no_tail) ps (before + p.lines) room (others_in_front reader (past_piece reader p no_tail) p ps all refl refl refl refl refl)
           (All-tail IsWhole p ps whole) (omega (arith, few, bound)) small,
     )
 

@@ -7,6 +7,7 @@ ghost use Rattle.er_text.specs.Ending.{KnowsEnd, IsEndingOf};
 ghost use Rattle.er_text.specs.Inner.Lending.{taken_by};
 ghost use Rattle.er_text.specs.Lines.{bytes_past_limit};
 ghost use Rattle.er_text.specs.Named.{Grows};
+ghost use Rattle.er_text.specs.Places.{no_tail};
 ghost use Rattle.er_text.specs.Trace.{HasFailedBy};
 ghost use Rattle.er_trace.specs.Trace.{no_steps};
 
@@ -71,7 +72,7 @@ impl PieceReader {
         ensures number { IfOk result (λ r. r.place.number ≡ 1) }
         ensures start { IfOk result (λ r. r.place.start ≡ 0) }
         ensures ahead { IfOk result (λ r. length r.place.ahead ≡ 0) }
-        ensures cut { IfOk result (λ r. r.cut ≡ false) }
+        ensures tail { IfOk result (λ r. r.tail ≡ no_tail) }
         ensures starts { IfOk result (λ r. (text : List ℕ) → HasRead text [] [] r (Some text) no_steps) }
     {
         let size = if workers == 1 {
