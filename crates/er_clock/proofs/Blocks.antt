@@ -1,10 +1,10 @@
 -- How the counts of blocks, and of a clock that has them, go through calls.
-use Rattle.std.proofs.Common.{◌≡◌, ◌∙◌, ℕ, zero, suc, ◌+◌, ◌-◌, ◌<◌, ◌≤◌, ◌/◌, ◌%◌, max, Bool, true, false, ◌&&◌, cond, ◌==◌, nat_eq, nat_le, List, [], ◌∷◌, ◌++◌, length, get_or, set, Result, Ok, Err, IfOk, refl, ap, ap₂, sym, ⊎_elim, arith}
+use Rattle.std.proofs.Common.{◌≡◌, ◌∙◌, ℕ, zero, suc, ◌+◌, ◌<◌, ◌≤◌, ◌/◌, ◌%◌, max, Bool, true, false, ◌&&◌, cond, ◌==◌, nat_eq, nat_le, List, [], ◌∷◌, ◌++◌, length, get_or, set, Result, Ok, Err, IfOk, refl, ap, sym, arith}
 use Rattle.std.proofs.lemmas.Bool.{eqb-true, eqb-false, leb-true, and_parts}
 use Rattle.std.proofs.lemmas.Bool.Decides.{nat_tests}
 use Rattle.er_order.specs.ClockLists.{merged, ticked}
 use Rattle.er_order.proofs.ClockLists.{get-merged, tick-runs}
-use Rattle.er_clock.specs.Clock.{Counts, count_at, count_in, Joins, Ticks, Stays}
+use Rattle.er_clock.specs.Clock.{Counts, count_at, count_in, Joins, Ticks}
 use Rattle.er_clock.specs.Inner.Blocks.{SameBlocks, JoinedBlocks}
 
 -- a place that is there has one value, whatever stands for those past the end
@@ -25,6 +25,7 @@ one_more_covered x y p b xs ys one two low high before all u next = by (nat_eq u
   where
     both : (b ≡ true) × (nat_le x y ≡ true)
     both = and_parts b (nat_le x y) all
+
     by : (same : Bool) → nat_eq u p ≡ same → get_or xs u 0 ≤ get_or ys u 0
     by true here =
         let at : u ≡ p = eqb-true u p here in
@@ -63,6 +64,14 @@ joined_none r s none b o =
     let zero_there : count_at s b o ≡ 0 = ap (λ xs. get_or xs o 0) (past_end s b [] (omega (arith, none))) in
     omega (arith, zero_there)
 
+-- a clock that holds nothing
+pub zero_parts : (f : List ℕ) (r : Counts) → length f ≡ 0 → length r ≡ 0 → (u : ℕ) → count_in (f ∷ r) u ≡ 0
+zero_parts f r first rest u = parts (u / 128) (u % 128)
+  where
+    parts : (b o : ℕ) → count_at (f ∷ r) b o ≡ 0
+    parts zero o = past_end f o 0 (omega (arith, first))
+    parts (suc b) o = ap (λ xs. get_or xs o 0) (past_end r b [] (omega (arith, rest)))
+
 get-ticked : (t u : ℕ) (xs : List ℕ) → get_or (ticked t xs) u 0 ≡ get_or xs u 0 + cond (t == u) 1 0
 get-ticked t u xs = tick-runs t u (get_or xs u 0) xs true (t == u) refl refl ∙ by (t == u)
   where
@@ -82,10 +91,13 @@ ticked_first n f h r low is = ticked_parts n (f ∷ r) (h ∷ r) parts
   where
     first : n / 128 ≡ 0
     first = omega (arith, low)
+
     place : n % 128 ≡ n
     place = omega (arith, low)
+
     plus_zero : (x : ℕ) → x ≡ x + 0
     plus_zero x = omega arith
+
     parts : (b o : ℕ) → count_at (h ∷ r) b o ≡ count_at (f ∷ r) b o + cond (n / 128 == b && n % 128 == o) 1 0
     parts zero o = rw (first, place) (ap (λ xs. get_or xs o 0) is ∙ get-ticked n o f)
     parts (suc b) o = plus_zero (count_at r b o) ∙ ap (λ d. count_at r b o + cond (d && n % 128 == o) 1 0) (beyond b)
@@ -111,13 +123,16 @@ ticked_rest n p o f was y r s block place same within read is = ticked_parts n (
   where
     plus_zero : (x : ℕ) → x ≡ x + 0
     plus_zero x = omega arith
+
     there : was ≡ get_or s p []
     there = read ∙ default_to s p was [] within
+
     rest : (b i : ℕ) (at : Bool) → (p == b) ≡ at → count_at (set s p y) b i ≡ count_at r b i + cond (at && o == i) 1 0
     rest b i true here =
         let at : p ≡ b = eqb-true p b here in
         rw (← at) (ap (λ xs. get_or xs i 0) (set_here s p y [] within ∙ is) ∙ get-ticked o i was ∙ ap (λ k. k + cond (o == i) 1 0) (ap (λ xs. get_or xs i 0) there ∙ same p i))
     rest b i false apart = ap (λ xs. get_or xs i 0) (set_there s p b y [] (eqb-false p b apart)) ∙ same b i ∙ plus_zero (count_at r b i)
+
     parts : (b i : ℕ) → count_at (f ∷ set s p y) b i ≡ count_at (f ∷ r) b i + cond (n / 128 == b && n % 128 == i) 1 0
     parts zero i = plus_zero (get_or f i 0) ∙ ap (λ d. get_or f i 0 + cond (d && n % 128 == i) 1 0) before
       where
@@ -165,6 +180,7 @@ one_more_joined p r s t y len before here b o next = by (nat_eq b p) refl
       where
         low : (b ≡ p → ⊥) → b < p
         low there = omega (arith, there, next)
+
         less : (b ≡ p → ⊥) → b < length t
         less there = omega (arith, there, next, len)
 
@@ -173,6 +189,7 @@ all_joined p r s t len one two below b o = by (nat_le p b) refl
   where
     none : (xs : Counts) → length xs ≤ b → count_at xs b o ≡ 0
     none xs past = ap (λ ys. get_or ys o 0) (past_end xs b [] past)
+
     by : (past : Bool) → nat_le p b ≡ past → count_at t b o ≡ max (count_at r b o) (count_at s b o)
     by true past =
         let high = leb-true p b past in
@@ -181,54 +198,6 @@ all_joined p r s t len one two below b o = by (nat_le p b) refl
         let z = none t (omega (arith, high, len)) in
         omega (arith, x, y, z)
     by false before = below b o (Rattle.std.proofs.lemmas.Bool.leb-false p b before)
-
--- a block of a join that only one side has
-pub only_first : (p : ℕ) (r s : Counts) (was y : List ℕ) → p < length r → length s ≤ p → was ≡ get_or r p was → y ≡ was → (o : ℕ) → get_or y o 0 ≡ max (count_at r p o) (count_at s p o)
-only_first p r s was y within past read is o =
-    let x : get_or y o 0 ≡ count_at r p o = ap (λ xs. get_or xs o 0) (is ∙ read ∙ default_to r p was [] within) in
-    let none : count_at s p o ≡ 0 = ap (λ xs. get_or xs o 0) (past_end s p [] past) in
-    omega (arith, x, none)
-
-pub only_second : (p : ℕ) (r s : Counts) (was y : List ℕ) → length r ≤ p → p < length s → was ≡ get_or s p was → y ≡ was → (o : ℕ) → get_or y o 0 ≡ max (count_at r p o) (count_at s p o)
-only_second p r s was y past within read is o =
-    let x : get_or y o 0 ≡ count_at s p o = ap (λ xs. get_or xs o 0) (is ∙ read ∙ default_to s p was [] within) in
-    let none : count_at r p o ≡ 0 = ap (λ xs. get_or xs o 0) (past_end r p [] past) in
-    omega (arith, x, none)
-
-pub neither : (p : ℕ) (r s : Counts) (y : List ℕ) → length r ≤ p → length s ≤ p → y ≡ [] → (o : ℕ) → get_or y o 0 ≡ max (count_at r p o) (count_at s p o)
-neither p r s y one two is o =
-    let x : get_or y o 0 ≡ 0 = ap (λ xs. get_or xs o 0) is in
-    let none : count_at r p o ≡ 0 = ap (λ xs. get_or xs o 0) (past_end r p [] one) in
-    let nothing : count_at s p o ≡ 0 = ap (λ xs. get_or xs o 0) (past_end s p [] two) in
-    omega (arith, x, none, nothing)
-
-pub both : (p : ℕ) (r s : Counts) (one two y : List ℕ) → p < length r → p < length s → one ≡ get_or r p one → two ≡ get_or s p two →
-    ((o : ℕ) → get_or y o 0 ≡ max (get_or one o 0) (get_or two o 0)) → (o : ℕ) → get_or y o 0 ≡ max (count_at r p o) (count_at s p o)
-both p r s one two y first second read other is o =
-    is o ∙ ap₂ (λ (xs ys : List ℕ). max (get_or xs o 0) (get_or ys o 0)) (read ∙ default_to r p one [] first) (other ∙ default_to s p two [] second)
-
--- the greater of two of which one is as great as the other
-pub greater_first : (xs ys zs : List ℕ) → zs ≡ xs → ((u : ℕ) → get_or ys u 0 ≤ get_or xs u 0) → (u : ℕ) → get_or zs u 0 ≡ max (get_or xs u 0) (get_or ys u 0)
-greater_first xs ys zs is covers u =
-    let x : get_or zs u 0 ≡ get_or xs u 0 = ap (λ us. get_or us u 0) is in
-    let low = covers u in
-    omega (arith, x, low)
-
-pub greater_second : (xs ys zs : List ℕ) → zs ≡ ys → ((u : ℕ) → get_or xs u 0 ≤ get_or ys u 0) → (u : ℕ) → get_or zs u 0 ≡ max (get_or xs u 0) (get_or ys u 0)
-greater_second xs ys zs is covers u =
-    let x : get_or zs u 0 ≡ get_or ys u 0 = ap (λ us. get_or us u 0) is in
-    let low = covers u in
-    omega (arith, x, low)
-
--- the count of a number as a clock finds it
-pub count_first : (n : ℕ) (f : List ℕ) (r : Counts) → n < 128 → get_or f n 0 ≡ count_in (f ∷ r) n
-count_first n f r low =
-    let block : n / 128 ≡ 0 = omega (arith, low) in
-    let place : n % 128 ≡ n = omega (arith, low) in
-    rw (block, place) refl
-
-pub count_rest : (n p : ℕ) (f : List ℕ) (r : Counts) → suc p ≡ n / 128 → count_at r p (n % 128) ≡ count_in (f ∷ r) n
-count_rest n p f r block = rw (← block) refl
 
 -- what follows from a fact about what a call returns
 pub if_ok : {T E : Type 0} (r : Result T E) (P Q : T → Type 0) → IfOk r P → ((v : T) → P v → Q v) → IfOk r Q

@@ -1,5 +1,5 @@
 //! Blocks of counts.
-ghost use Rattle.std.specs.Prelude.{◌≡◌, ◌≤◌, ◌<◌, ◌-◌, ◌^◌, ℕ, suc, max, [], length, get_or, IsTrue, OnOk, OnErr, IfOk, IsOk};
+ghost use Rattle.std.specs.Prelude.{◌≡◌, ◌≤◌, ◌<◌, ◌-◌, ◌^◌, ◌==◌, ℕ, suc, max, [], length, get_or, IsTrue, OnOk, OnErr, IfOk, IsOk};
 ghost use Rattle.er_order.specs.ClockLists.{merged, ticked};
 ghost use Rattle.er_clock.specs.Inner.Merging.{padded, lengthened};
 
@@ -29,6 +29,13 @@ impl Block {
         Block {
             counts: Vec::new(alloc),
         }
+    }
+
+    /// Whether it holds no counts: then all are 0.
+    pub(crate) fn is_empty(&self) -> bool
+        ensures { result ≡ (length self.now == 0) }
+    {
+        self.counts.is_empty()
     }
 
     /// The count at the place.

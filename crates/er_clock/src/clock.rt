@@ -1,5 +1,5 @@
 //! One clock.
-ghost use Rattle.std.specs.Prelude.{◌≡◌, ◌↔◌, ◌≤◌, ◌<◌, ◌-◌, ◌^◌, ℕ, max, length, get_or, OnOk, OnErr, IfOk, IsErrOf};
+ghost use Rattle.std.specs.Prelude.{◌≡◌, ◌↔◌, ◌≤◌, ◌<◌, ◌-◌, ◌^◌, ℕ, max, length, get_or, IsTrue, OnOk, OnErr, IfOk, IsErrOf};
 ghost use Rattle.er_order.specs.Clocks.{covers};
 ghost use Rattle.er_clock.specs.Clock.{count_at, count_in, IsZero, Stays, Joins, Ticks};
 ghost use Rattle.er_clock.specs.Inner.Blocks.{SameBlocks, JoinedBlocks};
@@ -76,6 +76,17 @@ impl Clock {
             first: Block::new(alloc),
             rest: Vec::new(alloc),
             alloc,
+        }
+    }
+
+    /// Whether it holds no counts: then all are 0.
+    pub fn is_empty(&self) -> bool
+        ensures { IsTrue result → IsZero self.now }
+    {
+        if self.rest.is_empty() {
+            self.first.is_empty()
+        } else {
+            false
         }
     }
 
@@ -193,7 +204,11 @@ fn reach(alloc: Global, blocks: &mut Vec<Shared>, place: usize) -> Result<(), Al
 }
 
 // The greater count at each place of each block.
-fn joined_blocks(alloc: Global, blocks: &Vec<Shared>, others: &Vec<Shared>) -> Result<Vec<Shared>, AllocError>
+fn joined_blocks(
+    alloc: Global,
+    blocks: &Vec<Shared>,
+    others: &Vec<Shared>,
+) -> Result<Vec<Shared>, AllocError>
     ensures { IfOk result (λ all. JoinedBlocks blocks.now.items others.now.items all.items) }
 {
     let mut all = Vec::new(alloc);
@@ -205,7 +220,12 @@ fn joined_blocks(alloc: Global, blocks: &Vec<Shared>, others: &Vec<Shared>) -> R
 }
 
 // The same of one block.
-fn joined_block(alloc: Global, blocks: &Vec<Shared>, others: &Vec<Shared>, place: usize) -> Result<Shared, AllocError>
+fn joined_block(
+    alloc: Global,
+    blocks: &Vec<Shared>,
+    others: &Vec<Shared>,
+    place: usize,
+) -> Result<Shared, AllocError>
     ensures { IfOk result (λ shared. (u : ℕ) → get_or shared u 0 ≡ max (count_at blocks.now.items place u) (count_at others.now.items place u)) }
 {
     if blocks.len() <= place {

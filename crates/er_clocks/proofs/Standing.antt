@@ -13,7 +13,8 @@ use Rattle.er_order.specs.Clocks.{Keeper, OfThread, OfReleases, OfObject, is_own
 use Rattle.er_order.specs.Following.{act_by}
 use Rattle.er_order.proofs.ClockSteps.{and_none, and_all, released, signalled}
 use Rattle.er_order.proofs.StepLemmas.{clocks-grow}
-use Rattle.er_clocks.specs.Counts.{ClockMap, known_by, known_to}
+use Rattle.er_clock.specs.Table.{known_by}
+use Rattle.er_clocks.specs.Counts.{ClockMap, known_to}
 use Rattle.er_clocks.specs.Standing.{ClockMaps, counts, Moves, act_if, StandsForClocksOf, is_accepted}
 
 plus_none : (x : ℕ) → x ≡ x + 0

@@ -119,7 +119,7 @@ impl ThreadClocks {
         ensures err { OnErr result ((t u : ℕ) → known_to self.new t u ≡ known_to self.old t u) }
     {
         // As a rule nobody has released the lock in read mode.
-        if other.is_zero() {
+        if other.is_empty() {
             return self.take(thread, one);
         }
         self.carried.clear();
@@ -193,7 +193,7 @@ fn join(table: &mut ClockTable, thread: ThreadId, found: &Clock) -> Result<(), A
 fn prepare(table: &mut ClockTable, next: &mut Clock, thread: ThreadId) -> Result<(), NoTick>
     ensures same { (t u : ℕ) → known_to table.new t u ≡ known_to table.old t u }
     ensures begun { OnOk result (0 < known_by table.new thread thread) }
-    ensures next { OnOk result ((u : ℕ) → count_in next.new u ≡ known_by table.new thread u + cond (thread == u) 1 0) }
+    ensures risen { OnOk result ((u : ℕ) → count_in next.new u ≡ known_by table.new thread u + cond (thread == u) 1 0) }
     ensures many { IsErrOf result NoTick.TooManyThreads ↔ (2 ^ 14 ≤ thread) }
     ensures full { IsErrOf result NoTick.CountFull → known_to table.old thread thread ≡ 2 ^ 32 - 1 }
 {

@@ -1,4 +1,4 @@
-use Rattle.std.proofs.Common.{◌≡◌, ◌≤◌, ℕ, get_or, length, ap, arith, subst}
+use Rattle.std.proofs.Common.{arith}
 use Rattle.er_clock.proofs.Blocks.{one_more_covered, past_covered}
 use Rattle.er_clock.proofs.block.Block.covers.Goals as goal
 
