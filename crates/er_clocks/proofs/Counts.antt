@@ -1,5 +1,5 @@
 -- How the counts in tables of clocks go through joins and ticks.
-use Rattle.std.proofs.Common.{◌≡◌, ℕ, zero, suc, ◌+◌, ◌<◌, ◌≤◌, max, Bool, true, false, ◌&&◌, cond, ◌==◌, nat_eq, List, [], ◌∷◌, length, get_or, refl, ap, ap₂, sym, ◌∙◌, arith}
+use Rattle.std.proofs.Common.{◌≡◌, ℕ, ◌+◌, ◌<◌, ◌≤◌, max, Bool, true, false, ◌&&◌, cond, ◌==◌, refl, ap, ap₂, sym, ◌∙◌, arith}
 use Rattle.std.proofs.lemmas.Bool.{eqb-true, and_parts}
 use Rattle.er_order.proofs.ClockSteps.{flip}
 use Rattle.er_clock.specs.Clock.{Counts, count_in}
@@ -25,6 +25,7 @@ risen at joined after from number next is own count swapped t u = swapped t u �
   where
     plus_zero : (x : ℕ) → x ≡ x + 0
     plus_zero x = omega arith
+
     by : (b : Bool) → (number == t) ≡ b → cond b (count_in next u) (known_by joined t u) ≡ known_by joined t u + cond (t == from && from == u) 1 0
     by true here =
         let same : t ≡ from = sym (eqb-true number t here) ∙ is in

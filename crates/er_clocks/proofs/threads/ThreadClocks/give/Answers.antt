@@ -1,4 +1,4 @@
-use Rattle.std.proofs.Common.{◌≡◌, ◌<◌, ◌+◌, ◌&&◌, ◌==◌, ℕ, cond, max, ap, refl, sym, ◌∙◌}
+use Rattle.std.proofs.Common.{◌≡◌, ◌+◌, ◌&&◌, ◌==◌, ℕ, cond, max, ap, refl, ◌∙◌}
 use Rattle.er_clock.specs.Clock.{count_in}
 use Rattle.er_clock.specs.Table.{known_by}
 use Rattle.er_clocks.specs.Counts.{ClockMap, known_to}
