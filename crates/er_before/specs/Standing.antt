@@ -1,7 +1,7 @@
 -- The lists of steps that a machine stands for, and what one more step makes of it.
 use Rattle.std.specs.Prelude.{ℕ, ◌≡◌, ◌-◌, ◌^◌, nat_lt, Bool, true, false, cond, List, length, Result}
 use Rattle.er_event.specs.declared.steps.Event.{Event}
-use Rattle.er_event.specs.declared.steps.Event.TheVariants.{Access, Show, IgnoreOn, IgnoreOff, Level}
+use Rattle.er_event.specs.declared.steps.Event.TheVariants.{Access, IgnoreOn, IgnoreOff, Level}
 use Rattle.er_event.specs.declared.steps.Reply.{Reply}
 use Rattle.er_event.specs.declared.steps.Reply.TheVariants.{Done, Quiet, Race, Ignored}
 use Rattle.er_event.specs.declared.refusals.Refusal.{Refusal}
@@ -59,7 +59,7 @@ pub record IsSame (before after : Ordered) : Type 0 where
   pub clocks : SameCounts before.clocks after.clocks
   pub kept : (w : ℕ) → kept_of after w ≡ kept_of before w
 
--- the reply to an event that isn't refused, by these; a show is done
+-- the reply to an event that isn't refused, by these
 abbrev pub reply_by : Holdings → (ℕ → ℕ) → (ℕ → Kept) → Event → Reply
 reply_by h clock kept (Access kind w site) = cond (nat_lt 0 h.depth) Ignored (cond (reports_at clock (kept w) kind) Race Quiet)
 reply_by h clock kept _ = Done
@@ -67,11 +67,6 @@ reply_by h clock kept _ = Done
 -- and the answer
 abbrev pub answered_by : Ordered → Step → Result Reply Refusal
 answered_by machine step = answer_unless (refused_by (holding machine step.thread) step.event) (reply_by (holding machine step.thread) (clock_of machine step.thread) (kept_of machine) step.event)
-
--- the event asks for a word's state
-abbrev pub is_show : Event → Bool
-is_show (Show w) = true
-is_show _ = false
 
 -- the event changes what its thread holds, and nothing else
 abbrev pub holds_alone : Event → Bool

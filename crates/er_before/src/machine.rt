@@ -1,5 +1,5 @@
 //! The machine: every thread's holdings, the clocks, and what is kept of every word.
-ghost use Rattle.std.specs.Prelude.{◌≡◌, ℕ, List, ◌++◌, ◌∷◌, [], IsFalse, IfOk, IsErrOf, OnOk, OnErr, None, is_ok, length, true};
+ghost use Rattle.std.specs.Prelude.{◌≡◌, ℕ, List, ◌++◌, ◌∷◌, [], IfOk, IsErrOf, OnOk, OnErr, None, is_ok, length, true};
 ghost use Rattle.er_model.specs.Holdings.{refused_by, holdings_end};
 ghost use Rattle.er_event.specs.declared.steps.Step.{Step as Steps};
 ghost use Rattle.er_order.specs.Order.{acts_of};
@@ -34,7 +34,7 @@ impl Model for OrderMachine {
 }
 
 impl OrderMachine {
-    ghost use Rattle.er_before.specs.Standing.{Stands, Changes, IsSame, HasFullCount, IsFullAfter, holding, clock_of, kept_of, reply_by, answered_by, is_show, holds_alone};
+    ghost use Rattle.er_before.specs.Standing.{Stands, Changes, IsSame, HasFullCount, IsFullAfter, holding, clock_of, kept_of, reply_by, answered_by, holds_alone};
 
     // How many steps are looked at together.
     const AHEAD: usize = 16;
@@ -57,13 +57,13 @@ impl OrderMachine {
         }
     }
 
-    /// Takes one step and says what it is answered: a reply, or why it is refused. A show is done.
+    /// Takes one step and says what it is answered: a reply, or why it is refused.
     ///
     /// # Errors
     /// `CountFull`: a thread's own count would rise, and is the greatest, 2^32 - 1. `OutOfMemory`: memory was refused. The step may be
     /// tried again.
     pub fn step(&mut self, step: &Step) -> Result<Result<Reply, Refusal>, NoTick>
-        ensures answer { (past : List Steps) → Stands self.old past → IsFalse (is_show step.now.event)
+        ensures answer { (past : List Steps) → Stands self.old past
             → IfOk result (λ answer. answer ≡ order_answer (past ++ step.now ∷ []) (length past)) }
         ensures goes_on { (past : List Steps) → Stands self.old past → OnOk result (Stands self.new (past ++ step.now ∷ [])) }
         ensures err { (past : List Steps) → Stands self.old past → OnErr result (Stands self.new past) }

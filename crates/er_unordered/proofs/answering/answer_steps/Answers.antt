@@ -8,7 +8,7 @@ use Rattle.er_model.specs.Holdings.{Holdings}
 use Rattle.er_replay.proofs.ThreadsLemmas.{err_from}
 use Rattle.er_batch.proofs.BatchLemmas.{number-behind}
 use Rattle.er_text.specs.Batches.{joined}
-use Rattle.er_unordered.specs.Answers.{unordered_answer}
+use Rattle.er_order.specs.Races.{order_answer}
 use Rattle.er_trace.specs.Trace.{Recording}
 use Rattle.er_unordered.specs.Inner.Passes.{HasComeTo}
 use Rattle.er_unordered.proofs.PassLemmas.{come-to, plain-here, start, step-here, whole}
@@ -39,7 +39,7 @@ loop-k-preserved c =
             rw w.builder-is
             (subst (λ (n : ℕ). HasComeTo c.step.new.self w.add_plain.new.self r n) one
             (come-to c.look_ahead.new.self c.step.new.self c.loop-k.builder r at step (here past) come c.in_ok-answer.answer c.in_ok-answer.ensures.answered c.in_ok-answer.ensures.answer c.in_ok-answer.ensures.goes_on w.add_plain.new.self
-            (w.add_plain.ensures.built_by (unordered_answer r.steps) r at come.built plain)));
+            (w.add_plain.ensures.built_by (order_answer r.steps) r at come.built plain)));
       }
       | else-is_plain+in_ok-add w ↦ record {
         steps = rw w.builder-is (let so_far = c.loop-k.invariant.steps in let added = w.in_ok-add.ensures.steps in omega arith);
@@ -55,7 +55,7 @@ loop-k-preserved c =
             rw w.builder-is
             (subst (λ (n : ℕ). HasComeTo c.step.new.self w.add.new.self r n) one
             (come-to c.look_ahead.new.self c.step.new.self c.loop-k.builder r at step (here past) come c.in_ok-answer.answer c.in_ok-answer.ensures.answered c.in_ok-answer.ensures.answer c.in_ok-answer.ensures.goes_on w.add.new.self
-            (w.in_ok-add.ensures.built_by (unordered_answer r.steps) r at come.built told)));
+            (w.in_ok-add.ensures.built_by (order_answer r.steps) r at come.built told)));
       }
     ]
 

@@ -4,8 +4,8 @@ use Rattle.er_before.proofs.StandingLemmas.{stands-on, answer-stands, if_ok}
 use Rattle.er_before.proofs.machine.OrderMachine.step.Goals as goal
 
 pub returns-clause-answer : goal.returns-clause-answer
-returns-clause-answer c past stands other =
-    if_ok c.take.result _ _ c.take.ensures.answered (λ answer is. is ∙ answer-stands c.args.self.now past c.args.step.now.thread c.args.step.now.event stands other)
+returns-clause-answer c past stands =
+    if_ok c.take.result _ _ c.take.ensures.answered (λ answer is. is ∙ answer-stands c.args.self.now past c.args.step.now.thread c.args.step.now.event stands)
 
 pub returns-clause-goes_on : goal.returns-clause-goes_on
 returns-clause-goes_on c past stands =
