@@ -1,7 +1,7 @@
 use Rattle.std.proofs.Common.{◌≡◌, ℕ, List, Option, Some, None, IfSome, nat_eq, position, slice_get, sym}
 use Rattle.indexmap.specs.IndexMap.{keys}
 use Rattle.er_epochs.proofs.Maps.{number_at}
-use Rattle.er_epochs.proofs.hints.index_of.Goals as goal
+use Rattle.er_epochs.proofs.finding.index_of.Goals as goal
 
 by : (ks : List ℕ) (n : ℕ) (o : Option ℕ) → o ≡ position (nat_eq n) ks → IfSome o (λ index. slice_get ks index ≡ Some n)
 by ks n None found = tt
