@@ -28,6 +28,6 @@ returns-clause-run c = λ r k old here line named.
     }
 
 pub returns-in_err-answer-clause-full : goal.returns-in_err-answer-clause-full
-returns-in_err-answer-clause-full c = λ r k old within.
+returns-in_err-answer-clause-full c = λ r k old here.
     err_from c.from_residual.result _ _ c.from_residual.ensures.1 (λ e is.
-    stop-by r.steps c.in_err-answer.field-0.0 e is (λ full. full-here r.steps k within (c.in_err-answer.ensures.full (take k r.steps) old.come.stands (ap Err full))))
+    stop-by r.steps c.in_err-answer.field-0.0 e is (λ full. full-here r.steps k c.args.step.now here (c.in_err-answer.ensures.full (take k r.steps) old.come.stands (ap Err full))))
