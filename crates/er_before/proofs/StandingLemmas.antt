@@ -22,6 +22,7 @@ use Rattle.er_order.proofs.StepLemmas.{act-step, clocks-grow, held-front}
 use Rattle.er_order.proofs.Growing.{kept-grow, answer-grow}
 use Rattle.er_order.proofs.Following.{answer-other, kept-none}
 use Rattle.er_held.specs.Held.{nothing_held}
+use Rattle.er_clock.specs.Clock.{Counts}
 use Rattle.er_clocks.specs.Counts.{count_by}
 use Rattle.er_clocks.specs.Standing.{ClockMaps, counts, Moves, StandsForClocksOf, act_flows}
 use Rattle.er_epochs.specs.Words.{AllWords, kept_among}
@@ -89,7 +90,7 @@ ignored before t w kind ignores =
     changes before before t (Access kind w 0) refl (held_same before t) (clocks_same before.clocks t Local refl) (λ v. rw ignores refl)
 
 -- one that is
-pub accessed : (before : Ordered) (words : AllWords) (t w : ℕ) (kind : Kind) (clock : ℕ × List ℕ) → nat_lt 0 (holding before t).depth ≡ false →
+pub accessed : (before : Ordered) (words : AllWords) (t w : ℕ) (kind : Kind) (clock : ℕ × Counts) → nat_lt 0 (holding before t).depth ≡ false →
     clock.0 ≡ t → ((u : ℕ) → count_by clock u ≡ clock_of before t u) →
     ((v : ℕ) → kept_among words v ≡ cond (w == v) (kept_by (count_by clock) (kept_of before w) clock.0 kind) (kept_of before v)) →
     Changes before (record { thread = t; event = Access kind w 0 }) (record { holders = before.holders; clocks = before.clocks; words = words })

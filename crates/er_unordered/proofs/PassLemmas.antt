@@ -5,6 +5,7 @@ use Rattle.std.proofs.lemmas.Bool.Decides.{nat_tests}
 use Rattle.std.proofs.Math.Seq.{take-append_seam, take-length}
 use Rattle.std.proofs.lemmas.List.Elements.{All-append, All-nil}
 use Rattle.er_before.specs.Standing.{Ordered, Stands, answered_by, clock_of}
+use Rattle.er_clock.specs.Clock.{Counts}
 use Rattle.er_clocks.specs.Counts.{count_by}
 use Rattle.er_latest.specs.Standing.{IsClockAfter}
 use Rattle.er_order.specs.Clocks.{OfThread}
@@ -155,6 +156,6 @@ printed-here a before after r k built next rules =
     ∙ next-count (is_printed_by a r before.rules) k
 
 -- the clock that a machine lends is that of its thread
-pub clock-lent : (machine : Ordered) (steps : List Step) (t : ℕ) (clock : ℕ × List ℕ) → Stands machine steps → clock.0 ≡ t → ((u : ℕ) → count_by clock u ≡ clock_of machine t u)
+pub clock-lent : (machine : Ordered) (steps : List Step) (t : ℕ) (clock : ℕ × Counts) → Stands machine steps → clock.0 ≡ t → ((u : ℕ) → count_by clock u ≡ clock_of machine t u)
     → IsClockAfter steps t clock
 clock-lent machine steps t clock stands thread counts = record { thread = thread; counts = λ u. counts u ∙ stands.clocks (OfThread t) u }

@@ -6,6 +6,7 @@ use Rattle.std.proofs.lemmas.Bool.{and_parts}
 use Rattle.std.proofs.lemmas.List.{map-append, get_or_append_left}
 use Rattle.std.proofs.lemmas.List.Elements.{All-nil, All-cons}
 use Rattle.std.proofs.Math.Seq.{take-append_seam, take-length}
+use Rattle.er_clock.specs.Clock.{Counts}
 use Rattle.er_event.proofs.Lists.{get_front}
 use Rattle.er_event.specs.declared.refusals.Refusal.{Refusal}
 use Rattle.er_event.specs.declared.steps.Event.{Event}
@@ -99,7 +100,7 @@ unfolding places_below
 none-kept latest told follows none r rules = record { follows = follows (access_reason_at r); reasons = none }
 
 -- one step more
-module _ (r : Recording) (rules : List Target) (k : ℕ) (step : Step) (here : slice_get r.steps k ≡ Some step) (clock : ℕ × List ℕ) (known : IsClockAfter (take (k + 1) r.steps) step.thread clock) where
+module _ (r : Recording) (rules : List Target) (k : ℕ) (step : Step) (here : slice_get r.steps k ≡ Some step) (clock : ℕ × Counts) (known : IsClockAfter (take (k + 1) r.steps) step.thread clock) where
   abbrev past : List Step
   past = take k r.steps
 
