@@ -1,3 +1,4 @@
 pub mod ClockLemmas
+pub mod Blocks
 pub mod Maps
 pub mod TableLemmas

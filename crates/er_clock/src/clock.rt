@@ -1,15 +1,21 @@
 //! One clock.
-ghost use Rattle.std.specs.Prelude.{◌≡◌, ◌↔◌, ◌≤◌, ◌<◌, ◌-◌, ◌^◌, ℕ, suc, [], length, get_or, OnOk, OnErr, IfOk, IsOk, IsErrOf};
+ghost use Rattle.std.specs.Prelude.{◌≡◌, ◌↔◌, ◌≤◌, ◌<◌, ◌-◌, ◌^◌, ℕ, max, length, get_or, IsTrue, OnOk, OnErr, IfOk, IsErrOf};
 ghost use Rattle.er_order.specs.Clocks.{covers};
-ghost use Rattle.er_order.specs.ClockLists.{merged, ticked};
-ghost use Rattle.er_clock.specs.Clock.{count_in};
-ghost use Rattle.er_clock.specs.Inner.Merging.{padded, lengthened};
+ghost use Rattle.er_clock.specs.Clock.{count_at, count_in, IsZero, Stays, Joins, Ticks};
+ghost use Rattle.er_clock.specs.Inner.Blocks.{SameBlocks, JoinedBlocks};
 
+use crate::block::{Block, Shared};
 use er_event::ThreadId;
 use std::alloc::{AllocError, Global};
 use std::error::Error;
 use std::fmt;
 use std::marker::Model;
+
+/// A clock counts the steps of this many threads: those with the lowest numbers.
+pub const THREADS: u32 = 1 << 14;
+
+// How many counts lie in a block.
+const BLOCK: usize = 128;
 
 /// A thread and a count of its own: the steps that the thread takes between two ticks of its clock share one.
 #[derive(Clone, Copy, Debug, PartialEq, Eq)]
@@ -20,24 +26,29 @@ pub struct Epoch {
     pub count: u32,
 }
 
-/// Of each thread a count. Contracts see the list of the counts by thread number; past its end all counts are 0. Threads are numbered
-/// by first appearance, so a clock has about as many counts as there are threads.
+/// Of each thread a count. Contracts see the count of each thread. The first ones lie in the clock; the others lie in blocks, which clocks share
+/// until one of them changes, so a clock takes little memory of its own for what it has in common with others.
 #[derive(Drop)]
 pub struct Clock {
-    counts: Vec<u32>,
+    first: Block,
+    rest: Vec<Shared>,
+    alloc: Global,
 }
 
 impl Model for Clock {
-    ghost use Rattle.std.specs.Prelude.{List, ℕ};
+    ghost use Rattle.std.specs.Prelude.{◌∷◌};
+    ghost use Rattle.er_clock.specs.Clock.{Counts};
 
-    ghost Value = { List ℕ };
+    ghost Value = { Counts };
 
-    ghost view = { λ c. c.counts.items };
+    ghost view = { λ c. c.first ∷ c.rest.items };
 }
 
 /// Why a clock doesn't tick. It is then as it was.
 #[derive(Clone, Copy, Debug, PartialEq, Eq)]
 pub enum NoTick {
+    /// The thread's number is [`THREADS`] or more.
+    TooManyThreads,
     /// The thread's count is the greatest, 2^32 - 1.
     CountFull,
     /// Memory was refused.
@@ -47,6 +58,7 @@ pub enum NoTick {
 impl fmt::Display for NoTick {
     fn fmt<W: fmt::Write>(&self, f: &mut fmt::Formatter<W>) -> fmt::Result {
         match self {
+            NoTick::TooManyThreads => f.write_str("too many threads"),
             NoTick::CountFull => f.write_str("count full"),
             NoTick::OutOfMemory => f.write_str("out of memory"),
         }
@@ -58,26 +70,36 @@ impl Error for NoTick {}
 impl Clock {
     /// The clock whose counts are all 0. It takes no memory.
     pub fn new(alloc: Global) -> Self
-        ensures { result ≡ [] }
+        ensures { IsZero result }
     {
         Clock {
-            counts: Vec::new(alloc),
+            first: Block::new(alloc),
+            rest: Vec::new(alloc),
+            alloc,
         }
     }
 
-    /// How many counts it holds: those of the threads past them are 0.
-    pub fn len(&self) -> usize
-        ensures { result ≡ length self.now }
+    /// Whether it holds no counts: then all are 0.
+    pub fn is_empty(&self) -> bool
+        ensures { IsTrue result → IsZero self.now }
     {
-        self.counts.len()
+        if self.rest.is_empty() {
+            self.first.is_empty()
+        } else {
+            false
+        }
     }
 
     /// The count of the thread.
     pub fn count(&self, thread: ThreadId) -> u32
         ensures value { result ≡ count_in self.now thread }
     {
-        match self.counts.get(thread.number() as usize) {
-            Some(count) => *count,
+        let number = thread.number() as usize;
+        if number < BLOCK {
+            return self.first.count(number);
+        }
+        match self.rest.get(number / BLOCK - 1) {
+            Some(shared) => shared.block().count(number % BLOCK),
             None => 0,
         }
     }
@@ -101,88 +123,119 @@ impl Clock {
         count <= self.count(thread)
     }
 
-    /// Takes of each thread the greater count. `AllocError`: the other clock is longer, memory was refused, and the clock is as it
-    /// was.
+    /// Takes of each thread the greater count. `AllocError`: memory was refused, and the clock is as it was.
     pub fn join(&mut self, other: &Clock) -> Result<(), AllocError>
-        ensures ok { OnOk result (self.new ≡ merged self.old other.now) }
-        ensures err { OnErr result (self.new ≡ self.old) }
-        ensures free { length other.now ≤ length self.old → IsOk result }
+        ensures ok { OnOk result (Joins self.old other.now self.new) }
+        ensures err { OnErr result (Stays self.old self.new) }
     {
-        lengthen(&mut self.counts, &other.counts)?;
-        raise(&mut self.counts, &other.counts);
+        if other.rest.is_empty() {
+            return self.first.join(&other.first);
+        }
+        let rest = joined_blocks(self.alloc, &self.rest, &other.rest)?;
+        self.first.join(&other.first)?;
+        self.rest = rest;
         Ok(())
     }
 
-    /// Adds one to the thread's count. `CountFull`: it is 2^32 - 1. After an error the clock is as it was.
+    /// Adds one to the thread's count. `TooManyThreads`: its number is [`THREADS`] or more. `CountFull`: the count is 2^32 - 1. After an
+    /// error the clock is as it was.
     pub fn tick(&mut self, thread: ThreadId) -> Result<(), NoTick>
-        ensures ok { OnOk result (self.new ≡ ticked thread self.old) }
-        ensures err { OnErr result (self.new ≡ self.old) }
-        ensures full { IsErrOf result NoTick.CountFull ↔ (count_in self.old thread ≡ 2 ^ 32 - 1) }
-        ensures free { thread < length self.old → count_in self.old thread < 2 ^ 32 - 1 → IsOk result }
+        ensures ok { OnOk result (Ticks thread self.old self.new) }
+        ensures err { OnErr result (Stays self.old self.new) }
+        ensures many { IsErrOf result NoTick.TooManyThreads ↔ (2 ^ 14 ≤ thread) }
+        ensures full { IsErrOf result NoTick.CountFull → count_in self.old thread ≡ 2 ^ 32 - 1 }
+        ensures due { thread < 2 ^ 14 → count_in self.old thread ≡ 2 ^ 32 - 1 → IsErrOf result NoTick.CountFull }
     {
+        if thread.number() >= THREADS {
+            return Err(NoTick::TooManyThreads);
+        }
         if self.count(thread) == u32::MAX {
             return Err(NoTick::CountFull);
         }
-        let place = thread.number() as usize;
-        match reach(&mut self.counts, place) {
-            Ok(()) => {
-                self.counts[place] += 1;
-                Ok(())
-            }
+        match self.raise(thread.number() as usize) {
+            Ok(()) => Ok(()),
             Err(_) => Err(NoTick::OutOfMemory),
         }
     }
 
-    /// Makes all its counts 0. It keeps its memory.
+    // Adds one to the count of this number.
+    fn raise(&mut self, number: usize) -> Result<(), AllocError>
+        requires low { number < 2 ^ 14 }
+        requires room { count_in self.old number < 2 ^ 32 - 1 }
+        ensures ok { OnOk result (Ticks number self.old self.new) }
+        ensures err { OnErr result (Stays self.old self.new) }
+    {
+        if number < BLOCK {
+            return self.first.tick(number);
+        }
+        let place = number / BLOCK - 1;
+        reach(self.alloc, &mut self.rest, place)?;
+        let mut block = self.rest[place].block().copy()?;
+        block.tick(number % BLOCK)?;
+        let shared = Shared::new(self.alloc, block)?;
+        self.rest[place] = shared;
+        Ok(())
+    }
+
+    /// Makes all its counts 0. It keeps the memory of the first ones.
     pub fn clear(&mut self)
-        ensures { self.new ≡ [] }
+        ensures { IsZero self.new }
     {
-        self.counts.clear();
-    }
-
-    /// The same clock again.
-    pub fn copy(&self) -> Result<Clock, AllocError>
-        ensures { IfOk result (λ copied. copied ≡ self.now) }
-    {
-        let counts = Vec::from_slice(*self.counts.allocator(), self.counts.as_slice())?;
-        Ok(Clock { counts })
+        self.first.clear();
+        self.rest.clear();
     }
 }
 
-// Makes a place for the count of this number.
-fn reach(counts: &mut Vec<u32>, place: usize) -> Result<(), AllocError>
+// Makes a place for the block of this number.
+fn reach(alloc: Global, blocks: &mut Vec<Shared>, place: usize) -> Result<(), AllocError>
     requires { place < 2 ^ 30 }
-    ensures ok { OnOk result (counts.new.items ≡ padded (suc place) counts.old.items) }
-    ensures err { OnErr result (counts.new.items ≡ counts.old.items) }
-    ensures free { place < length counts.old.items → IsOk result }
+    ensures same { SameBlocks blocks.old.items blocks.new.items }
+    ensures room { OnOk result (place < length blocks.new.items) }
 {
-    if counts.len() <= place {
-        counts.resize(place + 1, 0)?;
+    if place < blocks.len() {
+        return Ok(());
+    }
+    let empty = Shared::new(alloc, Block::new(alloc))?;
+    for _at in blocks.len()..place + 1 {
+        let shared = empty.again()?;
+        blocks.push(shared)?;
     }
     Ok(())
 }
 
-// Makes the counts as many as the others, by the others' own.
-fn lengthen(counts: &mut Vec<u32>, others: &Vec<u32>) -> Result<(), AllocError>
-    ensures ok { OnOk result (counts.new.items ≡ lengthened counts.old.items others.now.items) }
-    ensures err { OnErr result (counts.new.items ≡ counts.old.items) }
-    ensures free { length others.now.items ≤ length counts.old.items → IsOk result }
+// The greater count at each place of each block.
+fn joined_blocks(
+    alloc: Global,
+    blocks: &Vec<Shared>,
+    others: &Vec<Shared>,
+) -> Result<Vec<Shared>, AllocError>
+    ensures { IfOk result (λ all. JoinedBlocks blocks.now.items others.now.items all.items) }
 {
-    let len = counts.len();
-    if len < others.len() {
-        let (_, rest) = others.as_slice().split_at(len);
-        counts.extend_from_slice(rest)?;
+    let mut all = Vec::new(alloc);
+    for place in 0..blocks.len().max(others.len()) {
+        let shared = joined_block(alloc, blocks, others, place)?;
+        all.push(shared)?;
     }
-    Ok(())
+    Ok(all)
 }
 
-// Takes at each place the greater count.
-fn raise(counts: &mut Vec<u32>, others: &Vec<u32>)
-    requires { length others.now.items ≤ length counts.old.items }
-    ensures { counts.new.items ≡ merged counts.old.items others.now.items }
+// The same of one block.
+fn joined_block(
+    alloc: Global,
+    blocks: &Vec<Shared>,
+    others: &Vec<Shared>,
+    place: usize,
+) -> Result<Shared, AllocError>
+    ensures { IfOk result (λ shared. (u : ℕ) → get_or shared u 0 ≡ max (count_at blocks.now.items place u) (count_at others.now.items place u)) }
 {
-    for place in 0..others.len() {
-        // No branch: which count is greater can't be foretold.
-        counts[place] = counts[place].max(others[place]);
+    if blocks.len() <= place {
+        if others.len() <= place {
+            return Shared::new(alloc, Block::new(alloc));
+        }
+        return others[place].again();
     }
+    if others.len() <= place {
+        return blocks[place].again();
+    }
+    blocks[place].joined(&others[place])
 }

@@ -8,10 +8,11 @@
 //! that fails changes nothing.
 #![tactic(auto)]
 
-pub use clock::{Clock, Epoch, NoTick};
+pub use clock::{Clock, Epoch, NoTick, THREADS};
 pub use hints::{Hints, index_of};
 pub use table::ClockTable;
 
+mod block;
 mod clock;
 mod hints;
 mod table;

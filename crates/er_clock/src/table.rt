@@ -1,8 +1,7 @@
 //! Clocks by number.
-ghost use Rattle.std.specs.Prelude.{◌≡◌, ◌<◌, ◌^◌, ◌-◌, ℕ, nat_eq, [], cond, length, OnOk, OnErr, IsOk, IsErrOf};
-ghost use Rattle.er_order.specs.ClockLists.{merged, ticked};
+ghost use Rattle.std.specs.Prelude.{◌≡◌, ◌↔◌, ◌≤◌, ◌<◌, ◌^◌, ◌-◌, ◌+◌, ◌==◌, ℕ, nat_eq, max, cond, OnOk, OnErr, IsErrOf};
 ghost use Rattle.er_clock.specs.Clock.{count_in};
-ghost use Rattle.er_clock.specs.Table.{clock_at};
+ghost use Rattle.er_clock.specs.Table.{known_by};
 
 use crate::clock::{Clock, NoTick};
 use crate::hints::{Hints, index_of};
@@ -10,6 +9,7 @@ use er_event::ThreadId;
 use indexmap::IndexMap;
 use std::alloc::{AllocError, Global};
 use std::marker::Model;
+use std::mem;
 
 /// The clocks of what is in use (threads, locks or objects), by its number. Any other clock is empty and takes no memory.
 #[derive(Drop)]
@@ -22,19 +22,20 @@ pub struct ClockTable {
 }
 
 impl Model for ClockTable {
-    ghost use Rattle.std.specs.Prelude.{◌≡◌, [], ℕ, List};
+    ghost use Rattle.std.specs.Prelude.{◌≡◌, ℕ, List};
+    ghost use Rattle.er_clock.specs.Clock.{Counts, IsZero};
 
-    ghost Value = { List (ℕ × List ℕ) };
+    ghost Value = { List (ℕ × Counts) };
 
     ghost view = { λ t. t.clocks.entries };
 
-    ghost invariant = { λ t. t.empty ≡ [] };
+    ghost invariant = { λ t. IsZero t.empty };
 }
 
 impl ClockTable {
     /// All are empty.
     pub fn new(alloc: Global) -> Self
-        ensures { (n : ℕ) → clock_at result n ≡ [] }
+        ensures { (n u : ℕ) → known_by result n u ≡ 0 }
     {
         ClockTable {
             clocks: IndexMap::new(alloc),
@@ -47,7 +48,7 @@ impl ClockTable {
     /// The clock of this number.
     #[inline]
     pub fn get(&self, number: u32) -> &Clock
-        ensures { result.now ≡ clock_at self.now number }
+        ensures { (u : ℕ) → count_in result.now u ≡ known_by self.now number u }
     {
         match index_of(&self.clocks, self.places.hint(number), number) {
             Some(index) => &self.clocks[index],
@@ -58,8 +59,8 @@ impl ClockTable {
     /// Takes of each thread the greater count into the clock of this number. `AllocError`: memory was refused, and all clocks are as
     /// they were.
     pub fn join(&mut self, number: u32, other: &Clock) -> Result<(), AllocError>
-        ensures ok { OnOk result ((n : ℕ) → clock_at self.new n ≡ cond (nat_eq number n) (merged (clock_at self.old number) other.now) (clock_at self.old n)) }
-        ensures err { OnErr result ((n : ℕ) → clock_at self.new n ≡ clock_at self.old n) }
+        ensures ok { OnOk result ((n u : ℕ) → known_by self.new n u ≡ cond (number == n) (max (known_by self.old n u) (count_in other.now u)) (known_by self.old n u)) }
+        ensures err { OnErr result ((n u : ℕ) → known_by self.new n u ≡ known_by self.old n u) }
     {
         match index_of(&self.clocks, self.places.hint(number), number) {
             Some(index) => {
@@ -78,13 +79,13 @@ impl ClockTable {
         }
     }
 
-    /// Adds one to the count of the thread in the clock of this number. `CountFull`: it is 2^32 - 1. After an error all clocks are as they
-    /// were.
+    /// Adds one to the count of the thread in the clock of this number. `TooManyThreads`: the thread's number is [`THREADS`](crate::THREADS) or
+    /// more. `CountFull`: the count is 2^32 - 1. After an error all clocks are as they were.
     pub fn tick(&mut self, number: u32, thread: ThreadId) -> Result<(), NoTick>
-        ensures ok { OnOk result ((n : ℕ) → clock_at self.new n ≡ cond (nat_eq number n) (ticked thread (clock_at self.old number)) (clock_at self.old n)) }
-        ensures err { OnErr result ((n : ℕ) → clock_at self.new n ≡ clock_at self.old n) }
-        ensures full { IsErrOf result NoTick.CountFull → count_in (clock_at self.old number) thread ≡ 2 ^ 32 - 1 }
-        ensures free { thread < length (clock_at self.old number) → count_in (clock_at self.old number) thread < 2 ^ 32 - 1 → IsOk result }
+        ensures ok { OnOk result ((n u : ℕ) → known_by self.new n u ≡ cond (number == n) (known_by self.old n u + cond (thread == u) 1 0) (known_by self.old n u)) }
+        ensures err { OnErr result ((n u : ℕ) → known_by self.new n u ≡ known_by self.old n u) }
+        ensures many { IsErrOf result NoTick.TooManyThreads → 2 ^ 14 ≤ thread }
+        ensures full { IsErrOf result NoTick.CountFull → known_by self.old number thread ≡ 2 ^ 32 - 1 }
     {
         match index_of(&self.clocks, self.places.hint(number), number) {
             Some(index) => {
@@ -108,6 +109,17 @@ impl ClockTable {
                     Err(_) => Err(NoTick::OutOfMemory),
                 }
             }
+        }
+    }
+
+    /// The clock of this number, which counts something, and the other clock change places.
+    pub fn swap(&mut self, number: u32, other: &mut Clock)
+        requires { (u : ℕ) × (0 < known_by self.old number u) }
+        ensures { (n u : ℕ) → known_by self.new n u ≡ cond (number == n) (count_in other.old u) (known_by self.old n u) }
+    {
+        match index_of(&self.clocks, self.places.hint(number), number) {
+            Some(index) => mem::swap(&mut self.clocks[index], other),
+            None => {}
         }
     }
 }

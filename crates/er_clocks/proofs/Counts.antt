@@ -1,49 +1,39 @@
 -- How the counts in tables of clocks go through joins and ticks.
-use Rattle.std.proofs.Common.{◌≡◌, ℕ, zero, suc, ◌+◌, ◌<◌, ◌≤◌, max, Bool, true, false, ◌&&◌, cond, ◌==◌, nat_eq, List, [], ◌∷◌, length, get_or, refl, ap, ap₂, sym, ◌∙◌, arith}
+use Rattle.std.proofs.Common.{◌≡◌, ℕ, ◌+◌, ◌<◌, ◌≤◌, max, Bool, true, false, ◌&&◌, cond, ◌==◌, refl, ap, ap₂, sym, ◌∙◌, arith}
 use Rattle.std.proofs.lemmas.Bool.{eqb-true, and_parts}
-use Rattle.er_order.specs.ClockLists.{merged, ticked}
-use Rattle.er_order.proofs.ClockLists.{get-merged, tick-runs}
 use Rattle.er_order.proofs.ClockSteps.{flip}
-use Rattle.er_clock.specs.Clock.{count_in}
-use Rattle.er_clock.specs.Table.{clock_at}
-use Rattle.er_clocks.specs.Counts.{ClockMap, known_by, own_begun, known_to}
-
--- a join into the clock of this number
-pub known-joined : (old new : ClockMap) (number : ℕ) (ys : List ℕ) →
-    ((n : ℕ) → clock_at new n ≡ cond (nat_eq number n) (merged (clock_at old number) ys) (clock_at old n)) →
-    (n u : ℕ) → known_by new n u ≡ cond (number == n) (max (known_by old n u) (count_in ys u)) (known_by old n u)
-known-joined old new number ys is n u = ap (λ xs. get_or xs u 0) (is n) ∙ by (nat_eq number n) refl
-  where
-    by : (b : Bool) → nat_eq number n ≡ b → get_or (cond b (merged (clock_at old number) ys) (clock_at old n)) u 0 ≡
-        cond b (max (get_or (clock_at old n) u 0) (get_or ys u 0)) (get_or (clock_at old n) u 0)
-    by true e = get-merged (clock_at old number) ys u ∙ ap (λ m. max (get_or (clock_at old m) u 0) (get_or ys u 0)) (eqb-true number n e)
-    by false e = refl
-
-get-ticked : (t u : ℕ) (xs : List ℕ) → get_or (ticked t xs) u 0 ≡ get_or xs u 0 + cond (t == u) 1 0
-get-ticked t u xs = tick-runs t u (get_or xs u 0) xs true (t == u) refl refl ∙ by (t == u)
-  where
-    by : (b : Bool) → get_or xs u 0 + cond (b && true) 1 0 ≡ get_or xs u 0 + cond b 1 0
-    by true = refl
-    by false = refl
+use Rattle.er_clock.specs.Clock.{Counts, count_in}
+use Rattle.er_clock.specs.Table.{known_by}
+use Rattle.er_clocks.specs.Counts.{ClockMap, own_begun, known_to}
 
 -- a tick of a thread in the clock of this number
 pub known-ticked : (old new : ClockMap) (number thread : ℕ) →
-    ((n : ℕ) → clock_at new n ≡ cond (nat_eq number n) (ticked thread (clock_at old number)) (clock_at old n)) →
+    ((n u : ℕ) → known_by new n u ≡ cond (number == n) (known_by old n u + cond (thread == u) 1 0) (known_by old n u)) →
     (n u : ℕ) → known_by new n u ≡ known_by old n u + cond (number == n && thread == u) 1 0
-known-ticked old new number thread is n u = ap (λ xs. get_or xs u 0) (is n) ∙ by (nat_eq number n) refl
+known-ticked old new number thread is n u = is n u ∙ by (number == n) (known_by old n u)
   where
-    by : (b : Bool) → nat_eq number n ≡ b → get_or (cond b (ticked thread (clock_at old number)) (clock_at old n)) u 0 ≡
-        get_or (clock_at old n) u 0 + cond (b && thread == u) 1 0
-    by true e =
-        get-ticked thread u (clock_at old number)
-        ∙ ap (λ m. get_or (clock_at old m) u 0 + cond (thread == u) 1 0) (eqb-true number n e)
-    by false e = omega arith
+    by : (b : Bool) (x : ℕ) → cond b (x + cond (thread == u) 1 0) x ≡ x + cond (b && thread == u) 1 0
+    by true x = refl
+    by false x = omega arith
 
--- a count that isn't 0 has a place
-pub counted_place : (xs : List ℕ) (t : ℕ) → 0 < get_or xs t 0 → t < length xs
-counted_place [] t some = absurd (omega arith)
-counted_place (x ∷ xs) zero some = omega arith
-counted_place (x ∷ xs) (suc t) some = let place = counted_place xs t some in omega arith
+-- a clock with the thread's own count risen takes the place of the thread's
+pub risen : (at joined after : ClockMap) (from number : ℕ) (next : Counts) → number ≡ from → ((u : ℕ) → known_by joined from u ≡ known_by at from u) →
+    ((u : ℕ) → count_in next u ≡ known_by at from u + cond (from == u) 1 0) →
+    ((n u : ℕ) → known_by after n u ≡ cond (number == n) (count_in next u) (known_by joined n u)) →
+    (t u : ℕ) → known_by after t u ≡ known_by joined t u + cond (t == from && from == u) 1 0
+risen at joined after from number next is own count swapped t u = swapped t u ∙ by (number == t) refl
+  where
+    plus_zero : (x : ℕ) → x ≡ x + 0
+    plus_zero x = omega arith
+
+    by : (b : Bool) → (number == t) ≡ b → cond b (count_in next u) (known_by joined t u) ≡ known_by joined t u + cond (t == from && from == u) 1 0
+    by true here =
+        let same : t ≡ from = sym (eqb-true number t here) ∙ is in
+        count u ∙ ap (λ k. k + cond (from == u) 1 0) (sym (own u) ∙ ap (λ x. known_by joined x u) (sym same))
+        ∙ ap (λ b. known_by joined t u + cond (b && from == u) 1 0) (sym (Rattle.std.proofs.lemmas.Bool.eq-eqb t from same))
+    by false apart =
+        plus_zero (known_by joined t u)
+        ∙ ap (λ b. known_by joined t u + cond (b && from == u) 1 0) (sym apart ∙ ap (λ x. x == t) is ∙ flip from t)
 
 -- the same with the numbers the other way round
 pub known-taken : (old new : ClockMap) (t u thread c : ℕ) →
@@ -128,11 +118,21 @@ ticked-to at after thread begun is t u = by (t == thread && thread == u) (t == u
         keep true stay = omega arith
         keep false stay = omega arith
 
--- what is handed on leaves the own count of the thread that hands it on
+-- a cleared clock that a thread's is joined into
+pub carried-known : (at : ClockMap) (from number : ℕ) (cleared got carried : Counts) → number ≡ from → ((u : ℕ) → count_in cleared u ≡ 0) →
+    ((u : ℕ) → count_in got u ≡ known_by at number u) → ((u : ℕ) → count_in carried u ≡ max (count_in cleared u) (count_in got u)) →
+    (u : ℕ) → count_in carried u ≡ known_by at from u
+carried-known at from number cleared got carried is clear have all u =
+    let first = all u in
+    let second = clear u in
+    let third : count_in got u ≡ known_by at from u = have u ∙ ap (λ n. known_by at n u) is in
+    omega (arith, first, second, third)
+
+-- what is handed on leaves the clock of the thread that hands it on
 pub handed-own : (at next : ClockMap) (from to : ℕ) →
     ((t u : ℕ) → known_by next t u ≡ cond (t == to) (max (known_by at t u) (known_by at from u)) (known_by at t u)) →
-    known_by next from from ≡ known_by at from from
-handed-own at next from to is = is from from ∙ by (from == to) (known_by at from from)
+    (u : ℕ) → known_by next from u ≡ known_by at from u
+handed-own at next from to is u = is from u ∙ by (from == to) (known_by at from u)
   where
     by : (b : Bool) (x : ℕ) → cond b (max x x) x ≡ x
     by true x = omega arith
@@ -144,7 +144,7 @@ pub handed : (before at next after : ClockMap) (from to : ℕ) → 0 < known_by 
     ((t u : ℕ) → known_by after t u ≡ known_by next t u + cond (t == from && from == u) 1 0) →
     (t u : ℕ) → known_to after t u ≡ cond (t == to) (max (known_to before t u) (known_to before from u)) (known_to before t u) + cond (t == from && from == u) 1 0
 handed before at next after from to begun same is ticks t u =
-    let own = handed-own at next from to is in
+    let own = handed-own at next from to is from in
     let first : 0 < known_by next from from = omega (arith, own) in
     ticked-to next after from first ticks t u
     ∙ ap (λ k. k + cond (t == from && from == u) 1 0)
@@ -153,10 +153,9 @@ handed before at next after from to begun same is ticks t u =
     ∙ ap₂ (λ k d. cond (t == to) (max k d) k) (same t u) (same from u))
 
 -- what is carried from one thread's clock to another one's
-pub carried-over : (at next : ClockMap) (from to number : ℕ) (cleared got carried : List ℕ) → number ≡ from → cleared ≡ [] → got ≡ clock_at at number → carried ≡ merged cleared got →
+pub carried-over : (at next : ClockMap) (from to number : ℕ) (cleared got carried : Counts) → number ≡ from → ((u : ℕ) → count_in cleared u ≡ 0) →
+    ((u : ℕ) → count_in got u ≡ known_by at number u) → ((u : ℕ) → count_in carried u ≡ max (count_in cleared u) (count_in got u)) →
     ((t u : ℕ) → known_by next t u ≡ cond (t == to) (max (known_by at t u) (count_in carried u)) (known_by at t u)) →
     (t u : ℕ) → known_by next t u ≡ cond (t == to) (max (known_by at t u) (known_by at from u)) (known_by at t u)
-unfolding merged
 carried-over at next from to number cleared got carried is clear have all taken t u =
-    let same : carried ≡ clock_at at from = all ∙ ap (λ clock. merged clock got) clear ∙ have ∙ ap (clock_at at) is in
-    taken t u ∙ ap (λ clock. cond (t == to) (max (known_by at t u) (count_in clock u)) (known_by at t u)) same
+    taken t u ∙ ap (λ k. cond (t == to) (max (known_by at t u) k) (known_by at t u)) (carried-known at from number cleared got carried is clear have all u)

@@ -1,19 +1,20 @@
 -- What one act makes of the counts.
-use Rattle.std.proofs.Common.{◌≡◌, ℕ, ◌+◌, max, Bool, true, false, ◌&&◌, ◌||◌, cond, ◌==◌, List, [], ◌∷◌, ◌++◌, length, Option, Some, None, refl, ap, ap₂, sym, ◌∙◌, arith}
+use Rattle.std.proofs.Common.{◌≡◌, ◌≤◌, ◌^◌, ℕ, ◌+◌, max, Bool, true, false, ◌&&◌, ◌||◌, cond, ◌==◌, List, [], ◌∷◌, ◌++◌, length, Option, Some, None, refl, ap, ap₂, sym, ◌∙◌, arith}
 use Rattle.std.proofs.Math.Path.{fun_ext}
-use Rattle.std.proofs.lemmas.Bool.{eq-eqb}
+use Rattle.std.proofs.lemmas.Bool.{eq-eqb, eqb-true}
 use Rattle.std.specs.Option.{is_none}
 use Rattle.er_event.specs.declared.steps.Mode.TheVariants.{Read, Write}
 use Rattle.er_event.specs.declared.refusals.Refusal.{Refusal}
 use Rattle.er_event.proofs.Lists.{length_push}
 use Rattle.er_model.specs.Holdings.{refused_by, holdings_at}
 use Rattle.er_event.specs.declared.steps.Step.{Step}
-use Rattle.er_order.specs.Order.{Act, Effect, Released, Signalled, Joined, act_unless, acts_of}
+use Rattle.er_order.specs.Order.{Act, Effect, Released, Signalled, Joined, act_unless, acts_of, joins}
 use Rattle.er_order.specs.Clocks.{Keeper, OfThread, OfReleases, OfObject, is_own, publishes, flows, clocks_after, clocks_at}
 use Rattle.er_order.specs.Following.{act_by}
 use Rattle.er_order.proofs.ClockSteps.{and_none, and_all, released, signalled}
 use Rattle.er_order.proofs.StepLemmas.{clocks-grow}
-use Rattle.er_clocks.specs.Counts.{ClockMap, known_by, known_to}
+use Rattle.er_clock.specs.Table.{known_by}
+use Rattle.er_clocks.specs.Counts.{ClockMap, known_to}
 use Rattle.er_clocks.specs.Standing.{ClockMaps, counts, Moves, act_if, StandsForClocksOf, is_accepted}
 
 plus_none : (x : ℕ) → x ≡ x + 0
@@ -91,6 +92,37 @@ module _ (m : ClockMaps) (threads : ClockMap) (t : ℕ) (ticked : Ticked m.threa
 pub flows-own : (a : Act) → publishes a.sync ≡ true → flows a a.thread ≡ true
 unfolding flows
 flows-own a gives = rw (eq-eqb a.thread a.thread refl, gives) refl
+
+pub same_bound : (x t : ℕ) → x ≡ t → 2 ^ 14 ≤ t → 2 ^ 14 ≤ x
+same_bound x t same high = omega (arith, same, high)
+
+-- and no other thread's clock does
+pub own-alone : (t v : ℕ) (d : Effect) → joins d v ≡ false → flows (record { thread = t; sync = d }) v ≡ true → t ≡ v
+unfolding flows
+own-alone t v d none it = eqb-true t v (by (t == v) (publishes d) (joins d v) none it)
+  where
+    by : (b p j : Bool) → j ≡ false → ((b && p) || j) ≡ true → b ≡ true
+    by true p j n it = refl
+    by false p j n it = sym n ∙ it
+
+pub joined-alone : (t w v : ℕ) → flows (record { thread = t; sync = Joined w }) v ≡ true → w ≡ v
+unfolding flows
+joined-alone t w v it = eqb-true w v (by (t == v) (w == v) it)
+  where
+    by : (b j : Bool) → ((b && false) || j) ≡ true → j ≡ true
+    by true j it = it
+    by false j it = it
+
+pub none-flows : (t v : ℕ) (d : Effect) → publishes d ≡ false → joins d v ≡ false → flows (record { thread = t; sync = d }) v ≡ true → ⊥
+unfolding flows
+none-flows t v d quiet none it = by (t == v) (publishes d) (joins d v) quiet none it
+  where
+    by : (b p j : Bool) → p ≡ false → j ≡ false → ((b && p) || j) ≡ true → ⊥
+    by true true j n o it = cc
+    by true false true n o it = cc
+    by true false false n o it = cc
+    by false p true n o it = cc
+    by false p false n o it = cc
 
 pub flows-joined : (t v : ℕ) → flows (record { thread = t; sync = Joined v }) v ≡ true
 unfolding flows

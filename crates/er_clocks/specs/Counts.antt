@@ -1,15 +1,11 @@
 -- What the tables of clocks say that each thread, lock and object knows.
 use Rattle.std.specs.Prelude.{ℕ, ◌==◌, max, cond, List}
-use Rattle.er_clock.specs.Clock.{count_in}
-use Rattle.er_clock.specs.Table.{clock_at}
+use Rattle.er_clock.specs.Clock.{Counts, count_in}
+use Rattle.er_clock.specs.Table.{known_by}
 
 -- clocks by number
 abbrev pub ClockMap : Type 0
-ClockMap = List (ℕ × List ℕ)
-
--- the count of thread u in the clock of this number
-abbrev pub known_by : ClockMap → ℕ → ℕ → ℕ
-known_by clocks number u = count_in (clock_at clocks number) u
+ClockMap = List (ℕ × Counts)
 
 -- a thread's own count begins at 1
 abbrev pub own_begun : ℕ → ℕ → ℕ
@@ -20,5 +16,5 @@ abbrev pub known_to : ClockMap → ℕ → ℕ → ℕ
 known_to clocks t u = max (known_by clocks t u) (own_begun t u)
 
 -- the same of one thread's clock
-abbrev pub count_by : ℕ × List ℕ → ℕ → ℕ
+abbrev pub count_by : ℕ × Counts → ℕ → ℕ
 count_by clock u = max (count_in clock.1 u) (own_begun clock.0 u)

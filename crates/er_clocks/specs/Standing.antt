@@ -5,7 +5,8 @@ use Rattle.er_model.specs.Holdings.{refused_by, holdings_at}
 use Rattle.er_event.specs.declared.steps.Step.{Step}
 use Rattle.er_order.specs.Order.{Act, sync_of, acts_of}
 use Rattle.er_order.specs.Clocks.{Keeper, OfThread, OfReleases, OfObject, flows, clocks_after, clocks_at}
-use Rattle.er_clocks.specs.Counts.{ClockMap, known_by, known_to}
+use Rattle.er_clock.specs.Table.{known_by}
+use Rattle.er_clocks.specs.Counts.{ClockMap, known_to}
 
 -- the clocks of threads, of locks for their releases in write mode and in read mode, and of objects
 pub record ClockMaps : Type 0 where

@@ -1,10 +1,11 @@
 //! The clocks of the threads, where each thread's own count begins at 1.
-ghost use Rattle.std.specs.Prelude.{◌≡◌, ◌<◌, ◌+◌, ◌-◌, ◌^◌, ◌&&◌, ◌==◌, ℕ, cond, max, OnOk, OnErr, IsErrOf};
+ghost use Rattle.std.specs.Prelude.{◌≡◌, ◌↔◌, ◌≤◌, ◌<◌, ◌+◌, ◌-◌, ◌^◌, ◌&&◌, ◌==◌, ℕ, cond, max, OnOk, OnErr, IsErrOf};
 ghost use Rattle.er_order.specs.Clocks.{covers};
 ghost use Rattle.er_clock.specs.Clock.{count_in};
-ghost use Rattle.er_clocks.specs.Counts.{own_begun, known_by, known_to, count_by};
+ghost use Rattle.er_clock.specs.Table.{known_by};
+ghost use Rattle.er_clocks.specs.Counts.{own_begun, known_to, count_by};
 
-use er_clock::{Clock, ClockTable, Epoch, NoTick};
+use er_clock::{Clock, ClockTable, Epoch, NoTick, THREADS};
 use er_event::ThreadId;
 use std::alloc::{AllocError, Global};
 use std::marker::Model;
@@ -17,9 +18,10 @@ pub struct ThreadClock<'c> {
 }
 
 impl<'c> Model for ThreadClock<'c> {
-    ghost use Rattle.std.specs.Prelude.{List, ℕ};
+    ghost use Rattle.std.specs.Prelude.{ℕ};
+    ghost use Rattle.er_clock.specs.Clock.{Counts};
 
-    ghost Value = { ℕ × List ℕ };
+    ghost Value = { ℕ × Counts };
 
     ghost view = { λ c. (c.thread, c.clock.now) };
 }
@@ -63,12 +65,14 @@ pub(crate) struct ThreadClocks {
     table: ClockTable,
     // What is on its way from one clock to another.
     carried: Clock,
+    // What becomes of the clock of the thread that hands on what it knows.
+    next: Clock,
 }
 
 impl Model for ThreadClocks {
-    ghost use Rattle.std.specs.Prelude.{List, ℕ};
+    ghost use Rattle.er_clocks.specs.Counts.{ClockMap};
 
-    ghost Value = { List (ℕ × List ℕ) };
+    ghost Value = { ClockMap };
 
     ghost view = { λ t. t.table };
 }
@@ -81,6 +85,7 @@ impl ThreadClocks {
         ThreadClocks {
             table: ClockTable::new(alloc),
             carried: Clock::new(alloc),
+            next: Clock::new(alloc),
         }
     }
 
@@ -114,7 +119,7 @@ impl ThreadClocks {
         ensures err { OnErr result ((t u : ℕ) → known_to self.new t u ≡ known_to self.old t u) }
     {
         // As a rule nobody has released the lock in read mode.
-        if other.len() == 0 {
+        if other.is_empty() {
             return self.take(thread, one);
         }
         self.carried.clear();
@@ -123,14 +128,15 @@ impl ThreadClocks {
         join(&mut self.table, thread, &self.carried)
     }
 
-    /// Puts what a thread knows into another one's clock, and then its own count rises. `CountFull`: that is the greatest. An error
-    /// changes no count.
+    /// Puts what a thread knows into another one's clock, and then its own count rises. `TooManyThreads`: its number is [`THREADS`] or more.
+    /// `CountFull`: its own count is the greatest. An error changes no count.
     pub(crate) fn hand_on(&mut self, from: ThreadId, to: ThreadId) -> Result<(), NoTick>
         ensures ok { OnOk result ((t u : ℕ) → known_to self.new t u ≡ cond (t == to) (max (known_to self.old t u) (known_to self.old from u)) (known_to self.old t u) + cond (t == from && from == u) 1 0) }
         ensures err { OnErr result ((t u : ℕ) → known_to self.new t u ≡ known_to self.old t u) }
+        ensures many { IsErrOf result NoTick.TooManyThreads ↔ (2 ^ 14 ≤ from) }
         ensures full { IsErrOf result NoTick.CountFull → known_to self.old from from ≡ 2 ^ 32 - 1 }
     {
-        match prepare(&mut self.table, from) {
+        match prepare(&mut self.table, &mut self.next, from) {
             Ok(()) => {}
             Err(why) => return Err(why),
         }
@@ -143,12 +149,12 @@ impl ThreadClocks {
             Ok(()) => {}
             Err(_) => return Err(NoTick::OutOfMemory),
         }
-        tick(&mut self.table, from);
+        self.table.swap(from.number(), &mut self.next);
         Ok(())
     }
 
-    /// Puts what a thread knows into the clock of this number, and then its own count rises. `CountFull`: that is the greatest. An
-    /// error changes no count.
+    /// Puts what a thread knows into the clock of this number, and then its own count rises. `TooManyThreads`: the thread's number is
+    /// [`THREADS`] or more. `CountFull`: its own count is the greatest. An error changes no count.
     pub(crate) fn give(
         &mut self,
         thread: ThreadId,
@@ -159,9 +165,10 @@ impl ThreadClocks {
         ensures given { OnOk result ((n u : ℕ) → known_by clocks.new n u ≡ cond (number == n) (max (known_by clocks.old n u) (known_to self.old thread u)) (known_by clocks.old n u)) }
         ensures err { OnErr result ((t u : ℕ) → known_to self.new t u ≡ known_to self.old t u) }
         ensures kept { OnErr result ((n u : ℕ) → known_by clocks.new n u ≡ known_by clocks.old n u) }
+        ensures many { IsErrOf result NoTick.TooManyThreads ↔ (2 ^ 14 ≤ thread) }
         ensures full { IsErrOf result NoTick.CountFull → known_to self.old thread thread ≡ 2 ^ 32 - 1 }
     {
-        match prepare(&mut self.table, thread) {
+        match prepare(&mut self.table, &mut self.next, thread) {
             Ok(()) => {}
             Err(why) => return Err(why),
         }
@@ -169,7 +176,7 @@ impl ThreadClocks {
             Ok(()) => {}
             Err(_) => return Err(NoTick::OutOfMemory),
         }
-        tick(&mut self.table, thread);
+        self.table.swap(thread.number(), &mut self.next);
         Ok(())
     }
 }
@@ -182,29 +189,39 @@ fn join(table: &mut ClockTable, thread: ThreadId, found: &Clock) -> Result<(), A
     table.join(thread.number(), found)
 }
 
-// Makes the thread ready to hand on what it knows, and its own count to rise, with no change of what it knows.
-fn prepare(table: &mut ClockTable, thread: ThreadId) -> Result<(), NoTick>
+// Makes the thread ready to hand on what it knows, with no change of what it knows, and `next` its clock with its own count risen.
+fn prepare(table: &mut ClockTable, next: &mut Clock, thread: ThreadId) -> Result<(), NoTick>
     ensures same { (t u : ℕ) → known_to table.new t u ≡ known_to table.old t u }
     ensures begun { OnOk result (0 < known_by table.new thread thread) }
-    ensures room { OnOk result (known_by table.new thread thread < 2 ^ 32 - 1) }
+    ensures risen { OnOk result ((u : ℕ) → count_in next.new u ≡ known_by table.new thread u + cond (thread == u) 1 0) }
+    ensures many { IsErrOf result NoTick.TooManyThreads ↔ (2 ^ 14 ≤ thread) }
     ensures full { IsErrOf result NoTick.CountFull → known_to table.old thread thread ≡ 2 ^ 32 - 1 }
 {
+    match begin(table, thread) {
+        Ok(()) => {}
+        Err(why) => return Err(why),
+    }
+    next.clear();
+    match next.join(table.get(thread.number())) {
+        Ok(()) => next.tick(thread),
+        Err(_) => Err(NoTick::OutOfMemory),
+    }
+}
+
+// Puts the thread's own count into its clock, where it isn't yet.
+fn begin(table: &mut ClockTable, thread: ThreadId) -> Result<(), NoTick>
+    ensures same { (t u : ℕ) → known_to table.new t u ≡ known_to table.old t u }
+    ensures begun { OnOk result (0 < known_by table.new thread thread) }
+    ensures many { IsErrOf result NoTick.TooManyThreads ↔ (2 ^ 14 ≤ thread) }
+    ensures full { IsErrOf result NoTick.CountFull → known_to table.old thread thread ≡ 2 ^ 32 - 1 }
+{
+    if thread.number() >= THREADS {
+        return Err(NoTick::TooManyThreads);
+    }
     let number = thread.number();
     let count = table.get(number).count(thread);
-    if count == u32::MAX {
-        return Err(NoTick::CountFull);
-    }
     if count == 0 {
         return table.tick(number, thread);
     }
     Ok(())
-}
-
-// Adds one to the own count of a thread that is ready for it.
-fn tick(table: &mut ClockTable, thread: ThreadId)
-    requires begun { 0 < known_by table.old thread thread }
-    requires room { known_by table.old thread thread < 2 ^ 32 - 1 }
-    ensures { (t u : ℕ) → known_by table.new t u ≡ known_by table.old t u + cond (t == thread && thread == u) 1 0 }
-{
-    let _ = table.tick(thread.number(), thread);
 }

@@ -16,6 +16,7 @@ use Rattle.er_order.specs.Races.{order_answer}
 use Rattle.er_order.specs.Following.{kept_at, reports_at}
 use Rattle.er_order.proofs.StepLemmas.{held-front, clocks-front}
 use Rattle.er_order.proofs.Growing.{answer-grow, clocks-access}
+use Rattle.er_clock.specs.Clock.{Counts}
 use Rattle.er_clocks.specs.Counts.{count_by}
 use Rattle.er_latest.specs.Inner.Steps.{latest_moved, marked_if}
 use Rattle.er_latest.specs.Latest.{Latest, latest_at}
@@ -35,7 +36,7 @@ module _ (past : List Step) (s : Step) where
   held = holdings_at past s.thread (length past)
 
   -- the clock after an access is the clock before it
-  pub clock-before : (clock : ℕ × List ℕ) (w site : ℕ) (kind : Kind) → s.event ≡ Access kind w site → IsClockAfter longer s.thread clock →
+  pub clock-before : (clock : ℕ × Counts) (w site : ℕ) (kind : Kind) → s.event ≡ Access kind w site → IsClockAfter longer s.thread clock →
       count_by clock ≡ clocks_at (acts_of past) (length past) (OfThread s.thread)
   clock-before clock w site kind event is =
       fun_ext (λ u.
@@ -71,7 +72,7 @@ module _ {A : Type 0} (clock other : ℕ → ℕ) (a : A) (before : Latest A) (w
   moved-same (Level n) known = refl
   moved-same (Sync sync) known = refl
 
-module _ {A : Type 0} (past : List Step) (s : Step) (tags more : ℕ → A) (old new : List (ℕ × Latest A)) (clock : ℕ × List ℕ) (counted : Bool) (tag : A) where
+module _ {A : Type 0} (past : List Step) (s : Step) (tags more : ℕ → A) (old new : List (ℕ × Latest A)) (clock : ℕ × Counts) (counted : Bool) (tag : A) where
   pub goes-on : Follows tags old past → counted ≡ is_counted (order_answer (past ++ s ∷ []) (length past)) → IsClockAfter (past ++ s ∷ []) s.thread clock →
       ((k : ℕ) → k < length past → more k ≡ tags k) → more (length past) ≡ tag →
       ((w : ℕ) → latest_among new w ≡ latest_moved (count_by clock) tag (latest_among old w) w (marked_if counted clock.0 s.event)) →

@@ -25,6 +25,7 @@ use Rattle.er_order.proofs.StepLemmas.{agree-steps, clocks-front}
 use Rattle.er_order.proofs.Following.{mark-step}
 use Rattle.er_order.proofs.ReasonLemmas.{race-reported, race-finds-it, reported-first}
 use Rattle.er_order.proofs.Rivals.{has-append, listed}
+use Rattle.er_clock.specs.Clock.{Counts}
 use Rattle.er_clocks.specs.Counts.{count_by}
 use Rattle.er_latest.specs.Inner.Steps.{is_apart, rivals_of, tag_found}
 use Rattle.er_latest.specs.declared.word.Tagged.{Tagged}
@@ -101,7 +102,7 @@ module _ (h : Holdings) (t w word : ℕ) (kind : Kind) where
   marked-access true counted = cc
   marked-access false counted = (refl, refl)
 
-module _ {A : Type 0} (past : List Step) (s : Step) (tags : ℕ → A) (words : List (ℕ × Latest A)) (clock : ℕ × List ℕ) where
+module _ {A : Type 0} (past : List Step) (s : Step) (tags : ℕ → A) (words : List (ℕ × Latest A)) (clock : ℕ × Counts) where
   abbrev longer : List Step
   longer = past ++ s ∷ []
 

@@ -7,6 +7,7 @@ use Rattle.er_event.specs.declared.steps.Reply.TheVariants.{Quiet, Race}
 use Rattle.er_event.specs.declared.steps.Step.{Step}
 use Rattle.er_order.specs.Order.{acts_of}
 use Rattle.er_order.specs.Clocks.{OfThread, clocks_at}
+use Rattle.er_clock.specs.Clock.{Counts}
 use Rattle.er_clocks.specs.Counts.{count_by}
 use Rattle.er_latest.specs.Latest.{Latest, untouched, latest_at}
 
@@ -19,7 +20,7 @@ abbrev pub Follows : {A : Type 0} → (ℕ → A) → List (ℕ × Latest A) →
 Follows tags words steps = (w : ℕ) → latest_among words w ≡ latest_at tags steps w (length steps)
 
 -- it is the clock of thread t at the end of the list
-pub record IsClockAfter (steps : List Step) (t : ℕ) (clock : ℕ × List ℕ) : Type 0 where
+pub record IsClockAfter (steps : List Step) (t : ℕ) (clock : ℕ × Counts) : Type 0 where
   pub thread : clock.0 ≡ t
   pub counts : (u : ℕ) → count_by clock u ≡ clocks_at (acts_of steps) (length steps) (OfThread t) u
 

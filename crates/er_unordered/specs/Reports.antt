@@ -6,12 +6,12 @@ use Rattle.er_rules.specs.Rules.{Target}
 use Rattle.er_text.specs.Trace.{IsTrace}
 use Rattle.er_trace.specs.Names.{NameTable}
 use Rattle.er_trace.specs.Trace.{Recording}
-use Rattle.er_unordered.specs.Answers.{unordered_answer}
+use Rattle.er_order.specs.Races.{order_answer}
 use Rattle.er_unordered.specs.Reasons.{order_reasons_if}
 
 -- the report of a recording's unordered accesses under these rules, with reasons or without
 abbrev pub unordered_report : Recording → List Target → Bool → Summary
-unordered_report recording rules explain = report_by (unordered_answer recording.steps) (order_reasons_if explain recording) recording rules None
+unordered_report recording rules explain = report_by (order_answer recording.steps) (order_reasons_if explain recording) recording rules None
 
 -- the report of the text's trace, answered by happens-before, under these rules, with reasons or without, and the names of that trace
 pub record IsReportOfText (text : List ℕ) (limit : ℕ) (rules : List Target) (explain : Bool) (used : NameTable) (report : Report) : Type 0 where

@@ -1,41 +1,20 @@
-use Rattle.std.proofs.Common.{◌≡◌, ◌<◌, ◌+◌, ◌&&◌, ◌==◌, ℕ, Bool, true, false, cond, OnOk, ap, sym, ◌∙◌, refl, arith}
-use Rattle.std.proofs.lemmas.Bool.{eq-eqb, and_from}
+use Rattle.std.proofs.Common.{◌≡◌, ◌∙◌, ◌+◌, ◌==◌, ℕ, cond, ap, sym}
 use Rattle.er_event.proofs.Results.{on_ok}
 use Rattle.er_clock.specs.Clock.{count_in}
-use Rattle.er_clocks.specs.Counts.{known_by, own_begun}
-use Rattle.er_clocks.proofs.Counts.{known-ticked, begun-same}
-use Rattle.er_clocks.proofs.Outcomes.{either_way}
+use Rattle.er_clock.specs.Table.{known_by}
+use Rattle.er_clocks.proofs.Counts.{carried-known, ready-known}
 use Rattle.er_clocks.proofs.threads.prepare.Goals as goal
 
-module _ (c : goal.After-tick) where
-  -- the count is 0
-  none : known_by c.args.table.now c.args.thread c.args.thread ≡ 0
-  none =
-      ap (λ number. known_by c.args.table.now number c.args.thread) (sym c.number-number.ensures.value)
-      ∙ ap (λ clock. count_in clock c.args.thread) (sym c.get.ensures) ∙ sym c.count-count.ensures.value ∙ c.if-count-eq0.true
+-- the copy of the thread's clock has its counts
+copied : (c : goal.After-tick) (u : ℕ) → count_in c.join.new.self u ≡ known_by c.begin.new.table c.args.thread u
+copied c =
+    carried-known c.begin.new.table c.args.thread c.number.result c.clear.new.self c.get.result.now c.join.new.self c.number.ensures.value c.clear.ensures c.get.ensures c.in-Ok-join.ensures.ok
 
-  -- and a tick makes it 1
-  one : ((t u : ℕ) → known_by c.tick.new.self t u ≡ known_by c.args.table.now t u + cond (c.args.thread == t && c.args.thread == u) 1 0) →
-      known_by c.tick.new.self c.args.thread c.args.thread ≡ 1
-  one ticks =
-      let itself = eq-eqb c.args.thread c.args.thread refl in
-      ticks c.args.thread c.args.thread ∙ ap (λ b. known_by c.args.table.now c.args.thread c.args.thread + cond b 1 0) (and_from _ _ itself itself)
-      ∙ ap (λ k. k + 1) none
+pub returns-in-Ok-join-clause-risen : goal.returns-in-Ok-join-clause-risen
+returns-in-Ok-join-clause-risen c =
+    on_ok c.tick.result _ _ c.tick.ensures.ok (λ new u. new u ∙ ap (λ k. k + cond (c.args.thread == u) 1 0) (copied c u))
 
-  ticked : OnOk c.tick.result ((t u : ℕ) → known_by c.tick.new.self t u ≡ known_by c.args.table.now t u + cond (c.args.thread == t && c.args.thread == u) 1 0)
-  ticked =
-      on_ok c.tick.result _ _ c.tick.ensures.ok (λ new t u.
-      known-ticked c.args.table.now c.tick.new.self c.number-number.result c.args.thread new t u
-      ∙ ap (λ number. known_by c.args.table.now t u + cond (number == t && c.args.thread == u) 1 0) c.number-number.ensures.value)
-
-pub returns-then-count-eq0-clause-same : goal.returns-then-count-eq0-clause-same
-returns-then-count-eq0-clause-same c t u =
-    either_way c.tick.result _ _ _ (ticked c) c.tick.ensures.err
-    (λ ticks. begun-same c.args.table.now c.tick.new.self c.args.thread (none c) ticks t u)
-    (λ same. ap (λ clock. Rattle.std.proofs.Common.max (count_in clock u) (own_begun t u)) (same t))
-
-pub returns-then-count-eq0-clause-begun : goal.returns-then-count-eq0-clause-begun
-returns-then-count-eq0-clause-begun c = on_ok c.tick.result _ _ (ticked c) (λ ticks. let first = one c ticks in omega (arith, first))
-
-pub returns-then-count-eq0-clause-room : goal.returns-then-count-eq0-clause-room
-returns-then-count-eq0-clause-room c = on_ok c.tick.result _ _ (ticked c) (λ ticks. let first = one c ticks in omega (arith, first))
+pub returns-in-Ok-join-clause-full : goal.returns-in-Ok-join-clause-full
+returns-in-Ok-join-clause-full c full =
+    sym (c.begin.ensures.same c.args.thread c.args.thread) ∙ sym (ready-known c.begin.new.table c.args.thread c.in-Ok.ensures.begun c.args.thread)
+    ∙ (sym (copied c c.args.thread) ∙ c.tick.ensures.full full)

@@ -1,5 +1,5 @@
-use Rattle.er_clock.proofs.TableLemmas.{clock_empty}
+use Rattle.er_clock.proofs.TableLemmas.{count_empty}
 use Rattle.er_clock.proofs.table.ClockTable.new.Goals as goal
 
 pub returns : goal.returns
-returns c n = clock_empty c.new.result.entries n c.new.ensures.empty
+returns c n u = count_empty c.new.result.entries n u c.new.ensures.empty

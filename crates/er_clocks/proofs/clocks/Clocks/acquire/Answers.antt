@@ -4,7 +4,8 @@ use Rattle.er_event.specs.declared.steps.Mode.TheVariants.{Read, Write}
 use Rattle.er_order.specs.Order.{Acquired}
 use Rattle.er_order.proofs.ClockSteps.{acquired}
 use Rattle.er_clock.specs.Clock.{count_in}
-use Rattle.er_clocks.specs.Counts.{known_by, known_to}
+use Rattle.er_clock.specs.Table.{known_by}
+use Rattle.er_clocks.specs.Counts.{known_to}
 use Rattle.er_clocks.specs.Standing.{counts}
 use Rattle.er_clocks.proofs.Standing.{takes-found}
 use Rattle.er_clocks.specs.contracts.clocks.Clocks.{the_view}
@@ -19,7 +20,7 @@ returns-in-Read-clause-ok c =
     (λ n u. new n u ∙ ap (λ f. cond (n == c.args.thread) (max (known_to c.self.inside.threads n u) f) (known_to c.self.inside.threads n u)) (found u))))
   where
     found : (u : ℕ) → count_in c.get-written.result.now u ≡ known_by c.self.inside.written c.args.lock u
-    found u = ap (λ clock. count_in clock u) c.get-written.ensures ∙ ap (λ number. known_by c.self.inside.written number u) c.number.ensures
+    found u = c.get-written.ensures u ∙ ap (λ number. known_by c.self.inside.written number u) c.number.ensures
 
 pub returns-in-Write-clause-ok : goal.returns-in-Write-clause-ok
 returns-in-Write-clause-ok c =
@@ -31,7 +32,7 @@ returns-in-Write-clause-ok c =
     (λ n u. new n u ∙ ap₂ (λ f g. cond (n == c.args.thread) (max (known_to c.self.inside.threads n u) (max f g)) (known_to c.self.inside.threads n u)) (written u) (read u))))
   where
     written : (u : ℕ) → count_in c.get-written.result.now u ≡ known_by c.self.inside.written c.args.lock u
-    written u = ap (λ clock. count_in clock u) c.get-written.ensures ∙ ap (λ number. known_by c.self.inside.written number u) c.number.ensures
+    written u = c.get-written.ensures u ∙ ap (λ number. known_by c.self.inside.written number u) c.number.ensures
 
     read : (u : ℕ) → count_in c.get-read.result.now u ≡ known_by c.self.inside.read c.args.lock u
-    read u = ap (λ clock. count_in clock u) c.get-read.ensures ∙ ap (λ number. known_by c.self.inside.read number u) c.number-in-Write.ensures
+    read u = c.get-read.ensures u ∙ ap (λ number. known_by c.self.inside.read number u) c.number-in-Write.ensures

@@ -3,7 +3,8 @@ use Rattle.er_event.proofs.Results.{on_ok}
 use Rattle.er_order.specs.Order.{Awaited}
 use Rattle.er_order.proofs.ClockSteps.{awaited}
 use Rattle.er_clock.specs.Clock.{count_in}
-use Rattle.er_clocks.specs.Counts.{known_by, known_to}
+use Rattle.er_clock.specs.Table.{known_by}
+use Rattle.er_clocks.specs.Counts.{known_to}
 use Rattle.er_clocks.specs.Standing.{counts}
 use Rattle.er_clocks.proofs.Standing.{takes-found}
 use Rattle.er_clocks.proofs.clocks.Clocks.await_signals.Goals as goal
@@ -17,4 +18,4 @@ returns-clause-ok c =
     (λ n u. new n u ∙ ap (λ f. cond (n == c.args.thread) (max (known_to c.self.inside.threads n u) f) (known_to c.self.inside.threads n u)) (found u))))
   where
     found : (u : ℕ) → count_in c.get.result.now u ≡ known_by c.self.inside.objects c.args.object u
-    found u = ap (λ clock. count_in clock u) c.get.ensures ∙ ap (λ number. known_by c.self.inside.objects number u) c.number.ensures
+    found u = c.get.ensures u ∙ ap (λ number. known_by c.self.inside.objects number u) c.number.ensures

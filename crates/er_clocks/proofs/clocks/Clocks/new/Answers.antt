@@ -1,12 +1,10 @@
-use Rattle.std.proofs.Common.{ap}
 use Rattle.er_event.specs.declared.steps.Mode.TheVariants.{Read, Write}
 use Rattle.er_order.specs.Clocks.{OfThread, OfReleases, OfObject, clocks_at}
-use Rattle.er_clock.specs.Clock.{count_in}
 use Rattle.er_clocks.proofs.clocks.Clocks.new.Goals as goal
 
 pub returns : goal.returns
 unfolding clocks_at
 returns c (OfThread t) u = c.new.ensures t u
-returns c (OfReleases l Write) u = ap (λ clock. count_in clock u) (c.new-2.ensures l)
-returns c (OfReleases l Read) u = ap (λ clock. count_in clock u) (c.new-3.ensures l)
-returns c (OfObject x) u = ap (λ clock. count_in clock u) (c.new-4.ensures x)
+returns c (OfReleases l Write) u = c.new-2.ensures l u
+returns c (OfReleases l Read) u = c.new-3.ensures l u
+returns c (OfObject x) u = c.new-4.ensures x u

@@ -1,17 +1,27 @@
-use Rattle.std.proofs.Common.{◌≡◌, ◌==◌, ℕ, cond, max, ap, ◌∙◌}
+use Rattle.std.proofs.Common.{◌≡◌, ◌+◌, ◌&&◌, ◌==◌, ℕ, cond, max, ap, refl, ◌∙◌}
 use Rattle.er_clock.specs.Clock.{count_in}
-use Rattle.er_clocks.specs.Counts.{ClockMap, known_by, known_to}
-use Rattle.er_clocks.proofs.Counts.{known-joined, ready-known}
+use Rattle.er_clock.specs.Table.{known_by}
+use Rattle.er_clocks.specs.Counts.{ClockMap, known_to}
+use Rattle.er_clocks.proofs.Counts.{ready-known, risen, ticked-to}
 use Rattle.er_clocks.proofs.threads.ThreadClocks.give.Goals as goal
 
+pub swap-requires : goal.swap-requires
+swap-requires c = (c.args.thread, rw c.number-2.ensures.value c.in-Ok.ensures.begun)
+
 -- what the thread gives is what it knows
-given : (c : goal.After-tick) (u : ℕ) → count_in c.get.result.now u ≡ known_to c.args.self.now c.args.thread u
+given : (c : goal.After-swap) (u : ℕ) → count_in c.get.result.now u ≡ known_to c.args.self.now c.args.thread u
 given c u =
-    ap (λ clock. count_in clock u) c.get.ensures ∙ ap (λ number. known_by c.prepare.new.table number u) c.number.ensures.value
+    c.get.ensures u ∙ ap (λ number. known_by c.prepare.new.table number u) c.number.ensures.value
     ∙ ready-known c.prepare.new.table c.args.thread c.in-Ok.ensures.begun u ∙ c.prepare.ensures.same c.args.thread u
     ∙ ap (λ (clocks : ClockMap). known_to clocks c.args.thread u) c.self.view_is
 
+pub returns-clause-ok : goal.returns-clause-ok
+returns-clause-ok c t u =
+    ticked-to c.prepare.new.table c.swap.new.self c.args.thread c.in-Ok.ensures.begun
+    (risen c.prepare.new.table c.prepare.new.table c.swap.new.self c.args.thread c.number-2.result c.prepare.new.next c.number-2.ensures.value (λ v. refl) c.in-Ok.ensures.risen c.swap.ensures) t u
+    ∙ ap (λ k. k + cond (t == c.args.thread && c.args.thread == u) 1 0) (c.prepare.ensures.same t u ∙ ap (λ (clocks : ClockMap). known_to clocks t u) c.self.view_is)
+
 pub returns-clause-given : goal.returns-clause-given
 returns-clause-given c n u =
-    known-joined c.args.clocks.now c.join.new.self c.args.number c.get.result.now c.in-Ok-join.ensures.ok n u
+    c.in-Ok-join.ensures.ok n u
     ∙ ap (λ k. cond (c.args.number == n) (max (known_by c.args.clocks.now n u) k) (known_by c.args.clocks.now n u)) (given c u)

@@ -1,6 +1,6 @@
 use Rattle.std.proofs.Common.{◌≡◌, ◌∙◌, length, arith}
 use Rattle.er_clock.proofs.ClockLemmas.{longer_is, longer_enough}
-use Rattle.er_clock.proofs.clock.lengthen.Goals as goal
+use Rattle.er_clock.proofs.block.lengthen.Goals as goal
 
 pub returns-in_ok-extend_from_slice-clause-ok : goal.returns-in_ok-extend_from_slice-clause-ok
 returns-in_ok-extend_from_slice-clause-ok c =

@@ -1,7 +1,7 @@
 use Rattle.std.proofs.Common.{◌≡◌, ◌∙◌, ◌+◌, length, suc, arith}
 use Rattle.std.specs.Vec.{vec_len}
 use Rattle.er_clock.proofs.ClockLemmas.{padded_is, padded_enough}
-use Rattle.er_clock.proofs.clock.reach.Goals as goal
+use Rattle.er_clock.proofs.block.reach.Goals as goal
 
 pub returns-in_ok-resize-clause-ok : goal.returns-in_ok-resize-clause-ok
 returns-in_ok-resize-clause-ok c =

@@ -1,7 +1,7 @@
 use Rattle.std.proofs.Common.{◌≡◌, ◌∙◌, ◌+◌, length, refl, arith}
 use Rattle.er_clock.specs.Inner.Merging.{merged_below}
 use Rattle.er_clock.proofs.ClockLemmas.{merged_all, place_taken}
-use Rattle.er_clock.proofs.clock.raise.Goals as goal
+use Rattle.er_clock.proofs.block.raise.Goals as goal
 
 pub loop-place-init : goal.loop-place-init
 unfolding merged_below

@@ -1,0 +1,198 @@
+//! Blocks of counts.
+ghost use Rattle.std.specs.Prelude.{◌≡◌, ◌≤◌, ◌<◌, ◌-◌, ◌^◌, ◌==◌, ℕ, suc, max, [], length, get_or, IsTrue, OnOk, OnErr, IfOk, IsOk};
+ghost use Rattle.er_order.specs.ClockLists.{merged, ticked};
+ghost use Rattle.er_clock.specs.Inner.Merging.{padded, lengthened};
+
+use std::alloc::{AllocError, Global};
+use std::marker::Model;
+use std::rc::Rc;
+
+/// Some counts, by place. Those past the end are 0.
+#[derive(Drop)]
+pub(crate) struct Block {
+    counts: Vec<u32>,
+}
+
+impl Model for Block {
+    ghost use Rattle.std.specs.Prelude.{List, ℕ};
+
+    ghost Value = { List ℕ };
+
+    ghost view = { λ b. b.counts.items };
+}
+
+impl Block {
+    /// All are 0. It takes no memory.
+    pub(crate) fn new(alloc: Global) -> Self
+        ensures { result ≡ [] }
+    {
+        Block {
+            counts: Vec::new(alloc),
+        }
+    }
+
+    /// Whether it holds no counts: then all are 0.
+    pub(crate) fn is_empty(&self) -> bool
+        ensures { result ≡ (length self.now == 0) }
+    {
+        self.counts.is_empty()
+    }
+
+    /// The count at the place.
+    pub(crate) fn count(&self, place: usize) -> u32
+        ensures value { result ≡ get_or self.now place 0 }
+    {
+        match self.counts.get(place) {
+            Some(count) => *count,
+            None => 0,
+        }
+    }
+
+    /// Whether each count is as great as the other's. It has no branch in its loop: how the counts compare can't be foretold.
+    pub(crate) fn covers(&self, other: &Block) -> bool
+        ensures { IsTrue result → (u : ℕ) → get_or other.now u 0 ≤ get_or self.now u 0 }
+    {
+        if self.counts.len() < other.counts.len() {
+            return false;
+        }
+        let mut covered = true;
+        for place in 0..other.counts.len() {
+            covered &= other.counts[place] <= self.counts[place];
+        }
+        covered
+    }
+
+    /// Takes the greater count at each place.
+    pub(crate) fn join(&mut self, other: &Block) -> Result<(), AllocError>
+        ensures ok { OnOk result (self.new ≡ merged self.old other.now) }
+        ensures err { OnErr result (self.new ≡ self.old) }
+    {
+        lengthen(&mut self.counts, &other.counts)?;
+        raise(&mut self.counts, &other.counts);
+        Ok(())
+    }
+
+    /// Adds one to the count at the place.
+    pub(crate) fn tick(&mut self, place: usize) -> Result<(), AllocError>
+        requires low { place < 2 ^ 30 }
+        requires room { get_or self.old place 0 < 2 ^ 32 - 1 }
+        ensures ok { OnOk result (self.new ≡ ticked place self.old) }
+        ensures err { OnErr result (self.new ≡ self.old) }
+    {
+        reach(&mut self.counts, place)?;
+        self.counts[place] += 1;
+        Ok(())
+    }
+
+    /// Makes all its counts 0. It keeps its memory.
+    pub(crate) fn clear(&mut self)
+        ensures { self.new ≡ [] }
+    {
+        self.counts.clear();
+    }
+
+    /// The same block again.
+    pub(crate) fn copy(&self) -> Result<Block, AllocError>
+        ensures { IfOk result (λ copied. copied ≡ self.now) }
+    {
+        let counts = Vec::from_slice(*self.counts.allocator(), self.counts.as_slice())?;
+        Ok(Block { counts })
+    }
+}
+
+// Makes a place for the count of this number.
+fn reach(counts: &mut Vec<u32>, place: usize) -> Result<(), AllocError>
+    requires { place < 2 ^ 30 }
+    ensures ok { OnOk result (counts.new.items ≡ padded (suc place) counts.old.items) }
+    ensures err { OnErr result (counts.new.items ≡ counts.old.items) }
+{
+    if counts.len() <= place {
+        counts.resize(place + 1, 0)?;
+    }
+    Ok(())
+}
+
+// Makes the counts as many as the others, by the others' own.
+fn lengthen(counts: &mut Vec<u32>, others: &Vec<u32>) -> Result<(), AllocError>
+    ensures ok { OnOk result (counts.new.items ≡ lengthened counts.old.items others.now.items) }
+    ensures err { OnErr result (counts.new.items ≡ counts.old.items) }
+{
+    let len = counts.len();
+    if len < others.len() {
+        let (_, rest) = others.as_slice().split_at(len);
+        counts.extend_from_slice(rest)?;
+    }
+    Ok(())
+}
+
+// Takes at each place the greater count.
+fn raise(counts: &mut Vec<u32>, others: &Vec<u32>)
+    requires { length others.now.items ≤ length counts.old.items }
+    ensures { counts.new.items ≡ merged counts.old.items others.now.items }
+{
+    for place in 0..others.len() {
+        // No branch: which count is greater can't be foretold.
+        counts[place] = counts[place].max(others[place]);
+    }
+}
+
+/// A block that clocks share. It never changes.
+#[derive(Drop)]
+pub(crate) struct Shared {
+    block: Rc<Block>,
+    alloc: Global,
+}
+
+impl Model for Shared {
+    ghost use Rattle.std.specs.Prelude.{List, ℕ};
+
+    ghost Value = { List ℕ };
+
+    ghost view = { λ s. s.block.value };
+}
+
+impl Shared {
+    /// The block, to be shared.
+    pub(crate) fn new(alloc: Global, block: Block) -> Result<Shared, AllocError>
+        ensures { IfOk result (λ shared. shared ≡ block) }
+    {
+        match Rc::new(alloc, block) {
+            Ok(block) => Ok(Shared { block, alloc }),
+            Err(_) => Err(AllocError),
+        }
+    }
+
+    /// The block, to look at.
+    pub(crate) fn block(&self) -> &Block
+        ensures { result.now ≡ self.now }
+    {
+        self.block.as_ref()
+    }
+
+    /// The same block for one clock more.
+    pub(crate) fn again(&self) -> Result<Shared, AllocError>
+        ensures { IfOk result (λ shared. shared ≡ self.now) }
+    {
+        let block = self.block.clone()?;
+        Ok(Shared {
+            block,
+            alloc: self.alloc,
+        })
+    }
+
+    /// A block with the greater count at each place: one of the two, if that has them.
+    pub(crate) fn joined(&self, other: &Shared) -> Result<Shared, AllocError>
+        ensures { IfOk result (λ shared. (u : ℕ) → get_or shared u 0 ≡ max (get_or self.now u 0) (get_or other.now u 0)) }
+    {
+        let (one, two) = (self.block(), other.block());
+        if two.covers(one) {
+            return other.again();
+        }
+        if one.covers(two) {
+            return self.again();
+        }
+        let mut block = one.copy()?;
+        block.join(two)?;
+        Shared::new(self.alloc, block)
+    }
+}
