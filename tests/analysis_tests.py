@@ -189,7 +189,7 @@ def by_sites(record):
         if status != 2:
             ordered, ordered_status = unordered_report(text, reference.rules_of(rules or b""), explain=True)
             want = by_site_of_both(output, ordered, sites_in(text), {}).encode(), b"", max(status, ordered_status)
-            kinds.add((b"races in this run: none" in want[0], b"no common lock: none" in want[0]))
+            kinds.add((b"races in this run: none" in want[0], b"no common lock: no further site" in want[0]))
             placed = by_site_of_both(output, ordered, sites_in(text), places_in(text)).encode(), b"", max(status, ordered_status)
             found = run_file(rules, text, *BOTH, "--by-site")
             record(f"both by site, from a file: {name}{'' if rules is None else ' with suppressions'}", found == placed, f"{found}, not {placed}")

@@ -61,6 +61,26 @@ RACE = re.compile(r"line (\d+): (?:race|unordered): (\S+) (read|write) (0x[0-9a-
 REASON = re.compile(r"  (.+): line (\d+), (\S+) (read|write)")
 REFUSED = re.compile(r"line (\d+): refused: .*: ([^:]+)")
 DID = {"read": "read", "write": "wrote"}
+SYSTEM = ("/usr/include/", "/usr/lib/")
+
+# Words at sites in headers of the system and elsewhere. Two threads meet at two places of the program, under a lock that is held only to read.
+HEADERS = b"""eraser trace 3
+""" + b"".join(b"%s write %#x %s\n" % (thread, 4 * k, site) for site, words in (
+    (b"/usr/include/c++/13/bits/stl_vector.h:988", range(1, 4)), (b"/usr/src/app/main.cpp:7", range(4, 5)), (b"/usr/lib/gcc/x86_64/13/include/a.h:1", range(5, 10)),
+    (b"/usr/libexec.c:3", range(10, 12)), (b"/usr/local/include/b.h:2", range(12, 13))) for k in words for thread in (b"t1", b"t2")) + b"""t1 rlock table
+t1 write 0x1000 cache.cpp:41
+t1 runlock table
+t2 rlock table
+t2 write 0x1000 cache.cpp:31
+t2 runlock table
+end
+"""
+HEADERS_ORDER = ["/usr/libexec.c:3", "/usr/src/app/main.cpp:7", "/usr/local/include/b.h:2", "cache.cpp:31", "/usr/lib/gcc/x86_64/13/include/a.h:1", "/usr/include/c++/13/bits/stl_vector.h:988"]
+HEADERS_STORY = b"""
+cache.cpp:31 and cache.cpp:41:
+  t2 wrote the word at 0x000000001000 (line 30)
+  t2 held table, but only to read
+"""
 
 
 def run(words, text=b"", **more):
@@ -119,15 +139,23 @@ def place_lines(place):
     return [*([f"    {at}"] if at else []), *held]
 
 
+def title(race, places):
+    """The site of a race, and that of the last of its reasons whose access another thread made, if it is known and another one."""
+    _, thread, _, _, site, _, reasons = race
+    met, _ = places.get(next((at for _, at, other, _ in reversed(reasons) if other != thread), None), ("-", []))
+    return f"{short(site, 72)}:" if met in ("-", site) else f"{short(site, 57)} and {short(met, 57)}:"
+
+
 def story(race, places):
     """A race in sentences."""
     line, thread, kind, address, site, held, reasons = race
     who = short(thread, 24)
     yield ""
-    yield f"{short(site, 72)}:"
+    yield title(race, places)
     yield f"  {who} {DID[kind]} the word at {address} (line {line})"
+    unwritten = {lock for lock, writes in places.get(line, ("-", []))[1] if not writes}
     for lock in held:
-        is_weak = {("joined", line), (f"{lock} not covering", line)} & {(label, at) for label, at, _, _ in reasons}
+        is_weak = lock in unwritten or {("joined", line), (f"{lock} not covering", line)} & {(label, at) for label, at, _, _ in reasons}
         yield f"  {who} held {lock_name(lock)}" + (", but only to read" if is_weak else "")
     if not held:
         yield f"  {who} held no lock"
@@ -167,11 +195,11 @@ def read_report(report):
 
 
 def rows_of(races, numbers):
-    """The sites of some races, each with its races, the site with most of them first."""
+    """The sites of some races, each with its races: those in headers of the system last, and the site with most of them first."""
     sites = {}
     for race in races:
         sites.setdefault(race[4], []).append(race)
-    return sorted(sites.items(), key=lambda row: (-len(row[1]), numbers[row[0]]))
+    return sorted(sites.items(), key=lambda row: (row[0].startswith(SYSTEM), -len(row[1]), numbers[row[0]]))
 
 
 def table(rows, places):
@@ -188,9 +216,9 @@ def table(rows, places):
     return [*lines, ""]
 
 
-def part(title, rows, places):
+def part(heading, nothing, rows, places):
     """A heading, and below it the table and the examples, if there are rows."""
-    return [title, *table(rows, places)] if rows else [f"{title}: none", ""]
+    return [heading, *table(rows, places)] if rows else [f"{heading}: {nothing}", ""]
 
 
 def by_site(report, numbers, places):
@@ -204,7 +232,7 @@ def by_site_of_both(lockset, unordered, numbers, places):
     (races, refused, rest), (others, _, more) = read_report(lockset), read_report(unordered)
     by_locks, by_order = rows_of(races, numbers), rows_of(others, numbers)
     apart = [row for row in by_locks if row[0] not in dict(by_order)]
-    lines = [*part("races in this run", by_order, places), *part("no common lock", apart, places)]
+    lines = [*part("races in this run", "none", by_order, places), *part("no common lock", "no further site", apart, places)]
     return "".join(line + "\n" for line in [*lines, *refused, *rest, *more])
 
 
@@ -288,8 +316,16 @@ def tests(record, preloaded):
     found = run(["replay", "--by-site", "-"], long_names(9))
     record("long names by site", found == expected(long_names(9), None) and found[2] == 1 and b"only to read" in found[0], f"{found}"[:1000])
     record("long names by site are cut", max(len(line) for line in found[0].splitlines()) <= WIDEST)
+    two = [line for line in run_file(None, long_names(9).replace(b"write 0x0 s", b"write 0x0 z", 1), "--by-site")[0].splitlines() if b" and " in line]
+    record("two long names in a line", [len(line) for line in two] == [WIDEST], f"{two}")
     found = run_file(None, long_names(9), "--by-site")
     record("long names by site from a file", found == expected(long_names(9), None, True))
+    both = run_file(None, HEADERS, "--analysis", "both", "--by-site")
+    for of, found in (("locks", run_file(None, HEADERS, "--by-site")), ("both analyses", both)):
+        order = re.findall(rb"\n[1-9]\d* .{40}(.*)", found[0])
+        record(f"by {of} sites in headers of the system come last", [site.decode().strip() for site in order] == HEADERS_ORDER, f"{found}")
+        record(f"by {of} an example names both places, and a lock that is held only to read", HEADERS_STORY in found[0], f"{found}")
+    record("no site but those above", b"no common lock: no further site\n\n" in both[0], f"{both}")
     record("long names by site from a file are cut", max(len(line) for line in found[0].splitlines()) <= WIDEST)
     record("no colour by site", b"\x1b" not in found[0])
     # As many sites as there are races: a pass over the rows for each would take minutes.

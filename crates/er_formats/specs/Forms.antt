@@ -25,7 +25,7 @@ use Rattle.er_trace.specs.Trace.{Recording}
 -- these bytes are the form of the report under these rules and with these places: by site those of a table of its races, as JSON and as SARIF
 -- its one document, and as HTML its page without excerpts
 abbrev pub IsForm : Form → NameTable → PlaceTable → List Target → Report → List ℕ → Type 0
-IsForm BySite names table rules report bytes = (rows : List SiteRow) × (IsTable report.lines.items rows × (bytes ≡ sites_text names table report rows))
+IsForm BySite names table rules report bytes = (rows : List SiteRow) × (IsTable names report.lines.items rows × (bytes ≡ sites_text names table report rows))
 IsForm Json names table rules report bytes = bytes ≡ json_text names (summary report)
 IsForm Sarif names table rules report bytes = bytes ≡ sarif_text names table report rules
 IsForm Html names table rules report bytes = bytes ≡ html_text names (summary report) []

@@ -1,5 +1,5 @@
 -- One line more of a report that may ask.
-use Rattle.std.proofs.Common.{◌≡◌, ℕ, ◌+◌, ◌<◌, ◌||◌, ◌&&◌, not, Bool, true, false, List, [], ◌∷◌, ◌++◌, length, take, get_or, slice_get, Option, Some, refl, ap, sym, ◌∙◌, add-one}
+use Rattle.std.proofs.Common.{◌≡◌, ℕ, nat_eq, ◌+◌, ◌<◌, ◌||◌, ◌&&◌, not, Bool, true, false, List, [], ◌∷◌, ◌++◌, length, take, get_or, slice_get, Option, Some, refl, ap, sym, ◌∙◌, add-one}
 use Rattle.std.specs.List.{list_any}
 use Rattle.std.proofs.lemmas.List.{take_more}
 use Rattle.std.proofs.lemmas.List.Folds.{list_any-append}
@@ -11,7 +11,7 @@ use Rattle.er_report.specs.declared.report.Line.TheVariants.{Race, Refused, Show
 
 -- sites that agree ask alike
 same-asks : (one other : ℕ → Kind → Bool) (number : ℕ) (line : Line) → ((s : ℕ) (k : Kind) → one s k ≡ other s k) → asks_unless one number line ≡ asks_unless other number line
-same-asks one other number (Race n thread kind word site held explained) same = ap (λ (b : Bool). not b && name_line explained.items number) (same site kind)
+same-asks one other number (Race n thread kind word site held explained) same = ap (λ (b : Bool). not b && (nat_eq n number || name_line explained.items number)) (same site kind)
 same-asks one other number (Refused n step refusal) same = refl
 same-asks one other number (Shown n word state) same = refl
 

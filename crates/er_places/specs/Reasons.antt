@@ -1,18 +1,24 @@
--- The place of the access that a reason names.
-use Rattle.std.specs.Prelude.{◌==◌, ◌&&◌, Bool, cond, Option, Some, None}
+-- The place of an access that a report names.
+use Rattle.std.specs.Prelude.{ℕ, ◌==◌, ◌&&◌, Bool, cond, Option, Some, None}
+use Rattle.er_event.specs.declared.steps.Kind.{Kind}
 use Rattle.er_places.specs.Places.{PlaceTable, place_at}
 use Rattle.er_places.specs.Wanted.{same_kind}
 use Rattle.er_places.specs.declared.place.Place.{Place}
 use Rattle.er_report.specs.declared.report.Because.{Because}
 
--- the access has the thread and the kind that the reason names
-abbrev pub fits : Because → Place → Bool
-fits because place = place.thread == because.thread && same_kind place.kind because.kind
+-- the access has this thread and this kind
+abbrev pub fits : ℕ → Kind → Place → Bool
+fits thread kind place = place.thread == thread && same_kind place.kind kind
 
--- what is known on the reason's line, if it fits
-abbrev pub if_fits : Because → Option Place → Option Place
-if_fits because None = None
-if_fits because (Some place) = cond (fits because place) (Some place) None
+-- what is known on the access's line, if it fits
+abbrev pub if_fits : ℕ → Kind → Option Place → Option Place
+if_fits thread kind None = None
+if_fits thread kind (Some place) = cond (fits thread kind place) (Some place) None
 
+-- the place of the access on this line, by this thread and of this kind
+abbrev pub access_place : PlaceTable → ℕ → ℕ → Kind → Option Place
+access_place table line thread kind = if_fits thread kind (place_at table line)
+
+-- and of the access that a reason names
 abbrev pub reason_place : PlaceTable → Because → Option Place
-reason_place table because = if_fits because (place_at table because.line)
+reason_place table because = access_place table because.line because.thread because.kind

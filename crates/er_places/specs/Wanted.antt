@@ -28,9 +28,9 @@ is_race_at s k (Shown number word state) = false
 abbrev pub name_line : List Because → ℕ → Bool
 name_line reasons line = list_any (λ (because : Because). nat_eq because.line line) reasons
 
--- a race asks about the lines that its reasons name, unless one of its site and kind is known
+-- a race asks about its own line and those that its reasons name, unless one of its site and kind is known
 abbrev pub asks_unless : (ℕ → Kind → Bool) → ℕ → Line → Bool
-asks_unless known line (Race number thread kind word site held explained) = not (known site kind) && name_line explained.items line
+asks_unless known line (Race number thread kind word site held explained) = not (known site kind) && (nat_eq number line || name_line explained.items line)
 asks_unless known line (Refused number step refusal) = false
 asks_unless known line (Shown number word state) = false
 

@@ -2,12 +2,12 @@
 ghost use Rattle.std.specs.Prelude.{◌≡◌, ℕ, None, Some, option_copied, IfSome};
 ghost use Rattle.er_places.specs.Inner.Following.{AreNamed};
 ghost use Rattle.er_places.specs.Places.{HasPlaceNames, place_at, place_in};
-ghost use Rattle.er_places.specs.Reasons.{fits, if_fits, reason_place};
+ghost use Rattle.er_places.specs.Reasons.{access_place, fits, if_fits, reason_place};
 ghost use Rattle.er_places.specs.Wanted.{same_kind};
 ghost use Rattle.er_trace.specs.Names.{no_names};
 
 use crate::Place;
-use er_event::Kind;
+use er_event::{Kind, ThreadId};
 use er_keys::{HashKeys, NumberHasher};
 use er_report::Because;
 use er_trace::{Names, Trace};
@@ -61,33 +61,41 @@ impl Places {
         self.trace.names()
     }
 
+    /// The place of the access on this line, by this thread and of this kind, if it is known.
+    pub fn of_access(&self, line: u64, thread: ThreadId, kind: Kind) -> Option<&Place>
+        ensures place { option_copied result ≡ access_place self.now line thread kind }
+        ensures named { IfSome (option_copied result) (HasPlaceNames self.now.names) }
+    {
+        match self.by_line.get(&line) {
+            Some(place) => if_fits(thread, kind, place),
+            None => None,
+        }
+    }
+
     /// The place of the access that a reason names, if it is known.
     pub fn of_reason(&self, because: &Because) -> Option<&Place>
         ensures place { option_copied result ≡ reason_place self.now because.now }
         ensures named { IfSome (option_copied result) (HasPlaceNames self.now.names) }
     {
-        match self.by_line.get(&because.line) {
-            Some(place) => if_fits(because, place),
-            None => None,
-        }
+        self.of_access(because.line, because.thread, because.kind)
     }
 }
 
-// The place, if it is that of the access that the reason names.
-fn if_fits<'p>(because: &Because, place: &'p Place) -> Option<&'p Place>
-    ensures { option_copied result ≡ if_fits because.now (Some place.now) }
+// The place, if it is that of an access by this thread and of this kind.
+fn if_fits(thread: ThreadId, kind: Kind, place: &Place) -> Option<&Place>
+    ensures { option_copied result ≡ if_fits thread kind (Some place.now) }
 {
-    if fits(because, place) {
+    if fits(thread, kind, place) {
         Some(place)
     } else {
         None
     }
 }
 
-fn fits(because: &Because, place: &Place) -> bool
-    ensures { result ≡ fits because.now place.now }
+fn fits(thread: ThreadId, kind: Kind, place: &Place) -> bool
+    ensures { result ≡ fits thread kind place.now }
 {
-    place.thread == because.thread && is_same(place.kind, because.kind)
+    place.thread == thread && is_same(place.kind, kind)
 }
 
 fn is_same(kind: Kind, other: Kind) -> bool

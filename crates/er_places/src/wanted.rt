@@ -65,8 +65,8 @@ impl Wanted {
         self.lines.contains(&line)
     }
 
-    /// Adds the lines that the reasons of some races name: of each site and kind the first race of a report, which is the one that people
-    /// are shown. `AllocError`: memory was refused.
+    /// Adds the lines of some races and those that their reasons name: of each site and kind the first race of a report, which is the one
+    /// that people are shown. `AllocError`: memory was refused.
     pub fn add_reasons(&mut self, alloc: Global, lines: &[Line]) -> Result<(), AllocError>
         ensures { OnOk result ((line : ℕ) → is_wanted self.new line ≡ (is_wanted self.old line || is_asked lines.now line)) }
     {
@@ -77,12 +77,13 @@ impl Wanted {
         Ok(())
     }
 
-    // Adds the lines that the reasons of a race name, if it is the first of its site and kind.
+    // Adds the line of a race and those that its reasons name, if it is the first of its site and kind.
     fn add_line(&mut self, sites: &mut Sites, line: &Line) -> Result<(), AllocError>
         ensures sites { OnOk result ((s : ℕ) (k : Kind) → has_site sites.new s k ≡ (has_site sites.old s k || is_race_at s k line.now)) }
         ensures lines { OnOk result ((number : ℕ) → is_wanted self.new number ≡ (is_wanted self.old number || asks_unless (has_site sites.old) number line.now)) }
     {
         let Line::Race {
+            line,
             site,
             kind,
             explained,
@@ -92,6 +93,7 @@ impl Wanted {
             return Ok(());
         };
         if sites.add(*site, *kind)? {
+            self.lines.insert(*line)?;
             return self.add_lines(explained);
         }
         Ok(())

@@ -1,4 +1,5 @@
 pub mod NameLemmas
+pub mod ExampleLemmas
 pub mod RowLemmas
 pub mod BothLemmas
 pub mod PutLemmas

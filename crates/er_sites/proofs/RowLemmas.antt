@@ -1,16 +1,26 @@
 -- The rows of the sites so far, with one more site.
-use Rattle.std.proofs.Common.{◌≡◌, ◌<◌, ◌≤◌, ◌+◌, ◌-◌, ◌^◌, ◌∙◌, ℕ, All, cond, nat_lt, nat_eq, List, [], ◌∷◌, ◌++◌, length, slice_index, slice_index_or, count_by, ap, append_assoc, arith}
+use Rattle.std.proofs.Common.{◌≡◌, Bool, ◌<◌, ◌≤◌, ◌+◌, ◌-◌, ◌^◌, ◌∙◌, ℕ, All, cond, nat_lt, nat_eq, List, [], ◌∷◌, ◌++◌, length, slice_index, slice_index_or, count_by, ap, append_assoc, arith}
 use Rattle.std.specs.List.{sum_by}
 use Rattle.std.proofs.lemmas.List.Elements.{All-append, All-cons}
 use Rattle.std.proofs.lemmas.List.{get_or_past}
 use Rattle.std.proofs.lemmas.List.Sums.{sum_by_push, count_by-le-length}
-use Rattle.std.specs.List.Sorted.{IsNonDecreasingBy}
+use Rattle.std.specs.Cmp.{IsStrictWeakOrder, bool_cmp_total}
+use Rattle.std.specs.Ordering.{is_lt}
+use Rattle.std.proofs.lemmas.Cmp.{nat_cmp_total, on_total, then_total, back_total}
+use Rattle.std.proofs.lemmas.List.Sorted.{ranks_by}
+use denote.Ref.{Bor}
+use denote.Param.Members.{Mut}
+use Rattle.std.specs.declared.cmp.Ordering.{Ordering}
+use Rattle.std.specs.Fn.{Called, ComparesAs}
+use Rattle.std.specs.List.Sorted.{IsSorted, IsSortedBy}
+use Rattle.std.proofs.lemmas.Fn.{always_returns_same}
+use Rattle.er_trace.specs.Names.{NameTable}
 use Rattle.std.proofs.lemmas.Bool.Decides.{nat_tests}
 use Rattle.er_report.specs.declared.report.Line.{Line}
 use Rattle.er_sites.specs.declared.counts.Counts.{Counts}
 use Rattle.er_sites.specs.declared.row.SiteRow.{SiteRow}
 use Rattle.er_sites.specs.Inner.Counted.{AreCounts, HasRowsBelow}
-use Rattle.er_sites.specs.Table.{words_at, words_of, reads_at, writes_at, races_at, IsOwnCount}
+use Rattle.er_sites.specs.Table.{words_at, words_of, reads_at, writes_at, races_at, row_order, IsOwnCount}
 
 -- the words of the sites below the next one
 below_next : (f : ℕ → ℕ) (w q site : ℕ) → w ≡ f site → cond (nat_lt q site) (f q) 0 + cond (nat_eq site q) w 0 ≡ cond (nat_lt q (site + 1)) (f q) 0
@@ -20,31 +30,31 @@ below_none : (f : ℕ → ℕ) (q site : ℕ) → f site ≡ 0 → cond (nat_lt 
 below_none f q site none = grind (arith, nat_tests)
 
 -- a row of the next site
-pub row_added : (lines : List Line) (rows : List SiteRow) (row : SiteRow) (site : ℕ) → HasRowsBelow lines rows site → row.site ≡ site
-    → IsOwnCount lines row → words_of row ≡ races_at lines site → HasRowsBelow lines (rows ++ row ∷ []) (site + 1)
-row_added lines rows row site before here own words =
+pub row_added : (names : NameTable) (lines : List Line) (rows : List SiteRow) (row : SiteRow) (site : ℕ) → HasRowsBelow names lines rows site → row.site ≡ site
+    → IsOwnCount names lines row → words_of row ≡ races_at lines site → HasRowsBelow names lines (rows ++ row ∷ []) (site + 1)
+row_added names lines rows row site before here own words =
     record {
-      own = All-append (IsOwnCount lines) rows (row ∷ []) before.own (All-one lines row own);
+      own = All-append (IsOwnCount names lines) rows (row ∷ []) before.own (All-one names lines row own);
       each = λ q.
           sum_by_push (words_at q) rows row ∙ ap (λ (n : ℕ). n + words_at q row) (before.each q)
           ∙ rw here (below_next (races_at lines) (words_of row) q site words);
     }
   where
-    All-one : (lines : List Line) (row : SiteRow) → IsOwnCount lines row → All (IsOwnCount lines) (row ∷ [])
-    All-one lines row own = All-cons (IsOwnCount lines) row [] own (λ k d h. absurd (omega arith))
+    All-one : (names : NameTable) (lines : List Line) (row : SiteRow) → IsOwnCount names lines row → All (IsOwnCount names lines) (row ∷ [])
+    All-one names lines row own = All-cons (IsOwnCount names lines) row [] own (λ k d h. absurd (omega arith))
 
 -- no row, since the next site has no races
-pub none_added : (lines : List Line) (rows : List SiteRow) (site : ℕ) → HasRowsBelow lines rows site → races_at lines site ≡ 0 → HasRowsBelow lines rows (site + 1)
-none_added lines rows site before none =
+pub none_added : (names : NameTable) (lines : List Line) (rows : List SiteRow) (site : ℕ) → HasRowsBelow names lines rows site → races_at lines site ≡ 0 → HasRowsBelow names lines rows (site + 1)
+none_added names lines rows site before none =
     record { own = before.own; each = λ q. before.each q ∙ below_none (races_at lines) q site none }
 
 all_below : (f : ℕ → ℕ) (s site : ℕ) → (site ≤ s → f s ≡ 0) → cond (nat_lt s site) (f s) 0 ≡ f s
 all_below f s site past = grind (arith, nat_tests, past)
 
 -- the rows below the end of both lists are all rows
-pub each_site : (lines : List Line) (counts : Counts) (rows : List SiteRow) (site : ℕ) → AreCounts lines counts → HasRowsBelow lines rows site
+pub each_site : (names : NameTable) (lines : List Line) (counts : Counts) (rows : List SiteRow) (site : ℕ) → AreCounts lines counts → HasRowsBelow names lines rows site
     → length counts.reads.items ≤ site → length counts.writes.items ≤ site → (s : ℕ) → sum_by (words_at s) rows ≡ races_at lines s
-each_site lines counts rows site known before reads writes s = before.each s ∙ all_below (races_at lines) s site none
+each_site names lines counts rows site known before reads writes s = before.each s ∙ all_below (races_at lines) s site none
   where
     none : site ≤ s → races_at lines s ≡ 0
     none past =
@@ -54,25 +64,16 @@ each_site lines counts rows site known before reads writes s = before.each s ∙
         let written : slice_index counts.writes.items s ≡ count_by (writes_at s) lines = known.writes s in
         omega arith
 
-falls : (a b : ℕ) → a < 2 ^ 64 → b < 2 ^ 64 → 2 ^ 64 - 1 - a ≤ 2 ^ 64 - 1 - b → b ≤ a
-falls a b few_a few_b order = omega arith
+-- the order of rows is one
+pub rows_ordered : IsStrictWeakOrder (λ (x y : SiteRow). is_lt (row_order x y))
+rows_ordered = ranks_by (then_total (on_total (λ (row : SiteRow). row.is_system) bool_cmp_total) (then_total (back_total (on_total words_of nat_cmp_total)) (on_total (λ (row : SiteRow). row.site) nat_cmp_total))) (λ (row : SiteRow). row)
 
-few_words : (lines : List Line) (row : SiteRow) → length lines < 2 ^ 63 → IsOwnCount lines row → words_of row < 2 ^ 64
-few_words lines row short own =
-    let read : count_by (reads_at row.site) lines ≤ length lines = count_by-le-length (reads_at row.site) lines in
-    let written : count_by (writes_at row.site) lines ≤ length lines = count_by-le-length (writes_at row.site) lines in
-    let reads : row.reads ≡ count_by (reads_at row.site) lines = own.reads in
-    let writes : row.writes ≡ count_by (writes_at row.site) lines = own.writes in
-    omega arith
-
--- rows by rising rest come by falling words
-pub falling : (lines : List Line) (rows : List SiteRow) → length lines < 2 ^ 63 → All (IsOwnCount lines) rows
-    → IsNonDecreasingBy (λ (row : SiteRow). 2 ^ 64 - 1 - words_of row) rows
-    → (i j : ℕ) (d : SiteRow) → i ≤ j → j < length rows → words_of (slice_index_or rows j d) ≤ words_of (slice_index_or rows i d)
-falling lines rows short own rising i j d before within =
-    falls (words_of (slice_index_or rows i d)) (words_of (slice_index_or rows j d))
-    (few_words lines (slice_index_or rows i d) short (own i d (omega arith))) (few_words lines (slice_index_or rows j d) short (own j d within))
-    (rising i j d before within)
+-- rows that were sorted by a closure that answers by this order are in order
+pub rows_sorted : {F : Type 0} {g : Mut F (Bor SiteRow × (Bor SiteRow × Unit {0})) Ordering} {f : F} (rows : List SiteRow)
+    → ((lt : SiteRow → SiteRow → Bool) → IsStrictWeakOrder lt → ComparesAs g lt f → IsSortedBy lt rows)
+    → ((a : Bor SiteRow × (Bor SiteRow × Unit {0})) (r : Ordering) (f' : F) → Called g f a r f' → (r ≡ row_order a.0.now a.1.0.now) × (f' ≡ f)) → IsSorted row_order rows
+rows_sorted {g = g} {f = f} rows up answers = up (λ (x y : SiteRow). is_lt (row_order x y)) rows_ordered
+    (always_returns_same g (λ a r. is_lt r ≡ is_lt (row_order a.0.now a.1.0.now)) f (λ a r f' k. (ap is_lt (answers a r f' k).0, (answers a r f' k).1)))
 
 -- four texts put one behind another
 pub put_four : (old a b c d r s t u : List ℕ) → a ≡ old ++ r → b ≡ a ++ s → c ≡ b ++ t → d ≡ c ++ u → d ≡ old ++ (r ++ s ++ t ++ u)

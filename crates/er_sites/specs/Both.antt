@@ -14,12 +14,12 @@ are_none [] = true
 are_none (row ∷ rows) = false
 
 -- a heading, and that nothing is below it
-abbrev pub title_of : List ℕ → Bool → List ℕ
-title_of title none = title ++ cond none (codes ": none" ++ 10 ∷ 10 ∷ []) (10 ∷ [])
+abbrev pub title_of : List ℕ → List ℕ → Bool → List ℕ
+title_of title nothing none = title ++ cond none nothing (10 ∷ [])
 
 -- below it the table and the examples
-unfoldable pub part_text : List ℕ → NameTable → PlaceTable → List Line → List SiteRow → List ℕ
-part_text title names table lines rows = title_of title (are_none rows) ++ rows_text names table lines rows
+unfoldable pub part_text : List ℕ → List ℕ → NameTable → PlaceTable → List Line → List SiteRow → List ℕ
+part_text title nothing names table lines rows = title_of title nothing (are_none rows) ++ rows_text names table lines rows
 
 -- the row, if its site has no race among these lines
 abbrev pub if_elsewhere : List Line → SiteRow → List SiteRow
@@ -32,10 +32,11 @@ other_rows lines rows = flat_map (if_elsewhere lines) rows
 -- the sites of the unordered accesses, then the other sites of the lockset rule's races, then the first refused step
 unfoldable pub both_text : NameTable → PlaceTable → List Line → List Line → List SiteRow → List SiteRow → List ℕ
 both_text names table lockset unordered first all =
-    part_text (codes "races in this run") names table unordered first ++ part_text (codes "no common lock") names table lockset (other_rows unordered all)
+    part_text (codes "races in this run") (codes ": none\n\n") names table unordered first
+    ++ part_text (codes "no common lock") (codes ": no further site\n\n") names table lockset (other_rows unordered all)
     ++ refused_text (find is_refused lockset)
 
 -- the text was put, of a table of each analysis
 abbrev pub PutsBoth : List ℕ → List ℕ → NameTable → PlaceTable → List Line → List Line → Type 0
 PutsBoth old new names table lockset unordered =
-    (first : List SiteRow) × (all : List SiteRow) × (IsTable unordered first × (IsTable lockset all × (new ≡ old ++ both_text names table lockset unordered first all)))
+    (first : List SiteRow) × (all : List SiteRow) × (IsTable names unordered first × (IsTable names lockset all × (new ≡ old ++ both_text names table lockset unordered first all)))

@@ -1,4 +1,5 @@
 pub mod Inner
+pub mod System
 pub mod Table
 pub mod Text
 pub mod Both

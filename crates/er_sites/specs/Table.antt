@@ -1,11 +1,15 @@
 -- The table of sites: what each row counts, and that no race is left out or counts twice.
-use Rattle.std.specs.Prelude.{◌≡◌, ◌<◌, ◌≤◌, ◌+◌, ◌&&◌, ◌==◌, ℕ, Bool, true, false, cond, List, length, count_by, All, slice_index_or}
-use Rattle.std.specs.List.{sum_by}
+use Rattle.std.specs.Prelude.{◌≡◌, ◌<◌, ◌+◌, ◌&&◌, ◌==◌, ℕ, Bool, true, false, cond, List, Some, count_by, All, IsSorted}
+use Rattle.std.specs.List.{position, sum_by}
+use Rattle.std.specs.Ordering.{bool_cmp, nat_cmp, ordering_then}
+use Rattle.std.specs.declared.cmp.Ordering.{Ordering}
 use Rattle.er_event.specs.declared.steps.Kind.{Kind}
 use Rattle.er_event.specs.declared.steps.Kind.TheVariants as kind
 use Rattle.er_report.specs.declared.report.Line.{Line}
 use Rattle.er_report.specs.declared.report.Line.TheVariants.{Race, Refused, Shown}
+use Rattle.er_sites.specs.System.{is_system_site}
 use Rattle.er_sites.specs.declared.row.SiteRow.{SiteRow}
+use Rattle.er_trace.specs.Names.{NameTable}
 
 abbrev pub is_read : Kind → Bool
 is_read kind.Read = true
@@ -27,6 +31,12 @@ writes_at s (Race number thread kind word site held explained) = is_write kind &
 writes_at s (Refused number step refusal) = false
 writes_at s (Shown number word state) = false
 
+-- the line is a race at this site
+abbrev pub is_at : ℕ → Line → Bool
+is_at s (Race number thread kind word site held explained) = s == site
+is_at s (Refused number step refusal) = false
+is_at s (Shown number word state) = false
+
 -- how many races there are at a site
 abbrev pub races_at : List Line → ℕ → ℕ
 races_at lines s = count_by (reads_at s) lines + count_by (writes_at s) lines
@@ -35,18 +45,25 @@ races_at lines s = count_by (reads_at s) lines + count_by (writes_at s) lines
 abbrev pub words_of : SiteRow → ℕ
 words_of row = row.reads + row.writes
 
--- the row counts the races of its own site, of which there are some
-pub record IsOwnCount (lines : List Line) (row : SiteRow) : Type 0 where
+-- the row counts the races of its own site, of which there are some, and its example is the first of them
+pub record IsOwnCount (names : NameTable) (lines : List Line) (row : SiteRow) : Type 0 where
   pub reads : row.reads ≡ count_by (reads_at row.site) lines
   pub writes : row.writes ≡ count_by (writes_at row.site) lines
   pub some : 0 < words_of row
+  pub example : position (is_at row.site) lines ≡ Some row.example
+  pub system : row.is_system ≡ is_system_site names row.site
 
 -- the row's words, if it is the site's
 abbrev pub words_at : ℕ → SiteRow → ℕ
 words_at s row = cond (row.site == s) (words_of row) 0
 
--- a row counts its own site, the rows of a site have all races there, once, and no row has more words than the one before
-pub record IsTable (lines : List Line) (rows : List SiteRow) : Type 0 where
-  pub own : All (IsOwnCount lines) rows
+-- the order of the rows: sites in headers of the system come last, most words come first, and then the sites by their numbers
+abbrev pub row_order : SiteRow → SiteRow → Ordering
+row_order row other =
+    ordering_then (bool_cmp row.is_system other.is_system) (ordering_then (nat_cmp (words_of other) (words_of row)) (nat_cmp row.site other.site))
+
+-- a row counts its own site, the rows of a site have all races there, once, and the rows come in their order
+pub record IsTable (names : NameTable) (lines : List Line) (rows : List SiteRow) : Type 0 where
+  pub own : All (IsOwnCount names lines) rows
   pub each : (s : ℕ) → sum_by (words_at s) rows ≡ races_at lines s
-  pub falling : (i j : ℕ) (d : SiteRow) → i ≤ j → j < length rows → words_of (slice_index_or rows j d) ≤ words_of (slice_index_or rows i d)
+  pub sorted : IsSorted row_order rows

@@ -1,5 +1,5 @@
 -- The text for people: a table of the sites with races, a race of each site in sentences, and the lines that every report ends with.
-use Rattle.std.specs.Prelude.{ℕ, zero, suc, ◌-◌, ◌==◌, ◌&&◌, Bool, true, false, cond, nat_le, List, [], ◌∷◌, ◌++◌, length, drop, flat_map, min, Option, Some, None, codes, decimal, slice_get}
+use Rattle.std.specs.Prelude.{ℕ, zero, suc, ◌-◌, ◌==◌, ◌&&◌, ◌||◌, not, Bool, true, false, cond, nat_le, List, [], ◌∷◌, ◌++◌, length, drop, flat_map, min, reverse, option_and_then, Option, Some, None, codes, decimal, slice_get}
 use Rattle.std.specs.List.{list_any, find}
 use Rattle.er_event.specs.Lockset.{has, is_level_lock, level_base}
 use Rattle.er_event.specs.Refusal.{text_of}
@@ -7,7 +7,7 @@ use Rattle.er_event.specs.declared.steps.Kind.{Kind}
 use Rattle.er_event.specs.declared.steps.Kind.TheVariants as kind
 use Rattle.er_trace.specs.Names.{NameTable}
 use Rattle.er_places.specs.Places.{PlaceTable}
-use Rattle.er_places.specs.Reasons.{reason_place}
+use Rattle.er_places.specs.Reasons.{access_place, reason_place}
 use Rattle.er_places.specs.declared.place.Place.{Place}
 use Rattle.er_print.specs.Printed.{name_at, address_text, stop_text, counts_text, totals_text}
 use Rattle.er_report.specs.Lines.{LineView, RaceView, RefusedView, ShownView, line_view}
@@ -32,10 +32,13 @@ thread_text names thread = short 24 (name_at names.threads thread)
 abbrev pub lock_text : NameTable → ℕ → List ℕ
 lock_text names lock = cond (is_level_lock lock) (codes "!" ++ decimal (lock - level_base)) (short 32 (name_at names.locks lock))
 
--- sites count from 1, and the missing one is a dash
+-- a site in so many bytes at most; sites count from 1, and the missing one is a dash
+abbrev pub site_within : ℕ → NameTable → ℕ → List ℕ
+site_within most names zero = codes "-"
+site_within most names (suc n) = short most (name_at names.sites n)
+
 abbrev pub site_text : NameTable → ℕ → List ℕ
-site_text names zero = codes "-"
-site_text names (suc n) = short 72 (name_at names.sites n)
+site_text names site = site_within 72 names site
 
 -- a number, and spaces up to the next column
 abbrev pub column_text : ℕ → List ℕ
@@ -79,23 +82,28 @@ is_failed lock label.Unordered = false
 abbrev pub is_without : ℕ → ℕ → Because → Bool
 is_without number lock because = is_failed lock because.label && because.line == number
 
--- a lock that is held and does not protect is held only to read
-abbrev pub mode_text : ℕ → List Because → ℕ → List ℕ
-mode_text number explained lock = cond (list_any (is_without number lock) explained) (codes ", but only to read") []
+-- the access at this place didn't hold the lock to write
+abbrev pub is_weak_at : Option Place → ℕ → Bool
+is_weak_at None lock = false
+is_weak_at (Some place) lock = not (has place.write_held lock)
+
+-- a lock that is held and does not protect is held only to read, and so is one that isn't held to write at the place of the race
+abbrev pub mode_text : ℕ → Option Place → List Because → ℕ → List ℕ
+mode_text number own explained lock = cond (list_any (is_without number lock) explained || is_weak_at own lock) (codes ", but only to read") []
 
 -- a lock that the thread of a race held
-abbrev pub held_text : NameTable → ℕ → ℕ → List Because → ℕ → List ℕ
-held_text names number thread explained lock =
-    codes "  " ++ thread_text names thread ++ codes " held " ++ lock_text names lock ++ mode_text number explained lock ++ 10 ∷ []
+abbrev pub held_text : NameTable → ℕ → ℕ → Option Place → List Because → ℕ → List ℕ
+held_text names number thread own explained lock =
+    codes "  " ++ thread_text names thread ++ codes " held " ++ lock_text names lock ++ mode_text number own explained lock ++ 10 ∷ []
 
 -- that a thread held no lock
 abbrev pub no_lock_text : NameTable → ℕ → List ℕ
 no_lock_text names thread = codes "  " ++ thread_text names thread ++ codes " held no lock" ++ 10 ∷ []
 
 -- all locks that a thread held, or that it held none
-abbrev pub holds_text : NameTable → ℕ → ℕ → List Because → List ℕ → List ℕ
-holds_text names number thread explained [] = no_lock_text names thread
-holds_text names number thread explained (lock ∷ locks) = flat_map (held_text names number thread explained) (lock ∷ locks)
+abbrev pub holds_text : NameTable → ℕ → ℕ → Option Place → List Because → List ℕ → List ℕ
+holds_text names number thread own explained [] = no_lock_text names thread
+holds_text names number thread own explained (lock ∷ locks) = flat_map (held_text names number thread own explained) (lock ∷ locks)
 
 -- a lock that did not protect
 abbrev pub failed_lock_text : NameTable → ℕ → List ℕ
@@ -175,9 +183,26 @@ abbrev pub so_text : List Because → List ℕ
 so_text [] = []
 so_text (because ∷ more) = so_by because.label
 
--- the site of a race, behind an empty line
-abbrev pub title_text : NameTable → ℕ → List ℕ
-title_text names site = 10 ∷ [] ++ site_text names site ++ 58 ∷ 10 ∷ []
+-- another thread made this access
+abbrev pub is_others : ℕ → Because → Bool
+is_others thread because = not (because.thread == thread)
+
+-- two sites in one line
+unfoldable pub pair_text : NameTable → NameTable → ℕ → ℕ → List ℕ
+pair_text names others site other = site_within 57 names site ++ codes " and " ++ site_within 57 others other
+
+-- where the access stands that a race of this thread is with: that of the last of its reasons whose access another thread made
+abbrev pub met_place : PlaceTable → ℕ → List Because → Option Place
+met_place table thread explained = option_and_then (reason_place table) (find (is_others thread) (reverse explained))
+
+-- the site of a race, and that of the access which it is with, if that is known and another one
+abbrev pub met_text : NameTable → NameTable → ℕ → Option Place → List ℕ
+met_text names others site None = site_text names site
+met_text names others site (Some place) = cond (place.site == 0 || place.site == site) (site_text names site) (pair_text names others site place.site)
+
+-- behind an empty line
+abbrev pub title_text : NameTable → PlaceTable → ℕ → ℕ → List Because → List ℕ
+title_text names table site thread explained = 10 ∷ [] ++ met_text names table.names site (met_place table thread explained) ++ 58 ∷ 10 ∷ []
 
 -- the access of a race
 abbrev pub head_text : NameTable → ℕ → ℕ → Kind → ℕ → List ℕ
@@ -187,7 +212,8 @@ head_text names number thread kind word =
 -- a race in sentences, under its site
 abbrev pub example_text : NameTable → PlaceTable → LineView → List ℕ
 example_text names table (RaceView number thread kind word site held explained) =
-    title_text names site ++ head_text names number thread kind word ++ holds_text names number thread explained held
+    title_text names table site thread explained ++ head_text names number thread kind word
+    ++ holds_text names number thread (access_place table number thread kind) explained held
     ++ flat_map (reason_text names table number) explained ++ so_text explained
 example_text names table (RefusedView number step refusal) = []
 example_text names table (ShownView number word state) = []

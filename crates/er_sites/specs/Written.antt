@@ -13,7 +13,7 @@ use Rattle.er_sites.specs.declared.row.SiteRow.{SiteRow}
 -- all of the text of a table of the report's races was written, or nothing for want of memory, or a prefix where a write failed
 abbrev pub WritesSites : {X : Type 0} → Option (List ℕ) → Option (List ℕ) → NameTable → PlaceTable → Report → Result X WriteFault → Type 0
 WritesSites old new names table report (Ok x) =
-    (rows : List SiteRow) × (IsTable report.lines.items rows × Appends old new (sites_text names table report rows))
+    (rows : List SiteRow) × (IsTable names report.lines.items rows × Appends old new (sites_text names table report rows))
 WritesSites old new names table report (Err Memory) = Keeps old new
 WritesSites old new names table report (Err Write) =
-    (rows : List SiteRow) × (IsTable report.lines.items rows × ((n : ℕ) × Appends old new (take n (sites_text names table report rows))))
+    (rows : List SiteRow) × (IsTable names report.lines.items rows × ((n : ℕ) × Appends old new (take n (sites_text names table report rows))))

@@ -29,8 +29,8 @@ pub fn put_sites_of_both(
     requires unordered { All (HasNames names.now) unordered.now.lines.items }
     ensures { OnOk result (PutsBoth out.old.items out.new.items names.now places.now lockset.now.lines.items unordered.now.lines.items) }
 {
-    let first = site_rows(alloc, &unordered.lines)?;
-    let all = site_rows(alloc, &lockset.lines)?;
+    let first = site_rows(alloc, &unordered.lines, names)?;
+    let all = site_rows(alloc, &lockset.lines, names)?;
     put_both(
         alloc,
         out,
@@ -58,13 +58,29 @@ fn put_both(
 ) -> Result<(), AllocError>
     requires lockset { All (HasNames names.now) lockset.now }
     requires unordered { All (HasNames names.now) unordered.now }
-    requires first { IsTable unordered.now first.now }
-    requires all { IsTable lockset.now all.now }
+    requires first { IsTable names.now unordered.now first.now }
+    requires all { IsTable names.now lockset.now all.now }
     ensures { OnOk result (out.new.items ≡ out.old.items ++ both_text names.now places.now lockset.now unordered.now first.now all.now) }
 {
     let others = other_rows(alloc, unordered, all)?;
-    put_part(out, b"races in this run", names, places, unordered, first)?;
-    put_part(out, b"no common lock", names, places, lockset, &others)?;
+    put_part(
+        out,
+        b"races in this run",
+        b": none\n\n",
+        names,
+        places,
+        unordered,
+        first,
+    )?;
+    put_part(
+        out,
+        b"no common lock",
+        b": no further site\n\n",
+        names,
+        places,
+        lockset,
+        &others,
+    )?;
     put_refused(out, first_refused(lockset))?;
     Ok(())
 }
@@ -74,6 +90,7 @@ fn put_both(
 fn put_part(
     out: &mut Vec<u8>,
     title: &[u8],
+    nothing: &[u8],
     names: &Names,
     places: &Places,
     lines: &[Line],
@@ -81,23 +98,19 @@ fn put_part(
 ) -> Result<(), AllocError>
     requires names { All (HasNames names.now) lines.now }
     requires rows { All (λ row. row.site ≤ length names.now.sites) rows.now }
-    ensures { OnOk result (out.new.items ≡ out.old.items ++ part_text title.now names.now places.now lines.now rows.now) }
+    ensures { OnOk result (out.new.items ≡ out.old.items ++ part_text title.now nothing.now names.now places.now lines.now rows.now) }
 {
-    put_title(out, title, rows.is_empty())?;
+    put_title(out, title, nothing, rows.is_empty())?;
     put_rows(out, names, places, lines, rows)?;
     Ok(())
 }
 
 // Puts a heading, and that nothing is below it.
-fn put_title(out: &mut Vec<u8>, title: &[u8], none: bool) -> Result<(), AllocError>
-    ensures { OnOk result (out.new.items ≡ out.old.items ++ title_of title.now none) }
+fn put_title(out: &mut Vec<u8>, title: &[u8], nothing: &[u8], none: bool) -> Result<(), AllocError>
+    ensures { OnOk result (out.new.items ≡ out.old.items ++ title_of title.now nothing.now none) }
 {
     out.extend_from_slice(title)?;
-    out.extend_from_slice(if none {
-        b": none\n\n".as_slice()
-    } else {
-        b"\n".as_slice()
-    })
+    out.extend_from_slice(if none { nothing } else { b"\n".as_slice() })
 }
 
 // The rows of the sites that have no race among these lines.

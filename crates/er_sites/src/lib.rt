@@ -11,6 +11,7 @@
 
 pub use both::put_sites_of_both;
 pub use counts::{Counts, count_at, count_line, count_races};
+pub use names::{is_system_name, name_of};
 pub use row::SiteRow;
 pub use sites::write_sites;
 pub use table::site_rows;

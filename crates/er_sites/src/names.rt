@@ -1,7 +1,9 @@
 //! Names and numbers, in columns. Of a long name only the end is put, so that lines stay short.
-ghost use Rattle.std.specs.Prelude.{◌≡◌, ◌++◌, ◌<◌, ◌≤◌, length, OnOk};
+ghost use Rattle.std.specs.Prelude.{◌≡◌, ◌++◌, ◌<◌, ◌≤◌, length, option_copied, OnOk};
 ghost use Rattle.er_report.specs.Names.{HasLockName};
-ghost use Rattle.er_sites.specs.Text.{short, thread_text, lock_text, site_text, column_text, access_text, did_text, line_text};
+ghost use Rattle.er_report.specs.Report.{site_name};
+ghost use Rattle.er_sites.specs.System.{is_system_name, is_system_site};
+ghost use Rattle.er_sites.specs.Text.{short, thread_text, lock_text, site_text, site_within, pair_text, column_text, access_text, did_text, line_text};
 
 use er_event::{Kind, LockId, Site, ThreadId};
 use er_print::put_number;
@@ -49,10 +51,73 @@ pub(crate) fn put_site(out: &mut Vec<u8>, names: &Names, site: Site) -> Result<(
     requires { site ≤ length names.now.sites }
     ensures { OnOk result (out.new.items ≡ out.old.items ++ site_text names.now site) }
 {
+    put_site_within(out, names, site, 72)
+}
+
+// The same in at most so many bytes.
+fn put_site_within(
+    out: &mut Vec<u8>,
+    names: &Names,
+    site: Site,
+    most: usize,
+) -> Result<(), AllocError>
+    requires site { site ≤ length names.now.sites }
+    requires most { 2 ≤ most }
+    ensures { OnOk result (out.new.items ≡ out.old.items ++ site_within most names.now site) }
+{
     if site.number() == 0 {
         return out.extend_from_slice(b"-");
     }
-    put_short(out, names.site_name(site).as_bytes(), 72)
+    put_short(out, names.site_name(site).as_bytes(), most)
+}
+
+/// The name of a site, unless it is the missing one.
+pub fn name_of(names: &Names, site: Site) -> Option<&str>
+    requires { site ≤ length names.now.sites }
+    ensures { option_copied result ≡ site_name names.now site }
+{
+    if site.number() == 0 {
+        return None;
+    }
+    Some(names.site_name(site))
+}
+
+/// Whether a site of this name stands in a header of the system.
+pub fn is_system_name(name: &str) -> bool
+    ensures { result ≡ is_system_name name.now }
+{
+    let bytes = name.as_bytes();
+    bytes.starts_with(b"/usr/include/") || bytes.starts_with(b"/usr/lib/")
+}
+
+/// Whether the site of this number does. The missing one has no name.
+pub(crate) fn is_system_site(names: &Names, site: Site) -> bool
+    requires { site ≤ length names.now.sites }
+    ensures { result ≡ is_system_site names.now site }
+{
+    match name_of(names, site) {
+        Some(name) => is_system_name(name),
+        None => false,
+    }
+}
+
+/// Puts two sites, each with its own names.
+#[tactic(auto, unfolding(crate::specs::Text::pair_text))]
+pub(crate) fn put_pair(
+    out: &mut Vec<u8>,
+    names: &Names,
+    others: &Names,
+    site: Site,
+    other: Site,
+) -> Result<(), AllocError>
+    requires site { site ≤ length names.now.sites }
+    requires other { other ≤ length others.now.sites }
+    ensures { OnOk result (out.new.items ≡ out.old.items ++ pair_text names.now others.now site other) }
+{
+    put_site_within(out, names, site, 57)?;
+    out.extend_from_slice(b" and ")?;
+    put_site_within(out, others, other, 57)?;
+    Ok(())
 }
 
 /// Puts a number, and spaces up to the next column.

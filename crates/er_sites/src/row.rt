@@ -8,6 +8,8 @@ use er_event::Site;
 pub struct SiteRow {
     /// Where in the program the accesses stand.
     pub site: Site,
+    /// Whether that is a header of the system.
+    pub is_system: bool,
     /// How many words a read there made racy. A word that has another race after a reuse counts again.
     pub reads: u64,
     /// How many words a write there made racy.

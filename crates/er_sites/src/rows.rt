@@ -1,30 +1,35 @@
 //! A row for each site that has a race.
-ghost use Rattle.std.specs.Prelude.{◌≡◌, ◌+◌, ◌^◌, ◌<◌, ℕ, All, IfOk, OnOk};
+ghost use Rattle.std.specs.Prelude.{◌≡◌, ◌+◌, ◌^◌, ◌<◌, ◌≤◌, ℕ, All, None, Some, cond, length, slice_index_or, IfOk, OnOk};
 ghost use Rattle.std.specs.List.{sum_by};
-ghost use Rattle.er_sites.specs.Inner.Counted.{AreCounts, HasRowsBelow};
-ghost use Rattle.er_sites.specs.Table.{races_at, words_at, IsOwnCount};
+ghost use Rattle.er_report.specs.Names.{HasNames};
+ghost use Rattle.er_sites.specs.Inner.Counted.{AreCounts, AreExamples, HasRowsBelow, or_first};
+ghost use Rattle.er_sites.specs.Table.{is_at, races_at, words_at, IsOwnCount};
 
-use crate::counts::{Counts, count_at};
+use crate::counts::{Counts, count_at, count_races};
 use crate::distinct::{count_locks, count_threads};
+use crate::names::is_system_site;
 use crate::row::SiteRow;
 use er_event::Site;
 use er_report::Line;
+use er_trace::Names;
 use std::alloc::{AllocError, Global};
 
-/// The rows by rising site. The counts are those of the races of these lines.
+/// The rows by rising site, of what was found of these lines.
 pub(crate) fn rows_of(
     alloc: Global,
     lines: &[Line],
-    counts: &Counts,
-    others: &Others,
+    names: &Names,
+    found: &Found,
 ) -> Result<Vec<SiteRow>, AllocError>
-    requires { AreCounts lines.now counts.now }
-    ensures own { IfOk result (λ rows. All (IsOwnCount lines.now) rows.items) }
+    requires names { All (HasNames names.now) lines.now }
+    requires counts { AreCounts lines.now found.now.counts }
+    requires examples { AreExamples lines.now found.now.examples.items }
+    ensures own { IfOk result (λ rows. All (IsOwnCount names.now lines.now) rows.items) }
     ensures each { IfOk result (λ rows. (s : ℕ) → sum_by (words_at s) rows.items ≡ races_at lines.now s) }
 {
     let mut rows = Vec::new(alloc);
-    for site in 0..counts.reads.len().max(counts.writes.len()) {
-        add_site(&mut rows, lines, counts, others, site)?;
+    for site in 0..found.counts.reads.len().max(found.counts.writes.len()) {
+        add_site(&mut rows, lines, names, found, site)?;
     }
     Ok(rows)
 }
@@ -33,75 +38,111 @@ pub(crate) fn rows_of(
 fn add_site(
     rows: &mut Vec<SiteRow>,
     lines: &[Line],
-    counts: &Counts,
-    others: &Others,
+    names: &Names,
+    found: &Found,
     site: usize,
 ) -> Result<(), AllocError>
-    requires counts { AreCounts lines.now counts.now }
-    requires below { HasRowsBelow lines.now rows.old.items site }
+    requires names { All (HasNames names.now) lines.now }
+    requires counts { AreCounts lines.now found.now.counts }
+    requires examples { AreExamples lines.now found.now.examples.items }
+    requires below { HasRowsBelow names.now lines.now rows.old.items site }
     requires within { site < 2 ^ 32 }
-    ensures { OnOk result (HasRowsBelow lines.now rows.new.items (site + 1)) }
+    ensures { OnOk result (HasRowsBelow names.now lines.now rows.new.items (site + 1)) }
 {
     prove!(lines.len() < 1 << 63);
-    let reads = count_at(&counts.reads, site);
-    let writes = count_at(&counts.writes, site);
-    if reads + writes == 0 {
+    let Some(example) = example_at(&found.examples, site) else {
         return Ok(());
-    }
+    };
+    let number = Site::new(site as u32);
     rows.push(SiteRow {
-        site: Site::new(site as u32),
-        reads,
-        writes,
-        threads: count_at(&others.threads, site),
-        locks: count_at(&others.locks, site),
-        example: place_at(&others.examples, site),
+        site: number,
+        is_system: is_system_site(names, number),
+        reads: count_at(&found.counts.reads, site),
+        writes: count_at(&found.counts.writes, site),
+        threads: count_at(&found.threads, site),
+        locks: count_at(&found.locks, site),
+        example,
     })?;
     Ok(())
 }
 
-/// What is known of each site besides its counts, by the number of the site.
+/// What is known of each site, by its number.
 #[derive(Drop)]
-pub(crate) struct Others {
+pub(crate) struct Found {
+    /// How many races it has.
+    pub(crate) counts: Counts,
     /// How many threads have races there.
     threads: Vec<u64>,
     /// How many locks were held at one of its races or more.
     locks: Vec<u64>,
-    /// The place of its first race among the lines.
-    examples: Vec<usize>,
+    /// The place of its first race among the lines, if it has one.
+    pub(crate) examples: Vec<Option<usize>>,
 }
 
-/// What is known of each site besides the counts of its races.
-pub(crate) fn find_others(alloc: Global, lines: &[Line]) -> Result<Others, AllocError> {
+/// What is to be found in these lines.
+pub(crate) fn find_sites(alloc: Global, lines: &[Line]) -> Result<Found, AllocError>
+    ensures counts { IfOk result (λ found. AreCounts lines.now found.counts) }
+    ensures examples { IfOk result (λ found. AreExamples lines.now found.examples.items) }
+{
+    let counts = count_races(alloc, lines)?;
     let threads = count_threads(alloc, lines)?;
     let locks = count_locks(alloc, lines)?;
-    Ok(Others {
+    let examples = find_examples(alloc, lines)?;
+    Ok(Found {
+        counts,
         threads,
         locks,
-        examples: find_examples(alloc, lines)?,
+        examples,
     })
 }
 
 // The place of the first race at a site.
-fn place_at(examples: &[usize], site: usize) -> usize {
+fn example_at(examples: &[Option<usize>], site: usize) -> Option<usize>
+    ensures { result ≡ slice_index_or examples.now site None }
+{
     match examples.get(site) {
         Some(place) => *place,
-        None => 0,
+        None => None,
     }
 }
 
 // The place of the first race at each site among the lines, by the number of the site.
-fn find_examples(alloc: Global, lines: &[Line]) -> Result<Vec<usize>, AllocError> {
-    let mut places = Vec::new(alloc);
-    for (place, line) in lines.iter().enumerate().rev() {
-        if let Line::Race { site, .. } = line {
-            let site = site.number() as usize;
-            if places.len() <= site {
-                places.resize(site + 1, 0)?;
-            }
-            if let Some(first) = places.get_mut(site) {
-                *first = place;
-            }
-        }
+fn find_examples(alloc: Global, lines: &[Line]) -> Result<Vec<Option<usize>>, AllocError>
+    ensures { IfOk result (λ examples. AreExamples lines.now examples.items) }
+{
+    let mut examples = Vec::new(alloc);
+    for (place, line) in lines.iter().enumerate() {
+        note_example(&mut examples, place, line)?;
     }
-    Ok(places)
+    Ok(examples)
+}
+
+// Notes the line in this place, if it is a race at a site that has none yet.
+fn note_example(
+    examples: &mut Vec<Option<usize>>,
+    place: usize,
+    line: &Line,
+) -> Result<(), AllocError>
+    ensures { OnOk result ((s : ℕ) → slice_index_or examples.new.items s None ≡ or_first (slice_index_or examples.old.items s None) (cond (is_at s line.now) (Some place) None)) }
+{
+    let Line::Race { site, .. } = line else {
+        return Ok(());
+    };
+    let site = site.number() as usize;
+    grow(examples, site + 1)?;
+    if examples[site].is_none() {
+        examples[site] = Some(place);
+    }
+    Ok(())
+}
+
+// Adds places of none until the list has as many.
+fn grow(examples: &mut Vec<Option<usize>>, len: usize) -> Result<(), AllocError>
+    ensures same { OnOk result ((s : ℕ) → slice_index_or examples.new.items s None ≡ slice_index_or examples.old.items s None) }
+    ensures long { OnOk result (len ≤ length examples.new.items) }
+{
+    while examples.len() < len {
+        examples.push(None)?;
+    }
+    Ok(())
 }

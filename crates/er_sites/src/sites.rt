@@ -35,7 +35,7 @@ pub fn write_sites<W: Write>(
     ensures failed { FailsWriting (has_failed writer.new) result }
     ensures taken { taken_of writer.new ≡ taken_of writer.old }
 {
-    let Ok(rows) = site_rows(alloc, &report.lines) else {
+    let Ok(rows) = site_rows(alloc, &report.lines, names) else {
         return Err(WriteFault::Memory);
     };
     let Ok(text) = sites_text(alloc, report, names, places, &rows) else {
@@ -56,7 +56,7 @@ fn sites_text(
     rows: &[SiteRow],
 ) -> Result<Vec<u8>, AllocError>
     requires names { All (HasNames names.now) report.now.lines.items }
-    requires rows { IsTable report.now.lines.items rows.now }
+    requires rows { IsTable names.now report.now.lines.items rows.now }
     ensures { IfOk result (λ text. text.items ≡ sites_text names.now places.now report.now rows.now) }
 {
     let mut text = Vec::new(alloc);

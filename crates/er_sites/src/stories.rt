@@ -1,14 +1,16 @@
 //! One race in sentences.
-ghost use Rattle.std.specs.Prelude.{◌≡◌, ◌++◌, ◌<◌, ◌≤◌, All, flat_map, length, OnOk};
+ghost use Rattle.std.specs.Prelude.{◌≡◌, ◌++◌, ◌<◌, ◌≤◌, All, find, flat_map, length, option_and_then, option_copied, reverse, OnOk, Some};
 ghost use Rattle.std.specs.List.{list_any};
+ghost use Rattle.er_places.specs.Places.{HasPlaceNames};
+ghost use Rattle.er_places.specs.Reasons.{reason_place};
 ghost use Rattle.er_report.specs.Lines.{line_view};
 ghost use Rattle.er_report.specs.Names.{HasLabelName, HasLockName, HasLockNames, HasNames, HasReasonNames};
-ghost use Rattle.er_sites.specs.Text.{deed_text, example_text, failed_lock_text, head_text, held_text, holds_text, title_text, mode_text, no_lock_text, reason_text, so_by, so_text, story_text, unordered_text, unprotected_text, is_without};
+ghost use Rattle.er_sites.specs.Text.{deed_text, example_text, failed_lock_text, head_text, held_text, holds_text, is_others, is_weak_at, met_text, mode_text, title_text, no_lock_text, reason_text, so_by, so_text, story_text, unordered_text, unprotected_text, is_without};
 
-use crate::names::{put_access, put_did, put_line, put_lock, put_site, put_thread};
+use crate::names::{put_access, put_did, put_line, put_lock, put_pair, put_site, put_thread};
 use crate::standing::put_where;
 use er_event::{Kind, LockId, Site, ThreadId, Word};
-use er_places::Places;
+use er_places::{Place, Places};
 use er_print::put_address;
 use er_report::{Because, Label, Line};
 use er_trace::Names;
@@ -36,21 +38,92 @@ pub(crate) fn put_example(
     else {
         return Ok(());
     };
-    put_title(out, names, *site)?;
+    put_title(out, names, places, *site, *thread, explained)?;
     put_head(out, names, *line, *thread, *kind, *word)?;
-    put_locks(out, names, *line, *thread, explained, held.as_slice())?;
+    let own = places.of_access(*line, *thread, *kind);
+    put_locks(out, names, *line, *thread, own, explained, held.as_slice())?;
     put_reasons(out, names, places, *line, explained)?;
     put_so(out, explained)
 }
 
-// Puts the site of a race, behind an empty line.
-fn put_title(out: &mut Vec<u8>, names: &Names, site: Site) -> Result<(), AllocError>
+// Puts the site of a race behind an empty line, and that of the access which it is with, if that is another one.
+fn put_title(
+    out: &mut Vec<u8>,
+    names: &Names,
+    places: &Places,
+    site: Site,
+    thread: ThreadId,
+    explained: &[Because],
+) -> Result<(), AllocError>
     requires { site ≤ length names.now.sites }
-    ensures { OnOk result (out.new.items ≡ out.old.items ++ title_text names.now site) }
+    ensures { OnOk result (out.new.items ≡ out.old.items ++ title_text names.now places.now site thread explained.now) }
 {
     out.extend_from_slice(b"\n")?;
-    put_site(out, names, site)?;
+    put_met(out, names, places, site, last_other(thread, explained))?;
     out.extend_from_slice(b":\n")
+}
+
+// The last of the reasons whose access another thread made.
+fn last_other(thread: ThreadId, explained: &[Because]) -> Option<Because>
+    ensures { result ≡ find (is_others thread) (reverse explained.now) }
+{
+    let mut last = None;
+    for because in explained {
+        if because.thread != thread {
+            last = Some(*because);
+        }
+    }
+    last
+}
+
+fn put_met(
+    out: &mut Vec<u8>,
+    names: &Names,
+    places: &Places,
+    site: Site,
+    met: Option<Because>,
+) -> Result<(), AllocError>
+    requires { site ≤ length names.now.sites }
+    ensures { OnOk result (out.new.items ≡ out.old.items ++ met_text names.now places.now.names site (option_and_then (reason_place places.now) met)) }
+{
+    match met {
+        Some(because) => put_beside(out, names, places, site, &because),
+        None => put_site(out, names, site),
+    }
+}
+
+fn put_beside(
+    out: &mut Vec<u8>,
+    names: &Names,
+    places: &Places,
+    site: Site,
+    because: &Because,
+) -> Result<(), AllocError>
+    requires { site ≤ length names.now.sites }
+    ensures { OnOk result (out.new.items ≡ out.old.items ++ met_text names.now places.now.names site (reason_place places.now because.now)) }
+{
+    match places.of_reason(because) {
+        Some(place) => put_sites(out, names, places.names(), site, place),
+        None => put_site(out, names, site),
+    }
+}
+
+// Puts the site of a race, and that of this place if it is known and another one.
+fn put_sites(
+    out: &mut Vec<u8>,
+    names: &Names,
+    others: &Names,
+    site: Site,
+    place: &Place,
+) -> Result<(), AllocError>
+    requires site { site ≤ length names.now.sites }
+    requires place { HasPlaceNames others.now place.now }
+    ensures { OnOk result (out.new.items ≡ out.old.items ++ met_text names.now others.now site (Some place.now)) }
+{
+    if place.site.number() == 0 || place.site == site {
+        return put_site(out, names, site);
+    }
+    put_pair(out, names, others, site, place.site)
 }
 
 // Puts the access of a race.
@@ -73,24 +146,25 @@ fn put_head(
     out.extend_from_slice(b"\n")
 }
 
-// Puts the locks that the thread of a race held.
+// Puts the locks that the thread of a race held, and which of them only to read as far as its place is known.
 fn put_locks(
     out: &mut Vec<u8>,
     names: &Names,
     line: u64,
     thread: ThreadId,
+    own: Option<&Place>,
     explained: &[Because],
     locks: &[LockId],
 ) -> Result<(), AllocError>
     requires thread { thread < length names.now.threads }
     requires locks { HasLockNames names.now locks.now }
-    ensures { OnOk result (out.new.items ≡ out.old.items ++ holds_text names.now line thread explained.now locks.now) }
+    ensures { OnOk result (out.new.items ≡ out.old.items ++ holds_text names.now line thread (option_copied own.entry) explained.now locks.now) }
 {
     if locks.is_empty() {
         return put_no_lock(out, names, thread);
     }
     for lock in locks {
-        put_held(out, names, line, thread, explained, *lock)?;
+        put_held(out, names, line, thread, own, explained, *lock)?;
     }
     Ok(())
 }
@@ -111,34 +185,45 @@ fn put_held(
     names: &Names,
     line: u64,
     thread: ThreadId,
+    own: Option<&Place>,
     explained: &[Because],
     lock: LockId,
 ) -> Result<(), AllocError>
     requires thread { thread < length names.now.threads }
     requires lock { HasLockName names.now lock }
-    ensures { OnOk result (out.new.items ≡ out.old.items ++ held_text names.now line thread explained.now lock) }
+    ensures { OnOk result (out.new.items ≡ out.old.items ++ held_text names.now line thread (option_copied own.entry) explained.now lock) }
 {
     out.extend_from_slice(b"  ")?;
     put_thread(out, names, thread)?;
     out.extend_from_slice(b" held ")?;
     put_lock(out, names, lock)?;
-    put_mode(out, line, explained, lock)?;
+    put_mode(out, line, own, explained, lock)?;
     out.extend_from_slice(b"\n")
 }
 
-// Puts that a lock was held only to read, if it didn't protect the access on the line.
+// Puts that a lock was held only to read, if it didn't protect the access on the line or wasn't held to write at its place.
 fn put_mode(
     out: &mut Vec<u8>,
     line: u64,
+    own: Option<&Place>,
     explained: &[Because],
     lock: LockId,
 ) -> Result<(), AllocError>
-    ensures { OnOk result (out.new.items ≡ out.old.items ++ mode_text line explained.now lock) }
+    ensures { OnOk result (out.new.items ≡ out.old.items ++ mode_text line (option_copied own.entry) explained.now lock) }
 {
-    if is_unprotected(line, explained, lock) {
+    if is_unprotected(line, explained, lock) || is_weak_at(own, lock) {
         return out.extend_from_slice(b", but only to read");
     }
     Ok(())
+}
+
+fn is_weak_at(own: Option<&Place>, lock: LockId) -> bool
+    ensures { result ≡ is_weak_at (option_copied own.entry) lock }
+{
+    match own {
+        Some(place) => !place.write_held.contains(lock),
+        None => false,
+    }
 }
 
 // Whether a reason is that the lock didn't protect the access on the line.

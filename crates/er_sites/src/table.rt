@@ -1,45 +1,45 @@
 //! The table of sites.
 ghost use Rattle.std.specs.Prelude.{◌≡◌, ℕ, All, IfOk};
 ghost use Rattle.std.specs.List.{sum_by};
-ghost use Rattle.er_sites.specs.Inner.Counted.{AreCounts};
-ghost use Rattle.er_sites.specs.Table.{races_at, words_at, IsOwnCount, IsTable};
+ghost use Rattle.er_report.specs.Names.{HasNames};
+ghost use Rattle.er_sites.specs.Table.{races_at, row_order, words_at, IsOwnCount, IsTable};
 
-use crate::counts::{Counts, count_races};
 use crate::row::SiteRow;
-use crate::rows::{find_others, rows_of};
+use crate::rows::{find_sites, rows_of};
 use er_report::Line;
+use er_trace::Names;
 use std::alloc::{AllocError, Global};
+use std::cmp::Ordering;
 
-/// The table of the sites that have races, the site with most words first. Sites with as many words stand in the order of their numbers.
-/// `AllocError`: memory was refused.
-pub fn site_rows(alloc: Global, lines: &[Line]) -> Result<Vec<SiteRow>, AllocError>
-    ensures { IfOk result (λ rows. IsTable lines.now rows.items) }
+/// The table of the sites that have races. Those in headers of the system come last, and the site with most words first. Sites with as many
+/// words stand in the order of their numbers. `AllocError`: memory was refused.
+pub fn site_rows(alloc: Global, lines: &[Line], names: &Names) -> Result<Vec<SiteRow>, AllocError>
+    requires { All (HasNames names.now) lines.now }
+    ensures { IfOk result (λ rows. IsTable names.now lines.now rows.items) }
 {
-    let mut rows = unsorted_rows(alloc, lines)?;
-    prove!(lines.len() < 1 << 63);
-    rows.sort_by_key(|row: &SiteRow| u64::MAX - row.words())?;
+    let mut rows = unsorted_rows(alloc, lines, names)?;
+    rows.sort_by(|row: &SiteRow, other: &SiteRow| order_of(row, other))?;
     Ok(rows)
 }
 
-// The rows by rising site.
-fn unsorted_rows(alloc: Global, lines: &[Line]) -> Result<Vec<SiteRow>, AllocError>
-    ensures own { IfOk result (λ rows. All (IsOwnCount lines.now) rows.items) }
-    ensures each { IfOk result (λ rows. (s : ℕ) → sum_by (words_at s) rows.items ≡ races_at lines.now s) }
+// How two rows stand in the table.
+fn order_of(row: &SiteRow, other: &SiteRow) -> Ordering
+    ensures { result ≡ row_order row.now other.now }
 {
-    let counts = count_races(alloc, lines)?;
-    let rows = rows_with(alloc, lines, &counts);
-    drop(counts);
-    rows
+    row.is_system
+        .cmp(&other.is_system)
+        .then(other.words().cmp(&row.words()))
+        .then(row.site.number().cmp(&other.site.number()))
 }
 
-// The same, with these counts of each site's races.
-fn rows_with(alloc: Global, lines: &[Line], counts: &Counts) -> Result<Vec<SiteRow>, AllocError>
-    requires { AreCounts lines.now counts.now }
-    ensures own { IfOk result (λ rows. All (IsOwnCount lines.now) rows.items) }
+// The rows by rising site.
+fn unsorted_rows(alloc: Global, lines: &[Line], names: &Names) -> Result<Vec<SiteRow>, AllocError>
+    requires { All (HasNames names.now) lines.now }
+    ensures own { IfOk result (λ rows. All (IsOwnCount names.now lines.now) rows.items) }
     ensures each { IfOk result (λ rows. (s : ℕ) → sum_by (words_at s) rows.items ≡ races_at lines.now s) }
 {
-    let others = find_others(alloc, lines)?;
-    let rows = rows_of(alloc, lines, counts, &others);
-    drop(others);
+    let found = find_sites(alloc, lines)?;
+    let rows = rows_of(alloc, lines, names, &found);
+    drop(found);
     rows
 }

@@ -1,10 +1,11 @@
 -- Counts by site, and the rows that are made of them.
-use Rattle.std.specs.Prelude.{◌≡◌, ◌≤◌, ◌^◌, ℕ, cond, nat_lt, List, length, slice_index, count_by, All}
-use Rattle.std.specs.List.{sum_by}
+use Rattle.std.specs.Prelude.{◌≡◌, ◌≤◌, ◌^◌, ℕ, cond, nat_lt, List, Option, Some, None, length, slice_index, slice_index_or, count_by, All}
+use Rattle.std.specs.List.{position, sum_by}
 use Rattle.er_report.specs.declared.report.Line.{Line}
-use Rattle.er_sites.specs.Table.{reads_at, writes_at, races_at, words_at, IsOwnCount}
+use Rattle.er_sites.specs.Table.{is_at, reads_at, writes_at, races_at, words_at, IsOwnCount}
 use Rattle.er_sites.specs.declared.counts.Counts.{Counts}
 use Rattle.er_sites.specs.declared.row.SiteRow.{SiteRow}
+use Rattle.er_trace.specs.Names.{NameTable}
 
 -- the counts are those of the races of the lines, and their lists are no longer than there are sites
 pub record AreCounts (lines : List Line) (counts : Counts) : Type 0 where
@@ -13,7 +14,16 @@ pub record AreCounts (lines : List Line) (counts : Counts) : Type 0 where
   pub few_reads : length counts.reads.items ≤ 2 ^ 32
   pub few_writes : length counts.writes.items ≤ 2 ^ 32
 
+-- the first place, or the other where there is no first
+abbrev pub or_first : Option ℕ → Option ℕ → Option ℕ
+or_first None other = other
+or_first (Some place) other = Some place
+
+-- each site has the place of its first race
+abbrev pub AreExamples : List Line → List (Option ℕ) → Type 0
+AreExamples lines examples = (s : ℕ) → slice_index_or examples s None ≡ position (is_at s) lines
+
 -- the rows are those of the sites below this one
-pub record HasRowsBelow (lines : List Line) (rows : List SiteRow) (site : ℕ) : Type 0 where
-  pub own : All (IsOwnCount lines) rows
+pub record HasRowsBelow (names : NameTable) (lines : List Line) (rows : List SiteRow) (site : ℕ) : Type 0 where
+  pub own : All (IsOwnCount names lines) rows
   pub each : (q : ℕ) → sum_by (words_at q) rows ≡ cond (nat_lt q site) (races_at lines q) 0

@@ -22,5 +22,5 @@ unfolding both_text
 returns c =
     let rest : c.deref.result.now ≡ other_rows c.args.unordered.now c.args.all.now = c.deref.ensures.value ∙ c.in_ok-others.ensures in
     put_three c.args.out.now.items _ _ _ _ _ c.put_refused.new.out.items c.in_ok-put_part.ensures
-    (c.in_ok-put_part-2.ensures ∙ ap (λ (rows : List SiteRow). c.put_part.new.out.items ++ part_text (codes "no common lock") c.args.names.now c.args.places.now c.args.lockset.now rows) rest)
+    (c.in_ok-put_part-2.ensures ∙ ap (λ (rows : List SiteRow). c.put_part.new.out.items ++ part_text (codes "no common lock") (codes ": no further site\n\n") c.args.names.now c.args.places.now c.args.lockset.now rows) rest)
     (c.in_ok-put_refused.ensures ∙ ap (λ (line : Option Line). c.put_part-2.new.out.items ++ refused_text line) c.first_refused.ensures)

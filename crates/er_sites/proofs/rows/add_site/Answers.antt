@@ -1,27 +1,42 @@
--- A site without races has no row, and else the row counts the races of its site.
-use Rattle.std.proofs.Common.{◌≡◌, ◌+◌, ◌<◌, ℕ, List, slice_index, count_by, ◌∙◌, ap, refl, sym, arith}
+-- A site without an example has no races and no row, and else the row counts the races of its site.
+use Rattle.std.proofs.Common.{◌≡◌, ◌+◌, ◌<◌, ◌≤◌, ℕ, List, Option, Some, None, length, slice_index, slice_index_or, count_by, ◌∙◌, ap, refl, sym, subst, arith}
+use Rattle.std.specs.List.{position}
 use Rattle.er_report.specs.declared.report.Line.{Line}
-use Rattle.er_sites.specs.Table.{reads_at, writes_at}
+use Rattle.er_sites.specs.Table.{is_at, races_at, reads_at, writes_at}
+use Rattle.er_sites.proofs.ExampleLemmas.{position_none, position_some, races_are}
+use Rattle.er_sites.proofs.NameLemmas.{first_named}
 use Rattle.er_sites.proofs.RowLemmas.{none_added, row_added}
 use Rattle.er_sites.proofs.rows.add_site.Goals as goal
 
-pub returns-then-reads-writes-eq0 : goal.returns-then-reads-writes-eq0
-returns-then-reads-writes-eq0 c =
+pub returns-in_default : goal.returns-in_default
+returns-in_default c =
     let lines : List Line = c.args.lines.now in
-    let read : c.count_at-reads.result ≡ count_by (reads_at c.args.site) lines = c.count_at-reads.ensures ∙ ap (λ (xs : List ℕ). slice_index xs c.args.site) c.deref.ensures.value ∙ c.requires.counts.reads c.args.site in
-    let written : c.count_at-writes.result ≡ count_by (writes_at c.args.site) lines = c.count_at-writes.ensures ∙ ap (λ (xs : List ℕ). slice_index xs c.args.site) c.deref-2.ensures.value ∙ c.requires.counts.writes c.args.site in
-    none_added lines c.args.rows.now.items c.args.site c.requires.below (omega arith)
+    let none : position (is_at c.args.site) lines ≡ None =
+    sym (c.example_at.ensures ∙ ap (λ (xs : List (Option ℕ)). slice_index_or xs c.args.site None) c.deref.ensures.value ∙ c.requires.examples c.args.site) ∙ c.in_default.is in
+    none_added c.args.names.now lines c.args.rows.now.items c.args.site c.requires.below (races_are c.args.site lines ∙ position_none (is_at c.args.site) lines none)
+
+pub is_system_site-requires : goal.is_system_site-requires
+is_system_site-requires c =
+    let lines : List Line = c.args.lines.now in
+    let found : position (is_at c.args.site) lines ≡ Some c.in-Some.example =
+    sym (c.example_at.ensures ∙ ap (λ (xs : List (Option ℕ)). slice_index_or xs c.args.site None) c.deref.ensures.value ∙ c.requires.examples c.args.site) ∙ c.in-Some.is in
+    subst (λ (s : ℕ). s ≤ length c.args.names.now.sites) (sym c.new-number.ensures) (first_named c.args.names.now lines c.args.site c.in-Some.example c.requires.names found)
 
 pub returns : goal.returns
 returns c =
     let lines : List Line = c.args.lines.now in
-    let read : c.count_at-reads.result ≡ count_by (reads_at c.args.site) lines = c.count_at-reads.ensures ∙ ap (λ (xs : List ℕ). slice_index xs c.args.site) c.deref.ensures.value ∙ c.requires.counts.reads c.args.site in
-    let written : c.count_at-writes.result ≡ count_by (writes_at c.args.site) lines = c.count_at-writes.ensures ∙ ap (λ (xs : List ℕ). slice_index xs c.args.site) c.deref-2.ensures.value ∙ c.requires.counts.writes c.args.site in
-    let some : 0 < c.count_at-reads.result + c.count_at-writes.result = omega arith in
-    rw c.in_ok-push.ensures.items (row_added lines _ _ c.args.site c.requires.below c.new.ensures
+    let found : position (is_at c.args.site) lines ≡ Some c.in-Some.example =
+    sym (c.example_at.ensures ∙ ap (λ (xs : List (Option ℕ)). slice_index_or xs c.args.site None) c.deref.ensures.value ∙ c.requires.examples c.args.site) ∙ c.in-Some.is in
+    let read : c.count_at.result ≡ count_by (reads_at c.args.site) lines = c.count_at.ensures ∙ ap (λ (xs : List ℕ). slice_index xs c.args.site) c.deref-2.ensures.value ∙ c.requires.counts.reads c.args.site in
+    let written : c.count_at-2.result ≡ count_by (writes_at c.args.site) lines = c.count_at-2.ensures ∙ ap (λ (xs : List ℕ). slice_index xs c.args.site) c.deref-3.ensures.value ∙ c.requires.counts.writes c.args.site in
+    let races : count_by (reads_at c.args.site) lines + count_by (writes_at c.args.site) lines ≡ count_by (is_at c.args.site) lines = races_are c.args.site lines in
+    let some : 0 < count_by (is_at c.args.site) lines = position_some (is_at c.args.site) c.in-Some.example lines found in
+    rw c.in_ok-push.ensures.items (row_added c.args.names.now lines _ _ c.args.site c.requires.below c.new-number.ensures
     (record {
-      reads = read ∙ ap (λ (s : ℕ). count_by (reads_at s) lines) (sym c.new.ensures);
-      writes = written ∙ ap (λ (s : ℕ). count_by (writes_at s) lines) (sym c.new.ensures);
-      some = some;
+      reads = read ∙ ap (λ (s : ℕ). count_by (reads_at s) lines) (sym c.new-number.ensures);
+      writes = written ∙ ap (λ (s : ℕ). count_by (writes_at s) lines) (sym c.new-number.ensures);
+      some = omega arith;
+      example = ap (λ (s : ℕ). position (is_at s) lines) c.new-number.ensures ∙ found;
+      system = c.is_system_site.ensures;
     })
     (rw (read, written) refl))
