@@ -34,13 +34,16 @@ OBJECTS = {
     "c11": (["flag"], ["changed"], []),
     "changes": (["counter", "spin_lock", "taken"], ["weak"], ["failed"]),
     "condition": (["changed"], [], []),
+    "detached": (["ended"], [], []),
+    "early": ([], [], []),
     "ended": (["woken", "round_trip"], ["changed", "changed:2", "fresh", "fresh:2", "reused"], ["full"]),
     "message": (["flag_8", "flag_16", "flag_32", "flag_64"], ["half_flag"], ["loose_flag", "fenced_flag"]),
     "once": (["pthread_flag", "call_flag", "thrown_flag", "_ZGVZL8get_madevE4only"], [], []),
     "semaphore": (["full", "spare"], [], []),
+    "shared": ([], [], []),
     "threads": ([], [], []),
 }
-STARTS = {"threads": 24}
+STARTS = {"threads": 24, "detached": 28}
 # A trace of fewer bytes is read a second time whole, which is slow.
 SHORT = 60_000
 # Programs of tests/record that end otherwise than by themselves, or need something else beside them.
@@ -94,6 +97,55 @@ def order_fault(text):
     return f"line {refused[0]} is refused" if refused else record_tests.lock_fault(text)
 
 
+class Clocks:
+    """How far each thread knows the others: a second reading of the order, with clocks, since these traces are long."""
+
+    def __init__(self):
+        self.threads, self.objects = collections.defaultdict(lambda: collections.defaultdict(int)), {}
+
+    def take(self, source, thread):
+        for other, count in self.objects.get(source, {}).items():
+            self.threads[thread][other] = max(self.threads[thread][other], count)
+
+    def give(self, target, thread):
+        known = self.objects.setdefault(target, {})
+        for other, count in self.threads[thread].items():
+            known[other] = max(known.get(other, 0), count)
+
+    def step(self, step):
+        thread, name = step.thread, step.name
+        if ("start", thread) in self.objects:
+            self.take(("start", thread), thread)
+            del self.objects["start", thread]
+        self.threads[thread][thread] += 1
+        if step.verb in ("lock", "rlock"):
+            self.take(("unlock", name), thread)
+        if step.verb == "lock":
+            self.take(("runlock", name), thread)
+        if step.verb in ("await", "join"):
+            self.take(("signal", name) if step.verb == "await" else ("end", name), thread)
+        if step.verb in ("unlock", "runlock", "signal", "start"):
+            self.give((step.verb, name), thread)
+        self.objects["end", thread] = self.threads[thread]
+
+
+def early_sites(text):
+    """The sites of accesses after which a reuse of their word by another thread is not ordered. In brackets nothing counts."""
+    clocks, pages, found, brackets = Clocks(), collections.defaultdict(dict), set(), collections.Counter()
+    for step in order_reference.read(text.encode()):
+        clocks.step(step)
+        brackets[step.thread] += {"ignore-on": 1, "ignore-off": -1}.get(step.verb, 0)
+        if step.verb in ("read", "write") and not brackets[step.thread]:
+            word = step.words[0]
+            pages[word // 1024].setdefault(word, {})[step.thread] = (clocks.threads[step.thread][step.thread], step.site)
+        elif step.verb == "reuse":
+            for page in range(step.words.start // 1024, (step.words.stop - 1) // 1024 + 1):
+                for word in [word for word in pages.get(page, ()) if word in step.words]:
+                    accesses = pages[page].pop(word).items()
+                    found |= {site for thread, (count, site) in accesses if count > clocks.threads[step.thread][thread] and not brackets[step.thread]}
+    return found
+
+
 # ---- What must be true of a program's ----
 
 
@@ -118,8 +170,11 @@ def objects_fault(name, steps):
 def program_fault(source, text):
     steps = order_reference.read(text.encode())
     sites = {race.marked.step.site for race in order_reference.races(order_reference.mark(steps))}
-    if sites != marked(source, "UNORDERED"):
+    # A program that knows of reuses may report these places too.
+    if sites - marked(source, "EARLY") != marked(source, "UNORDERED"):
         return f"unordered at {sorted(sites)}, not {sorted(marked(source, 'UNORDERED'))}"
+    if early_sites(text) != marked(source, "EARLY"):
+        return f"given to a new use before it was ordered: {sorted(early_sites(text))}, not {sorted(marked(source, 'EARLY'))}"
     starts = sum(step.verb == "start" for step in steps)
     if starts != STARTS.get(source.stem, starts):
         return f"{starts} starts"
@@ -141,7 +196,7 @@ def analysis_fault(source, text):
     """The program reports the lines that are marked, and of a short trace each byte is as it should be."""
     found = analysis_tests.run(["--analysis", "happens-before", "-"], text.encode())
     sites = set(re.findall(r": unordered: .* at (\S+), holds", found[0].decode()))
-    if found[1] or sites != marked(source, "UNORDERED"):
+    if found[1] or sites - marked(source, "EARLY") != marked(source, "UNORDERED"):
         return f"reported at {sorted(sites)}, {found[1]}"
     if len(text) < SHORT and found != analysis_tests.expected(text.encode(), None, "happens-before"):
         return f"reported {found}"
@@ -176,6 +231,8 @@ def run_other(folder, findings, source):
     program = build_one(folder, findings, (source, "gcc", "-O0"))
     done, text = record_trace(folder, 0, program, "--order")
     fault = f"{done}" if done.returncode != record_tests.STATUS.get(source.stem, 0) else order_fault(text)
+    early = early_sites(text) if not fault else set()
+    fault = fault or (f"given to a new use before it was ordered: {sorted(early)}" if early else None)
     findings.check(f"{program.name} with --order", fault is None, fault)
 
 
@@ -183,6 +240,19 @@ def other_programs(folder, findings, pool):
     sources = [source for source in sorted(SOURCES.glob("*.c*")) if source.stem not in OTHERS]
     for run in [pool.submit(run_other, folder, findings, source) for source in sources]:
         run.result()
+
+
+def local_memory(folder, findings):
+    """Thread-local memory of a library that was loaded later is not given to a new use before its thread has ended."""
+    parts = [build_one(folder, findings, (SOURCES / "local" / name, "gcc", "-O0")) for name in ("host.c", "plugin.c")]
+    trace = folder / "local.trace"
+    for nth in range(RUNS):
+        done = command([RUN, "-q", "-o", trace, "--order", *parts])
+        text = trace.read_text()
+        fault = f"{done}" if done.returncode or done.stderr else order_fault(text)
+        has_words = len(set(re.findall(r"write (\S+) plugin\.c:8\n", text))) >= 100
+        early = early_sites(text)
+        findings.check(f"thread-local memory of a library that was loaded later, run {nth}", not fault and has_words and not early, f"{fault} {early}")
 
 
 # ---- The option ----
@@ -269,6 +339,7 @@ def tests(record):
         folder = pathlib.Path(name)
         made = {program.name: program for program in order_programs(folder, findings, pool)}
         other_programs(folder, findings, pool)
+        local_memory(folder, findings)
         without_order(folder, findings, made["message-gcc-O0"])
         with_a_limit(folder, findings)
         few_awaits(folder, findings, made["message-gcc-O0"])

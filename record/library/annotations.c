@@ -4,7 +4,19 @@
 
 /* ---- record/eraser.h ---- */
 
-HOOK void eraser_reuse(const volatile void *address, size_t size) { emit_reuse(address, size); }
+/* The program says that its memory changes hands, by an order that may be in no event. So this reuse stands in a bracket, where nothing counts
+ * that would want an order. */
+static void emit_hand_over(const volatile void *address, size_t size)
+{
+    bool is_in_bracket = size && is_ordering();
+    if (is_in_bracket)
+        emit(EVENT_IGNORE_ON, 0, 0, 0);
+    emit_reuse(address, size);
+    if (is_in_bracket)
+        emit(EVENT_IGNORE_OFF, 0, 0, 0);
+}
+
+HOOK void eraser_reuse(const volatile void *address, size_t size) { emit_hand_over(address, size); }
 HOOK void eraser_ignore_on(void) { emit(EVENT_IGNORE_ON, 0, 0, 0); }
 HOOK void eraser_ignore_off(void) { emit(EVENT_IGNORE_OFF, 0, 0, 0); }
 HOOK void eraser_read_lock(const volatile void *lock) { emit(EVENT_READ_LOCK, LOCK_USER, (uintptr_t)lock, 0); }
@@ -85,7 +97,7 @@ HOOK void AnnotateNewMemory(const char *file, int line, const volatile void *add
 {
     (void)file;
     (void)line;
-    emit_reuse(address, size);
+    emit_hand_over(address, size);
 }
 
 #define ORDER(name, emit_it)                     \

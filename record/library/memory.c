@@ -31,15 +31,19 @@ HOOK void free(void *block)
     real(block);
 }
 
-/* A block that shrinks stays where it is, and gives back its end. */
+/* A block that shrinks stays where it is, as a rule, and gives back its end. If it moves, others may have its old place before that is known. So
+ * the place of that event is drawn first. */
 static void *shrink(void *block, size_t had, size_t size)
 {
+    void *(*real)(void *, size_t) = REAL(realloc);
     size_t kept = (size + 15) & ~(size_t)15;
+    struct draft draft;
     if (had > kept)
         emit_reuse((char *)block + kept, had - kept);
-    void *now = REAL(realloc)(block, size);
-    if (now && now != block)
-        emit_reuse(block, had < kept ? had : kept);
+    bool is_drawn = emit_draw(&draft);
+    void *now = real(block, size);
+    if (is_drawn)
+        emit_publish(&draft, now && now != block ? EVENT_REUSE : EVENT_VOID, 0, (uintptr_t)block, had < kept ? had : kept);
     return now;
 }
 

@@ -3,6 +3,7 @@
 
 #include <errno.h>
 #include <limits.h>
+#include <link.h>
 #include <linux/futex.h>
 #include <pthread.h>
 #include <stdlib.h>
@@ -17,6 +18,19 @@ static __thread struct { void *begin; size_t size; int rounds; } stack __attribu
 static pthread_key_t ends;
 static pthread_once_t made_ends = PTHREAD_ONCE_INIT;
 
+/* Memory of this thread's own for one file, which lies elsewhere if the file was loaded later. The C library gives it back when another thread
+ * joins this one or gets its stack, and nobody has to wait for this one then. */
+static int reuse_local(struct dl_phdr_info *file, size_t size, void *nothing)
+{
+    (void)nothing;
+    if (size < offsetof(struct dl_phdr_info, dlpi_tls_data) + sizeof file->dlpi_tls_data || !file->dlpi_tls_data)
+        return 0;
+    for (int i = 0; i < file->dlpi_phnum; i++)
+        if (file->dlpi_phdr[i].p_type == PT_TLS)
+            emit_reuse(file->dlpi_tls_data, file->dlpi_phdr[i].p_memsz);
+    return 0;
+}
+
 /* The C library calls this up to four times, among the destructors of the program's own keys. The last time is the thread's end. */
 static void end_thread(void *again)
 {
@@ -25,6 +39,8 @@ static void end_thread(void *again)
         return;
     }
     emit_end_of_thread();
+    if (is_ordering())
+        dl_iterate_phdr(reuse_local, NULL);
     emit_reuse(stack.begin, stack.size);
 }
 

@@ -1,0 +1,43 @@
+/* Threads that nobody joins use the thread-local memory of plugin.c. The C library frees it when another thread gets the stack, and nothing orders
+ * that in the program. */
+#define _GNU_SOURCE
+#include "../meet.h"
+
+#include <dlfcn.h>
+#include <semaphore.h>
+
+static sem_t ended;
+static void (*fill)(void);
+
+static void *use(void *nothing)
+{
+    fill();
+    sem_post(&ended);
+    return nothing;
+}
+
+static void run(int number)
+{
+    pthread_attr_t how;
+    (void)number;
+    pthread_attr_init(&how);
+    pthread_attr_setdetachstate(&how, PTHREAD_CREATE_DETACHED);
+    for (int i = 0; i < 12; i++) {
+        pthread_t thread;
+        if (pthread_create(&thread, &how, use, NULL) != 0)
+            exit(99);
+    }
+}
+
+int main(int count, char **words)
+{
+    void *plugin = count == 2 ? dlopen(words[1], RTLD_NOW) : NULL;
+    if (!plugin)
+        return 99;
+    fill = (void (*)(void))dlsym(plugin, "fill");
+    sem_init(&ended, 0, 0);
+    run_threads(4, run);
+    for (int i = 0; i < 48; i++)
+        sem_wait(&ended);
+    return 0;
+}
