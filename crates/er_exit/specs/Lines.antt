@@ -4,6 +4,7 @@ use Rattle.er_damage.specs.declared.damage.Damage.{Damage}
 use Rattle.er_event.specs.Refusal.{text_of as refusal_text}
 use Rattle.er_settle.specs.Texts.{text_of as unsettled_text}
 use Rattle.er_text.specs.Faults.{text_of as kind_text}
+use Rattle.er_text.specs.declared.endings.Lost.{Lost}
 use Rattle.er_exit.specs.declared.faults.Fault.{Fault}
 use Rattle.er_exit.specs.declared.faults.Fault.TheVariants.{Arguments, Text, Suppressions, Damaged, NoStep, Memory, TableFull, CountFull, OpenTrace, OpenSuppressions, Read, ReadSuppressions, Write, WriteRules, Refused, WorkerNotStarted, WorkerLost, Unsettled}
 
@@ -33,11 +34,20 @@ abbrev pub damage_line : Option ℕ → List ℕ → List ℕ
 damage_line None text = []
 damage_line (Some line) text = codes "line " ++ (decimal line ++ (codes ": " ++ (text ++ codes "\n")))
 
--- a line for each kind of damage that a trace has, in this order
-abbrev pub damage_lines : Damage → List ℕ
-damage_lines damage =
+-- the line of lost events, where there are some
+abbrev pub lost_line : Option Lost → List ℕ
+lost_line None = []
+lost_line (Some lost) = codes "line " ++ (decimal lost.line ++ (codes ": events lost: " ++ (decimal lost.events ++ codes "\n")))
+
+-- a line for each kind of damage of its steps and of its end, in this order
+abbrev pub step_and_end_lines : Damage → List ℕ
+step_and_end_lines damage =
     damage_line damage.refused (codes "refused step") ++ (damage_line damage.held_twice (codes "lock held twice")
     ++ (damage_line damage.no_line_feed (codes "no line feed") ++ damage_line damage.no_end (codes "no end")))
+
+-- a line for each kind of damage that a trace has
+abbrev pub damage_lines : Damage → List ℕ
+damage_lines damage = step_and_end_lines damage ++ lost_line damage.lost
 
 -- a fault's line: a text's fault has the number of its line, and so has a line without a step, a fault of one of several files of suppressions the number of the file, and a
 -- demo's refusal or settling fault says what it is
