@@ -599,6 +599,26 @@ def hangups(folder, findings):
         findings.check(f"signals that are ignored: {ignores}", ignored and int(ignored[1], 16) & 0x4007 == wanted, f"{found}")
 
 
+def outlived(folder, findings, right, busy):
+    """A program that outlives the command is waited for until an interrupt, and what was recorded up to there has a report."""
+    for nth, before in (("02", f"{right};"), ("01", "")):
+        place, begun = folder / f"outlived-{nth}", folder / f"outlives-{nth}"
+        text = f"{before} {busy} 1000000000 {begun} & while [ ! -e {begun} ]; do sleep 0.01; done"
+        words = [RUN, "-o", f"{place}/", "--limit", "100000000", "sh", "-c", text]
+        recorder = subprocess.Popen([str(word) for word in words], stdout=subprocess.DEVNULL, stderr=subprocess.PIPE, text=True, start_new_session=True)
+        deadline = time.monotonic() + PATIENCE
+        while not any(path.stat().st_size > 1000000 for path in place.glob("*")) and time.monotonic() < deadline:
+            time.sleep(0.05)
+        while recorder.poll() is None and time.monotonic() < deadline:
+            recorder.send_signal(signal.SIGINT)
+            time.sleep(0.05)
+        has = listed(place) if (place / "list.txt").exists() else {}
+        has_part = any(name.startswith(f"{nth}-busy") and (place / name).read_text().startswith("eraser trace 3\n") for name in has)
+        findings.check(f"a program that outlives the command, as number {nth}", recorder.poll() == 0 and has_part, f"{recorder.poll()} {has}")
+        os.killpg(recorder.pid, signal.SIGKILL)
+        recorder.communicate()
+
+
 def late_interrupt(folder, findings, counter):
     """An interrupt after the program has ended stops the replay."""
     begun = folder / "replaying"
@@ -852,6 +872,7 @@ def tests(record):
         misuse(folder, findings)
         hangups(folder, findings)
         late_interrupt(folder, findings, counter)
+        outlived(folder, findings, made[SOURCES / "recursive.cpp", "gcc", "-O0"], busy)
         hints(folder, findings, counter)
         early_ends(folder, findings, busy)
         memory(folder, findings, busy)

@@ -235,11 +235,14 @@ struct outcome *further_outcome(unsigned number)
 
 static volatile sig_atomic_t is_over; /* the program has ended, so that signals are for the replay */
 
+/* While the command runs, its end is waited for. */
 static void interrupt(int number)
 {
     (void)number;
     if (is_over)
         replay_stop();
+    else if (atomic_load(&shared->is_ending))
+        recording.is_to_end = 1;
 }
 
 static void answer(struct asker *asker, enum asker_state state)

@@ -19,7 +19,7 @@ struct outcome {
 void further_open_folders(void);
 /* Starts who gives out further rings. Before anything is recorded. */
 void further_begin(void);
-/* Stops the replays that are still at work. A signal handler may call it. */
+/* The command has ended, and nobody waits for what it started any longer. A signal handler may call it. */
 void further_stop(void);
 /* Waits for all further programs and their replays. */
 void further_end(void);

@@ -32,8 +32,11 @@ static int start_error; /* errno if the program could not be started, or 0 */
 static void interrupt(int number)
 {
     (void)number;
-    if (recording.has_command_ended)
-        replay_stop();
+    if (!recording.has_command_ended)
+        return;
+    recording.is_to_end = 1;
+    replay_stop();
+    further_stop();
 }
 
 /* Who wants to end the recorder means the program. */
@@ -41,10 +44,8 @@ static void pass_on(int number)
 {
     if (recording.command > 0 && !recording.has_command_ended)
         kill(recording.command, number);
-    else {
-        replay_stop();
-        further_stop();
-    }
+    else
+        interrupt(number);
 }
 
 /* The program finds our libraries in front of the system's. */

@@ -102,10 +102,10 @@ static void wait_for_event(double *since)
         trace_lost++; /* an abandoned event was counted by its thread */
 }
 
-/* Nobody takes the text any more: the program goes on without being recorded. */
+/* Nobody takes the text any more, or nobody waits for the program: it goes on without being recorded. */
 static void check_outputs(void)
 {
-    if (!trace_is_open())
+    if (!trace_is_open() || recording.is_to_end)
         atomic_store(&recording.ring->stop, 1);
 }
 
@@ -118,6 +118,8 @@ void recording_run(void)
             pause = 100000;
             behind_since = 0;
             check_outputs();
+            /* A program that outlives the command may have so many events that the ring is never empty. */
+            reap();
             continue;
         }
         trace_flush();
@@ -128,7 +130,7 @@ void recording_run(void)
             wait_for_event(&behind_since);
         else {
             behind_since = 0;
-            if (had_ended && !has_owner() && !drain_is_behind(recording.ring))
+            if (had_ended && (recording.is_to_end || !has_owner()) && !drain_is_behind(recording.ring))
                 return;
         }
         sleep_for(pause);

@@ -2,6 +2,7 @@
 #ifndef ERASER_RECORDING_H
 #define ERASER_RECORDING_H
 
+#include <signal.h>
 #include <stdbool.h>
 #include <stdint.h>
 #include <sys/types.h>
@@ -15,6 +16,7 @@ struct recording {
     pid_t command;     /* what was started, or 0 if this is the recording of a program that the command started */
     int command_status;
     bool has_command_ended;
+    volatile sig_atomic_t is_to_end; /* nobody waits for the program any more: it goes on without being recorded */
 };
 extern struct recording recording;
 

@@ -1,5 +1,5 @@
-// A cache that is made at its first use, and parts of it with a lock each. The pointer is read without the lock (RACE), and `drop` takes the lock
-// of another part than it changes (RACE).
+// A cache that is made at its first use, and parts of it with a lock each. The pointer is read without the lock, and `drop` takes the lock of
+// another part than it changes.
 #include <cstdio>
 #include <mutex>
 #include <thread>
@@ -14,10 +14,10 @@ class Cache {
 public:
     static Cache &get()
     {
-        if (!the_cache) { // RACE
+        if (!the_cache) { // RACE pointer
             std::lock_guard<std::mutex> guard(create_lock);
             if (!the_cache)
-                the_cache = new Cache;
+                the_cache = new Cache; // RACE pointer
         }
         return *the_cache;
     }
@@ -26,13 +26,13 @@ public:
     {
         Shard &shard = shards_[key % 4];
         std::lock_guard<std::mutex> guard(shard.lock);
-        shard.hits[key % 8]++;
+        shard.hits[key % 8]++; // RACE hits
     }
 
     void drop(unsigned key)
     {
         std::lock_guard<std::mutex> guard(shards_[(key + 1) % 4].lock);
-        shards_[key % 4].hits[key % 8] = 0; // RACE
+        shards_[key % 4].hits[key % 8] = 0; // RACE hits
     }
 
 private:

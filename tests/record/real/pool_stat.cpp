@@ -1,4 +1,4 @@
-// A pool of threads with a queue under a lock, and two statistics that no lock protects (RACE).
+// A pool of threads with a queue under a lock, and two statistics that no lock protects.
 #include <condition_variable>
 #include <cstdio>
 #include <deque>
@@ -48,8 +48,8 @@ private:
                 task = std::move(tasks_.front());
                 tasks_.pop_front();
             }
-            busy += task(); // RACE
-            finished++;     // RACE
+            busy += task(); // RACE busy
+            finished++;     // RACE finished
         }
     }
 
