@@ -6,7 +6,7 @@ the other tests compare with tests/reference.py.
 
 - rules in several files are those of one file with all lines; a fault names the file by its number
 - --write-rules: the report stays as it is, the file has the rules that this file makes of the report, and used with the earlier rules it
-  leaves no race; there is no file behind a fault or a stop
+  leaves no race; a rule for a header of the system has a comment; there is no file behind a fault or a stop
 - --unused-rules: a line for each rule of which the report says 0
 - --max-races: the first races have lines, and the others are counted; the same in JSON and SARIF
 - more races at one site, and more sites, than 16 bits number
@@ -24,7 +24,7 @@ sys.dont_write_bytecode = True
 import cases
 import reference
 from alone import each_refused, program, run_alone
-from site_tests import preloaded
+from site_tests import HEADERS, SYSTEM, preloaded
 
 TOP = pathlib.Path(__file__).resolve().parent.parent
 PROGRAM = program("eraser")
@@ -53,8 +53,13 @@ def known_races(report):
                     break
             else:
                 rules.append({"rule": f"words {address} 4" if site == "-" else f"site {site}", "races": 1, "first": race})
-    told = (f"# races {rule['races']}, first: line {rule['first'][1]}, {rule['first'][2]} {rule['first'][3]} {rule['first'][4]}\n{rule['rule']}\n" for rule in rules)
+    told = (f"# races {rule['races']}, first: line {rule['first'][1]}, {rule['first'][2]} {rule['first'][3]} {rule['first'][4]}\n{hidden(rule['first'][5])}{rule['rule']}\n" for rule in rules)
     return (HEAD + "".join(told)).encode()
+
+
+def hidden(site):
+    """What a rule by this site is said to hide."""
+    return f"# {site} is a line of a system header: this rule hides the races of every part of the program that uses it\n" if site.startswith(SYSTEM) else ""
 
 
 def totals(report):
@@ -63,6 +68,7 @@ def totals(report):
 
 def texts():
     """Names, traces and rules, of which none has a fault, with options."""
+    yield "sites in headers of the system", HEADERS, b"", []
     for trace in sorted((TOP / "examples").glob("*.trace")):
         rules, options = trace.with_suffix(".rules"), trace.with_suffix(".options")
         given = options.read_text().split() if options.exists() else []
@@ -95,6 +101,8 @@ def written_rules(record, folder):
         record(f"{name}: written rules take what they say", counts == told, f"{counts}, {told}")
         races += raced
     record("rules were written for some races", races > 100, f"{races}")
+    wanted = known_races(run(["replay", "-"], HEADERS)[0])
+    record("rules of headers of the system say what they hide", wanted.count(b" is a line of a system header: ") == 2, f"{wanted}")
 
 
 def rules_in(text):

@@ -1,9 +1,12 @@
 -- The texts of rules, to the byte.
-use Rattle.std.specs.Prelude.{ℕ, zero, suc, ◌+◌, ◌-◌, ◌*◌, List, [], ◌∷◌, ◌++◌, flat_map, slice_get, Option, Some, None, codes, decimal}
+use Rattle.std.specs.Prelude.{◌≡◌, ℕ, zero, suc, cond, ◌+◌, ◌-◌, ◌*◌, List, [], ◌∷◌, ◌++◌, flat_map, map, slice_get, Option, Some, None, codes, decimal}
 use Rattle.er_print.specs.Printed.{address_text, kind_text, name_at}
+use Rattle.er_report.specs.declared.report.Line.{Line}
+use Rattle.er_report.specs.Report.{site_name}
 use Rattle.er_rules.specs.Rules.{Target, AtSite, AtWords}
+use Rattle.er_sites.specs.System.{is_system_name}
 use Rattle.er_trace.specs.Names.{NameTable}
-use Rattle.er_triage.specs.Known.{known_target}
+use Rattle.er_triage.specs.Known.{known_target, rules_of}
 use Rattle.er_triage.specs.declared.known.KnownRace.{KnownRace}
 
 -- a rule as a suppression text has it; the size is in bytes
@@ -25,13 +28,27 @@ count_text race = codes "# races " ++ decimal race.races ++ codes ", first: line
 abbrev pub taken_text : NameTable → KnownRace → List ℕ
 taken_text names race = count_text race ++ codes ", " ++ access_text names race ++ 10 ∷ []
 
--- a rule, below a comment that says what it takes
+unfoldable pub comment_text : List ℕ → List ℕ
+comment_text name = codes "# " ++ name ++ codes " is a line of a system header: this rule hides the races of every part of the program that uses it\n"
+
+-- what a rule by this site hides, if the site is in a header of the system
+abbrev pub hidden_text : Option (List ℕ) → List ℕ
+hidden_text None = []
+hidden_text (Some name) = cond (is_system_name name) (comment_text name) []
+
+-- a rule, below comments that say what it takes and hides
 abbrev pub known_text : NameTable → KnownRace → List ℕ
-known_text names race = taken_text names race ++ target_text (known_target names race) ++ 10 ∷ []
+known_text names race = taken_text names race ++ hidden_text (site_name names race.site) ++ target_text (known_target names race) ++ 10 ∷ []
 
 -- the whole file
 abbrev pub known_races_text : NameTable → List KnownRace → List ℕ
 known_races_text names known = codes "# Known races, written by eraser replay --write-rules\n" ++ flat_map (known_text names) known
+
+-- the text is that of rules for the races of these lines
+pub record IsKnownText (names : NameTable) (lines : List Line) (text : List ℕ) : Type 0 where
+  pub known : List KnownRace
+  pub rules : map (known_target names) known ≡ rules_of names lines
+  pub says : text ≡ known_races_text names known
 
 -- the line of a rule that took no race
 abbrev pub unused_line : ℕ → Option ℕ → Target → List ℕ

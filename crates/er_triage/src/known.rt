@@ -1,7 +1,6 @@
 //! A rule for each race that no rule before it takes.
-ghost use Rattle.std.specs.Prelude.{◌≡◌, ◌<◌, ◌≤◌, All, length, map, option_copied, IfOk, OnOk};
+ghost use Rattle.std.specs.Prelude.{◌≡◌, ◌<◌, All, length, map, option_copied, IfOk, OnOk};
 ghost use Rattle.er_report.specs.Names.{HasNames};
-ghost use Rattle.er_report.specs.Report.{site_name};
 ghost use Rattle.er_rules.specs.Rules.{target_of, targets_of};
 ghost use Rattle.er_trace.specs.Names.{NameTable};
 ghost use Rattle.er_triage.specs.Known.{race_target, known_target, rules_of, with_rule, IsNamed, IsTaken};
@@ -9,6 +8,7 @@ ghost use Rattle.er_triage.specs.Known.{race_target, known_target, rules_of, wit
 use er_event::{Kind, Site, ThreadId, Word};
 use er_report::Line;
 use er_rules::{Rule, Suppressions, WordSpan};
+use er_sites::name_of;
 use er_trace::Names;
 use std::alloc::{AllocError, Global};
 
@@ -103,17 +103,6 @@ fn count_race(known: &mut Vec<KnownRace>, place: usize)
     let mut race = known[place];
     race.races = race.races.saturating_add(1);
     known[place] = race;
-}
-
-/// The name of a site, unless it is the missing one.
-pub(crate) fn name_of(names: &Names, site: Site) -> Option<&str>
-    requires { site ≤ length names.now.sites }
-    ensures { option_copied result ≡ site_name names.now site }
-{
-    if site.number() == 0 {
-        return None;
-    }
-    Some(names.site_name(site))
 }
 
 // The rule of races at the site of this name, or of the word at the missing one.

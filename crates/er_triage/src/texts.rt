@@ -3,12 +3,13 @@ ghost use Rattle.std.specs.Prelude.{◌≡◌, ◌<◌, ◌++◌, All, length, o
 ghost use Rattle.er_print.specs.Printed.{kind_text, name_at};
 ghost use Rattle.er_rules.specs.Rules.{AtSite, AtWords, target_of, targets_of};
 ghost use Rattle.er_triage.specs.Known.{race_target, IsNamed};
-ghost use Rattle.er_triage.specs.Texts.{access_text, count_text, known_text, known_races_text, left_out_text, taken_text, target_text, unused_from, unused_line};
+ghost use Rattle.er_triage.specs.Texts.{access_text, comment_text, count_text, hidden_text, known_text, known_races_text, left_out_text, taken_text, target_text, unused_from, unused_line};
 
-use crate::known::{KnownRace, name_of};
+use crate::known::KnownRace;
 use er_event::{Kind, ThreadId, Word};
 use er_print::{put_address, put_number};
 use er_rules::{Rule, Suppressions, WordSpan};
+use er_sites::{is_system_name, name_of};
 use er_trace::Names;
 use std::alloc::{AllocError, Global};
 
@@ -67,8 +68,31 @@ fn put_known(out: &mut Vec<u8>, names: &Names, race: &KnownRace) -> Result<(), A
     ensures { OnOk result (out.new.items ≡ out.old.items ++ known_text names.now race.now) }
 {
     put_taken(out, names, race)?;
+    put_hidden(out, name_of(names, race.site))?;
     put_race_rule(out, name_of(names, race.site), race.word)?;
     out.extend_from_slice(b"\n")
+}
+
+// Puts what a rule by the site of this name hides, if it is in a header of the system.
+fn put_hidden(out: &mut Vec<u8>, site: Option<&str>) -> Result<(), AllocError>
+    ensures { OnOk result (out.new.items ≡ out.old.items ++ hidden_text (option_copied site.entry)) }
+{
+    match site {
+        Some(name) if is_system_name(name) => put_comment(out, name),
+        _ => Ok(()),
+    }
+}
+
+#[tactic(auto, unfolding(crate::specs::Texts::comment_text))]
+fn put_comment(out: &mut Vec<u8>, name: &str) -> Result<(), AllocError>
+    ensures { OnOk result (out.new.items ≡ out.old.items ++ comment_text name.now) }
+{
+    out.extend_from_slice(b"# ")?;
+    out.extend_from_slice(name.as_bytes())?;
+    out.extend_from_slice(
+        b" is a line of a system header: this rule hides the races of every part of the program that uses it\n",
+    )?;
+    Ok(())
 }
 
 // Puts how many races a rule takes, and the first of them.

@@ -1,9 +1,10 @@
 //! All of it at once, as a command line asks for it.
-ghost use Rattle.std.specs.Prelude.{◌≡◌, [], All, None, false, true, IfOk};
+ghost use Rattle.std.specs.Prelude.{◌≡◌, ◌-◌, [], All, None, cond, false, true, length, IfOk, IsSomeAnd};
 ghost use Rattle.er_report.specs.Names.{HasNames};
 ghost use Rattle.er_trace.specs.Names.{NameTable};
-ghost use Rattle.er_triage.specs.Notes.{AreNotes};
-ghost use Rattle.er_triage.specs.Texts.{left_out_text, unused_from};
+ghost use Rattle.er_triage.specs.First.{KeepsFirst};
+ghost use Rattle.er_triage.specs.Notes.{AreNotes, notes_text};
+ghost use Rattle.er_triage.specs.Texts.{unused_from, IsKnownText};
 ghost use Rattle.er_rules.specs.Rules.{targets_of};
 
 use crate::first::keep_first_races;
@@ -45,7 +46,11 @@ pub fn triage(
     wishes: Wishes,
 ) -> Result<Triaged, AllocError>
     requires { All (HasNames names.now) report.lines.items }
+    ensures report { IfOk result (λ triaged. KeepsFirst wishes.max_races report triaged.report) }
     ensures named { IfOk result (λ triaged. All (HasNames names.now) triaged.report.lines.items) }
+    ensures known { wishes.known_races ≡ true → IfOk result (λ triaged. IsSomeAnd triaged.known_races (λ text. IsKnownText names.now report.lines.items text.items)) }
+    ensures unknown { wishes.known_races ≡ false → IfOk result (λ triaged. triaged.known_races ≡ None) }
+    ensures says { IfOk result (λ triaged. triaged.notes.items ≡ notes_text wishes.unused_rules report.rule_counts.items (targets_of suppressions.now) (length report.lines.items - length triaged.report.lines.items)) }
     ensures notes { IfOk result (λ triaged. AreNotes triaged.notes.items) }
     ensures quiet { wishes.unused_rules ≡ false → wishes.max_races ≡ None → IfOk result (λ triaged. triaged.notes.items ≡ []) }
 {
@@ -74,6 +79,8 @@ fn known_if(
     wanted: bool,
 ) -> Result<Option<Vec<u8>>, AllocError>
     requires { All (HasNames names.now) lines.now }
+    ensures known { wanted ≡ true → IfOk result (λ known. IsSomeAnd known (λ text. IsKnownText names.now lines.now text.items)) }
+    ensures unknown { wanted ≡ false → IfOk result (λ known. known ≡ None) }
 {
     if !wanted {
         return Ok(None);
@@ -88,8 +95,7 @@ fn unused_if(
     rule_counts: &[u64],
     wanted: bool,
 ) -> Result<Vec<u8>, AllocError>
-    ensures text { wanted ≡ true → IfOk result (λ text. text.items ≡ unused_from 0 rule_counts.now (targets_of suppressions.now)) }
-    ensures nothing { wanted ≡ false → IfOk result (λ text. text.items ≡ []) }
+    ensures { IfOk result (λ text. text.items ≡ cond wanted (unused_from 0 rule_counts.now (targets_of suppressions.now)) []) }
 {
     if !wanted {
         return Ok(Vec::new(alloc));
@@ -99,7 +105,7 @@ fn unused_if(
 
 fn first_if(alloc: Global, report: Report, most: Option<u64>) -> Result<Report, AllocError>
     ensures named { (names : NameTable) → All (HasNames names) report.lines.items → IfOk result (λ kept. All (HasNames names) kept.lines.items) }
-    ensures same { most ≡ None → IfOk result (λ kept. kept ≡ report) }
+    ensures report { IfOk result (KeepsFirst most report) }
 {
     match most {
         Some(most) => keep_first_races(alloc, report, most),
