@@ -51,18 +51,11 @@ static void emit_end(volatile void *lock, uint64_t site)
         return result;                                       \
     }
 
-/* A release fails if the lock is not held by its thread, of some kinds of mutexes. So its place among the events is drawn before it, and what it
- * was is known after it. It never waits, so nobody waits long for this event. */
 #define RELEASE(kind, name, type)                            \
     HOOK int name(type *lock)                                \
     {                                                        \
-        __typeof__(&name) release = REAL(name);              \
-        struct draft draft;                                  \
-        bool is_drawn = emit_draw(&draft);                   \
-        int result = release(lock);                          \
-        if (is_drawn)                                        \
-            emit_publish(&draft, EVENT_UNLOCK, result == 0 ? kind : kind | LOCK_FAILED, (uintptr_t)lock, CALLER); \
-        return result;                                       \
+        emit_unlock(kind, lock, CALLER);                     \
+        return REAL(name)(lock);                             \
     }
 
 /* Before it happens, since the memory may be another lock's right after. The writer leaves a lock alone that is held, and can't be
@@ -120,7 +113,31 @@ HOOK int pthread_mutex_lock(pthread_mutex_t *lock)
 ACQUIRE(emit_lock, LOCK_MUTEX, pthread_mutex_trylock, (pthread_mutex_t *lock), (lock))
 ACQUIRE(emit_lock, LOCK_MUTEX, pthread_mutex_timedlock, (pthread_mutex_t *restrict lock, until restrict when), (lock, when))
 ACQUIRE(emit_lock, LOCK_MUTEX, pthread_mutex_clocklock, (pthread_mutex_t *restrict lock, clockid_t clock, until restrict when), (lock, clock, when))
-RELEASE(LOCK_MUTEX, pthread_mutex_unlock, pthread_mutex_t)
+/* Of some kinds of mutexes a release fails if the lock is not held by its thread. Then its place among the events is drawn before it, and what it
+ * was is known after it. It never waits, so nobody waits long for this event. */
+static bool may_fail(const pthread_mutex_t *lock)
+{
+    int kind = lock->__data.__kind & 127;
+    return kind != PTHREAD_MUTEX_TIMED_NP && kind != PTHREAD_MUTEX_ADAPTIVE_NP;
+}
+
+#define RELEASE_MUTEX(name, type)                            \
+    HOOK int name(type *lock)                                \
+    {                                                        \
+        __typeof__(&name) release = REAL(name);              \
+        struct draft draft;                                  \
+        if (!is_recording() || !may_fail((const pthread_mutex_t *)lock)) { \
+            emit_unlock(LOCK_MUTEX, lock, CALLER);           \
+            return release(lock);                            \
+        }                                                    \
+        bool is_drawn = emit_draw(&draft);                   \
+        int result = release(lock);                          \
+        if (is_drawn)                                        \
+            emit_publish(&draft, EVENT_UNLOCK, LOCK_MUTEX | (result == 0 ? 0 : LOCK_FAILED), (uintptr_t)lock, CALLER); \
+        return result;                                       \
+    }
+
+RELEASE_MUTEX(pthread_mutex_unlock, pthread_mutex_t)
 
 /* Older programs call the same functions by these names. */
 HOOK int __pthread_mutex_lock(pthread_mutex_t *lock) { return pthread_mutex_lock(lock); }
@@ -165,7 +182,7 @@ HOOK int mtx_lock(mtx_t *lock)
 
 ACQUIRE(emit_lock, LOCK_MUTEX, mtx_trylock, (mtx_t *lock), (lock))
 ACQUIRE(emit_lock, LOCK_MUTEX, mtx_timedlock, (mtx_t *restrict lock, until restrict when), (lock, when))
-RELEASE(LOCK_MUTEX, mtx_unlock, mtx_t)
+RELEASE_MUTEX(mtx_unlock, mtx_t)
 
 HOOK void mtx_destroy(mtx_t *lock)
 {
