@@ -26,7 +26,7 @@ use Rattle.er_clock.specs.Clock.{Counts}
 use Rattle.er_clocks.specs.Counts.{count_by}
 use Rattle.er_clocks.specs.Standing.{ClockMaps, counts, Moves, StandsForClocksOf, act_flows}
 use Rattle.er_epochs.specs.Words.{AllWords, kept_among}
-use Rattle.er_before.specs.Standing.{Ordered, holding, clock_of, kept_of, Stands, Changes, IsSame, HasFullCount, IsFullAfter, HasManyThreads, IsManyAfter, answered_by, holds_alone}
+use Rattle.er_before.specs.Standing.{Ordered, holding, clock_of, kept_of, Stands, Changes, IsSame, HasFullCount, IsFullAfter, answered_by, holds_alone}
 
 -- an accepted event
 module _ (before after : Ordered) (t : ℕ) (e : Event) (accepted : refused_by (holding before t) e ≡ None) where
@@ -170,23 +170,17 @@ answer-stands before past t (Level n) stands = other-answer before past t (Level
 answer-stands before past t (Show v) stands = other-answer before past t (Show v) stands (λ w site kind same. cc)
 answer-stands before past t (Sync sync) stands = other-answer before past t (Sync sync) stands (λ w site kind same. cc)
 
--- what the step makes flow, by the list that the machine stands for
-flows-after : (before : Ordered) (past : List Step) (step : Step) (t : ℕ) → Stands before past →
-    act_flows (act_by (holding before step.thread) step) t ≡ true → act_flows (acts_of (past ++ step ∷ []) (length past)) t ≡ true
-flows-after before past step t stands it =
-    ap (λ (o : Option Act). act_flows o t)
-    (act-step (past ++ step ∷ []) (length past) step (get_last past step)
-    ∙ ap (λ h. act_by h step) (held-front past (step ∷ []) step.thread (length past) (omega arith) ∙ sym (stands.held step.thread)))
-    ∙ it
-
 -- a count that is full before a step is full after the list that the machine stands for
 pub full-after : (before : Ordered) (past : List Step) (step : Step) → Stands before past → HasFullCount before step → IsFullAfter past step
 unfolding own_count
-full-after before past step stands full =
-    (full.0, flows-after before past step full.0 stands full.1, sym (stands.clocks (OfThread full.0) full.0) ∙ full.2)
-
-pub many-after : (before : Ordered) (past : List Step) (step : Step) → Stands before past → HasManyThreads before step → IsManyAfter past step
-many-after before past step stands many = (many.0, flows-after before past step many.0 stands many.1, many.2)
+full-after before past step stands full = (
+  full.0,
+  ap (λ (o : Option Act). act_flows o full.0)
+      (act-step (past ++ step ∷ []) (length past) step (get_last past step)
+      ∙ ap (λ h. act_by h step) (held-front past (step ∷ []) step.thread (length past) (omega arith) ∙ sym (stands.held step.thread)))
+      ∙ full.1,
+  sym (stands.clocks (OfThread full.0) full.0) ∙ full.2,
+)
 
 -- before any step
 pub stands-start : (machine : Ordered) → ((t : ℕ) → holding machine t ≡ nothing_held) → StandsForClocksOf machine.clocks [] → ((w : ℕ) → kept_of machine w ≡ fresh) → Stands machine []

@@ -1,5 +1,5 @@
 -- The lists of steps that a machine stands for, and what one more step makes of it.
-use Rattle.std.specs.Prelude.{ℕ, ◌≡◌, ◌≤◌, ◌-◌, ◌^◌, nat_lt, Bool, true, false, IsTrue, cond, List, [], ◌∷◌, ◌++◌, length, Result}
+use Rattle.std.specs.Prelude.{ℕ, ◌≡◌, ◌-◌, ◌^◌, nat_lt, Bool, true, false, IsTrue, cond, List, [], ◌∷◌, ◌++◌, length, Result}
 use Rattle.er_event.specs.declared.steps.Event.{Event}
 use Rattle.er_event.specs.declared.steps.Event.TheVariants.{Access, Reuse, Show, IgnoreOn, IgnoreOff, Level}
 use Rattle.er_event.specs.declared.steps.Reply.{Reply}
@@ -54,14 +54,6 @@ HasFullCount machine step = (t : ℕ) × IsTrue (act_flows (act_by (holding mach
 -- the same of a step that comes after the list
 abbrev pub IsFullAfter : List Step → Step → Type 0
 IsFullAfter steps step = (t : ℕ) × IsTrue (act_flows (acts_of (steps ++ step ∷ []) (length steps)) t) × (own_count (acts_of steps) (length steps) t ≡ 2 ^ 32 - 1)
-
--- the step makes the clock of a thread flow into another one, and clocks have no place for that thread
-abbrev pub HasManyThreads : Ordered → Step → Type 0
-HasManyThreads machine step = (t : ℕ) × IsTrue (act_flows (act_by (holding machine step.thread) step) t) × (2 ^ 14 ≤ t)
-
--- the same of a step that comes after the list
-abbrev pub IsManyAfter : List Step → Step → Type 0
-IsManyAfter steps step = (t : ℕ) × IsTrue (act_flows (acts_of (steps ++ step ∷ []) (length steps)) t) × (2 ^ 14 ≤ t)
 
 -- they are what the step makes of those before
 pub record Changes (before : Ordered) (step : Step) (after : Ordered) : Type 0 where

@@ -34,7 +34,7 @@ impl Model for OrderMachine {
 }
 
 impl OrderMachine {
-    ghost use Rattle.er_before.specs.Standing.{Stands, Changes, IsSame, HasFullCount, IsFullAfter, HasManyThreads, IsManyAfter, wants_nothing, holding, clock_of, kept_of, reply_by, answered_by, holds_alone};
+    ghost use Rattle.er_before.specs.Standing.{Stands, Changes, IsSame, HasFullCount, IsFullAfter, wants_nothing, holding, clock_of, kept_of, reply_by, answered_by, holds_alone};
 
     // How many steps are looked at together.
     const AHEAD: usize = 16;
@@ -60,15 +60,14 @@ impl OrderMachine {
     /// Takes one step and says what it is answered: a reply, or why it is refused.
     ///
     /// # Errors
-    /// `CountFull`: a thread's own count would rise, and is the greatest, 2^32 - 1. `TooManyThreads`: its number is 16,384 or more.
-    /// `OutOfMemory`: memory was refused. The step may be tried again. A refused step has neither, nor has an access inside a bracket, a reuse, a show or the end of a bracket.
+    /// `CountFull`: a thread's own count would rise, and is the greatest, 2^32 - 1. `OutOfMemory`: memory was refused. The step may be
+    /// tried again. A refused step has neither, nor has an access inside a bracket, a reuse, a show or the end of a bracket.
     pub fn step(&mut self, step: &Step) -> Result<Result<Reply, Refusal>, NoTick>
         ensures answer { (past : List Steps) → Stands self.old past
             → IfOk result (λ answer. answer ≡ order_answer (past ++ step.now ∷ []) (length past)) }
         ensures goes_on { (past : List Steps) → Stands self.old past → OnOk result (Stands self.new (past ++ step.now ∷ [])) }
         ensures err { (past : List Steps) → Stands self.old past → OnErr result (Stands self.new past) }
         ensures full { (past : List Steps) → Stands self.old past → IsErrOf result NoTick.CountFull → IsFullAfter past step.now }
-        ensures many { (past : List Steps) → Stands self.old past → IsErrOf result NoTick.TooManyThreads → IsManyAfter past step.now }
 
         // What the definitions refuse is answered so, whatever room there is.
         ensures refused { (why : Refusal) → refused_by (holding self.old step.now.thread) step.now.event ≡ Some why → result ≡ Ok (Err why) }
@@ -79,7 +78,6 @@ impl OrderMachine {
         ensures changes { OnOk result (Changes self.old step.now self.new) }
         ensures same { OnErr result (IsSame self.old self.new) }
         ensures full_count { IsErrOf result NoTick.CountFull → HasFullCount self.old step.now }
-        ensures many_threads { IsErrOf result NoTick.TooManyThreads → HasManyThreads self.old step.now }
     {
         self.take(step.thread, step.event)
     }
@@ -130,7 +128,6 @@ impl OrderMachine {
         ensures refused { (why : Refusal) → refused_by (holding self.old thread) event ≡ Some why → result ≡ Ok (Err why) }
         ensures free { IsTrue (wants_nothing (holding self.old thread) event) → IsOk result }
         ensures full { IsErrOf result NoTick.CountFull → HasFullCount self.old (record { thread = thread; event = event }) }
-        ensures many { IsErrOf result NoTick.TooManyThreads → HasManyThreads self.old (record { thread = thread; event = event }) }
     {
         // An access is never refused.
         match event {
@@ -154,7 +151,6 @@ impl OrderMachine {
         ensures refused { (why : Refusal) → refused_by (holding self.old thread) event ≡ Some why → result ≡ Ok (Err why) }
         ensures free { IsTrue (wants_nothing (holding self.old thread) event) → IsOk result }
         ensures full { IsErrOf result NoTick.CountFull → HasFullCount self.old (record { thread = thread; event = event }) }
-        ensures many { IsErrOf result NoTick.TooManyThreads → HasManyThreads self.old (record { thread = thread; event = event }) }
     {
         match self.holders.refusal(thread, &event) {
             Some(why) => Ok(Err(why)),
@@ -173,7 +169,6 @@ impl OrderMachine {
         ensures same { OnErr result (IsSame self.old self.new) }
         ensures free { IsTrue (wants_nothing (holding self.old thread) event) → IsOk result }
         ensures full { IsErrOf result NoTick.CountFull → HasFullCount self.old (record { thread = thread; event = event }) }
-        ensures many { IsErrOf result NoTick.TooManyThreads → HasManyThreads self.old (record { thread = thread; event = event }) }
     {
         match event {
             Event::Access(kind, word, _) => self.access(thread, kind, word),
@@ -198,7 +193,6 @@ impl OrderMachine {
         ensures same { OnErr result (IsSame self.old self.new) }
         ensures free { 0 < (holding self.old thread).depth → IsOk result }
         ensures full { IsErrOf result NoTick.CountFull → ⊥ }
-        ensures many { IsErrOf result NoTick.TooManyThreads → ⊥ }
     {
         if self.holders.get(thread).ignoring() {
             return Ok(Reply::Ignored);
@@ -224,7 +218,6 @@ impl OrderMachine {
         ensures changes { OnOk result (Changes self.old (record { thread = thread; event = Event.Acquire lock mode }) self.new) }
         ensures same { OnErr result (IsSame self.old self.new) }
         ensures full { IsErrOf result NoTick.CountFull → HasFullCount self.old (record { thread = thread; event = Event.Acquire lock mode }) }
-        ensures many { IsErrOf result NoTick.TooManyThreads → HasManyThreads self.old (record { thread = thread; event = Event.Acquire lock mode }) }
     {
         match self.holders.change(thread, Event::Acquire(lock, mode)) {
             Ok(()) => {}
@@ -249,7 +242,6 @@ impl OrderMachine {
         ensures changes { OnOk result (Changes self.old (record { thread = thread; event = Event.Release lock mode }) self.new) }
         ensures same { OnErr result (IsSame self.old self.new) }
         ensures full { IsErrOf result NoTick.CountFull → HasFullCount self.old (record { thread = thread; event = Event.Release lock mode }) }
-        ensures many { IsErrOf result NoTick.TooManyThreads → HasManyThreads self.old (record { thread = thread; event = Event.Release lock mode }) }
     {
         let step = Step {
             thread,
@@ -269,7 +261,6 @@ impl OrderMachine {
         ensures changes { OnOk result (Changes self.old (record { thread = thread; event = Event.Sync sync }) self.new) }
         ensures same { OnErr result (IsSame self.old self.new) }
         ensures full { IsErrOf result NoTick.CountFull → HasFullCount self.old (record { thread = thread; event = Event.Sync sync }) }
-        ensures many { IsErrOf result NoTick.TooManyThreads → HasManyThreads self.old (record { thread = thread; event = Event.Sync sync }) }
     {
         let step = Step {
             thread,
@@ -286,7 +277,6 @@ impl OrderMachine {
         ensures same { OnErr result (IsSame self.old self.new) }
         ensures free { event ≡ Event.IgnoreOff → IsOk result }
         ensures full { IsErrOf result NoTick.CountFull → ⊥ }
-        ensures many { IsErrOf result NoTick.TooManyThreads → ⊥ }
     {
         match self.holders.change(thread, event) {
             Ok(()) => Ok(()),
@@ -300,7 +290,6 @@ fn done(outcome: Result<(), NoTick>) -> Result<Reply, NoTick>
     ensures same { is_ok result ≡ is_ok outcome }
     ensures reply { IfOk result (λ reply. reply ≡ Reply.Done) }
     ensures full { IsErrOf result NoTick.CountFull → IsErrOf outcome NoTick.CountFull }
-    ensures many { IsErrOf result NoTick.TooManyThreads → IsErrOf outcome NoTick.TooManyThreads }
 {
     match outcome {
         Ok(()) => Ok(Reply::Done),

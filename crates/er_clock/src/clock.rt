@@ -11,9 +11,6 @@ use std::error::Error;
 use std::fmt;
 use std::marker::Model;
 
-/// A clock counts the steps of this many threads: those with the lowest numbers.
-pub const THREADS: u32 = 1 << 14;
-
 // How many counts lie in a block.
 const BLOCK: usize = 128;
 
@@ -47,8 +44,6 @@ impl Model for Clock {
 /// Why a clock doesn't tick. It is then as it was.
 #[derive(Clone, Copy, Debug, PartialEq, Eq)]
 pub enum NoTick {
-    /// The thread's number is [`THREADS`] or more.
-    TooManyThreads,
     /// The thread's count is the greatest, 2^32 - 1.
     CountFull,
     /// Memory was refused.
@@ -58,7 +53,6 @@ pub enum NoTick {
 impl fmt::Display for NoTick {
     fn fmt<W: fmt::Write>(&self, f: &mut fmt::Formatter<W>) -> fmt::Result {
         match self {
-            NoTick::TooManyThreads => f.write_str("too many threads"),
             NoTick::CountFull => f.write_str("count full"),
             NoTick::OutOfMemory => f.write_str("out of memory"),
         }
@@ -137,18 +131,12 @@ impl Clock {
         Ok(())
     }
 
-    /// Adds one to the thread's count. `TooManyThreads`: its number is [`THREADS`] or more. `CountFull`: the count is 2^32 - 1. After an
-    /// error the clock is as it was.
+    /// Adds one to the thread's count. `CountFull`: the count is 2^32 - 1. After an error the clock is as it was.
     pub fn tick(&mut self, thread: ThreadId) -> Result<(), NoTick>
         ensures ok { OnOk result (Ticks thread self.old self.new) }
         ensures err { OnErr result (Stays self.old self.new) }
-        ensures many { IsErrOf result NoTick.TooManyThreads ↔ (2 ^ 14 ≤ thread) }
-        ensures full { IsErrOf result NoTick.CountFull → count_in self.old thread ≡ 2 ^ 32 - 1 }
-        ensures due { thread < 2 ^ 14 → count_in self.old thread ≡ 2 ^ 32 - 1 → IsErrOf result NoTick.CountFull }
+        ensures full { IsErrOf result NoTick.CountFull ↔ (count_in self.old thread ≡ 2 ^ 32 - 1) }
     {
-        if thread.number() >= THREADS {
-            return Err(NoTick::TooManyThreads);
-        }
         if self.count(thread) == u32::MAX {
             return Err(NoTick::CountFull);
         }
@@ -160,7 +148,7 @@ impl Clock {
 
     // Adds one to the count of this number.
     fn raise(&mut self, number: usize) -> Result<(), AllocError>
-        requires low { number < 2 ^ 14 }
+        requires low { number < 2 ^ 32 }
         requires room { count_in self.old number < 2 ^ 32 - 1 }
         ensures ok { OnOk result (Ticks number self.old self.new) }
         ensures err { OnErr result (Stays self.old self.new) }

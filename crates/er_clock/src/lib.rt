@@ -8,7 +8,7 @@
 //! that fails changes nothing.
 #![tactic(auto)]
 
-pub use clock::{Clock, Epoch, NoTick, THREADS};
+pub use clock::{Clock, Epoch, NoTick};
 pub use hints::{Hints, index_of};
 pub use table::ClockTable;
 

@@ -79,12 +79,11 @@ impl ClockTable {
         }
     }
 
-    /// Adds one to the count of the thread in the clock of this number. `TooManyThreads`: the thread's number is [`THREADS`](crate::THREADS) or
-    /// more. `CountFull`: the count is 2^32 - 1. After an error all clocks are as they were.
+    /// Adds one to the count of the thread in the clock of this number. `CountFull`: the count is 2^32 - 1. After an error all clocks are as
+    /// they were.
     pub fn tick(&mut self, number: u32, thread: ThreadId) -> Result<(), NoTick>
         ensures ok { OnOk result ((n u : ℕ) → known_by self.new n u ≡ cond (number == n) (known_by self.old n u + cond (thread == u) 1 0) (known_by self.old n u)) }
         ensures err { OnErr result ((n u : ℕ) → known_by self.new n u ≡ known_by self.old n u) }
-        ensures many { IsErrOf result NoTick.TooManyThreads → 2 ^ 14 ≤ thread }
         ensures full { IsErrOf result NoTick.CountFull → known_by self.old number thread ≡ 2 ^ 32 - 1 }
     {
         match index_of(&self.clocks, self.places.hint(number), number) {

@@ -93,37 +93,6 @@ pub flows-own : (a : Act) → publishes a.sync ≡ true → flows a a.thread ≡
 unfolding flows
 flows-own a gives = rw (eq-eqb a.thread a.thread refl, gives) refl
 
-pub same_bound : (x t : ℕ) → x ≡ t → 2 ^ 14 ≤ t → 2 ^ 14 ≤ x
-same_bound x t same high = omega (arith, same, high)
-
--- and no other thread's clock does
-pub own-alone : (t v : ℕ) (d : Effect) → joins d v ≡ false → flows (record { thread = t; sync = d }) v ≡ true → t ≡ v
-unfolding flows
-own-alone t v d none it = eqb-true t v (by (t == v) (publishes d) (joins d v) none it)
-  where
-    by : (b p j : Bool) → j ≡ false → ((b && p) || j) ≡ true → b ≡ true
-    by true p j n it = refl
-    by false p j n it = sym n ∙ it
-
-pub joined-alone : (t w v : ℕ) → flows (record { thread = t; sync = Joined w }) v ≡ true → w ≡ v
-unfolding flows
-joined-alone t w v it = eqb-true w v (by (t == v) (w == v) it)
-  where
-    by : (b j : Bool) → ((b && false) || j) ≡ true → j ≡ true
-    by true j it = it
-    by false j it = it
-
-pub none-flows : (t v : ℕ) (d : Effect) → publishes d ≡ false → joins d v ≡ false → flows (record { thread = t; sync = d }) v ≡ true → ⊥
-unfolding flows
-none-flows t v d quiet none it = by (t == v) (publishes d) (joins d v) quiet none it
-  where
-    by : (b p j : Bool) → p ≡ false → j ≡ false → ((b && p) || j) ≡ true → ⊥
-    by true true j n o it = cc
-    by true false true n o it = cc
-    by true false false n o it = cc
-    by false p true n o it = cc
-    by false p false n o it = cc
-
 pub flows-joined : (t v : ℕ) → flows (record { thread = t; sync = Joined v }) v ≡ true
 unfolding flows
 flows-joined t v = rw (eq-eqb v v refl) (or_true (t == v && false))

@@ -56,14 +56,11 @@ impl Clocks {
     /// step may be tried again.
     ///
     /// # Errors
-    /// `TooManyThreads`: a thread's own count would rise, and its number is [`THREADS`](er_clock::THREADS) or more: exactly then. `CountFull`:
-    /// the thread's own count is the greatest. `OutOfMemory`: memory was refused.
+    /// `CountFull`: a thread's own count would rise, and is the greatest. `OutOfMemory`: memory was refused.
     pub fn follow(&mut self, step: &Step, accepted: bool) -> Result<(), NoTick>
         ensures goes_on { (steps : List Steps) → StandsForClocksOf self.old steps → accepted ≡ is_accepted steps step.now
             → OnOk result (StandsForClocksOf self.new (steps ++ step.now ∷ [])) }
         ensures err { OnErr result (SameCounts self.old self.new) }
-        ensures many { IsErrOf result NoTick.TooManyThreads → (t : ℕ) × IsTrue (act_flows (act_if accepted step.now) t) × (2 ^ 14 ≤ t) }
-        ensures due { (t : ℕ) → IsTrue (act_flows (act_if accepted step.now) t) → 2 ^ 14 ≤ t → IsErrOf result NoTick.TooManyThreads }
         ensures full { IsErrOf result NoTick.CountFull
             → (t : ℕ) × IsTrue (act_flows (act_if accepted step.now) t) × (counts self.old (OfThread t) t ≡ 2 ^ 32 - 1) }
 
@@ -81,8 +78,6 @@ impl Clocks {
     fn take(&mut self, thread: ThreadId, event: Event) -> Result<(), NoTick>
         ensures ok { OnOk result (Moves self.old (Some (record { thread = thread; sync = sync_of event })) self.new) }
         ensures err { OnErr result (SameCounts self.old self.new) }
-        ensures many { IsErrOf result NoTick.TooManyThreads → (t : ℕ) × IsTrue (act_flows (Some (record { thread = thread; sync = sync_of event })) t) × (2 ^ 14 ≤ t) }
-        ensures due { (t : ℕ) → IsTrue (act_flows (Some (record { thread = thread; sync = sync_of event })) t) → 2 ^ 14 ≤ t → IsErrOf result NoTick.TooManyThreads }
         ensures full { IsErrOf result NoTick.CountFull
             → (t : ℕ) × IsTrue (act_flows (Some (record { thread = thread; sync = sync_of event })) t) × (counts self.old (OfThread t) t ≡ 2 ^ 32 - 1) }
     {
@@ -103,8 +98,6 @@ impl Clocks {
     fn synchronize(&mut self, thread: ThreadId, sync: Sync) -> Result<(), NoTick>
         ensures ok { OnOk result (Moves self.old (Some (record { thread = thread; sync = effect_of sync })) self.new) }
         ensures err { OnErr result (SameCounts self.old self.new) }
-        ensures many { IsErrOf result NoTick.TooManyThreads → (t : ℕ) × IsTrue (act_flows (Some (record { thread = thread; sync = effect_of sync })) t) × (2 ^ 14 ≤ t) }
-        ensures due { (t : ℕ) → IsTrue (act_flows (Some (record { thread = thread; sync = effect_of sync })) t) → 2 ^ 14 ≤ t → IsErrOf result NoTick.TooManyThreads }
         ensures full { IsErrOf result NoTick.CountFull
             → (t : ℕ) × IsTrue (act_flows (Some (record { thread = thread; sync = effect_of sync })) t) × (counts self.old (OfThread t) t ≡ 2 ^ 32 - 1) }
     {
@@ -135,7 +128,6 @@ impl Clocks {
     fn release(&mut self, thread: ThreadId, lock: LockId, mode: Mode) -> Result<(), NoTick>
         ensures ok { OnOk result (Moves self.old (Some (record { thread = thread; sync = Effect.Released lock mode })) self.new) }
         ensures err { OnErr result (SameCounts self.old self.new) }
-        ensures many { IsErrOf result NoTick.TooManyThreads ↔ (2 ^ 14 ≤ thread) }
         ensures full { IsErrOf result NoTick.CountFull → counts self.old (OfThread thread) thread ≡ 2 ^ 32 - 1 }
     {
         match mode {
@@ -148,7 +140,6 @@ impl Clocks {
     fn start(&mut self, thread: ThreadId, started: ThreadId) -> Result<(), NoTick>
         ensures ok { OnOk result (Moves self.old (Some (record { thread = thread; sync = Effect.Started started })) self.new) }
         ensures err { OnErr result (SameCounts self.old self.new) }
-        ensures many { IsErrOf result NoTick.TooManyThreads ↔ (2 ^ 14 ≤ thread) }
         ensures full { IsErrOf result NoTick.CountFull → counts self.old (OfThread thread) thread ≡ 2 ^ 32 - 1 }
     {
         self.threads.hand_on(thread, started)
@@ -158,7 +149,6 @@ impl Clocks {
     fn join(&mut self, thread: ThreadId, joined: ThreadId) -> Result<(), NoTick>
         ensures ok { OnOk result (Moves self.old (Some (record { thread = thread; sync = Effect.Joined joined })) self.new) }
         ensures err { OnErr result (SameCounts self.old self.new) }
-        ensures many { IsErrOf result NoTick.TooManyThreads ↔ (2 ^ 14 ≤ joined) }
         ensures full { IsErrOf result NoTick.CountFull → counts self.old (OfThread joined) joined ≡ 2 ^ 32 - 1 }
     {
         self.threads.hand_on(joined, thread)
@@ -168,7 +158,6 @@ impl Clocks {
     fn signal(&mut self, thread: ThreadId, object: LockId) -> Result<(), NoTick>
         ensures ok { OnOk result (Moves self.old (Some (record { thread = thread; sync = Effect.Signalled object })) self.new) }
         ensures err { OnErr result (SameCounts self.old self.new) }
-        ensures many { IsErrOf result NoTick.TooManyThreads ↔ (2 ^ 14 ≤ thread) }
         ensures full { IsErrOf result NoTick.CountFull → counts self.old (OfThread thread) thread ≡ 2 ^ 32 - 1 }
     {
         self.threads
@@ -188,7 +177,6 @@ impl Clocks {
 fn want_memory(outcome: Result<(), AllocError>) -> Result<(), NoTick>
     ensures same { is_ok result ≡ is_ok outcome }
     ensures memory { IsErrOf result NoTick.CountFull → ⊥ }
-    ensures few { IsErrOf result NoTick.TooManyThreads → ⊥ }
 {
     match outcome {
         Ok(()) => Ok(()),

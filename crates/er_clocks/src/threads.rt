@@ -5,7 +5,7 @@ ghost use Rattle.er_clock.specs.Clock.{count_in};
 ghost use Rattle.er_clock.specs.Table.{known_by};
 ghost use Rattle.er_clocks.specs.Counts.{own_begun, known_to, count_by};
 
-use er_clock::{Clock, ClockTable, Epoch, NoTick, THREADS};
+use er_clock::{Clock, ClockTable, Epoch, NoTick};
 use er_event::ThreadId;
 use std::alloc::{AllocError, Global};
 use std::marker::Model;
@@ -128,12 +128,11 @@ impl ThreadClocks {
         join(&mut self.table, thread, &self.carried)
     }
 
-    /// Puts what a thread knows into another one's clock, and then its own count rises. `TooManyThreads`: its number is [`THREADS`] or more.
-    /// `CountFull`: its own count is the greatest. An error changes no count.
+    /// Puts what a thread knows into another one's clock, and then its own count rises. `CountFull`: its own count is the greatest. An error
+    /// changes no count.
     pub(crate) fn hand_on(&mut self, from: ThreadId, to: ThreadId) -> Result<(), NoTick>
         ensures ok { OnOk result ((t u : ℕ) → known_to self.new t u ≡ cond (t == to) (max (known_to self.old t u) (known_to self.old from u)) (known_to self.old t u) + cond (t == from && from == u) 1 0) }
         ensures err { OnErr result ((t u : ℕ) → known_to self.new t u ≡ known_to self.old t u) }
-        ensures many { IsErrOf result NoTick.TooManyThreads ↔ (2 ^ 14 ≤ from) }
         ensures full { IsErrOf result NoTick.CountFull → known_to self.old from from ≡ 2 ^ 32 - 1 }
     {
         match prepare(&mut self.table, &mut self.next, from) {
@@ -153,8 +152,8 @@ impl ThreadClocks {
         Ok(())
     }
 
-    /// Puts what a thread knows into the clock of this number, and then its own count rises. `TooManyThreads`: the thread's number is
-    /// [`THREADS`] or more. `CountFull`: its own count is the greatest. An error changes no count.
+    /// Puts what a thread knows into the clock of this number, and then its own count rises. `CountFull`: its own count is the greatest. An
+    /// error changes no count.
     pub(crate) fn give(
         &mut self,
         thread: ThreadId,
@@ -165,7 +164,6 @@ impl ThreadClocks {
         ensures given { OnOk result ((n u : ℕ) → known_by clocks.new n u ≡ cond (number == n) (max (known_by clocks.old n u) (known_to self.old thread u)) (known_by clocks.old n u)) }
         ensures err { OnErr result ((t u : ℕ) → known_to self.new t u ≡ known_to self.old t u) }
         ensures kept { OnErr result ((n u : ℕ) → known_by clocks.new n u ≡ known_by clocks.old n u) }
-        ensures many { IsErrOf result NoTick.TooManyThreads ↔ (2 ^ 14 ≤ thread) }
         ensures full { IsErrOf result NoTick.CountFull → known_to self.old thread thread ≡ 2 ^ 32 - 1 }
     {
         match prepare(&mut self.table, &mut self.next, thread) {
@@ -194,7 +192,6 @@ fn prepare(table: &mut ClockTable, next: &mut Clock, thread: ThreadId) -> Result
     ensures same { (t u : ℕ) → known_to table.new t u ≡ known_to table.old t u }
     ensures begun { OnOk result (0 < known_by table.new thread thread) }
     ensures risen { OnOk result ((u : ℕ) → count_in next.new u ≡ known_by table.new thread u + cond (thread == u) 1 0) }
-    ensures many { IsErrOf result NoTick.TooManyThreads ↔ (2 ^ 14 ≤ thread) }
     ensures full { IsErrOf result NoTick.CountFull → known_to table.old thread thread ≡ 2 ^ 32 - 1 }
 {
     match begin(table, thread) {
@@ -212,12 +209,8 @@ fn prepare(table: &mut ClockTable, next: &mut Clock, thread: ThreadId) -> Result
 fn begin(table: &mut ClockTable, thread: ThreadId) -> Result<(), NoTick>
     ensures same { (t u : ℕ) → known_to table.new t u ≡ known_to table.old t u }
     ensures begun { OnOk result (0 < known_by table.new thread thread) }
-    ensures many { IsErrOf result NoTick.TooManyThreads ↔ (2 ^ 14 ≤ thread) }
     ensures full { IsErrOf result NoTick.CountFull → known_to table.old thread thread ≡ 2 ^ 32 - 1 }
 {
-    if thread.number() >= THREADS {
-        return Err(NoTick::TooManyThreads);
-    }
     let number = thread.number();
     let count = table.get(number).count(thread);
     if count == 0 {

@@ -17,4 +17,4 @@ returns-in-Ok-join-clause-risen c =
 pub returns-in-Ok-join-clause-full : goal.returns-in-Ok-join-clause-full
 returns-in-Ok-join-clause-full c full =
     sym (c.begin.ensures.same c.args.thread c.args.thread) ∙ sym (ready-known c.begin.new.table c.args.thread c.in-Ok.ensures.begun c.args.thread)
-    ∙ (sym (copied c c.args.thread) ∙ c.tick.ensures.full full)
+    ∙ (sym (copied c c.args.thread) ∙ c.tick.ensures.full.0 full)

@@ -1,6 +1,6 @@
 use Rattle.std.proofs.Common.{◌∙◌}
 use Rattle.er_event.proofs.Results.{on_ok}
-use Rattle.er_before.proofs.StandingLemmas.{stands-on, answer-stands, full-after, many-after, if_ok}
+use Rattle.er_before.proofs.StandingLemmas.{stands-on, answer-stands, full-after, if_ok}
 use Rattle.er_before.proofs.machine.OrderMachine.step.Goals as goal
 
 pub returns-clause-answer : goal.returns-clause-answer
@@ -13,6 +13,3 @@ returns-clause-goes_on c past stands =
 
 pub returns-clause-full : goal.returns-clause-full
 returns-clause-full c past stands full = full-after c.args.self.now past c.args.step.now stands (c.take.ensures.full full)
-
-pub returns-clause-many : goal.returns-clause-many
-returns-clause-many c past stands many = many-after c.args.self.now past c.args.step.now stands (c.take.ensures.many many)

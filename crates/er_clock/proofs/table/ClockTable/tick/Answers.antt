@@ -41,7 +41,7 @@ pub returns-in-Some-clause-full : goal.returns-in-Some-clause-full
 returns-in-Some-clause-full c full =
     let some = (goal.at.returns-in-Some-clause-full c).In-Some in
     ap (λ clocks. known_by clocks c.args.number c.args.thread) (sym c.self.view_is)
-    ∙ (ap (λ counts. count_in counts c.args.thread) (sym (here some c.index_mut-known.result.now c.index_mut-known.ensures.value)) ∙ c.tick.ensures.full full)
+    ∙ (ap (λ counts. count_in counts c.args.thread) (sym (here some c.index_mut-known.result.now c.index_mut-known.ensures.value)) ∙ c.tick.ensures.full.0 full)
 
 pub returns-in-Ok-insert-clause-ok : goal.returns-in-Ok-insert-clause-ok
 returns-in-Ok-insert-clause-ok c =

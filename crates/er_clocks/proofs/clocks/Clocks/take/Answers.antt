@@ -3,27 +3,13 @@ use Rattle.er_order.specs.Order.{Acquired, Released, Local, sync_of}
 use Rattle.er_order.specs.Clocks.{flows, clocks_after}
 use Rattle.er_order.proofs.ClockSteps.{local}
 use Rattle.er_clocks.specs.Standing.{counts}
-use Rattle.er_clocks.proofs.Standing.{flows-own, own-alone, none-flows, same_bound}
+use Rattle.er_clocks.proofs.Standing.{flows-own}
 use Rattle.er_clocks.proofs.clocks.Clocks.take.Goals as goal
 
 pub returns-in-Release-clause-full : goal.returns-in-Release-clause-full
 returns-in-Release-clause-full c =
     rw c.in-Release.is
     (λ full. (c.args.thread, flows-own (record { thread = c.args.thread; sync = Released c.in-Release.lock c.in-Release.mode }) refl, c.release.ensures.full full))
-
-pub returns-in-Release-clause-many : goal.returns-in-Release-clause-many
-returns-in-Release-clause-many c =
-    rw c.in-Release.is
-    (λ many. (c.args.thread, flows-own (record { thread = c.args.thread; sync = Released c.in-Release.lock c.in-Release.mode }) refl, c.release.ensures.many.0 many))
-
-pub returns-in-Release-clause-due : goal.returns-in-Release-clause-due
-returns-in-Release-clause-due c =
-    rw c.in-Release.is
-    (λ t it high. c.release.ensures.many.1 (same_bound c.args.thread t (own-alone c.args.thread t (Released c.in-Release.lock c.in-Release.mode) refl it) high))
-
-pub returns-in-Acquire-clause-due : goal.returns-in-Acquire-clause-due
-returns-in-Acquire-clause-due c =
-    rw c.in-Acquire.is (λ t it high. absurd (none-flows c.args.thread t (Acquired c.in-Acquire.lock c.in-Acquire.mode) refl refl it))
 
 -- any other event moves no clock
 nothing : (c : goal.In-Access) → sync_of c.args.event ≡ Local
@@ -40,7 +26,5 @@ returns-in-Access c =
       ok = λ k u. sym (local (counts c.args.self.now) c.args.thread u k)
           ∙ ap (λ sync. clocks_after (counts c.args.self.now) (Some (record { thread = c.args.thread; sync = sync })) k u) (sym (nothing c));
       err = tt;
-      many = λ many. absurd (let never = many in cc);
-      due = λ t it high. absurd (none-flows c.args.thread t Local refl refl (ap (λ sync. flows (record { thread = c.args.thread; sync = sync }) t) (sym (nothing c)) ∙ it));
       full = λ full. absurd (let never = full in cc);
     }
