@@ -196,8 +196,8 @@ def files(record, folder):
     record("for people: rules that can't be written", (found[0], found[2]) == (wanted, 4), f"{found}")
     found = shown(["replay", "-"], folder, HEADER + b"t1 hop\n")
     record("for people: the standard input", found[0] == f"line 2: bad verb\n  hint: {VERBS}\n".encode(), f"{found}")
-    record("with --hints: the standard input", with_hints(["replay", "-"], folder, HEAD + b"t1 hop\n") == found)
-    text = HEAD + b"t1 write 0\nt2 write 0\nt1 hop\n"
+    record("with --hints: the standard input", with_hints(["replay", "-"], folder, HEADER + b"t1 hop\n") == found)
+    text = HEADER + b"t1 write 0\nt2 write 0\nt1 hop\n"
     found = shown(["replay", "--hints", "--until-fault", "-"], folder, text)
     wanted = f"line 4: bad verb\n  hint: {VERBS}\n".encode(), b"line 3: race: t2 write 0x000000000000 at -, holds none\nsteps 2, races 1, suppressed 0, refused 0\n", 2
     record("for people: the lines before a fault", found == wanted, f"{found}")

@@ -220,8 +220,9 @@ def read_all(master, pieces):
 
 
 def is_one_line(shown):
-    """Whether lines that take each other's place were shown and cleared, or none was shown."""
-    return shown == b"" or (shown.endswith(CLEAR) and SHOWN.sub(b"", shown[:-len(CLEAR)]) == b"" and shown != CLEAR)
+    """Whether lines that take each other's place were shown and cleared, or none was shown. A second pass has lines of its own, if it takes as long."""
+    *passes, rest = shown.split(CLEAR)
+    return rest == b"" and all(lines and SHOWN.sub(b"", lines) == b"" for lines in passes)
 
 
 def terminal(record):
