@@ -6,6 +6,7 @@
 - each frequent cause of a fault: the file, the line with a mark under the place, the hint
 - files that can't be opened or read: the system's reason
 - the standard input and a FIFO aren't read again
+- notes on how a text ends, which stand behind a report
 - a byte that a terminal could take for a command is escaped, and no line is over 120 columns
 - each allocation refused in turn: the exact text that comes for want of memory for the replay, for the line, for what follows it
 """
@@ -215,6 +216,35 @@ def files(record, folder):
     record("for people: a demo has nothing to say", found[0] == b"", f"{found}")
 
 
+NO_END, NO_LINE_FEED = b"note: the trace has no end: it may be cut off\n", b"note: the last line has no line feed: it may be cut off\n"
+NOTED = ([], ["--explain"], ["--by-site"], ["--format", "json"], ["--format", "html"], ["--workers", "2"], ["--until-fault"], ["--max-races", "0"],
+    ["--write-rules", "known.rules"], ["--analysis", "both"], ["--analysis", "both", "--by-site"], ["--analysis", "happens-before"],
+    ["--analysis", "happens-before", "--max-races", "1"])
+
+
+def notes(record, folder):
+    """How a text ends, by a second reading: each header, with the line `end` and without, with the last line feed and without."""
+    for version in (1, 2, 3):
+        for end in ([], ["# end"], ["end"], ["end", "# behind"])[: 4 if version == 3 else 2]:
+            for feed in ("\n", ""):
+                text = ("\n".join([f"eraser trace {version}", "t1 write 0", "t2 write 0", *end]) + feed).encode()
+                (folder / "n.trace").write_bytes(text)
+                lines = NO_END if version == 3 and "end" not in end else b""
+                more, name = lines + (b"" if feed else NO_LINE_FEED), f"notes: text {version} {end} {bool(feed)}"
+                for options in NOTED:
+                    left, words, title = b"races left out: 1\n" if "0" in options else b"", ["replay", *options, "n.trace"], f"{name} {' '.join(options)}"
+                    plain = piped(words, folder)
+                    record(title, (plain[0], plain[2]) == (left + lines, 1), f"{plain}")
+                    record(f"{title} with --hints", with_hints(words, folder) == (left + more, *plain[1:]), f"{with_hints(words, folder)}")
+                    record(f"{title} from standard input", piped([*words[:-1], "-"], folder, text)[0] == left + lines)
+                record(f"{name} on a terminal", shown(["replay", "n.trace"], folder)[0] == more)
+                strict = piped(["replay", "--strict", "n.trace"], folder)
+                record(f"{name} --strict", (b"note" in strict[0], strict[2]) == (False, 2 if lines or not feed else 1), f"{strict}")
+    # The lines before a fault end there, and the text goes on.
+    found = piped(["replay", "--until-fault", "-"], folder, b"eraser trace 3\nt1 write 0\nfault\n")
+    record("notes: the lines before a fault", found[0] == b"line 3: missing operand\n", f"{found}")
+
+
 def refused(record, folder, build):
     (folder / "t.trace").write_bytes(HEADER + b"t1 hop\n")
     more = advice("t.trace", ("t1 hop", 3), VERBS)
@@ -240,7 +270,7 @@ def refused(record, folder, build):
 
 def tests(record, build):
     with tempfile.TemporaryDirectory() as folder:
-        for part in (texts, files, lambda record, folder: refused(record, folder, build)):
+        for part in (texts, files, notes, lambda record, folder: refused(record, folder, build)):
             with tempfile.TemporaryDirectory(dir=folder) as inner:
                 part(record, pathlib.Path(inner))
 

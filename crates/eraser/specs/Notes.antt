@@ -1,16 +1,34 @@
 -- What a command line leaves on standard error besides faults.
-use Rattle.std.specs.Prelude.{◌≡◌, ℕ, Bool, false, List, Option, None}
+use Rattle.std.specs.Prelude.{◌≡◌, ◌⊎◌, ◌++◌, ◌&&◌, ◌||◌, ℕ, Bool, false, cond, List, [], Option, None}
+use Rattle.std.specs.Io.KnownBytes.{Keeps}
+use Rattle.er_exit.specs.Notes.{notes_text}
 use Rattle.er_exit.specs.Writes.{WritesBytes}
+use Rattle.er_exit.specs.declared.notes.TextNotes.{TextNotes}
 use Rattle.er_request.specs.declared.request.Request.{Request}
 use Rattle.er_request.specs.declared.request.Request.TheVariants.{Replay, Explain, Demo}
+use Rattle.er_text.specs.declared.endings.Ending.{Ending}
 use Rattle.er_triage.specs.Notes.{AreNotes}
 
--- neither the rules that took no race nor a count of races left out is asked for
-abbrev pub AsksNoNotes : Request → Type 0
-AsksNoNotes (Replay replay) = (replay.unused_rules ≡ false) × (replay.max_races ≡ None)
-AsksNoNotes (Explain explain) = Unit {0}
-AsksNoNotes (Demo demo) = Unit {0}
+-- what is noted of a text that ends so, and in which nothing orders so many unordered accesses; some of it for people alone
+abbrev pub notes_on : Bool → Ending → ℕ → TextNotes
+notes_on hints ending unordered =
+    record { no_end = ending.is_open; no_line_feed = ending.is_cut && hints; unordered = cond (ending.is_text_3 || hints) unordered 0 }
 
--- nothing was written but notes on a report, or a beginning of them if a write failed
-abbrev pub GetsNotes : Option (List ℕ) → Option (List ℕ) → Bool → Type 0
-GetsNotes old new failed = (text : List ℕ) × AreNotes text × WritesBytes old new text failed
+-- nothing was written but these notes and those on a text, or a beginning of them if a write failed; for want of memory those on the text may be missing
+abbrev pub AddsNotes : Bool → List ℕ → Option (List ℕ) → Option (List ℕ) → Bool → Type 0
+AddsNotes hints asked old new failed = (ending : Ending) × (unordered : ℕ)
+    × (WritesBytes old new (asked ++ notes_text (notes_on hints ending unordered)) failed ⊎ WritesBytes old new asked failed)
+
+-- nothing was written but notes that were asked for and those on a text
+abbrev pub GetsNotes : Bool → Option (List ℕ) → Option (List ℕ) → Bool → Type 0
+GetsNotes hints old new failed = (asked : List ℕ) × AreNotes asked × AddsNotes hints asked old new failed
+
+-- nothing was written but notes on a text
+abbrev pub GetsTextNotes : Bool → Option (List ℕ) → Option (List ℕ) → Bool → Type 0
+GetsTextNotes hints old new failed = AddsNotes hints [] old new failed
+
+-- if no notes are asked for, a replay leaves those on the text alone, and whatever is no replay leaves nothing
+abbrev pub IsSilent : Request → Bool → Option (List ℕ) → Option (List ℕ) → Bool → Type 0
+IsSilent (Replay replay) hints old new failed = replay.unused_rules ≡ false → replay.max_races ≡ None → GetsTextNotes hints old new failed
+IsSilent (Explain explain) hints old new failed = Keeps old new
+IsSilent (Demo demo) hints old new failed = Keeps old new

@@ -1,16 +1,17 @@
 //! A second look at a trace, for the places of the accesses that reasons name.
-ghost use Rattle.std.specs.Prelude.{◌≡◌, false, IfErr, IfSome};
+ghost use Rattle.std.specs.Prelude.{◌≡◌, false, IfErr, IfOk, IfSome};
 ghost use Rattle.er_device.specs.Device.{inner_of, has_failed};
 ghost use Rattle.er_run.specs.Replays.{WritesNothing};
+ghost use Rattle.er_text.specs.Ending.{IsEndingOf};
 
 use crate::sources::is_ordinary;
 use er_device::Device;
-use er_formats::{Form, replay_as, replay_as_twice};
+use er_formats::{Form, ReplayedTwice, replay_as, replay_as_twice};
 use er_places::{Places, Wanted, find_places};
 use er_report::Report;
 use er_request::{Format, Replay};
 use er_rules::Suppressions;
-use er_run::{Options, RunFault, Verdict, Watch};
+use er_run::{Options, Replayed, RunFault, Watch};
 use er_text::ReadFault;
 use std::alloc::Global;
 use std::fs::File;
@@ -29,7 +30,7 @@ pub(crate) fn replay_form<R, D, O, V>(
     suppressions: &Suppressions,
     options: &Options,
     watcher: &mut V,
-) -> Result<Verdict, RunFault>
+) -> Result<Replayed, RunFault>
 where
     R: Files + AllocGlobal + Threads + Wait + Sync,
     D: Read,
@@ -37,6 +38,7 @@ where
     V: Watch,
     requires source { has_failed source.old ≡ false }
     requires output { has_failed output.old ≡ false }
+    ensures ending { IfOk result (λ replayed. IfSome (D.remaining (inner_of source.old)) (λ text. IsEndingOf text replayed.ending)) }
     ensures nothing { IfErr result (WritesNothing (O.contents (inner_of output.old)) (O.contents (inner_of output.new))) }
 {
     let Some(mut again) = open_again(rt, replay) else {
@@ -54,7 +56,13 @@ where
     );
     drop(again);
     match replayed {
-        Ok(told) => Ok(told.verdict),
+        Ok(
+            ReplayedTwice {
+                verdict,
+                unplaced: _,
+                ending,
+            },
+        ) => Ok(Replayed { verdict, ending }),
         Err(why) => Err(why),
     }
 }

@@ -5,6 +5,7 @@ ghost use Rattle.er_exit.specs.Writes.{LeavesOutput};
 ghost use Rattle.er_report.specs.Names.{HasNames};
 ghost use Rattle.er_request.specs.declared.request.Format.TheVariants.{Text};
 ghost use Rattle.er_rules.specs.Rules.{targets_of};
+ghost use Rattle.er_text.specs.Ending.{IsEndingOf};
 ghost use Rattle.er_triage.specs.Notes.{AreNotes};
 ghost use Rattle.eraser.specs.Replays.{EndsBy, IsPlainBy, order_of};
 
@@ -18,8 +19,9 @@ use er_print::{WriteFault, put_rule_counts, put_totals};
 use er_report::Report;
 use er_request::{Format, Replay};
 use er_rules::Suppressions;
-use er_run::{Options, Watch};
+use er_run::{Options, Replayed, Watch};
 use er_sites::put_sites_of_both;
+use er_text::Ending;
 use er_trace::{Names, Trace};
 use er_unordered::{
     Analysis, BothReports, UnorderedReport, put_unordered_totals, replay_by, report_both,
@@ -63,6 +65,7 @@ where
     ensures notes { IfOk result (λ ended. AreNotes ended.notes.items) }
     ensures silent { replay.now.unused_rules ≡ false → replay.now.max_races ≡ None → IfOk result (λ ended. ended.notes.items ≡ []) }
     ensures report { IsPlainBy analysis replay.now → IfOk result (λ ended. IfSome (D.remaining (inner_of source.old)) (λ text. EndsBy analysis text options.now.byte_limit (targets_of suppressions.now) options.now.explain (O.contents (inner_of output.old)) (O.contents (inner_of output.new)) ended.status)) }
+    ensures text { IfOk result (λ ended. IfSome (D.remaining (inner_of source.old)) (λ text. IsEndingOf text ended.ending)) }
     ensures nothing { IfErr result (LeavesOutput (O.contents (inner_of output.old)) (O.contents (inner_of output.new))) }
 {
     if asks_sites(replay) {
@@ -72,9 +75,11 @@ where
         return sort_unordered(rt, replay, source, output, suppressions, options, watcher);
     }
     match replay_by(rt, source, output, suppressions, options, analysis, watcher) {
-        Ok(verdict) => Ok(Ended {
+        Ok(Replayed { verdict, ending }) => Ok(Ended {
             status: status_of(verdict),
             notes: Vec::new(rt.alloc()),
+            ending,
+            unordered: 0,
         }),
         Err(why) => Err(order_fault_of(why)),
     }
@@ -106,6 +111,7 @@ where
     requires output { has_failed output.old ≡ false }
     ensures status { IfOk result (λ ended. (ended.status ≤ 4) × (ended.status ≢ 2)) }
     ensures notes { IfOk result (λ ended. ended.notes.items ≡ []) }
+    ensures text { IfOk result (λ ended. IfSome (D.remaining (inner_of source.old)) (λ text. IsEndingOf text ended.ending)) }
     ensures nothing { IfErr result (LeavesOutput (O.contents (inner_of output.old)) (O.contents (inner_of output.new))) }
 {
     let found = match report_both(rt, rt.alloc(), source, suppressions, options, watcher) {
@@ -114,11 +120,14 @@ where
     };
     let written = write_sites(rt, replay, options, output, &found);
     let races = found.lockset.races > 0 || found.unordered.races > 0;
+    let ending = found.ending;
     drop(found);
     match written {
         Ok(()) => Ok(Ended {
             status: u8::from(races),
             notes: Vec::new(rt.alloc()),
+            ending,
+            unordered: 0,
         }),
         Err(fault) => Err(fault),
     }
@@ -199,6 +208,7 @@ fn put_sites(
         lockset,
         unordered,
         trace,
+        ending: _,
     } = found;
     put_sites_of_both(alloc, text, lockset, unordered, trace.names(), places)?;
     put_rule_counts(text, &lockset.rule_counts)?;
@@ -227,6 +237,7 @@ where
     ensures status { IfOk result (λ ended. (ended.status ≤ 4) × (ended.status ≢ 2)) }
     ensures notes { IfOk result (λ ended. AreNotes ended.notes.items) }
     ensures silent { replay.now.unused_rules ≡ false → replay.now.max_races ≡ None → IfOk result (λ ended. ended.notes.items ≡ []) }
+    ensures text { IfOk result (λ ended. IfSome (D.remaining (inner_of source.old)) (λ text. IsEndingOf text ended.ending)) }
     ensures nothing { IfErr result (LeavesOutput (O.contents (inner_of output.old)) (O.contents (inner_of output.new))) }
 {
     match report_unordered(
@@ -238,8 +249,14 @@ where
         options.keys,
         watcher,
     ) {
-        Ok(UnorderedReport { report, trace }) => {
-            let ended = sort_replayed(rt, replay, report, &trace, suppressions, output);
+        Ok(
+            UnorderedReport {
+                report,
+                trace,
+                ending,
+            },
+        ) => {
+            let ended = sort_replayed(rt, replay, report, &trace, suppressions, ending, output);
             drop(trace);
             ended
         }
@@ -254,6 +271,7 @@ fn sort_replayed<R, O>(
     report: Report,
     trace: &Trace,
     suppressions: &Suppressions,
+    ending: Ending,
     output: &mut Device<O>,
 ) -> Result<Ended, Fault>
 where
@@ -264,11 +282,12 @@ where
     ensures status { IfOk result (λ ended. (ended.status ≤ 4) × (ended.status ≢ 2)) }
     ensures notes { IfOk result (λ ended. AreNotes ended.notes.items) }
     ensures silent { replay.now.unused_rules ≡ false → replay.now.max_races ≡ None → IfOk result (λ ended. ended.notes.items ≡ []) }
+    ensures text { IfOk result (λ ended. ended.ending ≡ ending) }
     ensures nothing { IfErr result (LeavesOutput (O.contents (inner_of output.old)) (O.contents (inner_of output.new))) }
 {
     let triaged = sorted(rt.alloc(), report, trace, suppressions, replay)?;
     match write_sorted(rt.alloc(), &triaged.report, trace.names(), output) {
-        Ok(()) => finish(rt, replay.write_rules, triaged),
+        Ok(()) => finish(rt, replay.write_rules, triaged, ending, 0),
         Err(fault) => {
             drop(triaged);
             Err(fault)

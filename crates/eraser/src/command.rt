@@ -1,22 +1,24 @@
 //! One command line, run over a reader and its writers.
-ghost use Rattle.std.specs.Prelude.{◌≡◌, ◌≢◌, ◌≤◌, [], false, None, codes, IfOk, IfErr, IfSome};
+ghost use Rattle.std.specs.Prelude.{◌≡◌, ◌≢◌, ◌≤◌, ◌||◌, [], false, None, codes, IfOk, IfErr, IfSome};
 ghost use Rattle.std.specs.Io.KnownBytes.{Keeps};
 ghost use Rattle.er_device.specs.Device.{inner_of, has_failed};
 ghost use Rattle.er_rules.specs.Rules.{targets_of};
 ghost use Rattle.er_exit.specs.Writes.{LeavesOutput};
 ghost use Rattle.er_request.specs.declared.request.Format.TheVariants.{Text};
-ghost use Rattle.er_request.specs.Words.{asks_progress, asks_until_fault, names_progress, names_until_fault};
+ghost use Rattle.er_request.specs.Words.{asks_hints, asks_progress, asks_until_fault, names_hints, names_progress, names_until_fault};
 ghost use Rattle.er_run.specs.Replays.{IsReplayed};
+ghost use Rattle.er_text.specs.Ending.{IsEndingOf};
 ghost use Rattle.er_triage.specs.Notes.{AreNotes};
-ghost use Rattle.eraser.specs.Notes.{AsksNoNotes, GetsNotes};
+ghost use Rattle.eraser.specs.Notes.{GetsNotes, GetsTextNotes, IsSilent};
 ghost use Rattle.er_unordered.specs.declared.replay.Analysis.{Analysis as Order};
-ghost use Rattle.eraser.specs.Replays.{EndsAs, EndsBy, IsPlain, IsPlainBy, ReplaysTo};
+ghost use Rattle.eraser.specs.Replays.{EndsAs, EndsBy, IsPlain, IsPlainBy, ReplaysTo, order_of};
 
 use crate::advice::trace_path;
 use crate::again::replay_form;
 use crate::analyses::{order_of, replay_by_order};
 use crate::faults::fault_of;
 use crate::meter::Meter;
+use crate::notes::notes_of;
 use crate::rules::suppressions_of;
 use crate::sorting::{Ended, asks_more, replay_and_sort, status_of};
 use crate::sources::size_of;
@@ -29,7 +31,7 @@ use er_formats::Form;
 use er_load::Workload;
 use er_request::{Demo, Explain, Format, Replay, Request, read_request};
 use er_rules::Suppressions;
-use er_run::{Options, Verdict, Watch, replay_text_watched};
+use er_run::{Options, Replayed, Watch, replay_text_watched};
 use er_trace::NameKeys;
 use std::alloc::Global;
 use std::io::{Read, Write};
@@ -62,9 +64,10 @@ where
     requires errors { has_failed errors.old ≡ false }
     ensures status { result ≤ 4 }
 
-    // With a result nothing goes to the errors but the notes that were asked for, and with wrong arguments or a faulty text nothing to
-    // the output, unless a word asks for the steps before the fault. `progress` is a device of its own: `quiet` says nothing of it.
-    ensures quiet { result ≤ 1 → GetsNotes (E.contents (inner_of errors.old)) (E.contents (inner_of errors.new)) (has_failed errors.new) }
+    // With a result nothing goes to the errors but the notes that were asked for and those on the text, and with wrong arguments or a
+    // faulty text nothing to the output, unless a word asks for the steps before the fault. `progress` is a device of its own: `quiet`
+    // says nothing of it.
+    ensures quiet { result ≤ 1 → GetsNotes (names_hints words.now || on_terminal) (E.contents (inner_of errors.old)) (E.contents (inner_of errors.new)) (has_failed errors.new) }
     ensures refused { names_until_fault words.now ≡ false → result ≡ 2 → Keeps (O.contents (inner_of output.old)) (O.contents (inner_of output.new)) }
 
     // Unless a word asks how far a replay has come, nothing is written of it.
@@ -99,8 +102,8 @@ where
     requires output { has_failed output.old ≡ false }
     requires errors { has_failed errors.old ≡ false }
     ensures status { result ≤ 4 }
-    ensures quiet { result ≤ 1 → GetsNotes (E.contents (inner_of errors.old)) (E.contents (inner_of errors.new)) (has_failed errors.new) }
-    ensures silent { AsksNoNotes request.entry → result ≤ 1 → Keeps (E.contents (inner_of errors.old)) (E.contents (inner_of errors.new)) }
+    ensures quiet { result ≤ 1 → GetsNotes (asks_hints request.entry || on_terminal) (E.contents (inner_of errors.old)) (E.contents (inner_of errors.new)) (has_failed errors.new) }
+    ensures silent { result ≤ 1 → IsSilent request.entry (asks_hints request.entry || on_terminal) (E.contents (inner_of errors.old)) (E.contents (inner_of errors.new)) (has_failed errors.new) }
     ensures refused { asks_until_fault request.entry ≡ false → result ≡ 2 → Keeps (O.contents (inner_of output.old)) (O.contents (inner_of output.new)) }
     ensures unwatched { asks_progress request.entry ≡ false → Keeps (P.contents (inner_of progress.old)) (P.contents (inner_of progress.new)) }
 {
@@ -136,13 +139,13 @@ where
     requires output { has_failed output.old ≡ false }
     requires errors { has_failed errors.old ≡ false }
     ensures status { result ≤ 4 }
-    ensures quiet { result ≤ 1 → GetsNotes (E.contents (inner_of errors.old)) (E.contents (inner_of errors.new)) (has_failed errors.new) }
-    ensures silent { replay.now.unused_rules ≡ false → replay.now.max_races ≡ None → result ≤ 1 → Keeps (E.contents (inner_of errors.old)) (E.contents (inner_of errors.new)) }
+    ensures quiet { result ≤ 1 → GetsNotes replay.now.hints (E.contents (inner_of errors.old)) (E.contents (inner_of errors.new)) (has_failed errors.new) }
+    ensures silent { replay.now.unused_rules ≡ false → replay.now.max_races ≡ None → result ≤ 1 → GetsTextNotes replay.now.hints (E.contents (inner_of errors.old)) (E.contents (inner_of errors.new)) (has_failed errors.new) }
     ensures refused { replay.now.until_fault ≡ false → result ≡ 2 → Keeps (O.contents (inner_of output.old)) (O.contents (inner_of output.new)) }
     ensures unwatched { replay.now.progress ≡ false → Keeps (P.contents (inner_of progress.old)) (P.contents (inner_of progress.new)) }
 {
     match run_shown(rt, replay, input, output, progress, on_terminal) {
-        Ok(ended) => note(ended, errors),
+        Ok(ended) => note(rt.alloc(), ended, replay.hints, errors),
         Err(cut) => {
             let status = report_cut(rt, replay, &cut, errors);
             drop(cut);
@@ -202,8 +205,7 @@ where
     requires output { has_failed output.old ≡ false }
     requires errors { has_failed errors.old ≡ false }
     ensures status { (result ≤ 4) × (result ≢ 1) }
-    ensures quiet { result ≤ 1 → GetsNotes (E.contents (inner_of errors.old)) (E.contents (inner_of errors.new)) (has_failed errors.new) }
-    ensures silent { result ≤ 1 → Keeps (E.contents (inner_of errors.old)) (E.contents (inner_of errors.new)) }
+    ensures quiet { result ≤ 1 → Keeps (E.contents (inner_of errors.old)) (E.contents (inner_of errors.new)) }
     ensures refused { result ≡ 2 → Keeps (O.contents (inner_of output.old)) (O.contents (inner_of output.new)) }
 {
     match explain_step(rt, asked, input, output) {
@@ -221,8 +223,7 @@ where
     requires output { has_failed output.old ≡ false }
     requires errors { has_failed errors.old ≡ false }
     ensures status { result ≤ 4 }
-    ensures quiet { result ≤ 1 → GetsNotes (E.contents (inner_of errors.old)) (E.contents (inner_of errors.new)) (has_failed errors.new) }
-    ensures silent { result ≤ 1 → Keeps (E.contents (inner_of errors.old)) (E.contents (inner_of errors.new)) }
+    ensures quiet { result ≤ 1 → Keeps (E.contents (inner_of errors.old)) (E.contents (inner_of errors.new)) }
     ensures refused { result ≡ 2 → Keeps (O.contents (inner_of output.old)) (O.contents (inner_of output.new)) }
 {
     match run_demo(rt, rt.alloc(), Workload::ALL[demo.place], output) {
@@ -231,15 +232,16 @@ where
     }
 }
 
-/// Writes the notes, and returns the status.
-pub(crate) fn note<E: Write>(ended: Ended, errors: &mut Device<E>) -> u8
+// Writes the notes, for people more of them, and returns the status.
+fn note<E: Write>(alloc: Global, ended: Ended, hints: bool, errors: &mut Device<E>) -> u8
     requires errors { has_failed errors.old ≡ false }
     requires notes { AreNotes ended.notes.items }
     ensures status { result ≡ ended.status }
-    ensures notes { GetsNotes (E.contents (inner_of errors.old)) (E.contents (inner_of errors.new)) (has_failed errors.new) }
-    ensures silent { ended.notes.items ≡ [] → Keeps (E.contents (inner_of errors.old)) (E.contents (inner_of errors.new)) }
+    ensures notes { GetsNotes hints (E.contents (inner_of errors.old)) (E.contents (inner_of errors.new)) (has_failed errors.new) }
+    ensures silent { ended.notes.items ≡ [] → GetsTextNotes hints (E.contents (inner_of errors.old)) (E.contents (inner_of errors.new)) (has_failed errors.new) }
 {
-    let Ended { status, notes } = ended;
+    let status = ended.status;
+    let notes = notes_of(alloc, ended, hints);
     put(errors, &notes);
     drop(notes);
     status
@@ -285,6 +287,8 @@ where
     ensures silent { replay.now.unused_rules ≡ false → replay.now.max_races ≡ None → IfOk result (λ ended. ended.notes.items ≡ []) }
     ensures report { IsPlain replay.now → replay.now.suppressions.items ≡ [] → replay.now.trace.now ≡ codes "-" → IfOk result (λ ended. IfSome (I.remaining (inner_of input.old)) (λ text. ReplaysTo text replay.now.byte_limit replay.now.explain (O.contents (inner_of output.old)) (O.contents (inner_of output.new)) ended.status)) }
     ensures report_by { (analysis : Order) → IsPlainBy analysis replay.now → replay.now.suppressions.items ≡ [] → replay.now.trace.now ≡ codes "-" → IfOk result (λ ended. IfSome (I.remaining (inner_of input.old)) (λ text. EndsBy analysis text replay.now.byte_limit [] replay.now.explain (O.contents (inner_of output.old)) (O.contents (inner_of output.new)) ended.status)) }
+    ensures text { replay.now.trace.now ≡ codes "-" → IfOk result (λ ended. IfSome (I.remaining (inner_of input.old)) (λ text. IsEndingOf text ended.ending)) }
+    ensures locks { order_of replay.now.analysis ≡ None → IfOk result (λ ended. ended.unordered ≡ 0) }
     ensures nothing { replay.now.until_fault ≡ false → IfErr result (λ cut. LeavesOutput (O.contents (inner_of output.old)) (O.contents (inner_of output.new)) cut.fault) }
 {
     let options = options_of(replay, keys_from(rt));
@@ -320,6 +324,8 @@ where
     ensures silent { replay.now.unused_rules ≡ false → replay.now.max_races ≡ None → IfOk result (λ ended. ended.notes.items ≡ []) }
     ensures report { IsPlain replay.now → IfOk result (λ ended. IfSome (D.remaining (inner_of source.old)) (λ text. EndsAs text options.now.byte_limit (targets_of suppressions.now) options.now.explain (O.contents (inner_of output.old)) (O.contents (inner_of output.new)) ended.status)) }
     ensures report_by { (analysis : Order) → IsPlainBy analysis replay.now → IfOk result (λ ended. IfSome (D.remaining (inner_of source.old)) (λ text. EndsBy analysis text options.now.byte_limit (targets_of suppressions.now) options.now.explain (O.contents (inner_of output.old)) (O.contents (inner_of output.new)) ended.status)) }
+    ensures text { IfOk result (λ ended. IfSome (D.remaining (inner_of source.old)) (λ text. IsEndingOf text ended.ending)) }
+    ensures locks { order_of replay.now.analysis ≡ None → IfOk result (λ ended. ended.unordered ≡ 0) }
     ensures nothing { IfErr result (LeavesOutput (O.contents (inner_of output.old)) (O.contents (inner_of output.new))) }
 {
     if let Some(analysis) = order_of(replay.analysis) {
@@ -338,9 +344,11 @@ where
         return replay_and_sort(rt, replay, source, output, suppressions, options, watcher);
     }
     match replay_in(rt, replay, source, output, suppressions, options, watcher) {
-        Ok(verdict) => Ok(Ended {
+        Ok(Replayed { verdict, ending }) => Ok(Ended {
             status: status_of(verdict),
             notes: Vec::new(rt.alloc()),
+            ending,
+            unordered: 0,
         }),
         Err(fault) => Err(fault),
     }
@@ -362,7 +370,7 @@ fn replay_in<R, D, O, V>(
     suppressions: &Suppressions,
     options: &Options,
     watcher: &mut V,
-) -> Result<Verdict, Fault>
+) -> Result<Replayed, Fault>
 where
     R: Files + AllocGlobal + Threads + Wait + Sync,
     D: Read,
@@ -370,7 +378,8 @@ where
     V: Watch,
     requires source { has_failed source.old ≡ false }
     requires output { has_failed output.old ≡ false }
-    ensures report { replay.now.format ≡ Text → IfOk result (λ verdict. IfSome (D.remaining (inner_of source.old)) (λ text. IsReplayed text options.now.byte_limit (targets_of suppressions.now) options.now.explain (O.contents (inner_of output.old)) (O.contents (inner_of output.new)) verdict)) }
+    ensures report { replay.now.format ≡ Text → IfOk result (λ replayed. IfSome (D.remaining (inner_of source.old)) (λ text. IsReplayed text options.now.byte_limit (targets_of suppressions.now) options.now.explain (O.contents (inner_of output.old)) (O.contents (inner_of output.new)) replayed.verdict)) }
+    ensures ending { IfOk result (λ replayed. IfSome (D.remaining (inner_of source.old)) (λ text. IsEndingOf text replayed.ending)) }
     ensures nothing { IfErr result (LeavesOutput (O.contents (inner_of output.old)) (O.contents (inner_of output.new))) }
 {
     let replayed = match form_of(replay.format) {
@@ -387,7 +396,7 @@ where
         ),
     };
     match replayed {
-        Ok(verdict) => Ok(verdict),
+        Ok(replayed) => Ok(replayed),
         Err(why) => Err(fault_of(why)),
     }
 }
@@ -415,7 +424,7 @@ fn refused<O: Write, E: Write>(
     requires output { has_failed output.old ≡ false }
     requires errors { has_failed errors.old ≡ false }
     ensures status { result ≤ 4 }
-    ensures quiet { result ≤ 1 → GetsNotes (E.contents (inner_of errors.old)) (E.contents (inner_of errors.new)) (has_failed errors.new) }
+    ensures quiet { result ≤ 1 → Keeps (E.contents (inner_of errors.old)) (E.contents (inner_of errors.new)) }
     ensures written { result ≤ 1 → has_failed output.new ≡ false }
     ensures refused { result ≡ 2 → Keeps (O.contents (inner_of output.old)) (O.contents (inner_of output.new)) }
 {
@@ -438,7 +447,7 @@ fn put_refused<O: Write, E: Write>(
     requires output { has_failed output.old ≡ false }
     requires errors { has_failed errors.old ≡ false }
     ensures status { result ≤ 4 }
-    ensures quiet { result ≤ 1 → GetsNotes (E.contents (inner_of errors.old)) (E.contents (inner_of errors.new)) (has_failed errors.new) }
+    ensures quiet { result ≤ 1 → Keeps (E.contents (inner_of errors.old)) (E.contents (inner_of errors.new)) }
     ensures written { result ≤ 1 → has_failed output.new ≡ false }
     ensures refused { result ≡ 2 → Keeps (O.contents (inner_of output.old)) (O.contents (inner_of output.new)) }
 {

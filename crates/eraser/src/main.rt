@@ -10,6 +10,7 @@ mod analyses;
 mod command;
 mod faults;
 mod meter;
+mod notes;
 mod rules;
 mod sorting;
 mod sources;

@@ -1,9 +1,10 @@
 //! A replay of which more is asked for than a report of its trace.
-ghost use Rattle.std.specs.Prelude.{◌≡◌, ◌≢◌, ◌≤◌, [], All, false, None, IfOk, IfErr};
+ghost use Rattle.std.specs.Prelude.{◌≡◌, ◌≢◌, ◌≤◌, [], All, false, None, IfOk, IfErr, IfSome};
 ghost use Rattle.er_device.specs.Device.{inner_of, has_failed};
 ghost use Rattle.er_exit.specs.declared.faults.Fault.TheVariants.{Memory, WriteRules};
 ghost use Rattle.er_exit.specs.Writes.{LeavesOutput};
 ghost use Rattle.er_report.specs.Names.{HasNames};
+ghost use Rattle.er_text.specs.Ending.{IsEndingOf};
 ghost use Rattle.er_triage.specs.Notes.{AreNotes};
 ghost use Rattle.er_unordered.specs.declared.replay.Analysis.{Analysis as Order};
 ghost use Rattle.eraser.specs.Replays.{IsPlain, IsPlainBy, verdict_status};
@@ -24,6 +25,7 @@ use er_rules::Suppressions;
 use er_run::{Options, ReplayedTrace, Verdict, Watch, replay_report, verdict_of};
 use er_sarif::write_sarif;
 use er_sites::write_sites;
+use er_text::Ending;
 use er_trace::{Names, Trace};
 use er_triage::{Triaged, Wishes, triage};
 use std::alloc::Global;
@@ -37,8 +39,12 @@ use std::thread::Threads;
 pub(crate) struct Ended {
     /// The exit status.
     pub(crate) status: u8,
-    /// Lines for standard error.
+    /// Lines for standard error that were asked for.
     pub(crate) notes: Vec<u8>,
+    /// How the text ended.
+    pub(crate) ending: Ending,
+    /// How many accesses are unordered, if the trace records no order, and else 0.
+    pub(crate) unordered: u64,
 }
 
 /// The exit status of a replay.
@@ -80,11 +86,28 @@ where
     ensures status { IfOk result (λ ended. (ended.status ≤ 4) × (ended.status ≢ 2)) }
     ensures notes { IfOk result (λ ended. AreNotes ended.notes.items) }
     ensures silent { replay.now.unused_rules ≡ false → replay.now.max_races ≡ None → IfOk result (λ ended. ended.notes.items ≡ []) }
+    ensures text { IfOk result (λ ended. IfSome (D.remaining (inner_of source.old)) (λ text. IsEndingOf text ended.ending)) }
+    ensures locks { IfOk result (λ ended. ended.unordered ≡ 0) }
     ensures nothing { IfErr result (LeavesOutput (O.contents (inner_of output.old)) (O.contents (inner_of output.new))) }
 {
     match replay_report(rt, rt.alloc(), source, suppressions, options, watcher) {
-        Ok(ReplayedTrace { report, trace }) => {
-            let ended = sort_replayed(rt, replay, report, &trace, suppressions, options, output);
+        Ok(
+            ReplayedTrace {
+                report,
+                trace,
+                ending,
+            },
+        ) => {
+            let ended = sort_replayed(
+                rt,
+                replay,
+                report,
+                &trace,
+                suppressions,
+                options,
+                ending,
+                output,
+            );
             drop(trace);
             ended
         }
@@ -100,6 +123,7 @@ fn sort_replayed<R, O>(
     trace: &Trace,
     suppressions: &Suppressions,
     options: &Options,
+    ending: Ending,
     output: &mut Device<O>,
 ) -> Result<Ended, Fault>
 where
@@ -110,6 +134,7 @@ where
     ensures status { IfOk result (λ ended. (ended.status ≤ 4) × (ended.status ≢ 2)) }
     ensures notes { IfOk result (λ ended. AreNotes ended.notes.items) }
     ensures silent { replay.now.unused_rules ≡ false → replay.now.max_races ≡ None → IfOk result (λ ended. ended.notes.items ≡ []) }
+    ensures text { IfOk result (λ ended. (ended.ending ≡ ending) × (ended.unordered ≡ 0)) }
     ensures nothing { IfErr result (LeavesOutput (O.contents (inner_of output.old)) (O.contents (inner_of output.new))) }
 {
     let triaged = sorted(rt.alloc(), report, trace, suppressions, replay)?;
@@ -123,7 +148,7 @@ where
         options,
         output,
     ) {
-        Ok(()) => finish(rt, replay.write_rules, triaged),
+        Ok(()) => finish(rt, replay.write_rules, triaged, ending, 0),
         Err(fault) => {
             drop(triaged);
             Err(fault)
@@ -257,10 +282,17 @@ fn write_as<O: Write>(
 }
 
 /// Writes the file of rules behind the report, unless the replay stopped.
-pub(crate) fn finish<R: Files>(rt: &R, path: Option<&str>, triaged: Triaged) -> Result<Ended, Fault>
+pub(crate) fn finish<R: Files>(
+    rt: &R,
+    path: Option<&str>,
+    triaged: Triaged,
+    ending: Ending,
+    unordered: u64,
+) -> Result<Ended, Fault>
     requires { AreNotes triaged.notes.items }
     ensures status { IfOk result (λ ended. (ended.status ≤ 4) × (ended.status ≢ 2)) }
     ensures notes { IfOk result (λ ended. ended.notes.items ≡ triaged.notes.items) }
+    ensures text { IfOk result (λ ended. (ended.ending ≡ ending) × (ended.unordered ≡ unordered)) }
     ensures fault { IfErr result (λ fault. fault ≡ WriteRules) }
 {
     let verdict = verdict_of(&triaged.report);
@@ -278,6 +310,8 @@ pub(crate) fn finish<R: Files>(rt: &R, path: Option<&str>, triaged: Triaged) -> 
     Ok(Ended {
         status: status_of(verdict),
         notes,
+        ending,
+        unordered,
     })
 }
 

@@ -7,12 +7,14 @@ ghost use Rattle.er_device.specs.Device.{inner_of, has_failed};
 ghost use Rattle.er_exit.specs.Statuses.{fault_status};
 ghost use Rattle.er_exit.specs.Writes.{LeavesOutput};
 ghost use Rattle.er_rules.specs.Rules.{targets_of};
+ghost use Rattle.er_text.specs.Ending.{IsEndingOf};
 ghost use Rattle.er_triage.specs.Notes.{AreNotes};
 ghost use Rattle.er_unordered.specs.declared.replay.Analysis.{Analysis as Order};
-ghost use Rattle.eraser.specs.Replays.{EndsAs, EndsBy, IsPlain, IsPlainBy};
+ghost use Rattle.eraser.specs.Replays.{EndsAs, EndsBy, IsPlain, IsPlainBy, order_of};
 
 use crate::advice::report_replay_fault;
 use crate::command::replay_from;
+use crate::notes::notes_of;
 use crate::sorting::Ended;
 use crate::sources::is_ordinary;
 use er_damage::Damage;
@@ -104,6 +106,8 @@ where
     ensures silent { replay.now.unused_rules ≡ false → replay.now.max_races ≡ None → IfOk result (λ ended. ended.notes.items ≡ []) }
     ensures report { IsPlain replay.now → replay.now.trace.now ≡ codes "-" → IfOk result (λ ended. IfSome (I.remaining (inner_of input.old)) (λ text. EndsAs text options.now.byte_limit (targets_of suppressions.now) options.now.explain (O.contents (inner_of output.old)) (O.contents (inner_of output.new)) ended.status)) }
     ensures report_by { (analysis : Order) → IsPlainBy analysis replay.now → replay.now.trace.now ≡ codes "-" → IfOk result (λ ended. IfSome (I.remaining (inner_of input.old)) (λ text. EndsBy analysis text options.now.byte_limit (targets_of suppressions.now) options.now.explain (O.contents (inner_of output.old)) (O.contents (inner_of output.new)) ended.status)) }
+    ensures text { replay.now.trace.now ≡ codes "-" → IfOk result (λ ended. IfSome (I.remaining (inner_of input.old)) (λ text. IsEndingOf text ended.ending)) }
+    ensures locks { order_of replay.now.analysis ≡ None → IfOk result (λ ended. ended.unordered ≡ 0) }
     ensures nothing { replay.now.until_fault ≡ false → IfErr result (λ cut. LeavesOutput (O.contents (inner_of output.old)) (O.contents (inner_of output.new)) cut.fault) }
 {
     if replay.trace == "-" {
@@ -172,6 +176,8 @@ where
     ensures silent { replay.now.unused_rules ≡ false → replay.now.max_races ≡ None → IfOk result (λ ended. ended.notes.items ≡ []) }
     ensures report { IsPlain replay.now → IfOk result (λ ended. IfSome (D.remaining (inner_of source.old)) (λ text. EndsAs text options.now.byte_limit (targets_of suppressions.now) options.now.explain (O.contents (inner_of output.old)) (O.contents (inner_of output.new)) ended.status)) }
     ensures report_by { (analysis : Order) → IsPlainBy analysis replay.now → IfOk result (λ ended. IfSome (D.remaining (inner_of source.old)) (λ text. EndsBy analysis text options.now.byte_limit (targets_of suppressions.now) options.now.explain (O.contents (inner_of output.old)) (O.contents (inner_of output.new)) ended.status)) }
+    ensures text { IfOk result (λ ended. IfSome (D.remaining (inner_of source.old)) (λ text. IsEndingOf text ended.ending)) }
+    ensures locks { order_of replay.now.analysis ≡ None → IfOk result (λ ended. ended.unordered ≡ 0) }
     ensures nothing { replay.now.until_fault ≡ false → IfErr result (λ cut. LeavesOutput (O.contents (inner_of output.old)) (O.contents (inner_of output.new)) cut.fault) }
 {
     if !replay.until_fault {
@@ -275,7 +281,7 @@ where
         watcher,
     );
     if !lacks_end_alone(&second) {
-        return cut_at(rt.alloc(), first, second);
+        return cut_at(rt.alloc(), replay.hints, first, second);
     }
     drop(second);
     let options = options.with_strict(false);
@@ -289,7 +295,7 @@ where
         &options,
         watcher,
     );
-    cut_at(rt.alloc(), first, third)
+    cut_at(rt.alloc(), replay.hints, first, third)
 }
 
 // Replays the first lines of a text that is read again. A failed write is final.
@@ -360,15 +366,18 @@ fn lacks_end_alone(replayed: &Result<Ended, Fault>) -> bool {
     }
 }
 
-// What a replay of the lines before a fault comes to. If they have no header, they have no report, and the fault is all that there is.
-fn cut_at(alloc: Global, first: TextFault, second: Result<Ended, Fault>) -> Cut {
+// What a replay of the lines before a fault comes to. That they lack their end is not noted: the text goes on. If they have no header, they have no report, and the fault is all that there is.
+fn cut_at(alloc: Global, hints: bool, first: TextFault, second: Result<Ended, Fault>) -> Cut {
     let fault = Fault::Text(first);
     match second {
-        Ok(ended) => Cut {
-            notes: ended.notes,
-            damage: None,
-            fault,
-        },
+        Ok(mut ended) => {
+            ended.ending.is_open = false;
+            Cut {
+                notes: notes_of(alloc, ended, hints),
+                damage: None,
+                fault,
+            }
+        }
         Err(Fault::Damaged(damage)) => Cut {
             notes: Vec::new(alloc),
             damage: Some(damage_of_lines(damage)),
