@@ -7,4 +7,4 @@ use Rattle.er_run.proofs.replay.report_on.Goals as goal
 pub returns-in-Ok-clause-report : goal.returns-in-Ok-clause-report
 returns-in-Ok-clause-report g c =
     lost-said (g.D.Read.remaining (inner_of c.args.reader.now)) c.args.options.now.byte_limit (targets_of c.args.suppressions.now) c.args.options.now.explain c.in-Ok.found.trace.names c.in-Ok.found.report
-    c.lost_events.result c.in-Ok.ensures.report (lost-of (g.D.Read.remaining (inner_of c.args.reader.now)) c.in-Ok.found.ending c.lost_events.result c.in-Ok.ensures.ending c.lost_events.ensures)
+    c.lost_events-found.result c.in-Ok.ensures.report (lost-of (g.D.Read.remaining (inner_of c.args.reader.now)) c.in-Ok.found.ending c.lost_events-found.result c.in-Ok.ensures.ending c.lost_events-found.ensures)
