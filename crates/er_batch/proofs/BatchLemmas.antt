@@ -1,12 +1,12 @@
 -- A run that forgets its steps is a run over all of them: a batch goes on behind what was answered, and the names may have grown.
-use Rattle.std.proofs.Common.{◌≡◌, ◌<◌, ◌≤◌, ◌+◌, ℕ, zero, suc, List, [], ◌++◌, length, length-append, take, slice_index, get_or, Option, Some, None, is_some, false, IfSome, Ok, refl, sym, ap, subst, ◌∙◌, inl, inr, arith}
+use Rattle.std.proofs.Common.{◌≡◌, ◌<◌, ◌≤◌, ◌+◌, ℕ, zero, suc, List, [], ◌++◌, length, length-append, take, slice_index, get_or, Option, Some, None, is_some, false, IfSome, Ok, refl, sym, ap, subst, ◌∙◌, arith}
 use Rattle.std.specs.List.{All}
 use Rattle.std.proofs.lemmas.List.{take-append-le, length-take-le, get_or_append_left, get_or-append-add}
 use Rattle.std.proofs.Math.Seq.{take-append_seam, take-length}
 use Rattle.std.proofs.lemmas.List.Elements.{All-append}
 use Rattle.std.proofs.lemmas.Option.{slice_get_within, slice_get-get_or}
 use Rattle.er_batch.specs.Inner.Answering.{Answers, HasAnswered}
-use Rattle.er_batch.specs.Runs.{HasRun, recorded}
+use Rattle.er_batch.specs.Runs.{MayStopAt, HasRun, recorded}
 use Rattle.er_event.proofs.Lists.{get_front}
 use Rattle.er_event.specs.declared.refusals.NoRoom.{NoRoom}
 use Rattle.er_event.specs.declared.steps.Event.{Event}
@@ -16,7 +16,6 @@ use Rattle.er_event.specs.declared.steps.Sync.TheVariants.{Start, Join, Signal, 
 use Rattle.er_event.specs.declared.steps.Step.{Step}
 use Rattle.er_journal.specs.declared.answers.Stopped.{Stopped}
 use Rattle.er_replay.specs.Standing.{Replayed, Stands}
-use Rattle.er_replay.specs.Stops.{MayStop}
 use Rattle.er_report.proofs.GrowthLemmas.{reported-on}
 use Rattle.er_report.specs.Builder.{Built, IsReported, GoesOn}
 use Rattle.er_report.specs.Report.{stop_line}
@@ -68,10 +67,8 @@ pub number-behind : (lines more : List ℕ) (n k : ℕ) → length lines ≡ n �
 number-behind lines more n k long = sym (ap (λ (m : ℕ). slice_index (lines ++ more) (m + k)) (sym long) ∙ get_or-append-add lines more k 0)
 
 -- a stop in front of later steps is one of the longer list
-stop-front : (steps more : List Step) (s : Stopped) → s.at < length steps → MayStop [] steps s → MayStop [] (steps ++ more) s
-stop-front steps more s within (inl none) = inl none
-stop-front steps more s within (inr lacks) =
-    inr (rw (get_front steps more s.at within, take-append-le s.at steps more (omega arith)) lacks)
+stop-front : (steps more : List Step) (s : Stopped) → s.at < length steps → MayStopAt steps s → MayStopAt (steps ++ more) s
+stop-front steps more s within lacks = rw (get_front steps more s.at within, take-append-le s.at steps more (omega arith)) lacks
 
 -- a batch of steps behind those that are past
 module _ (past : List Step) (lines : List ℕ) (names : NameTable) (trace : Recording) (kept : KeepsNames names trace.names)

@@ -1,21 +1,25 @@
 -- A run over the steps of a trace, which has answered all of them or stopped at one that found no room.
-use Rattle.std.specs.Prelude.{◌≡◌, ℕ, ◌<◌, All, List, [], length, Option, None, IfSome}
+use Rattle.std.specs.Prelude.{◌≡◌, ℕ, ◌<◌, All, List, length, take, slice_get, Option, None, IfSome, IsSomeAnd}
 use Rattle.er_event.specs.declared.refusals.NoRoom.{NoRoom}
 use Rattle.er_event.specs.declared.steps.Step.{Step}
 use Rattle.er_journal.specs.declared.answers.Stopped.{Stopped}
 use Rattle.er_replay.specs.Standing.{Replayed, Stands}
-use Rattle.er_replay.specs.Stops.{MayStop}
+use Rattle.er_replay.specs.Stops.{MayLack}
 use Rattle.er_report.specs.Builder.{Built, IsReported}
 use Rattle.er_report.specs.Report.{answered_steps, stop_line}
 use Rattle.er_text.specs.Trace.{IsTrace}
 use Rattle.er_trace.specs.Names.{NameTable}
 use Rattle.er_trace.specs.Trace.{Recording, IsNamed}
 
+-- a run of these steps may stop so: the definitions don't refuse the step there, and it may want what had no room
+abbrev pub MayStopAt : List Step → Stopped → Type 0
+MayStopAt steps stopped = IsSomeAnd (slice_get steps stopped.at) (λ step. MayLack (take stopped.at steps) step stopped.cause)
+
 -- a run of the text's trace, which stopped at one of its steps for want of room that it may want, or not at all
 pub record IsRunOf (text : List ℕ) (limit : ℕ) (recording : Recording) (stop : Option Stopped) : Type 0 where
   pub trace : IsTrace text limit recording
   pub within : IfSome stop (λ s. s.at < length recording.steps)
-  pub cause : IfSome stop (λ s. MayStop [] recording.steps s)
+  pub cause : IfSome stop (λ s. MayStopAt recording.steps s)
 
 -- these steps and their lines, under these names
 abbrev pub recorded : List Step → List ℕ → NameTable → Recording
@@ -26,7 +30,7 @@ pub record HasRun (machine : Replayed) (builder : Built) (stop : Option (ℕ × 
   pub stopped : Option Stopped
   pub line : stop ≡ stop_line r stopped
   pub within : IfSome stopped (λ s. s.at < length r.steps)
-  pub cause : IfSome stopped (λ s. MayStop [] r.steps s)
+  pub cause : IfSome stopped (λ s. MayStopAt r.steps s)
   pub reported : IsReported builder r (length (answered_steps r.steps stopped))
   pub stands : stopped ≡ None → Stands machine r.steps
   pub named : All (IsNamed r.names) r.steps

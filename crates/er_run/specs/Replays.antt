@@ -1,7 +1,7 @@
 -- What a whole replay comes to, from the bytes read to the bytes written.
-use Rattle.std.specs.Prelude.{◌≡◌, ℕ, ◌<◌, nat_lt, Bool, true, false, cond, List, [], length, take, Option, Some, None, IfSome, Result, Ok, Err}
+use Rattle.std.specs.Prelude.{◌≡◌, ℕ, ◌<◌, nat_lt, Bool, true, false, cond, List, length, take, Option, Some, None, IfSome, Result, Ok, Err}
 use Rattle.std.specs.Io.KnownBytes.{Appends, Keeps}
-use Rattle.er_batch.specs.Runs.{IsRunOf}
+use Rattle.er_batch.specs.Runs.{MayStopAt, IsRunOf}
 use Rattle.er_batch.specs.declared.verdict.Verdict.{Verdict}
 use Rattle.er_batch.specs.declared.verdict.Verdict.TheVariants as verdict
 use Rattle.er_damage.specs.Damaged.{IsDamageOf, has_damage}
@@ -14,7 +14,6 @@ use Rattle.er_parallel.specs.declared.faults.ReplayFault.{ReplayFault}
 use Rattle.er_parallel.specs.declared.faults.ReplayFault.TheVariants as replaying
 use Rattle.er_print.specs.Printed.{report_text}
 use Rattle.er_print.specs.declared.fault.WriteFault.TheVariants as writing
-use Rattle.er_replay.specs.Stops.{MayStop}
 use Rattle.er_report.specs.Report.{Summary, report_of, told as summary}
 use Rattle.er_report.specs.declared.report.Report.{Report}
 use Rattle.er_rules.specs.Rules.{Target}
@@ -127,7 +126,7 @@ is_stopped verdict.Clean = false
 pub record IsReportOfRun (lost : Option ℕ) (recording : Recording) (rules : List Target) (explain : Bool) (report : Report) : Type 0 where
   pub stop : Option Stopped
   pub within : IfSome stop (λ s. s.at < length recording.steps)
-  pub cause : IfSome stop (λ s. MayStop [] recording.steps s)
+  pub cause : IfSome stop (λ s. MayStopAt recording.steps s)
   pub says : summary report ≡ report_with lost recording rules explain stop
 
 -- what a report's numbers come to

@@ -1,8 +1,8 @@
 -- How far a machine has come in the steps of a recording, and the report behind it.
-use Rattle.std.specs.Prelude.{◌≡◌, ℕ, ◌+◌, ◌<◌, [], length, take, Option, Some, None, IsTrue, is_some}
+use Rattle.std.specs.Prelude.{◌≡◌, ℕ, ◌+◌, ◌<◌, length, take, Option, Some, None, IsTrue, is_some}
+use Rattle.er_batch.specs.Runs.{MayStopAt}
 use Rattle.er_journal.specs.declared.answers.Stopped.{Stopped}
 use Rattle.er_replay.specs.Standing.{Replayed, Stands}
-use Rattle.er_replay.specs.Stops.{MayStop}
 use Rattle.er_report.specs.Builder.{Built, ArePlain, IsReported, KeepStates}
 use Rattle.er_trace.specs.Trace.{Recording}
 
@@ -28,4 +28,4 @@ pub record HasComeTo (machine : Replayed) (builder : Built) (r : Recording) (n p
 abbrev pub Answers : Replayed → Built → Recording → ℕ → Option Stopped → Type 0
 Answers machine builder r n None = HasAnswered machine builder r (length r.steps)
 Answers machine builder r n (Some stop) =
-    IsReported builder r (n + stop.at) × (n + stop.at < length r.steps) × MayStop [] r.steps (record { at = n + stop.at; cause = stop.cause })
+    IsReported builder r (n + stop.at) × (n + stop.at < length r.steps) × MayStopAt r.steps (record { at = n + stop.at; cause = stop.cause })

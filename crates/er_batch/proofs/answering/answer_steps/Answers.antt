@@ -27,9 +27,9 @@ returns-in-Some-clause-run g c = λ past lines long before.
     let come : HasComeTo c.loop-k.machine c.loop-k.builder r (length past + k) c.loop-k.plain = c.loop-k.invariant.run past lines long before in (
       lags-end c.loop-k.builder c.add_plain.new.self r (length past + k) c.loop-k.plain come.lags c.add_plain.ensures.reported,
       slice_get_within r.steps (length past + k) step here,
-      inr (rw here (lacks (holding c.look_ahead.new.self) (states c.look_ahead.new.self) (take (length past + k) r.steps) step c.in-Some.cause c.step_noting-answer.result.0
+      rw here (lacks (holding c.look_ahead.new.self) (states c.look_ahead.new.self) (take (length past + k) r.steps) step c.in-Some.cause c.step_noting-answer.result.0
           (subst (λ (m : Replayed). Stands m (take (length past + k) r.steps)) (sym c.look_ahead.ensures) come.stands) c.in-Some.ensures c.step_noting-answer.ensures.refused
-          c.step_noting-answer.ensures.room)),
+          c.step_noting-answer.ensures.room),
     )
 
 pub loop-k-preserved : goal.loop-k-preserved
