@@ -9,7 +9,7 @@ ghost use Rattle.er_rules.specs.Rules.{targets_of};
 ghost use Rattle.er_run.specs.Inner.Reports.{WritesFound};
 ghost use Rattle.er_batch.specs.Limits.{bytes_past_limit};
 ghost use Rattle.er_run.specs.Replays.{IsReplayed, IsFailed, IsNoDamage, WritesNothing, FailsBy, is_stopped, is_verdict_of};
-ghost use Rattle.er_run.specs.Reports.{IsReportOfText, IsFaultOfText};
+ghost use Rattle.er_run.specs.Reports.{IsReportOfText, IsReportOfSteps, IsFaultOfText};
 ghost use Rattle.er_text.specs.Ending.{IsEndingOf};
 
 use crate::passes::{Reported, report_in_batches};
@@ -175,7 +175,7 @@ where
     })
 }
 
-// Reads and replays a text, by one worker or by several.
+// Reads and replays a text. The report says how many events it lost.
 fn report_on<R, D, V>(
     rt: &R,
     alloc: Global,
@@ -199,17 +199,43 @@ where
     ensures taken { taken_of reader.new ≤ taken_of reader.old + options.now.byte_limit + bytes_past_limit }
     ensures whole { 1 < options.now.workers → IfOk result (λ found. found.report.stop ≡ None) }
 {
-    let found = if options.workers > 1 {
-        report_by_crew(rt, alloc, reader, suppressions, options, watcher)
-    } else {
-        report_in_batches(rt, alloc, reader, suppressions, options, watcher)
-    };
-    match found {
+    match report_of_steps(rt, alloc, reader, suppressions, options, watcher) {
         Ok(mut found) => {
             found.report.lost = found.ending.lost_events();
             Ok(found)
         }
         Err(why) => Err(why),
+    }
+}
+
+// Reads and replays a text, by one worker or by several. Nothing is said of lost events yet.
+fn report_of_steps<R, D, V>(
+    rt: &R,
+    alloc: Global,
+    reader: &mut Device<D>,
+    suppressions: &Suppressions,
+    options: &Options,
+    watcher: &mut V,
+) -> Result<Reported, RunFault>
+where
+    R: Threads + Wait + Sync,
+    D: Read,
+    V: Watch,
+    requires reader { has_failed reader.old ≡ false }
+    ensures report { IfOk result (λ found. IfSome (D.remaining (inner_of reader.old)) (λ text. IsReportOfSteps text options.now.byte_limit (targets_of suppressions.now) options.now.explain found.trace.names found.report)) }
+    ensures named { IfOk result (λ found. All (HasNames found.trace.names) found.report.lines.items) }
+    ensures ending { IfOk result (λ found. IfSome (D.remaining (inner_of reader.old)) (λ text. IsEndingOf text found.ending)) }
+    ensures fault { IfErr result (λ why. IsFaultOfText (D.remaining (inner_of reader.old)) options.now.byte_limit why) }
+    ensures undamaged { IsTrue options.now.strict → OnOk result (IfSome (D.remaining (inner_of reader.old)) (λ text. IsDamageOf text options.now.byte_limit no_damage)) }
+    ensures lenient { IsFalse options.now.strict → IfErr result IsNoDamage }
+    ensures failed { FailsBy (has_failed reader.new) false result }
+    ensures taken { taken_of reader.new ≤ taken_of reader.old + options.now.byte_limit + bytes_past_limit }
+    ensures whole { 1 < options.now.workers → IfOk result (λ found. found.report.stop ≡ None) }
+{
+    if options.workers > 1 {
+        report_by_crew(rt, alloc, reader, suppressions, options, watcher)
+    } else {
+        report_in_batches(rt, alloc, reader, suppressions, options, watcher)
     }
 }
 
