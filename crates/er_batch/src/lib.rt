@@ -12,12 +12,13 @@
 //! stop = answer_batch(&rt, &mut machine, &trace, &mut builder, stop)?;
 //! ```
 //!
-//! [`Options`] says how a replay is run, a [`Watch`] sees how far it has come, and a [`Verdict`] is what it comes to.
+//! [`Options`] says how a replay is run, a [`Watch`] sees how far it has come, and a [`Verdict`] is what it comes to,
+//! with how the text ended in [`Replayed`].
 #![tactic(auto)]
 
 pub use answering::answer_batch;
 pub use options::Options;
-pub use verdict::Verdict;
+pub use verdict::{Replayed, Verdict};
 pub use watching::{Progress, Unwatched, Watch};
 
 mod answering;

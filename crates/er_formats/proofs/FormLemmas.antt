@@ -19,10 +19,11 @@ use Rattle.er_run.specs.Replays.{IsReportOfRun, WritesNothing, is_stopped}
 use Rattle.er_run.specs.Reports.{IsReportOfText}
 use Rattle.er_run.specs.declared.fault.RunFault.{RunFault}
 use Rattle.er_run.specs.declared.fault.RunFault.TheVariants.{Read, Write, Replay, Memory, Damaged}
-use Rattle.er_batch.specs.declared.verdict.Verdict.{Verdict}
+use Rattle.er_batch.specs.declared.verdict.Replayed.{Replayed}
 use Rattle.er_sarif.specs.Document.{sarif_text}
 use Rattle.er_sites.specs.Text.{sites_text}
 use Rattle.er_sites.specs.Written.{WritesSites}
+use Rattle.er_text.specs.Ending.{lost_told}
 use Rattle.er_text.specs.declared.faults.ReadFault.{ReadFault}
 use Rattle.er_trace.specs.Names.{NameTable}
 
@@ -55,16 +56,16 @@ of-html old new names table rules report (Err writing.Write) written = (html_tex
 module _ (Knows : Report → PlaceTable → Type 0) (form : Form) (told : Option (List ℕ)) (limit : ℕ) (rules : List Target) (explain : Bool) (old new : Option (List ℕ)) (names : NameTable) (table : PlaceTable) (report : Report)
     (knows : Knows report table) where
   -- the report of a text is that of a run of its trace
-  run-of : (text : List ℕ) (built : IsReportOfText text limit rules explain names report) → IsReportOfRun built.recording rules explain report
+  run-of : (text : List ℕ) (built : IsReportOfText text limit rules explain names report) → IsReportOfRun (lost_told text) built.recording rules explain report
   run-of text built = record { stop = built.stop; within = built.run.within; cause = built.run.cause; says = built.says }
 
   -- the whole form was written
-  pub whole : (result : Result Verdict RunFault) → IfSome told (λ text. IsReportOfText text limit rules explain names report) → WritesFound form old new names table rules report result
-      → IfOk result (λ verdict. IfSome told (λ text. IsReplayedWith Knows form text limit rules explain old new verdict))
+  pub whole : (result : Result Replayed RunFault) → IfSome told (λ text. IsReportOfText text limit rules explain names report) → WritesFound form old new names table rules report result
+      → IfOk result (λ replayed. IfSome told (λ text. IsReplayedWith Knows form text limit rules explain old new replayed.verdict))
   whole (Err why) built written = tt
-  whole (Ok verdict) built written = by told built
+  whole (Ok replayed) built written = by told built
     where
-      by : (o : Option (List ℕ)) → IfSome o (λ text. IsReportOfText text limit rules explain names report) → IfSome o (λ text. IsReplayedWith Knows form text limit rules explain old new verdict)
+      by : (o : Option (List ℕ)) → IfSome o (λ text. IsReportOfText text limit rules explain names report) → IfSome o (λ text. IsReplayedWith Knows form text limit rules explain old new replayed.verdict)
       by None built = tt
       by (Some text) built = record {
         recording = built.recording;
@@ -80,9 +81,9 @@ module _ (Knows : Report → PlaceTable → Type 0) (form : Form) (told : Option
       }
 
   -- or a beginning of it, or nothing
-  pub part : (result : Result Verdict RunFault) → IfSome told (λ text. IsReportOfText text limit rules explain names report) → WritesFound form old new names table rules report result
-      → IsFailedWith Knows form told limit rules explain old new result
-  part (Ok verdict) built written = tt
+  pub part : (result : Result Replayed RunFault) → IfSome told (λ text. IsReportOfText text limit rules explain names report) → WritesFound form old new names table rules report result
+      → IfErr result (λ why. IsFailedWith Knows form told limit rules explain old new (Err why))
+  part (Ok replayed) built written = tt
   part (Err (Read fault)) built written = absurd written
   part (Err (Replay fault)) built written = absurd written
   part (Err Memory) built written = absurd written
@@ -105,9 +106,9 @@ module _ (Knows : Report → PlaceTable → Type 0) (form : Form) (told : Option
         written = written.1.1.1;
       }
 
-pub nothing : (form : Form) (old new : Option (List ℕ)) (names : NameTable) (table : PlaceTable) (rules : List Target) (report : Report) (result : Result Verdict RunFault) → WritesFound form old new names table rules report result
+pub nothing : (form : Form) (old new : Option (List ℕ)) (names : NameTable) (table : PlaceTable) (rules : List Target) (report : Report) (result : Result Replayed RunFault) → WritesFound form old new names table rules report result
     → IfErr result (WritesNothing old new)
-nothing form old new names table rules report (Ok verdict) written = tt
+nothing form old new names table rules report (Ok replayed) written = tt
 nothing form old new names table rules report (Err (Read fault)) written = absurd written
 nothing form old new names table rules report (Err (Replay fault)) written = absurd written
 nothing form old new names table rules report (Err Memory) written = absurd written
@@ -115,16 +116,16 @@ nothing form old new names table rules report (Err (Damaged damage)) written = a
 nothing form old new names table rules report (Err (Write writing.Memory)) written = written
 nothing form old new names table rules report (Err (Write writing.Write)) written = tt
 
-pub unstopped : (form : Form) (old new : Option (List ℕ)) (names : NameTable) (table : PlaceTable) (rules : List Target) (report : Report) (result : Result Verdict RunFault) → report.stop ≡ None
-    → WritesFound form old new names table rules report result → IfOk result (λ verdict. IsFalse (is_stopped verdict))
-unstopped form old new names table rules report (Ok verdict) none written = rw written.0 (not_stopped report.stop report.races none)
+pub unstopped : (form : Form) (old new : Option (List ℕ)) (names : NameTable) (table : PlaceTable) (rules : List Target) (report : Report) (result : Result Replayed RunFault) → report.stop ≡ None
+    → WritesFound form old new names table rules report result → IfOk result (λ replayed. IsFalse (is_stopped replayed.verdict))
+unstopped form old new names table rules report (Ok replayed) none written = rw written.0 (not_stopped report.stop report.races none)
 unstopped form old new names table rules report (Err why) none written = tt
 
 -- with the places of a second look
 module _ (second : Option (List ℕ)) (limit : ℕ) (form : Form) (old new : Option (List ℕ)) (names : NameTable) (rules : List Target) (report : Report) where
-  pub placed : (written : Result Verdict RunFault) (unplaced : Option ReadFault) (table : PlaceTable) → HasPlacesOf second limit unplaced report table
+  pub placed : (written : Result Replayed RunFault) (unplaced : Option ReadFault) (table : PlaceTable) → HasPlacesOf second limit unplaced report table
       → WritesFound form old new names table rules report written → WritesPlaced second limit form old new names rules report (told_of written unplaced)
-  placed (Ok verdict) unplaced table has written = (table, (has, written))
+  placed (Ok replayed) unplaced table has written = (table, (has, written))
   placed (Err why) unplaced table has written = (table, ((unplaced, has), written))
 
   pub whole-twice : (told : Option (List ℕ)) (explain : Bool) (result : Result ReplayedTwice RunFault) → IfSome told (λ text. IsReportOfText text limit rules explain names report)
@@ -132,7 +133,7 @@ module _ (second : Option (List ℕ)) (limit : ℕ) (form : Form) (old new : Opt
       → IfOk result (λ found. IfSome told (λ text. IsReplayedWith (HasPlacesOf second limit found.unplaced) form text limit rules explain old new found.verdict))
   whole-twice told explain (Err why) built written = tt
   whole-twice told explain (Ok found) built written =
-      whole (HasPlacesOf second limit found.unplaced) form told limit rules explain old new names written.0 report written.1.0 (Ok found.verdict) built written.1.1
+      whole (HasPlacesOf second limit found.unplaced) form told limit rules explain old new names written.0 report written.1.0 (Ok (record { verdict = found.verdict; ending = found.ending })) built written.1.1
 
   pub part-twice : (told : Option (List ℕ)) (explain : Bool) (result : Result ReplayedTwice RunFault) → IfSome told (λ text. IsReportOfText text limit rules explain names report)
       → WritesPlaced second limit form old new names rules report result
@@ -147,5 +148,5 @@ module _ (second : Option (List ℕ)) (limit : ℕ) (form : Form) (old new : Opt
 
   pub unstopped-twice : (result : Result ReplayedTwice RunFault) → report.stop ≡ None → WritesPlaced second limit form old new names rules report result
       → IfOk result (λ found. IsFalse (is_stopped found.verdict))
-  unstopped-twice (Ok found) none written = unstopped form old new names written.0 rules report (Ok found.verdict) none written.1.1
+  unstopped-twice (Ok found) none written = unstopped form old new names written.0 rules report (Ok (record { verdict = found.verdict; ending = found.ending })) none written.1.1
   unstopped-twice (Err why) none written = tt

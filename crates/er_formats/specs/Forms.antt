@@ -11,6 +11,7 @@ use Rattle.er_report.specs.Report.{told as summary}
 use Rattle.er_report.specs.declared.report.Report.{Report}
 use Rattle.er_rules.specs.Rules.{Target}
 use Rattle.er_run.specs.Replays.{IsReportOfRun, IsFailedBy, is_verdict_of}
+use Rattle.er_text.specs.Ending.{lost_told}
 use Rattle.er_run.specs.declared.fault.RunFault.{RunFault}
 use Rattle.er_batch.specs.declared.verdict.Verdict.{Verdict}
 use Rattle.er_sarif.specs.Document.{sarif_text}
@@ -49,7 +50,7 @@ pub record IsReplayedWith (Knows : Report → PlaceTable → Type 0) (form : For
   pub table : PlaceTable
   pub bytes : List ℕ
   pub trace : IsTrace text limit recording
-  pub run : IsReportOfRun recording rules explain report
+  pub run : IsReportOfRun (lost_told text) recording rules explain report
   pub knows : Knows report table
   pub whole : IsForm form recording.names table rules report bytes
   pub written : Appends old new bytes
@@ -67,7 +68,7 @@ pub record IsBegunWith (Knows : Report → PlaceTable → Type 0) (form : Form) 
   pub bytes : List ℕ
   pub count : ℕ
   pub trace : IsTrace text limit recording
-  pub run : IsReportOfRun recording rules explain report
+  pub run : IsReportOfRun (lost_told text) recording rules explain report
   pub knows : Knows report table
   pub whole : IsForm form recording.names table rules report bytes
   pub written : Appends old new (take count bytes)

@@ -9,6 +9,7 @@ ghost use Rattle.er_report.specs.Names.{HasNames};
 ghost use Rattle.er_rules.specs.Rules.{targets_of};
 ghost use Rattle.er_batch.specs.Limits.{bytes_past_limit};
 ghost use Rattle.er_run.specs.Replays.{IsNoDamage, WritesNothing, FailsBy, is_stopped};
+ghost use Rattle.er_text.specs.Ending.{IsEndingOf};
 
 use er_device::Device;
 use er_html::write_html;
@@ -17,10 +18,12 @@ use er_places::{Places, places_of_reasons};
 use er_print::WriteFault;
 use er_report::Report;
 use er_rules::Suppressions;
-use er_run::{Options, ReplayedTrace, RunFault, Verdict, Watch, replay_report, verdict_of};
+use er_run::{
+    Options, Replayed, ReplayedTrace, RunFault, Verdict, Watch, replay_report, verdict_of,
+};
 use er_sarif::write_sarif;
 use er_sites::write_sites;
-use er_text::ReadFault;
+use er_text::{Ending, ReadFault};
 use er_trace::{NameKeys, Names};
 use std::alloc::Global;
 use std::io::{Read, Write};
@@ -47,6 +50,8 @@ pub struct ReplayedTwice {
     pub verdict: Verdict,
     /// Why the text couldn't be read again, if it couldn't. The form then lacks the places of reasons.
     pub unplaced: Option<ReadFault>,
+    /// How the text ended.
+    pub ending: Ending,
 }
 
 /// Reads a trace text, replays it, and writes its report in a form, without the races that the rules take. It reads, replays and ends
@@ -59,7 +64,7 @@ pub fn replay_as<R, D, W, V>(
     options: &Options,
     form: Form,
     watcher: &mut V,
-) -> Result<Verdict, RunFault>
+) -> Result<Replayed, RunFault>
 where
     R: AllocGlobal + Threads + Wait + Sync,
     D: Read,
@@ -67,14 +72,15 @@ where
     V: Watch,
     requires reader { has_failed reader.old ≡ false }
     requires writer { has_failed writer.old ≡ false }
-    ensures form { IfOk result (λ verdict. IfSome (D.remaining (inner_of reader.old)) (λ text. IsReplayedAs form text options.now.byte_limit (targets_of suppressions.now) options.now.explain (W.contents (inner_of writer.old)) (W.contents (inner_of writer.new)) verdict)) }
-    ensures fault { IsFailedAs form (D.remaining (inner_of reader.old)) options.now.byte_limit (targets_of suppressions.now) options.now.explain (W.contents (inner_of writer.old)) (W.contents (inner_of writer.new)) result }
+    ensures form { IfOk result (λ replayed. IfSome (D.remaining (inner_of reader.old)) (λ text. IsReplayedAs form text options.now.byte_limit (targets_of suppressions.now) options.now.explain (W.contents (inner_of writer.old)) (W.contents (inner_of writer.new)) replayed.verdict)) }
+    ensures ending { IfOk result (λ replayed. IfSome (D.remaining (inner_of reader.old)) (λ text. IsEndingOf text replayed.ending)) }
+    ensures fault { IfErr result (λ why. IsFailedAs form (D.remaining (inner_of reader.old)) options.now.byte_limit (targets_of suppressions.now) options.now.explain (W.contents (inner_of writer.old)) (W.contents (inner_of writer.new)) (Err why)) }
     ensures undamaged { IsTrue options.now.strict → OnOk result (IfSome (D.remaining (inner_of reader.old)) (λ text. IsDamageOf text options.now.byte_limit no_damage)) }
     ensures lenient { IsFalse options.now.strict → IfErr result IsNoDamage }
     ensures nothing { IfErr result (λ why. WritesNothing (W.contents (inner_of writer.old)) (W.contents (inner_of writer.new)) why) }
     ensures failed { FailsBy (has_failed reader.new) (has_failed writer.new) result }
     ensures taken { taken_of reader.new ≤ taken_of reader.old + options.now.byte_limit + bytes_past_limit }
-    ensures whole { 1 < options.now.workers → IfOk result (λ verdict. IsFalse (is_stopped verdict)) }
+    ensures whole { 1 < options.now.workers → IfOk result (λ replayed. IsFalse (is_stopped replayed.verdict)) }
 {
     match replay_report(rt, rt.alloc(), reader, suppressions, options, watcher) {
         Ok(found) => {
@@ -109,6 +115,7 @@ where
     requires writer { has_failed writer.old ≡ false }
     ensures form { IfOk result (λ told. IfSome (D.remaining (inner_of reader.old)) (λ text. IsReplayedWith (HasPlacesOf (A.remaining (inner_of again.old)) options.now.byte_limit told.unplaced)
         form text options.now.byte_limit (targets_of suppressions.now) options.now.explain (W.contents (inner_of writer.old)) (W.contents (inner_of writer.new)) told.verdict)) }
+    ensures ending { IfOk result (λ told. IfSome (D.remaining (inner_of reader.old)) (λ text. IsEndingOf text told.ending)) }
     ensures fault { IfErr result (λ why. IsFailedWith (MayHavePlaces (A.remaining (inner_of again.old)) options.now.byte_limit)
         form (D.remaining (inner_of reader.old)) options.now.byte_limit (targets_of suppressions.now) options.now.explain (W.contents (inner_of writer.old)) (W.contents (inner_of writer.new)) (Err why)) }
     ensures undamaged { IsTrue options.now.strict → OnOk result (IfSome (D.remaining (inner_of reader.old)) (λ text. IsDamageOf text options.now.byte_limit no_damage)) }
@@ -153,6 +160,7 @@ fn write_placed<A: Read, W: Write>(
     requires named { All (HasNames found.now.trace.names) found.now.report.lines.items }
     requires limit { byte_limit ≤ 2 ^ 62 }
     ensures found { WritesPlaced (A.remaining (inner_of again.old)) byte_limit form (W.contents (inner_of writer.old)) (W.contents (inner_of writer.new)) found.now.trace.names (targets_of suppressions.now) found.now.report result }
+    ensures ending { IfOk result (λ told. told.ending ≡ found.now.ending) }
     ensures failed { FailsBy false (has_failed writer.new) result }
 {
     match places_of_reasons(alloc, again, byte_limit, keys, &found.report.lines) {
@@ -169,13 +177,17 @@ fn write_placed<A: Read, W: Write>(
 
 // What was written, and why there is no place.
 fn told(
-    written: Result<Verdict, RunFault>,
+    written: Result<Replayed, RunFault>,
     unplaced: Option<ReadFault>,
 ) -> Result<ReplayedTwice, RunFault>
     ensures { result ≡ told_of written unplaced }
 {
     match written {
-        Ok(verdict) => Ok(ReplayedTwice { verdict, unplaced }),
+        Ok(Replayed { verdict, ending }) => Ok(ReplayedTwice {
+            verdict,
+            unplaced,
+            ending,
+        }),
         Err(why) => Err(why),
     }
 }
@@ -187,10 +199,11 @@ fn write_unplaced<W: Write>(
     found: &ReplayedTrace,
     suppressions: &Suppressions,
     form: Form,
-) -> Result<Verdict, RunFault>
+) -> Result<Replayed, RunFault>
     requires writer { has_failed writer.old ≡ false }
     requires named { All (HasNames found.now.trace.names) found.now.report.lines.items }
     ensures found { WritesUnplaced form (W.contents (inner_of writer.old)) (W.contents (inner_of writer.new)) found.now.trace.names (targets_of suppressions.now) found.now.report result }
+    ensures ending { IfOk result (λ replayed. replayed.ending ≡ found.now.ending) }
     ensures failed { FailsBy false (has_failed writer.new) result }
 {
     write_with(alloc, writer, found, Places::new(alloc), suppressions, form)
@@ -204,10 +217,11 @@ fn write_with<W: Write>(
     places: Places,
     suppressions: &Suppressions,
     form: Form,
-) -> Result<Verdict, RunFault>
+) -> Result<Replayed, RunFault>
     requires writer { has_failed writer.old ≡ false }
     requires named { All (HasNames found.now.trace.names) found.now.report.lines.items }
     ensures found { WritesFound form (W.contents (inner_of writer.old)) (W.contents (inner_of writer.new)) found.now.trace.names places (targets_of suppressions.now) found.now.report result }
+    ensures ending { IfOk result (λ replayed. replayed.ending ≡ found.now.ending) }
     ensures failed { FailsBy false (has_failed writer.new) result }
 {
     let written = write_found(alloc, writer, found, &places, suppressions, form);
@@ -223,10 +237,11 @@ fn write_found<W: Write>(
     places: &Places,
     suppressions: &Suppressions,
     form: Form,
-) -> Result<Verdict, RunFault>
+) -> Result<Replayed, RunFault>
     requires writer { has_failed writer.old ≡ false }
     requires named { All (HasNames found.now.trace.names) found.now.report.lines.items }
     ensures found { WritesFound form (W.contents (inner_of writer.old)) (W.contents (inner_of writer.new)) found.now.trace.names places.now (targets_of suppressions.now) found.now.report result }
+    ensures ending { IfOk result (λ replayed. replayed.ending ≡ found.now.ending) }
     ensures failed { FailsBy false (has_failed writer.new) result }
 {
     match write_form(
@@ -238,7 +253,10 @@ fn write_found<W: Write>(
         suppressions,
         form,
     ) {
-        Ok(()) => Ok(verdict_of(&found.report)),
+        Ok(()) => Ok(Replayed {
+            verdict: verdict_of(&found.report),
+            ending: found.ending,
+        }),
         Err(why) => Err(RunFault::Write(why)),
     }
 }

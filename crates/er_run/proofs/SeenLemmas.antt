@@ -15,6 +15,7 @@ use Rattle.er_text.specs.Ending.{KnowsEnd, IsEndingOf}
 use Rattle.er_text.specs.Places.{Reached}
 use Rattle.er_text.specs.Trace.{IsTrace}
 use Rattle.er_text.specs.declared.endings.Ending.{Ending}
+use Rattle.er_text.specs.declared.endings.Lost.{Lost}
 use Rattle.er_text.specs.declared.reading.Batch.{Batch}
 use Rattle.er_text.specs.declared.reading.Batch.TheVariants.{More, End}
 use Rattle.er_trace.specs.Trace.{Recording, no_steps, without_steps}
@@ -58,16 +59,17 @@ seen-begun reader trace seen empty starts stands told =
     read-by (Some text) = starts text
 
 -- no damage
-clean_by : (a b c d : Option ℕ) → (is_some a || is_some b || is_some c || is_some d) ≡ false →
-    (let found : Damage = record { refused = a; held_twice = b; no_line_feed = c; no_end = d } in found) ≡ no_damage
-clean_by None None None None none = refl
-clean_by (Some a) b c d none = absurd (cc)
-clean_by None (Some b) c d none = absurd (cc)
-clean_by None None (Some c) d none = absurd (cc)
-clean_by None None None (Some d) none = absurd (cc)
+clean_by : (a b c d : Option ℕ) (e : Option Lost) → (is_some a || is_some b || is_some c || is_some d || is_some e) ≡ false →
+    (let found : Damage = record { refused = a; held_twice = b; no_line_feed = c; no_end = d; lost = e } in found) ≡ no_damage
+clean_by None None None None None none = refl
+clean_by (Some a) b c d e none = absurd (cc)
+clean_by None (Some b) c d e none = absurd (cc)
+clean_by None None (Some c) d e none = absurd (cc)
+clean_by None None None (Some d) e none = absurd (cc)
+clean_by None None None None (Some e) none = absurd (cc)
 
 clean : (damage : Damage) → has_damage damage ≡ false → damage ≡ no_damage
-clean damage none = clean_by damage.refused damage.held_twice damage.no_line_feed damage.no_end none
+clean damage none = clean_by damage.refused damage.held_twice damage.no_line_feed damage.no_end damage.lost none
 
 -- the damage that is found is the text's
 module _ (told : Option (List ℕ)) (limit : ℕ) (reader : Reached) (seen : Inspected) (ending : Ending) (damage : Damage)
@@ -85,6 +87,12 @@ module _ (told : Option (List ℕ)) (limit : ℕ) (reader : Reached) (seen : Ins
 
   pub none-found : has_damage damage ≡ false → HasFound told limit true None
   none-found none = λ strict. subst (λ (d : Damage). IfSome told (λ text. IsDamageOf text limit d)) (clean damage none) is_damage
+
+-- the reader knows how the text ends
+pub ending-of : (told : Option (List ℕ)) (limit : ℕ) (reader : Reached) (seen : Option Inspected) (ending : Ending) → IfSome told (λ text. HasSeenAll text limit reader seen)
+    → ((text : List ℕ) → KnowsEnd text reader → IsEndingOf text ending) → IfSome told (λ text. IsEndingOf text ending)
+ending-of None limit reader seen ending all ends = tt
+ending-of (Some text) limit reader seen ending all ends = ends text all.ends
 
 -- the workers' faults are no damage
 pub workers-no_damage : (why : ReplayFault) → IsNoDamage (fault_of why)

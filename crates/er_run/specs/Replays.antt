@@ -1,5 +1,5 @@
 -- What a whole replay comes to, from the bytes read to the bytes written.
-use Rattle.std.specs.Prelude.{◌≡◌, ℕ, ◌<◌, nat_lt, Bool, true, false, cond, List, [], length, take, Option, Some, None, IfSome, Result, Ok, Err}
+use Rattle.std.specs.Prelude.{◌≡◌, ℕ, ◌<◌, nat_lt, Bool, true, false, cond, List, length, take, Option, Some, None, IfSome, Result, Ok, Err}
 use Rattle.std.specs.Io.KnownBytes.{Appends, Keeps}
 use Rattle.er_batch.specs.Runs.{MayStopAt, IsRunOf}
 use Rattle.er_batch.specs.declared.verdict.Verdict.{Verdict}
@@ -12,13 +12,14 @@ use Rattle.er_journal.specs.declared.answers.Stopped.{Stopped}
 use Rattle.er_parallel.specs.Faults.{AsksForSet}
 use Rattle.er_parallel.specs.declared.faults.ReplayFault.{ReplayFault}
 use Rattle.er_parallel.specs.declared.faults.ReplayFault.TheVariants as replaying
-use Rattle.er_print.specs.Printed.{output_of}
+use Rattle.er_print.specs.Printed.{report_text}
 use Rattle.er_print.specs.declared.fault.WriteFault.TheVariants as writing
-use Rattle.er_report.specs.Report.{report_of, told as summary}
+use Rattle.er_report.specs.Report.{Summary, report_of, told as summary}
 use Rattle.er_report.specs.declared.report.Report.{Report}
 use Rattle.er_rules.specs.Rules.{Target}
 use Rattle.er_run.specs.declared.fault.RunFault.{RunFault}
 use Rattle.er_run.specs.declared.fault.RunFault.TheVariants.{Read, Write, Replay, Memory, Damaged}
+use Rattle.er_text.specs.Ending.{lost_told}
 use Rattle.er_text.specs.Trace.{IsTrace, IsFault}
 use Rattle.er_text.specs.declared.faults.ReadFault.TheVariants as reading
 
@@ -27,12 +28,20 @@ abbrev pub verdict_of : Recording → List Target → Bool → Option Stopped �
 verdict_of recording rules explain (Some stop) = verdict.Stopped
 verdict_of recording rules explain None = cond (nat_lt 0 (report_of recording rules explain None).races) verdict.Races verdict.Clean
 
+-- the report of a run over these steps, with so many lost events
+abbrev pub report_with : Option ℕ → Recording → List Target → Bool → Option Stopped → Summary
+report_with lost recording rules explain stop = record (report_of recording rules explain stop) { lost = lost }
+
+-- the bytes of the report of a run over the steps of this text
+abbrev pub output_of : List ℕ → Recording → List Target → Bool → Option Stopped → List ℕ
+output_of text recording rules explain stop = report_text recording.names (report_with (lost_told text) recording rules explain stop)
+
 -- the text is a trace, and what was written is the whole report of a run of it under these rules, with reasons or without
 pub record IsReplayed (text : List ℕ) (limit : ℕ) (rules : List Target) (explain : Bool) (old new : Option (List ℕ)) (told : Verdict) : Type 0 where
   pub recording : Recording
   pub stop : Option Stopped
   pub run : IsRunOf text limit recording stop
-  pub written : Appends old new (output_of recording rules explain stop)
+  pub written : Appends old new (output_of text recording rules explain stop)
   pub verdict : told ≡ verdict_of recording rules explain stop
 
 -- the text is a trace, and what was written is the beginning of the report of a run of it under these rules
@@ -41,7 +50,7 @@ pub record IsBegun (text : List ℕ) (limit : ℕ) (rules : List Target) (explai
   pub stop : Option Stopped
   pub count : ℕ
   pub run : IsRunOf text limit recording stop
-  pub written : Appends old new (take count (output_of recording rules explain stop))
+  pub written : Appends old new (take count (output_of text recording rules explain stop))
 
 -- the text is a trace, and some step of it asks the table for a set of locks
 pub record HasStepForSet (text : List ℕ) (limit : ℕ) : Type 0 where
@@ -49,11 +58,12 @@ pub record HasStepForSet (text : List ℕ) (limit : ℕ) : Type 0 where
   pub trace : IsTrace text limit recording
   pub asks : AsksForSet recording.steps
 
--- a fault of the workers: the table is full only if a step asks it for a set; a want of memory has a fault of its own, and no worker is lost
+-- a fault of the workers, of a text that is a trace: the table is full only if a step asks it for a set; a want of memory has a fault of its own, and
+-- no worker is lost
 abbrev pub IsReplayFault : Option (List ℕ) → ℕ → ReplayFault → Type 0
 IsReplayFault told limit replaying.Memory = ⊥
 IsReplayFault told limit replaying.TableFull = IfSome told (λ text. HasStepForSet text limit)
-IsReplayFault told limit replaying.WorkerNotStarted = Unit {0}
+IsReplayFault told limit replaying.WorkerNotStarted = IfSome told (λ text. (r : Recording) × IsTrace text limit r)
 IsReplayFault told limit replaying.WorkerLost = ⊥
 
 -- the text is a trace, and this is its damage, of which it has some
@@ -112,12 +122,12 @@ is_stopped verdict.Stopped = true
 is_stopped verdict.Races = false
 is_stopped verdict.Clean = false
 
--- the report of a run of the recording's steps under these rules
-pub record IsReportOfRun (recording : Recording) (rules : List Target) (explain : Bool) (report : Report) : Type 0 where
+-- the report of a run of the recording's steps under these rules, with so many lost events
+pub record IsReportOfRun (lost : Option ℕ) (recording : Recording) (rules : List Target) (explain : Bool) (report : Report) : Type 0 where
   pub stop : Option Stopped
   pub within : IfSome stop (λ s. s.at < length recording.steps)
   pub cause : IfSome stop (λ s. MayStopAt recording.steps s)
-  pub says : summary report ≡ report_of recording rules explain stop
+  pub says : summary report ≡ report_with lost recording rules explain stop
 
 -- what a report's numbers come to
 abbrev pub verdict_by : Option (ℕ × NoRoom) → ℕ → Verdict

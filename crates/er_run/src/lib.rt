@@ -6,7 +6,7 @@
 //!
 //! What it promises, by the names of clauses, if the reader and the writer tell their bytes, as a slice and a `Vec` do: what was
 //! written is exactly the report that the text and the rules define (`report`), a fault of the text is the text's first fault
-//! (`fault`), and nothing was written after any fault but a failed write, which leaves a beginning of the report (`nothing`,
+//! (`fault`), the replay knows how the text ended (`ending`), and nothing was written after any fault but a failed write, which leaves a beginning of the report (`nothing`,
 //! `fault`). Several workers write what one worker writes, without a stop (`whole`). They report a full table only if some step asks
 //! for a set of locks (`fault`).
 //!
@@ -22,7 +22,7 @@
 //! limit and 1,025 bytes were taken from the reader (`taken`).
 #![tactic(auto)]
 
-pub use er_batch::{Options, Progress, Unwatched, Verdict, Watch, answer_batch};
+pub use er_batch::{Options, Progress, Replayed, Unwatched, Verdict, Watch, answer_batch};
 pub use fault::RunFault;
 pub use replay::{ReplayedTrace, replay_report, replay_text, replay_text_watched, verdict_of};
 

@@ -7,8 +7,9 @@ ghost use Rattle.er_report.specs.Names.{HasNames};
 ghost use Rattle.er_rules.specs.Rules.{targets_of};
 ghost use Rattle.er_run.specs.Inner.Inspected.{HasSeen, HasSeenAll, HasFound};
 ghost use Rattle.er_run.specs.Inner.Passes.{HasCome, HasEnded};
-ghost use Rattle.er_run.specs.Inner.Reports.{IsReportOfText, IsFaultOfText};
+ghost use Rattle.er_run.specs.Inner.Reports.{IsReportOfSteps, IsFaultOfText};
 ghost use Rattle.er_run.specs.Replays.{FailsBy, IsNoDamage};
+ghost use Rattle.er_text.specs.Ending.{KnowsEnd, IsEndingOf};
 ghost use Rattle.er_text.specs.Inner.Lending.{taken_by};
 
 use crate::inspecting::{damage_of, inspect, start};
@@ -22,7 +23,7 @@ use er_replay::Machine;
 use er_report::{Report, ReportBuilder};
 use er_rules::Suppressions;
 use er_table::LocksetTable;
-use er_text::{Batch, TraceReader};
+use er_text::{Batch, Ending, TraceReader};
 use er_trace::Trace;
 use std::alloc::{AllocError, Global};
 use std::io::Read;
@@ -31,11 +32,12 @@ use std::sync::Wait;
 /// How many lines a batch has.
 const BATCH_LINES: u32 = 1024;
 
-/// A report, and a trace that has the names of its numbers.
+/// A report, a trace that has the names of its numbers, and how the text ended.
 #[derive(Drop)]
 pub(crate) struct Reported {
     pub(crate) report: Report,
     pub(crate) trace: Trace,
+    pub(crate) ending: Ending,
 }
 
 /// A replay by one worker that keeps no step: what reads the lines, the trace that each batch fills, and what is left of the steps so
@@ -178,7 +180,7 @@ impl<'t, 'r> Pass<'t, 'r> {
     /// The report of the text that was read, or its damage, if the replay is strict and there is any.
     fn end(self) -> Result<Reported, RunFault>
         ensures report { (told : Option (List ℕ)) (limit : ℕ) → HasEnded told limit self.entry.trace self.entry.machine self.entry.builder self.entry.stop
-            → IfOk result (λ found. IfSome told (λ text. IsReportOfText text limit self.entry.builder.rules (is_some self.entry.builder.kept) found.trace.names found.report)) }
+            → IfOk result (λ found. IfSome told (λ text. IsReportOfSteps text limit self.entry.builder.rules (is_some self.entry.builder.kept) found.trace.names found.report)) }
         ensures named { (told : Option (List ℕ)) (limit : ℕ) → HasEnded told limit self.entry.trace self.entry.machine self.entry.builder self.entry.stop
             → IfOk result (λ found. All (HasNames found.trace.names) found.report.lines.items) }
         ensures fault { (told : Option (List ℕ)) (limit : ℕ) → IfSome told (λ text. HasSeenAll text limit self.entry.lines self.entry.inspector)
@@ -186,6 +188,8 @@ impl<'t, 'r> Pass<'t, 'r> {
         ensures undamaged { (told : Option (List ℕ)) (limit : ℕ) → IfSome told (λ text. HasSeenAll text limit self.entry.lines self.entry.inspector)
             → is_some self.entry.inspector ≡ true → OnOk result (IfSome told (λ text. IsDamageOf text limit no_damage)) }
         ensures lenient { is_some self.entry.inspector ≡ false → IfErr result IsNoDamage }
+        ensures ending { (told : Option (List ℕ)) (limit : ℕ) → IfSome told (λ text. HasSeenAll text limit self.entry.lines self.entry.inspector)
+            → IfOk result (λ found. IfSome told (λ text. IsEndingOf text found.ending)) }
         ensures failed { FailsBy false false result }
     {
         match self.damage() {
@@ -200,9 +204,10 @@ impl<'t, 'r> Pass<'t, 'r> {
     /// The report of the text that was read, and its names.
     fn finish(self) -> Reported
         ensures report { (told : Option (List ℕ)) (limit : ℕ) → HasEnded told limit self.entry.trace self.entry.machine self.entry.builder self.entry.stop
-            → IfSome told (λ text. IsReportOfText text limit self.entry.builder.rules (is_some self.entry.builder.kept) result.trace.names result.report) }
+            → IfSome told (λ text. IsReportOfSteps text limit self.entry.builder.rules (is_some self.entry.builder.kept) result.trace.names result.report) }
         ensures named { (told : Option (List ℕ)) (limit : ℕ) → HasEnded told limit self.entry.trace self.entry.machine self.entry.builder self.entry.stop
             → All (HasNames result.trace.names) result.report.lines.items }
+        ensures ending { (text : List ℕ) → KnowsEnd text self.entry.lines → IsEndingOf text result.ending }
     {
         let Pass {
             lines,
@@ -212,10 +217,12 @@ impl<'t, 'r> Pass<'t, 'r> {
             stop,
             inspector,
         } = self;
+        let ending = lines.ending();
         close(lines, machine, inspector);
         Reported {
             report: builder.finish_explained(stop),
             trace,
+            ending,
         }
     }
 }
@@ -237,8 +244,9 @@ pub(crate) fn report_in_batches<R: Wait, D: Read, V: Watch>(
     watcher: &mut V,
 ) -> Result<Reported, RunFault>
     requires reader { has_failed reader.old ≡ false }
-    ensures report { IfOk result (λ found. IfSome (D.remaining (inner_of reader.old)) (λ text. IsReportOfText text options.now.byte_limit (targets_of suppressions.now) options.now.explain found.trace.names found.report)) }
+    ensures report { IfOk result (λ found. IfSome (D.remaining (inner_of reader.old)) (λ text. IsReportOfSteps text options.now.byte_limit (targets_of suppressions.now) options.now.explain found.trace.names found.report)) }
     ensures named { IfOk result (λ found. All (HasNames found.trace.names) found.report.lines.items) }
+    ensures ending { IfOk result (λ found. IfSome (D.remaining (inner_of reader.old)) (λ text. IsEndingOf text found.ending)) }
     ensures fault { IfErr result (λ why. IsFaultOfText (D.remaining (inner_of reader.old)) options.now.byte_limit why) }
     ensures undamaged { IsTrue options.now.strict → OnOk result (IfSome (D.remaining (inner_of reader.old)) (λ text. IsDamageOf text options.now.byte_limit no_damage)) }
     ensures lenient { IsFalse options.now.strict → IfErr result IsNoDamage }
@@ -262,8 +270,9 @@ fn report_with<R: Wait, D: Read, V: Watch>(
     watcher: &mut V,
 ) -> Result<Reported, RunFault>
     requires reader { has_failed reader.old ≡ false }
-    ensures report { IfOk result (λ found. IfSome (D.remaining (inner_of reader.old)) (λ text. IsReportOfText text options.now.byte_limit (targets_of suppressions.now) options.now.explain found.trace.names found.report)) }
+    ensures report { IfOk result (λ found. IfSome (D.remaining (inner_of reader.old)) (λ text. IsReportOfSteps text options.now.byte_limit (targets_of suppressions.now) options.now.explain found.trace.names found.report)) }
     ensures named { IfOk result (λ found. All (HasNames found.trace.names) found.report.lines.items) }
+    ensures ending { IfOk result (λ found. IfSome (D.remaining (inner_of reader.old)) (λ text. IsEndingOf text found.ending)) }
     ensures fault { IfErr result (λ why. IsFaultOfText (D.remaining (inner_of reader.old)) options.now.byte_limit why) }
     ensures undamaged { IsTrue options.now.strict → OnOk result (IfSome (D.remaining (inner_of reader.old)) (λ text. IsDamageOf text options.now.byte_limit no_damage)) }
     ensures lenient { IsFalse options.now.strict → IfErr result IsNoDamage }

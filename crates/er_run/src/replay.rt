@@ -1,5 +1,5 @@
 //! Bytes in, report out.
-ghost use Rattle.std.specs.Prelude.{◌≡◌, ◌+◌, ◌≤◌, ◌<◌, false, All, IfSome, IfOk, IfErr, OnOk, IsTrue, IsFalse, None};
+ghost use Rattle.std.specs.Prelude.{◌≡◌, ◌+◌, ◌≤◌, ◌<◌, false, All, Err, IfSome, IfOk, IfErr, OnOk, IsTrue, IsFalse, None};
 ghost use Rattle.er_damage.specs.Damaged.{IsDamageOf, no_damage};
 ghost use Rattle.er_device.specs.Device.{inner_of, has_failed, taken_of};
 ghost use Rattle.er_print.specs.Printed.{report_text};
@@ -9,15 +9,17 @@ ghost use Rattle.er_rules.specs.Rules.{targets_of};
 ghost use Rattle.er_run.specs.Inner.Reports.{WritesFound};
 ghost use Rattle.er_batch.specs.Limits.{bytes_past_limit};
 ghost use Rattle.er_run.specs.Replays.{IsReplayed, IsFailed, IsNoDamage, WritesNothing, FailsBy, is_stopped, is_verdict_of};
-ghost use Rattle.er_run.specs.Reports.{IsReportOfText, IsFaultOfText};
+ghost use Rattle.er_run.specs.Reports.{IsReportOfText, IsReportOfSteps, IsFaultOfText};
+ghost use Rattle.er_text.specs.Ending.{IsEndingOf};
 
 use crate::passes::{Reported, report_in_batches};
 use crate::several::report_by_crew;
-use crate::{Options, RunFault, Unwatched, Verdict, Watch};
+use crate::{Options, Replayed, RunFault, Unwatched, Verdict, Watch};
 use er_device::Device;
 use er_print::write_report;
 use er_report::Report;
 use er_rules::Suppressions;
+use er_text::Ending;
 use er_trace::Trace;
 use std::alloc::Global;
 use std::io::{Read, Write};
@@ -31,6 +33,8 @@ pub struct ReplayedTrace {
     pub report: Report,
     /// It has the names of the numbers in the report. Most of its steps were forgotten.
     pub trace: Trace,
+    /// How the text ended.
+    pub ending: Ending,
 }
 
 /// Reads a trace text, replays it, and writes its report, without the races that the rules take.
@@ -63,7 +67,10 @@ where
     ensures taken { taken_of reader.new ≤ taken_of reader.old + options.now.byte_limit + bytes_past_limit }
     ensures whole { 1 < options.now.workers → IfOk result (λ verdict. IsFalse (is_stopped verdict)) }
 {
-    replay_text_watched(rt, reader, writer, suppressions, options, &mut Unwatched)
+    match replay_text_watched(rt, reader, writer, suppressions, options, &mut Unwatched) {
+        Ok(replayed) => Ok(replayed.verdict),
+        Err(why) => Err(why),
+    }
 }
 
 /// The same, seen by a watcher: it is told behind each batch how far the replay has come, and called once more before the report is
@@ -75,7 +82,7 @@ pub fn replay_text_watched<R, D, W, V>(
     suppressions: &Suppressions,
     options: &Options,
     watcher: &mut V,
-) -> Result<Verdict, RunFault>
+) -> Result<Replayed, RunFault>
 where
     R: AllocGlobal + Threads + Wait + Sync,
     D: Read,
@@ -83,22 +90,23 @@ where
     V: Watch,
     requires reader { has_failed reader.old ≡ false }
     requires writer { has_failed writer.old ≡ false }
-    ensures report { IfOk result (λ verdict. IfSome (D.remaining (inner_of reader.old)) (λ text. IsReplayed text options.now.byte_limit (targets_of suppressions.now) options.now.explain (W.contents (inner_of writer.old)) (W.contents (inner_of writer.new)) verdict)) }
-    ensures fault { IsFailed (D.remaining (inner_of reader.old)) options.now.byte_limit (targets_of suppressions.now) options.now.explain (W.contents (inner_of writer.old)) (W.contents (inner_of writer.new)) result }
+    ensures report { IfOk result (λ replayed. IfSome (D.remaining (inner_of reader.old)) (λ text. IsReplayed text options.now.byte_limit (targets_of suppressions.now) options.now.explain (W.contents (inner_of writer.old)) (W.contents (inner_of writer.new)) replayed.verdict)) }
+    ensures ending { IfOk result (λ replayed. IfSome (D.remaining (inner_of reader.old)) (λ text. IsEndingOf text replayed.ending)) }
+    ensures fault { IfErr result (λ why. IsFailed (D.remaining (inner_of reader.old)) options.now.byte_limit (targets_of suppressions.now) options.now.explain (W.contents (inner_of writer.old)) (W.contents (inner_of writer.new)) (Err why)) }
     ensures undamaged { IsTrue options.now.strict → OnOk result (IfSome (D.remaining (inner_of reader.old)) (λ text. IsDamageOf text options.now.byte_limit no_damage)) }
     ensures lenient { IsFalse options.now.strict → IfErr result IsNoDamage }
     ensures nothing { IfErr result (λ why. WritesNothing (W.contents (inner_of writer.old)) (W.contents (inner_of writer.new)) why) }
     ensures failed { FailsBy (has_failed reader.new) (has_failed writer.new) result }
     ensures taken { taken_of reader.new ≤ taken_of reader.old + options.now.byte_limit + bytes_past_limit }
-    ensures whole { 1 < options.now.workers → IfOk result (λ verdict. IsFalse (is_stopped verdict)) }
+    ensures whole { 1 < options.now.workers → IfOk result (λ replayed. IsFalse (is_stopped replayed.verdict)) }
 {
     let found = report_on(rt, rt.alloc(), reader, suppressions, options, watcher);
     watcher.end();
     match found {
         Ok(found) => {
-            let verdict = write_found(rt.alloc(), writer, &found);
+            let replayed = write_found(rt.alloc(), writer, &found);
             drop(found);
-            verdict
+            replayed
         }
         Err(why) => Err(why),
     }
@@ -109,15 +117,19 @@ fn write_found<W: Write>(
     alloc: Global,
     writer: &mut Device<W>,
     found: &Reported,
-) -> Result<Verdict, RunFault>
+) -> Result<Replayed, RunFault>
     requires writer { has_failed writer.old ≡ false }
     requires named { All (HasNames found.now.trace.names) found.now.report.lines.items }
-    ensures verdict { IfOk result (λ verdict. verdict ≡ is_verdict_of found.now.report) }
+    ensures verdict { IfOk result (λ replayed. replayed.verdict ≡ is_verdict_of found.now.report) }
+    ensures ending { IfOk result (λ replayed. replayed.ending ≡ found.now.ending) }
     ensures bytes { WritesFound (W.contents (inner_of writer.old)) (W.contents (inner_of writer.new)) (report_text found.now.trace.names (told found.now.report)) result }
     ensures failed { FailsBy false (has_failed writer.new) result }
 {
     match write_report(alloc, writer, &found.report, found.trace.names()) {
-        Ok(()) => Ok(verdict_of(&found.report)),
+        Ok(()) => Ok(Replayed {
+            verdict: verdict_of(&found.report),
+            ending: found.ending,
+        }),
         Err(why) => Err(RunFault::Write(why)),
     }
 }
@@ -138,6 +150,7 @@ where
     requires reader { has_failed reader.old ≡ false }
     ensures report { IfOk result (λ found. IfSome (D.remaining (inner_of reader.old)) (λ text. IsReportOfText text options.now.byte_limit (targets_of suppressions.now) options.now.explain found.trace.names found.report)) }
     ensures named { IfOk result (λ found. All (HasNames found.trace.names) found.report.lines.items) }
+    ensures ending { IfOk result (λ found. IfSome (D.remaining (inner_of reader.old)) (λ text. IsEndingOf text found.ending)) }
     ensures fault { IfErr result (λ why. IsFaultOfText (D.remaining (inner_of reader.old)) options.now.byte_limit why) }
     ensures undamaged { IsTrue options.now.strict → OnOk result (IfSome (D.remaining (inner_of reader.old)) (λ text. IsDamageOf text options.now.byte_limit no_damage)) }
     ensures lenient { IsFalse options.now.strict → IfErr result IsNoDamage }
@@ -147,14 +160,22 @@ where
 {
     let found = report_on(rt, alloc, reader, suppressions, options, watcher);
     watcher.end();
-    let Reported { report, trace } = match found {
+    let Reported {
+        report,
+        trace,
+        ending,
+    } = match found {
         Ok(found) => found,
         Err(why) => return Err(why),
     };
-    Ok(ReplayedTrace { report, trace })
+    Ok(ReplayedTrace {
+        report,
+        trace,
+        ending,
+    })
 }
 
-// Reads and replays a text, by one worker or by several.
+// Reads and replays a text. The report says how many events it lost.
 fn report_on<R, D, V>(
     rt: &R,
     alloc: Global,
@@ -170,6 +191,40 @@ where
     requires reader { has_failed reader.old ≡ false }
     ensures report { IfOk result (λ found. IfSome (D.remaining (inner_of reader.old)) (λ text. IsReportOfText text options.now.byte_limit (targets_of suppressions.now) options.now.explain found.trace.names found.report)) }
     ensures named { IfOk result (λ found. All (HasNames found.trace.names) found.report.lines.items) }
+    ensures ending { IfOk result (λ found. IfSome (D.remaining (inner_of reader.old)) (λ text. IsEndingOf text found.ending)) }
+    ensures fault { IfErr result (λ why. IsFaultOfText (D.remaining (inner_of reader.old)) options.now.byte_limit why) }
+    ensures undamaged { IsTrue options.now.strict → OnOk result (IfSome (D.remaining (inner_of reader.old)) (λ text. IsDamageOf text options.now.byte_limit no_damage)) }
+    ensures lenient { IsFalse options.now.strict → IfErr result IsNoDamage }
+    ensures failed { FailsBy (has_failed reader.new) false result }
+    ensures taken { taken_of reader.new ≤ taken_of reader.old + options.now.byte_limit + bytes_past_limit }
+    ensures whole { 1 < options.now.workers → IfOk result (λ found. found.report.stop ≡ None) }
+{
+    match report_of_steps(rt, alloc, reader, suppressions, options, watcher) {
+        Ok(mut found) => {
+            found.report.lost = found.ending.lost_events();
+            Ok(found)
+        }
+        Err(why) => Err(why),
+    }
+}
+
+// Reads and replays a text, by one worker or by several. Nothing is said of lost events yet.
+fn report_of_steps<R, D, V>(
+    rt: &R,
+    alloc: Global,
+    reader: &mut Device<D>,
+    suppressions: &Suppressions,
+    options: &Options,
+    watcher: &mut V,
+) -> Result<Reported, RunFault>
+where
+    R: Threads + Wait + Sync,
+    D: Read,
+    V: Watch,
+    requires reader { has_failed reader.old ≡ false }
+    ensures report { IfOk result (λ found. IfSome (D.remaining (inner_of reader.old)) (λ text. IsReportOfSteps text options.now.byte_limit (targets_of suppressions.now) options.now.explain found.trace.names found.report)) }
+    ensures named { IfOk result (λ found. All (HasNames found.trace.names) found.report.lines.items) }
+    ensures ending { IfOk result (λ found. IfSome (D.remaining (inner_of reader.old)) (λ text. IsEndingOf text found.ending)) }
     ensures fault { IfErr result (λ why. IsFaultOfText (D.remaining (inner_of reader.old)) options.now.byte_limit why) }
     ensures undamaged { IsTrue options.now.strict → OnOk result (IfSome (D.remaining (inner_of reader.old)) (λ text. IsDamageOf text options.now.byte_limit no_damage)) }
     ensures lenient { IsFalse options.now.strict → IfErr result IsNoDamage }
@@ -178,9 +233,10 @@ where
     ensures whole { 1 < options.now.workers → IfOk result (λ found. found.report.stop ≡ None) }
 {
     if options.workers > 1 {
-        return report_by_crew(rt, alloc, reader, suppressions, options, watcher);
+        report_by_crew(rt, alloc, reader, suppressions, options, watcher)
+    } else {
+        report_in_batches(rt, alloc, reader, suppressions, options, watcher)
     }
-    report_in_batches(rt, alloc, reader, suppressions, options, watcher)
 }
 
 /// What a report comes to: a stop, or else whether it has a race.

@@ -11,12 +11,12 @@ ghost use Rattle.er_report.specs.Names.{HasNames};
 ghost use Rattle.er_rules.specs.Rules.{targets_of};
 ghost use Rattle.er_run.specs.Inner.Inspected.{HasSeen, HasSeenAll, HasFound};
 ghost use Rattle.er_batch.specs.Runs.{recorded};
-ghost use Rattle.er_run.specs.Inner.Reports.{IsReportOfText, IsFaultOfText};
+ghost use Rattle.er_run.specs.Inner.Reports.{IsReportOfSteps, IsFaultOfText};
 ghost use Rattle.er_run.specs.Inner.Several.{HasReadAll, HasReadOn, HasReportedAll, Pending};
 ghost use Rattle.er_batch.specs.Limits.{bytes_past_limit, most_bytes};
 ghost use Rattle.er_run.specs.Replays.{FailsBy, IsNoDamage};
 ghost use Rattle.er_text.specs.Batches.{HasRead, GivesBatch};
-ghost use Rattle.er_text.specs.Ending.{KnowsEnd};
+ghost use Rattle.er_text.specs.Ending.{KnowsEnd, IsEndingOf};
 ghost use Rattle.er_text.specs.Inner.Lending.{taken_by};
 ghost use Rattle.er_text.specs.Named.{Grows};
 ghost use Rattle.er_text.specs.Trace.{HasFailedBy};
@@ -318,7 +318,7 @@ impl<'t, 'r> Shared<'t, 'r> {
     /// The report of the text that was read, or its damage, if the replay is strict and there is any.
     fn end(self) -> Result<Reported, RunFault>
         ensures report { (told : Option (List ℕ)) (limit : ℕ) → HasReportedAll told limit self.entry.trace.names self.entry.builder
-            → IfOk result (λ found. IfSome told (λ text. IsReportOfText text limit self.entry.builder.rules (is_some self.entry.builder.kept) found.trace.names found.report)) }
+            → IfOk result (λ found. IfSome told (λ text. IsReportOfSteps text limit self.entry.builder.rules (is_some self.entry.builder.kept) found.trace.names found.report)) }
         ensures named { (told : Option (List ℕ)) (limit : ℕ) → HasReportedAll told limit self.entry.trace.names self.entry.builder
             → IfOk result (λ found. All (HasNames found.trace.names) found.report.lines.items) }
         ensures fault { (told : Option (List ℕ)) (limit : ℕ) → IfSome told (λ text. HasSeenAll text limit self.entry.lines self.entry.inspector)
@@ -326,6 +326,8 @@ impl<'t, 'r> Shared<'t, 'r> {
         ensures undamaged { (told : Option (List ℕ)) (limit : ℕ) → IfSome told (λ text. HasSeenAll text limit self.entry.lines self.entry.inspector)
             → is_some self.entry.inspector ≡ true → OnOk result (IfSome told (λ text. IsDamageOf text limit no_damage)) }
         ensures lenient { is_some self.entry.inspector ≡ false → IfErr result IsNoDamage }
+        ensures ending { (told : Option (List ℕ)) (limit : ℕ) → IfSome told (λ text. HasSeenAll text limit self.entry.lines self.entry.inspector)
+            → IfOk result (λ found. IfSome told (λ text. IsEndingOf text found.ending)) }
         ensures failed { FailsBy false false result }
         ensures whole { IfOk result (λ found. found.report.stop ≡ None) }
     {
@@ -341,9 +343,10 @@ impl<'t, 'r> Shared<'t, 'r> {
     /// The report of the text that was read, and its names.
     fn finish(self) -> Reported
         ensures report { (told : Option (List ℕ)) (limit : ℕ) → HasReportedAll told limit self.entry.trace.names self.entry.builder
-            → IfSome told (λ text. IsReportOfText text limit self.entry.builder.rules (is_some self.entry.builder.kept) result.trace.names result.report) }
+            → IfSome told (λ text. IsReportOfSteps text limit self.entry.builder.rules (is_some self.entry.builder.kept) result.trace.names result.report) }
         ensures named { (told : Option (List ℕ)) (limit : ℕ) → HasReportedAll told limit self.entry.trace.names self.entry.builder
             → All (HasNames result.trace.names) result.report.lines.items }
+        ensures ending { (text : List ℕ) → KnowsEnd text self.entry.lines → IsEndingOf text result.ending }
         ensures whole { result.report.stop ≡ None }
     {
         let Shared {
@@ -356,10 +359,12 @@ impl<'t, 'r> Shared<'t, 'r> {
             numbers,
             inspector,
         } = self;
+        let ending = lines.ending();
         close(lines, crew, steps, numbers, inspector);
         Reported {
             report: builder.finish_explained(None),
             trace,
+            ending,
         }
     }
 }
@@ -393,8 +398,9 @@ where
     D: Read,
     V: Watch,
     requires reader { has_failed reader.old ≡ false }
-    ensures report { IfOk result (λ found. IfSome (D.remaining (inner_of reader.old)) (λ text. IsReportOfText text options.now.byte_limit (targets_of suppressions.now) options.now.explain found.trace.names found.report)) }
+    ensures report { IfOk result (λ found. IfSome (D.remaining (inner_of reader.old)) (λ text. IsReportOfSteps text options.now.byte_limit (targets_of suppressions.now) options.now.explain found.trace.names found.report)) }
     ensures named { IfOk result (λ found. All (HasNames found.trace.names) found.report.lines.items) }
+    ensures ending { IfOk result (λ found. IfSome (D.remaining (inner_of reader.old)) (λ text. IsEndingOf text found.ending)) }
     ensures fault { IfErr result (λ why. IsFaultOfText (D.remaining (inner_of reader.old)) options.now.byte_limit why) }
     ensures undamaged { IsTrue options.now.strict → OnOk result (IfSome (D.remaining (inner_of reader.old)) (λ text. IsDamageOf text options.now.byte_limit no_damage)) }
     ensures lenient { IsFalse options.now.strict → IfErr result IsNoDamage }
@@ -423,8 +429,9 @@ where
     D: Read,
     V: Watch,
     requires reader { has_failed reader.old ≡ false }
-    ensures report { IfOk result (λ found. IfSome (D.remaining (inner_of reader.old)) (λ text. IsReportOfText text options.now.byte_limit (targets_of suppressions.now) options.now.explain found.trace.names found.report)) }
+    ensures report { IfOk result (λ found. IfSome (D.remaining (inner_of reader.old)) (λ text. IsReportOfSteps text options.now.byte_limit (targets_of suppressions.now) options.now.explain found.trace.names found.report)) }
     ensures named { IfOk result (λ found. All (HasNames found.trace.names) found.report.lines.items) }
+    ensures ending { IfOk result (λ found. IfSome (D.remaining (inner_of reader.old)) (λ text. IsEndingOf text found.ending)) }
     ensures fault { IfErr result (λ why. IsFaultOfText (D.remaining (inner_of reader.old)) options.now.byte_limit why) }
     ensures undamaged { IsTrue options.now.strict → OnOk result (IfSome (D.remaining (inner_of reader.old)) (λ text. IsDamageOf text options.now.byte_limit no_damage)) }
     ensures lenient { IsFalse options.now.strict → IfErr result IsNoDamage }

@@ -1,5 +1,5 @@
 -- A replay by both analyses that forgets its steps: how it begins, and what it comes to.
-use Rattle.std.proofs.Common.{◌≡◌, ◌∙◌, ℕ, Bool, false, List, [], length, Option, Some, None, Err, IfSome, refl, sym, ap, subst}
+use Rattle.std.proofs.Common.{◌≡◌, ◌∙◌, ℕ, Bool, false, List, [], length, Option, Some, None, Result, Ok, Err, IfSome, IfOk, refl, sym, ap, subst}
 use Rattle.std.proofs.lemmas.List.Elements.{All-nil}
 use Rattle.er_before.specs.Standing.{Ordered, Stands as Orders}
 use Rattle.er_event.specs.declared.refusals.NoRoom.{NoRoom}
@@ -11,6 +11,7 @@ use Rattle.er_report.specs.Report.{answered_steps, report_of, stop_line, told as
 use Rattle.er_report.specs.declared.report.Report.{Report}
 use Rattle.er_rules.specs.Rules.{Target}
 use Rattle.er_text.specs.Batches.{HasRead}
+use Rattle.er_text.specs.Ending.{KnowsEnd, IsEndingOf}
 use Rattle.er_text.specs.Places.{Reached}
 use Rattle.er_text.specs.Trace.{IsTrace}
 use Rattle.er_trace.specs.Names.{no_names}
@@ -19,7 +20,9 @@ use Rattle.er_order.specs.Races.{order_answer}
 use Rattle.er_unordered.specs.Faults.{FailsBy, IsFaultOf, StopsFor, fault_of_room}
 use Rattle.er_unordered.specs.Inner.Both.{HaveCome, HaveEnded}
 use Rattle.er_unordered.specs.Inner.Passes.{IsReasoned, OrderBuilt, recorded}
-use Rattle.er_unordered.specs.Reports.{AreReportsOfText, unordered_report}
+use Rattle.er_unordered.specs.Reports.{AreReportsBy, unordered_report}
+use Rattle.er_unordered.specs.declared.both.BothReports.{BothReports}
+use Rattle.er_unordered.specs.declared.fault.OrderFault.{OrderFault}
 use Rattle.er_unordered.specs.declared.replay.Analysis.TheVariants.{Both}
 
 -- before the first batch
@@ -78,10 +81,10 @@ module _ (told : Option (List ℕ)) (limit : ℕ) (trace : Recording) (machine :
   reported-all none = subst (λ (o : Option Stopped). IsReported builder r (length (answered_steps r.steps o))) (not-stopped-by ended.run.stopped refl none) ended.run.reported
 
   pub reports : (rules : List Target) (explain : Bool) (lockset found : Report) → summary lockset ≡ report_of r rules explain None → summary found ≡ unordered_report r rules explain
-      → IfSome told (λ text. AreReportsOfText text limit rules explain trace.names lockset found)
+      → IfSome told (λ text. AreReportsBy None text limit rules explain trace.names lockset found)
   reports rules explain lockset found first second = by told ended.read
     where
-      by : (o : Option (List ℕ)) → IfSome o (λ text. IsTrace text limit r) → IfSome o (λ text. AreReportsOfText text limit rules explain trace.names lockset found)
+      by : (o : Option (List ℕ)) → IfSome o (λ text. IsTrace text limit r) → IfSome o (λ text. AreReportsBy None text limit rules explain trace.names lockset found)
       by None read = tt
       by (Some text) read = record { recording = r; trace = read; says = first; says_too = second; names = ended.names }
 
@@ -115,3 +118,10 @@ pub room-fails : (X : Type 0) (cause : NoRoom) → FailsBy {X = X} false false (
 room-fails X room.TableFull = (refl, refl)
 room-fails X room.JournalFull = (refl, refl)
 room-fails X room.OutOfMemory = (refl, refl)
+
+-- the reader knows how the text ends
+pub ends-all : (told : Option (List ℕ)) (reader : Reached) (result : Result BothReports OrderFault) → IfSome told (λ text. KnowsEnd text reader)
+    → ((text : List ℕ) → KnowsEnd text reader → IfOk result (λ found. IsEndingOf text found.ending)) → IfOk result (λ found. IfSome told (λ text. IsEndingOf text found.ending))
+ends-all told reader (Err why) knows ends = tt
+ends-all None reader (Ok found) knows ends = tt
+ends-all (Some text) reader (Ok found) knows ends = ends text knows

@@ -21,6 +21,8 @@ use Rattle.er_order.specs.Races.{order_answer}
 use Rattle.er_report.specs.Builder.{ArePlainBy, Built, IsBuiltBy, IsStepBy, GoesOn, is_plain, report_below_by}
 use Rattle.er_batch.proofs.BatchLemmas.{all-named}
 use Rattle.er_text.specs.Batches.{joined, HasRead}
+use Rattle.er_text.specs.Ending.{KnowsEnd, IsEndingOf}
+use Rattle.er_text.specs.declared.endings.Ending.{Ending}
 use Rattle.er_text.specs.Places.{Reached}
 use Rattle.er_text.specs.Named.{KeepsNames}
 use Rattle.er_trace.specs.Names.{NameTable, no_names}
@@ -159,3 +161,14 @@ printed-here a before after r k built next rules =
 pub clock-lent : (machine : Ordered) (steps : List Step) (t : ℕ) (clock : ℕ × Counts) → Stands machine steps → clock.0 ≡ t → ((u : ℕ) → count_by clock u ≡ clock_of machine t u)
     → IsClockAfter steps t clock
 clock-lent machine steps t clock stands thread counts = record { thread = thread; counts = λ u. counts u ∙ stands.clocks (OfThread t) u }
+
+-- the reader knows how the text ends
+pub known-end : (told : Option (List ℕ)) (reader : Reached) (ending : Ending) → IfSome told (λ text. KnowsEnd text reader) → ((text : List ℕ) → KnowsEnd text reader → IsEndingOf text ending)
+    → IfSome told (λ text. IsEndingOf text ending)
+known-end None reader ending knows ends = tt
+known-end (Some text) reader ending knows ends = ends text knows
+
+-- and so it does behind its last batch
+pub end-known : (told : Option (List ℕ)) (new : Reached) (Was : List ℕ → Type 0) → IfSome told Was → ((text : List ℕ) → Was text → KnowsEnd text new) → IfSome told (λ text. KnowsEnd text new)
+end-known None new Was was ends = tt
+end-known (Some text) new Was was ends = ends text was

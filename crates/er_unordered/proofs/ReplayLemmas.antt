@@ -6,14 +6,18 @@ use Rattle.er_print.specs.declared.fault.WriteFault.TheVariants as writing
 use Rattle.er_report.specs.Report.{Summary, report_of, told as summary}
 use Rattle.er_report.specs.declared.report.Report.{Report}
 use Rattle.er_rules.specs.Rules.{Target}
+use Rattle.er_batch.specs.declared.verdict.Replayed.{Replayed}
 use Rattle.er_batch.specs.declared.verdict.Verdict.{Verdict}
+use Rattle.er_text.specs.Ending.{IsEndingOf, is_text_3, lost_if, lost_told}
+use Rattle.er_text.specs.declared.endings.Ending.{Ending}
+use Rattle.er_text.specs.declared.endings.Lost.{Lost}
 use Rattle.er_text.specs.Trace.{IsTrace}
 use Rattle.er_trace.specs.Names.{NameTable}
 use Rattle.er_trace.specs.Trace.{Recording}
 use Rattle.er_unordered.specs.Faults.{IsFaultOf}
 use Rattle.er_unordered.specs.Inner.Written.{WritesFound}
-use Rattle.er_unordered.specs.Replays.{IsBegunBy, IsFailedBy, IsReplayedBy, WritesNothing, has_races, output_by, verdict_if}
-use Rattle.er_unordered.specs.Reports.{AreReportsOfText, IsReportOfText}
+use Rattle.er_unordered.specs.Replays.{IsBegunBy, IsFailedBy, IsReplayedBy, WritesNothing, has_races, lockset_output, output_by, verdict_if}
+use Rattle.er_unordered.specs.Reports.{AreReportsBy, AreReportsOfText, IsReportBy, IsReportOfText, with_lost}
 use Rattle.er_unordered.specs.Text.{unordered_text}
 use Rattle.er_unordered.specs.declared.fault.OrderFault.{OrderFault}
 use Rattle.er_unordered.specs.declared.fault.OrderFault.TheVariants.{Read, Write, TableFull, CountFull, Memory}
@@ -24,7 +28,7 @@ use Rattle.er_unordered.specs.declared.replay.Analysis.TheVariants.{HappensBefor
 pub record IsOutput (analysis : Analysis) (text : List ℕ) (limit : ℕ) (rules : List Target) (explain : Bool) (bytes : List ℕ) (some : Bool) : Type 0 where
   pub recording : Recording
   pub trace : IsTrace text limit recording
-  pub written : bytes ≡ output_by analysis recording rules explain
+  pub written : bytes ≡ output_by analysis (lost_told text) recording rules explain
   pub races : some ≡ has_races analysis recording rules explain
 
 pub output-alone : (told : Option (List ℕ)) (limit : ℕ) (rules : List Target) (explain : Bool) (names : NameTable) (report : Report)
@@ -47,7 +51,7 @@ output-both (Some text) limit rules explain names lockset unordered are = record
   trace = are.trace;
   written = ap (λ (n : NameTable). report_text n (summary lockset) ++ unordered_text n (summary unordered)) are.names
       ∙ ap (λ (s : Summary). report_text are.recording.names s ++ unordered_text are.recording.names (summary unordered)) are.says
-      ∙ ap (λ (s : Summary). report_text are.recording.names (report_of are.recording rules explain None) ++ unordered_text are.recording.names s) are.says_too;
+      ∙ ap (λ (s : Summary). lockset_output (lost_told text) are.recording rules explain ++ unordered_text are.recording.names s) are.says_too;
   races = ap (λ (s : Summary). nat_lt 0 s.races || nat_lt 0 unordered.races) are.says
       ∙ ap (λ (s : Summary). nat_lt 0 (report_of are.recording rules explain None).races || nat_lt 0 s.races) are.says_too;
 }
@@ -64,9 +68,9 @@ module _ (analysis : Analysis) (told : Option (List ℕ)) (limit : ℕ) (rules :
     verdict = says ∙ ap verdict_if is.races;
   }
 
-  pub whole-of : (result : Result Verdict OrderFault) → IfSome told (λ text. IsOutput analysis text limit rules explain bytes races) → IfOk result (λ verdict. verdict ≡ verdict_if races)
-      → WritesFound old new bytes result → IfOk result (λ verdict. IfSome told (λ text. IsReplayedBy analysis text limit rules explain old new verdict))
-  whole-of (Ok verdict) is says written = whole told verdict is says written
+  pub whole-of : (result : Result Replayed OrderFault) → IfSome told (λ text. IsOutput analysis text limit rules explain bytes races) → IfOk result (λ replayed. replayed.verdict ≡ verdict_if races)
+      → WritesFound old new bytes result → IfOk result (λ replayed. IfSome told (λ text. IsReplayedBy analysis text limit rules explain old new replayed.verdict))
+  whole-of (Ok replayed) is says written = whole told replayed.verdict is says written
   whole-of (Err why) is says written = tt
 
   -- or a beginning of it
@@ -76,9 +80,9 @@ module _ (analysis : Analysis) (told : Option (List ℕ)) (limit : ℕ) (rules :
   begun-by (Some text) is n written =
       record { recording = is.recording; count = n; trace = is.trace; written = subst (λ (b : List ℕ). Appends old new (take n b)) is.written written }
 
-  pub part : (result : Result Verdict OrderFault) → IfSome told (λ text. IsOutput analysis text limit rules explain bytes races) → WritesFound old new bytes result
+  pub part : (result : Result Replayed OrderFault) → IfSome told (λ text. IsOutput analysis text limit rules explain bytes races) → WritesFound old new bytes result
       → IfErr result (λ why. IsFailedBy analysis told limit rules explain old new why)
-  part (Ok verdict) is written = tt
+  part (Ok replayed) is written = tt
   part (Err (Read fault)) is written = absurd written
   part (Err (Write writing.Memory)) is written = tt
   part (Err (Write writing.Write)) is written = begun-by told is written.0 written.1
@@ -87,8 +91,8 @@ module _ (analysis : Analysis) (told : Option (List ℕ)) (limit : ℕ) (rules :
   part (Err Memory) is written = absurd written
 
 -- or nothing
-pub nothing : (old new : Option (List ℕ)) (bytes : List ℕ) (result : Result Verdict OrderFault) → WritesFound old new bytes result → IfErr result (WritesNothing old new)
-nothing old new bytes (Ok verdict) written = tt
+pub nothing : (old new : Option (List ℕ)) (bytes : List ℕ) (result : Result Replayed OrderFault) → WritesFound old new bytes result → IfErr result (WritesNothing old new)
+nothing old new bytes (Ok replayed) written = tt
 nothing old new bytes (Err (Read fault)) written = absurd written
 nothing old new bytes (Err (Write writing.Memory)) written = written
 nothing old new bytes (Err (Write writing.Write)) written = tt
@@ -115,3 +119,35 @@ untouched analysis told old limit (Write fault) is = absurd is
 untouched analysis told old limit TableFull is = keeps old
 untouched analysis told old limit CountFull is = keeps old
 untouched analysis told old limit Memory is = keeps old
+
+-- the number of lost events is what the text says
+says-lost : (text : List ℕ) (ending : Ending) (lost : Option ℕ) → IsEndingOf text ending → lost ≡ lost_if ending.is_text_3 ending.lost → lost ≡ lost_told text
+says-lost text ending lost is says = says ∙ ap (λ (b : Bool). lost_if b ending.lost) is.third ∙ ap (λ (l : Option Lost). lost_if (is_text_3 text) l) is.lost
+
+set-lost : (lost told : Option ℕ) (one two : Summary) → one ≡ with_lost None two → lost ≡ told → with_lost lost one ≡ with_lost told two
+set-lost lost told one two same is = ap (with_lost lost) same ∙ ap (λ (l : Option ℕ). with_lost l two) is
+
+-- a report with that number
+pub lost-alone : (told : Option (List ℕ)) (limit : ℕ) (rules : List Target) (explain : Bool) (names : NameTable) (report : Report) (ending : Ending) (lost : Option ℕ)
+    → IfSome told (λ text. IsReportBy None text limit rules explain names report) → IfSome told (λ text. IsEndingOf text ending) → lost ≡ lost_if ending.is_text_3 ending.lost
+    → IfSome told (λ text. IsReportOfText text limit rules explain names (record report { lost = lost }))
+lost-alone None limit rules explain names report ending lost is ends says = tt
+lost-alone (Some text) limit rules explain names report ending lost is ends says = record {
+  recording = is.recording;
+  trace = is.trace;
+  says = set-lost lost (lost_told text) (summary report) _ is.says (says-lost text ending lost ends says);
+  names = is.names;
+}
+
+-- and both of them
+pub lost-both : (told : Option (List ℕ)) (limit : ℕ) (rules : List Target) (explain : Bool) (names : NameTable) (lockset unordered : Report) (ending : Ending) (lost : Option ℕ)
+    → IfSome told (λ text. AreReportsBy None text limit rules explain names lockset unordered) → IfSome told (λ text. IsEndingOf text ending) → lost ≡ lost_if ending.is_text_3 ending.lost
+    → IfSome told (λ text. AreReportsOfText text limit rules explain names (record lockset { lost = lost }) (record unordered { lost = lost }))
+lost-both None limit rules explain names lockset unordered ending lost are ends says = tt
+lost-both (Some text) limit rules explain names lockset unordered ending lost are ends says = record {
+  recording = are.recording;
+  trace = are.trace;
+  says = set-lost lost (lost_told text) (summary lockset) _ are.says (says-lost text ending lost ends says);
+  says_too = set-lost lost (lost_told text) (summary unordered) _ are.says_too (says-lost text ending lost ends says);
+  names = are.names;
+}

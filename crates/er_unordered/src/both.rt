@@ -1,14 +1,15 @@
 //! A replay by both analyses in one pass: each batch of lines is read, answered by the lockset rule and by happens-before, and forgotten.
-ghost use Rattle.std.specs.Prelude.{◌≡◌, ◌+◌, ◌<◌, ◌≤◌, ◌^◌, ℕ, List, Option, All, false, true, is_some, IfSome, IfOk, IfErr, OnOk};
+ghost use Rattle.std.specs.Prelude.{◌≡◌, ◌+◌, ◌<◌, ◌≤◌, ◌^◌, ℕ, List, Option, None, All, false, true, is_some, IfSome, IfOk, IfErr, OnOk};
 ghost use Rattle.er_device.specs.Device.{inner_of, has_failed, taken_of};
 ghost use Rattle.er_report.specs.Names.{HasNames};
 ghost use Rattle.er_rules.specs.Rules.{Target, targets_of};
 ghost use Rattle.er_batch.specs.Limits.{most_bytes};
+ghost use Rattle.er_text.specs.Ending.{KnowsEnd, IsEndingOf};
 ghost use Rattle.er_text.specs.Inner.Lending.{taken_by};
 ghost use Rattle.er_text.specs.Lines.{bytes_past_limit};
 ghost use Rattle.er_unordered.specs.Faults.{FailsBy, IsFaultOf};
 ghost use Rattle.er_unordered.specs.Inner.Both.{HaveCome, HaveEnded};
-ghost use Rattle.er_unordered.specs.Reports.{AreReportsOfText};
+ghost use Rattle.er_unordered.specs.Reports.{AreReportsBy, AreReportsOfText};
 ghost use Rattle.er_unordered.specs.declared.replay.Analysis.TheVariants.{Both};
 
 use crate::OrderFault;
@@ -23,7 +24,7 @@ use er_replay::Machine;
 use er_report::{Report, ReportBuilder};
 use er_rules::Suppressions;
 use er_table::LocksetTable;
-use er_text::{Batch, TraceReader};
+use er_text::{Batch, Ending, TraceReader};
 use er_trace::{NameKeys, Trace};
 use std::alloc::{AllocError, Global};
 use std::io::Read;
@@ -38,6 +39,8 @@ pub struct BothReports {
     pub unordered: Report,
     /// It has the names of the numbers in the reports. Most of its steps were forgotten.
     pub trace: Trace,
+    /// How the text ended.
+    pub ending: Ending,
 }
 
 /// What reads the lines, the trace that each batch fills, and for each analysis what is left of the steps so far.
@@ -112,6 +115,8 @@ impl<'t, 'r> BothPass<'t, 'r> {
             → IfOk result (λ more. more ≡ true → HaveCome told (D.remaining (inner_of reader.new)) self.new.lines self.new.trace self.new.machine self.new.builder self.new.stop self.new.ordering self.new.unordered) }
         ensures ended { (told : Option (List ℕ)) → HaveCome told (D.remaining (inner_of reader.old)) self.old.lines self.old.trace self.old.machine self.old.builder self.old.stop self.old.ordering self.old.unordered
             → IfOk result (λ more. more ≡ false → HaveEnded told self.old.lines.place.limit self.new.trace self.new.machine self.new.builder self.new.stop self.new.unordered) }
+        ensures ends { (told : Option (List ℕ)) → HaveCome told (D.remaining (inner_of reader.old)) self.old.lines self.old.trace self.old.machine self.old.builder self.old.stop self.old.ordering self.old.unordered
+            → IfOk result (λ more. more ≡ false → IfSome told (λ text. KnowsEnd text self.new.lines)) }
         ensures fault { (told : Option (List ℕ)) → HaveCome told (D.remaining (inner_of reader.old)) self.old.lines self.old.trace self.old.machine self.old.builder self.old.stop self.old.ordering self.old.unordered
             → IfErr result (λ why. IsFaultOf Both told self.old.lines.place.limit why) }
         ensures rules { OnOk result (self.new.builder.rules ≡ self.old.builder.rules) }
@@ -175,6 +180,8 @@ impl<'t, 'r> BothPass<'t, 'r> {
         requires open { has_failed reader.old ≡ false }
         ensures ended { (told : Option (List ℕ)) → HaveCome told (D.remaining (inner_of reader.old)) self.old.lines self.old.trace self.old.machine self.old.builder self.old.stop self.old.ordering self.old.unordered
             → OnOk result (HaveEnded told self.old.lines.place.limit self.new.trace self.new.machine self.new.builder self.new.stop self.new.unordered) }
+        ensures ends { (told : Option (List ℕ)) → HaveCome told (D.remaining (inner_of reader.old)) self.old.lines self.old.trace self.old.machine self.old.builder self.old.stop self.old.ordering self.old.unordered
+            → OnOk result (IfSome told (λ text. KnowsEnd text self.new.lines)) }
         ensures fault { (told : Option (List ℕ)) → HaveCome told (D.remaining (inner_of reader.old)) self.old.lines self.old.trace self.old.machine self.old.builder self.old.stop self.old.ordering self.old.unordered
             → IfErr result (λ why. IsFaultOf Both told self.old.lines.place.limit why) }
         ensures rules { OnOk result (self.new.builder.rules ≡ self.old.builder.rules) }
@@ -195,13 +202,14 @@ impl<'t, 'r> BothPass<'t, 'r> {
     fn finish(self) -> Result<BothReports, OrderFault>
         ensures reports { (told : Option (List ℕ)) (limit : ℕ) (rules : List Target) → HaveEnded told limit self.entry.trace self.entry.machine self.entry.builder self.entry.stop self.entry.unordered
             → self.entry.builder.rules ≡ rules → self.entry.unordered.built.rules ≡ rules → is_some self.entry.unordered.reasons ≡ is_some self.entry.builder.kept
-            → IfOk result (λ found. IfSome told (λ text. AreReportsOfText text limit rules (is_some self.entry.builder.kept) found.trace.names found.lockset found.unordered)) }
+            → IfOk result (λ found. IfSome told (λ text. AreReportsBy None text limit rules (is_some self.entry.builder.kept) found.trace.names found.lockset found.unordered)) }
         ensures named { (told : Option (List ℕ)) (limit : ℕ) → HaveEnded told limit self.entry.trace self.entry.machine self.entry.builder self.entry.stop self.entry.unordered
             → IfOk result (λ found. All (HasNames found.trace.names) found.lockset.lines.items) }
         ensures named_too { (told : Option (List ℕ)) (limit : ℕ) → HaveEnded told limit self.entry.trace self.entry.machine self.entry.builder self.entry.stop self.entry.unordered
             → IfOk result (λ found. All (HasNames found.trace.names) found.unordered.lines.items) }
         ensures fault { (told : Option (List ℕ)) (limit : ℕ) → HaveEnded told limit self.entry.trace self.entry.machine self.entry.builder self.entry.stop self.entry.unordered
             → IfErr result (λ why. IsFaultOf Both told limit why) }
+        ensures ending { (text : List ℕ) → KnowsEnd text self.entry.lines → IfOk result (λ found. IsEndingOf text found.ending) }
         ensures failed { FailsBy false false result }
     {
         let BothPass {
@@ -213,6 +221,7 @@ impl<'t, 'r> BothPass<'t, 'r> {
             ordering,
             unordered,
         } = self;
+        let ending = lines.ending();
         close(lines, machine, ordering);
         match stop {
             Some((_, cause)) => {
@@ -223,6 +232,7 @@ impl<'t, 'r> BothPass<'t, 'r> {
                 lockset: builder.finish_explained(None),
                 unordered: unordered.finish(),
                 trace,
+                ending,
             }),
         }
     }
@@ -271,6 +281,7 @@ pub fn report_both<R: Wait, D: Read, V: Watch>(
     ensures reports { IfOk result (λ found. IfSome (D.remaining (inner_of reader.old)) (λ text. AreReportsOfText text options.now.byte_limit (targets_of suppressions.now) options.now.explain found.trace.names found.lockset found.unordered)) }
     ensures named { IfOk result (λ found. All (HasNames found.trace.names) found.lockset.lines.items) }
     ensures named_too { IfOk result (λ found. All (HasNames found.trace.names) found.unordered.lines.items) }
+    ensures ending { IfOk result (λ found. IfSome (D.remaining (inner_of reader.old)) (λ text. IsEndingOf text found.ending)) }
     ensures fault { IfErr result (λ why. IsFaultOf Both (D.remaining (inner_of reader.old)) options.now.byte_limit why) }
     ensures failed { FailsBy (has_failed reader.new) false result }
     ensures taken { taken_of reader.new ≤ taken_of reader.old + options.now.byte_limit + bytes_past_limit }
@@ -278,7 +289,14 @@ pub fn report_both<R: Wait, D: Read, V: Watch>(
     let table = LocksetTable::keyed(alloc, options.max_sets, options.keys)?;
     let found = report_with(rt, alloc, &table, reader, suppressions, options, watcher);
     drop(table);
-    found
+    match found {
+        Ok(mut found) => {
+            found.lockset.lost = found.ending.lost_events();
+            found.unordered.lost = found.lockset.lost;
+            Ok(found)
+        }
+        Err(why) => Err(why),
+    }
 }
 
 // The same over this table. Split for the prover.
@@ -292,9 +310,10 @@ fn report_with<R: Wait, D: Read, V: Watch>(
     watcher: &mut V,
 ) -> Result<BothReports, OrderFault>
     requires { has_failed reader.old ≡ false }
-    ensures reports { IfOk result (λ found. IfSome (D.remaining (inner_of reader.old)) (λ text. AreReportsOfText text options.now.byte_limit (targets_of suppressions.now) options.now.explain found.trace.names found.lockset found.unordered)) }
+    ensures reports { IfOk result (λ found. IfSome (D.remaining (inner_of reader.old)) (λ text. AreReportsBy None text options.now.byte_limit (targets_of suppressions.now) options.now.explain found.trace.names found.lockset found.unordered)) }
     ensures named { IfOk result (λ found. All (HasNames found.trace.names) found.lockset.lines.items) }
     ensures named_too { IfOk result (λ found. All (HasNames found.trace.names) found.unordered.lines.items) }
+    ensures ending { IfOk result (λ found. IfSome (D.remaining (inner_of reader.old)) (λ text. IsEndingOf text found.ending)) }
     ensures fault { IfErr result (λ why. IsFaultOf Both (D.remaining (inner_of reader.old)) options.now.byte_limit why) }
     ensures failed { FailsBy (has_failed reader.new) false result }
     ensures taken { taken_of reader.new ≤ taken_of reader.old + options.now.byte_limit + bytes_past_limit }

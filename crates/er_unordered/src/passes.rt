@@ -1,13 +1,14 @@
 //! A replay by happens-before in one pass: each batch of lines is read, answered and forgotten.
-ghost use Rattle.std.specs.Prelude.{◌≡◌, ◌+◌, ◌<◌, ◌≤◌, ◌^◌, ℕ, List, Option, All, false, true, is_some, IfSome, IfOk, IfErr, OnOk};
+ghost use Rattle.std.specs.Prelude.{◌≡◌, ◌+◌, ◌<◌, ◌≤◌, ◌^◌, ℕ, List, Option, None, All, false, true, is_some, IfSome, IfOk, IfErr, OnOk};
 ghost use Rattle.er_device.specs.Device.{inner_of, has_failed, taken_of};
 ghost use Rattle.er_report.specs.Names.{HasNames};
 ghost use Rattle.er_rules.specs.Rules.{targets_of};
+ghost use Rattle.er_text.specs.Ending.{KnowsEnd, IsEndingOf};
 ghost use Rattle.er_text.specs.Inner.Lending.{taken_by};
 ghost use Rattle.er_text.specs.Lines.{bytes_past_limit};
 ghost use Rattle.er_unordered.specs.Faults.{IsFaultOfText, FailsBy};
 ghost use Rattle.er_unordered.specs.Inner.Passes.{HasCome, HasEnded};
-ghost use Rattle.er_unordered.specs.Reports.{IsReportOfText};
+ghost use Rattle.er_unordered.specs.Reports.{IsReportBy, IsReportOfText};
 
 use crate::OrderFault;
 use crate::building::OrderBuilder;
@@ -17,7 +18,7 @@ use er_before::OrderMachine;
 use er_device::Device;
 use er_report::Report;
 use er_rules::Suppressions;
-use er_text::{Batch, TraceReader};
+use er_text::{Batch, Ending, TraceReader};
 use er_trace::{NameKeys, Trace};
 use std::alloc::{AllocError, Global};
 use std::io::Read;
@@ -32,6 +33,8 @@ pub struct UnorderedReport {
     pub report: Report,
     /// It has the names of the numbers in the report. Most of its steps were forgotten.
     pub trace: Trace,
+    /// How the text ended.
+    pub ending: Ending,
 }
 
 /// What reads the lines, the trace that each batch fills, and what is left of the steps so far.
@@ -82,6 +85,8 @@ impl<'r> Pass<'r> {
             → IfOk result (λ more. more ≡ true → HasCome told (D.remaining (inner_of reader.new)) self.new.lines self.new.trace self.new.machine self.new.builder) }
         ensures ended { (told : Option (List ℕ)) → HasCome told (D.remaining (inner_of reader.old)) self.old.lines self.old.trace self.old.machine self.old.builder
             → IfOk result (λ more. more ≡ false → HasEnded told self.old.lines.place.limit self.new.trace self.new.builder) }
+        ensures ends { (told : Option (List ℕ)) → HasCome told (D.remaining (inner_of reader.old)) self.old.lines self.old.trace self.old.machine self.old.builder
+            → IfOk result (λ more. more ≡ false → IfSome told (λ text. KnowsEnd text self.new.lines)) }
         ensures fault { (told : Option (List ℕ)) → HasCome told (D.remaining (inner_of reader.old)) self.old.lines self.old.trace self.old.machine self.old.builder
             → IfErr result (λ why. IsFaultOfText told self.old.lines.place.limit why) }
         ensures rules { OnOk result (self.new.builder.built.rules ≡ self.old.builder.built.rules) }
@@ -134,6 +139,8 @@ impl<'r> Pass<'r> {
         requires open { has_failed reader.old ≡ false }
         ensures ended { (told : Option (List ℕ)) → HasCome told (D.remaining (inner_of reader.old)) self.old.lines self.old.trace self.old.machine self.old.builder
             → OnOk result (HasEnded told self.old.lines.place.limit self.new.trace self.new.builder) }
+        ensures ends { (told : Option (List ℕ)) → HasCome told (D.remaining (inner_of reader.old)) self.old.lines self.old.trace self.old.machine self.old.builder
+            → OnOk result (IfSome told (λ text. KnowsEnd text self.new.lines)) }
         ensures fault { (told : Option (List ℕ)) → HasCome told (D.remaining (inner_of reader.old)) self.old.lines self.old.trace self.old.machine self.old.builder
             → IfErr result (λ why. IsFaultOfText told self.old.lines.place.limit why) }
         ensures rules { OnOk result (self.new.builder.built.rules ≡ self.old.builder.built.rules) }
@@ -151,9 +158,10 @@ impl<'r> Pass<'r> {
     /// The report of the text that was read, and its names.
     fn finish(self) -> UnorderedReport
         ensures report { (told : Option (List ℕ)) (limit : ℕ) → HasEnded told limit self.entry.trace self.entry.builder
-            → IfSome told (λ text. IsReportOfText text limit self.entry.builder.built.rules (is_some self.entry.builder.reasons) result.trace.names result.report) }
+            → IfSome told (λ text. IsReportBy None text limit self.entry.builder.built.rules (is_some self.entry.builder.reasons) result.trace.names result.report) }
         ensures named { (told : Option (List ℕ)) (limit : ℕ) → HasEnded told limit self.entry.trace self.entry.builder
             → All (HasNames result.trace.names) result.report.lines.items }
+        ensures ending { (text : List ℕ) → KnowsEnd text self.entry.lines → IsEndingOf text result.ending }
     {
         let Pass {
             lines,
@@ -161,10 +169,12 @@ impl<'r> Pass<'r> {
             machine,
             builder,
         } = self;
+        let ending = lines.ending();
         close(lines, machine);
         UnorderedReport {
             report: builder.finish(),
             trace,
+            ending,
         }
     }
 }
@@ -195,6 +205,7 @@ pub fn report_unordered<D: Read, V: Watch>(
     requires limit { byte_limit ≤ 2 ^ 62 }
     ensures report { IfOk result (λ found. IfSome (D.remaining (inner_of reader.old)) (λ text. IsReportOfText text byte_limit (targets_of suppressions.now) explain found.trace.names found.report)) }
     ensures named { IfOk result (λ found. All (HasNames found.trace.names) found.report.lines.items) }
+    ensures ending { IfOk result (λ found. IfSome (D.remaining (inner_of reader.old)) (λ text. IsEndingOf text found.ending)) }
     ensures fault { IfErr result (λ why. IsFaultOfText (D.remaining (inner_of reader.old)) byte_limit why) }
     ensures failed { FailsBy (has_failed reader.new) false result }
     ensures taken { taken_of reader.new ≤ taken_of reader.old + byte_limit + bytes_past_limit }
@@ -203,7 +214,11 @@ pub fn report_unordered<D: Read, V: Watch>(
     let ran = pass.run(reader, watcher);
     watcher.end();
     match ran {
-        Ok(()) => Ok(pass.finish()),
+        Ok(()) => {
+            let mut found = pass.finish();
+            found.report.lost = found.ending.lost_events();
+            Ok(found)
+        }
         Err(why) => {
             drop(pass);
             Err(why)

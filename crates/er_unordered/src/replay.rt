@@ -5,6 +5,7 @@ ghost use Rattle.er_print.specs.Printed.{report_text};
 ghost use Rattle.er_report.specs.Names.{HasNames};
 ghost use Rattle.er_report.specs.Report.{told};
 ghost use Rattle.er_rules.specs.Rules.{targets_of};
+ghost use Rattle.er_text.specs.Ending.{IsEndingOf};
 ghost use Rattle.er_text.specs.Lines.{bytes_past_limit};
 ghost use Rattle.er_unordered.specs.Faults.{FailsBy};
 ghost use Rattle.er_unordered.specs.Inner.Written.{WritesFound};
@@ -16,7 +17,7 @@ use crate::OrderFault;
 use crate::both::{BothReports, report_both};
 use crate::passes::{UnorderedReport, report_unordered};
 use crate::text::{write_both, write_unordered};
-use er_batch::{Options, Verdict, Watch};
+use er_batch::{Options, Replayed, Verdict, Watch};
 use er_device::Device;
 use er_rules::Suppressions;
 use std::alloc::Global;
@@ -51,7 +52,7 @@ pub fn replay_by<R, D, W, V>(
     options: &Options,
     analysis: Analysis,
     watcher: &mut V,
-) -> Result<Verdict, OrderFault>
+) -> Result<Replayed, OrderFault>
 where
     R: AllocGlobal + Wait,
     D: Read,
@@ -59,7 +60,8 @@ where
     V: Watch,
     requires reader { has_failed reader.old ≡ false }
     requires writer { has_failed writer.old ≡ false }
-    ensures report { IfOk result (λ verdict. IfSome (D.remaining (inner_of reader.old)) (λ text. IsReplayedBy analysis text options.now.byte_limit (targets_of suppressions.now) options.now.explain (W.contents (inner_of writer.old)) (W.contents (inner_of writer.new)) verdict)) }
+    ensures report { IfOk result (λ replayed. IfSome (D.remaining (inner_of reader.old)) (λ text. IsReplayedBy analysis text options.now.byte_limit (targets_of suppressions.now) options.now.explain (W.contents (inner_of writer.old)) (W.contents (inner_of writer.new)) replayed.verdict)) }
+    ensures ending { IfOk result (λ replayed. IfSome (D.remaining (inner_of reader.old)) (λ text. IsEndingOf text replayed.ending)) }
     ensures fault { IfErr result (λ why. IsFailedBy analysis (D.remaining (inner_of reader.old)) options.now.byte_limit (targets_of suppressions.now) options.now.explain (W.contents (inner_of writer.old)) (W.contents (inner_of writer.new)) why) }
     ensures nothing { IfErr result (λ why. WritesNothing (W.contents (inner_of writer.old)) (W.contents (inner_of writer.new)) why) }
     ensures failed { FailsBy (has_failed reader.new) (has_failed writer.new) result }
@@ -81,10 +83,11 @@ fn replay_unordered<D: Read, W: Write, V: Watch>(
     suppressions: &Suppressions,
     options: &Options,
     watcher: &mut V,
-) -> Result<Verdict, OrderFault>
+) -> Result<Replayed, OrderFault>
     requires reader { has_failed reader.old ≡ false }
     requires writer { has_failed writer.old ≡ false }
-    ensures report { IfOk result (λ verdict. IfSome (D.remaining (inner_of reader.old)) (λ text. IsReplayedBy HappensBefore text options.now.byte_limit (targets_of suppressions.now) options.now.explain (W.contents (inner_of writer.old)) (W.contents (inner_of writer.new)) verdict)) }
+    ensures report { IfOk result (λ replayed. IfSome (D.remaining (inner_of reader.old)) (λ text. IsReplayedBy HappensBefore text options.now.byte_limit (targets_of suppressions.now) options.now.explain (W.contents (inner_of writer.old)) (W.contents (inner_of writer.new)) replayed.verdict)) }
+    ensures ending { IfOk result (λ replayed. IfSome (D.remaining (inner_of reader.old)) (λ text. IsEndingOf text replayed.ending)) }
     ensures fault { IfErr result (λ why. IsFailedBy HappensBefore (D.remaining (inner_of reader.old)) options.now.byte_limit (targets_of suppressions.now) options.now.explain (W.contents (inner_of writer.old)) (W.contents (inner_of writer.new)) why) }
     ensures nothing { IfErr result (λ why. WritesNothing (W.contents (inner_of writer.old)) (W.contents (inner_of writer.new)) why) }
     ensures failed { FailsBy (has_failed reader.new) (has_failed writer.new) result }
@@ -116,7 +119,7 @@ fn replay_both<R, D, W, V>(
     suppressions: &Suppressions,
     options: &Options,
     watcher: &mut V,
-) -> Result<Verdict, OrderFault>
+) -> Result<Replayed, OrderFault>
 where
     R: AllocGlobal + Wait,
     D: Read,
@@ -124,7 +127,8 @@ where
     V: Watch,
     requires reader { has_failed reader.old ≡ false }
     requires writer { has_failed writer.old ≡ false }
-    ensures report { IfOk result (λ verdict. IfSome (D.remaining (inner_of reader.old)) (λ text. IsReplayedBy Both text options.now.byte_limit (targets_of suppressions.now) options.now.explain (W.contents (inner_of writer.old)) (W.contents (inner_of writer.new)) verdict)) }
+    ensures report { IfOk result (λ replayed. IfSome (D.remaining (inner_of reader.old)) (λ text. IsReplayedBy Both text options.now.byte_limit (targets_of suppressions.now) options.now.explain (W.contents (inner_of writer.old)) (W.contents (inner_of writer.new)) replayed.verdict)) }
+    ensures ending { IfOk result (λ replayed. IfSome (D.remaining (inner_of reader.old)) (λ text. IsEndingOf text replayed.ending)) }
     ensures fault { IfErr result (λ why. IsFailedBy Both (D.remaining (inner_of reader.old)) options.now.byte_limit (targets_of suppressions.now) options.now.explain (W.contents (inner_of writer.old)) (W.contents (inner_of writer.new)) why) }
     ensures nothing { IfErr result (λ why. WritesNothing (W.contents (inner_of writer.old)) (W.contents (inner_of writer.new)) why) }
     ensures failed { FailsBy (has_failed reader.new) (has_failed writer.new) result }
@@ -145,15 +149,19 @@ fn write_found<W: Write>(
     alloc: Global,
     writer: &mut Device<W>,
     found: &UnorderedReport,
-) -> Result<Verdict, OrderFault>
+) -> Result<Replayed, OrderFault>
     requires writer { has_failed writer.old ≡ false }
     requires named { All (HasNames found.now.trace.names) found.now.report.lines.items }
-    ensures verdict { IfOk result (λ verdict. verdict ≡ verdict_if (nat_lt 0 found.now.report.races)) }
+    ensures ending { IfOk result (λ replayed. replayed.ending ≡ found.now.ending) }
+    ensures verdict { IfOk result (λ replayed. replayed.verdict ≡ verdict_if (nat_lt 0 found.now.report.races)) }
     ensures bytes { WritesFound (W.contents (inner_of writer.old)) (W.contents (inner_of writer.new)) (unordered_text found.now.trace.names (told found.now.report)) result }
     ensures failed { FailsBy false (has_failed writer.new) result }
 {
     match write_unordered(alloc, writer, &found.report, found.trace.names()) {
-        Ok(()) => Ok(verdict_if(found.report.races > 0)),
+        Ok(()) => Ok(Replayed {
+            verdict: verdict_if(found.report.races > 0),
+            ending: found.ending,
+        }),
         Err(why) => Err(OrderFault::Write(why)),
     }
 }
@@ -163,17 +171,21 @@ fn write_both_found<W: Write>(
     alloc: Global,
     writer: &mut Device<W>,
     found: &BothReports,
-) -> Result<Verdict, OrderFault>
+) -> Result<Replayed, OrderFault>
     requires writer { has_failed writer.old ≡ false }
     requires lockset { All (HasNames found.now.trace.names) found.now.lockset.lines.items }
     requires unordered { All (HasNames found.now.trace.names) found.now.unordered.lines.items }
-    ensures verdict { IfOk result (λ verdict. verdict ≡ verdict_if (nat_lt 0 found.now.lockset.races || nat_lt 0 found.now.unordered.races)) }
+    ensures ending { IfOk result (λ replayed. replayed.ending ≡ found.now.ending) }
+    ensures verdict { IfOk result (λ replayed. replayed.verdict ≡ verdict_if (nat_lt 0 found.now.lockset.races || nat_lt 0 found.now.unordered.races)) }
     ensures bytes { WritesFound (W.contents (inner_of writer.old)) (W.contents (inner_of writer.new)) (report_text found.now.trace.names (told found.now.lockset) ++ unordered_text found.now.trace.names (told found.now.unordered)) result }
     ensures failed { FailsBy false (has_failed writer.new) result }
 {
     let names = found.trace.names();
     match write_both(alloc, writer, &found.lockset, &found.unordered, names) {
-        Ok(()) => Ok(verdict_if(found.lockset.races > 0 || found.unordered.races > 0)),
+        Ok(()) => Ok(Replayed {
+            verdict: verdict_if(found.lockset.races > 0 || found.unordered.races > 0),
+            ending: found.ending,
+        }),
         Err(why) => Err(OrderFault::Write(why)),
     }
 }

@@ -355,6 +355,7 @@ fn damage_of_lines(damage: Damage) -> Damage {
         held_twice: damage.held_twice,
         no_line_feed: None,
         no_end: None,
+        lost: damage.lost,
     }
 }
 

@@ -2,13 +2,12 @@
 use Rattle.std.specs.Prelude.{ℕ, List, Option, Result, Ok, Err, take}
 use Rattle.std.specs.Io.KnownBytes.{Appends, Keeps}
 use Rattle.er_print.specs.declared.fault.WriteFault.TheVariants as writing
-use Rattle.er_batch.specs.declared.verdict.Verdict.{Verdict}
 use Rattle.er_unordered.specs.declared.fault.OrderFault.{OrderFault}
 use Rattle.er_unordered.specs.declared.fault.OrderFault.TheVariants.{Read, Write, TableFull, CountFull, Memory}
 
 -- all of the text was written, or a beginning of it where a write failed, or nothing
-abbrev pub WritesFound : Option (List ℕ) → Option (List ℕ) → List ℕ → Result Verdict OrderFault → Type 0
-WritesFound old new text (Ok verdict) = Appends old new text
+abbrev pub WritesFound : {X : Type 0} → Option (List ℕ) → Option (List ℕ) → List ℕ → Result X OrderFault → Type 0
+WritesFound old new text (Ok x) = Appends old new text
 WritesFound old new text (Err (Write writing.Memory)) = Keeps old new
 WritesFound old new text (Err (Write writing.Write)) = (n : ℕ) × Appends old new (take n text)
 WritesFound old new text (Err (Read fault)) = ⊥

@@ -6,19 +6,19 @@ use Rattle.er_run.proofs.replay.replay_text_watched.Goals as goal
 
 pub returns-in-Ok-clause-report : goal.returns-in-Ok-clause-report
 returns-in-Ok-clause-report g c =
-    whole-of (g.D.Read.remaining (inner_of c.args.reader.now)) c.args.options.now.byte_limit (targets_of c.args.suppressions.now) c.args.options.now.explain _ _ c.in-Ok.found.trace.names c.in-Ok.found.report c.write_found-verdict.result
-    c.in-Ok.ensures.report c.write_found-verdict.ensures.verdict c.write_found-verdict.ensures.bytes
+    whole-of (g.D.Read.remaining (inner_of c.args.reader.now)) c.args.options.now.byte_limit (targets_of c.args.suppressions.now) c.args.options.now.explain _ _ c.in-Ok.found.trace.names c.in-Ok.found.report c.write_found-replayed.result
+    c.in-Ok.ensures.report c.write_found-replayed.ensures.verdict c.write_found-replayed.ensures.bytes
 
 pub returns-in-Ok-clause-fault : goal.returns-in-Ok-clause-fault
 returns-in-Ok-clause-fault g c =
-    part (g.D.Read.remaining (inner_of c.args.reader.now)) c.args.options.now.byte_limit (targets_of c.args.suppressions.now) c.args.options.now.explain _ _ c.in-Ok.found.trace.names c.in-Ok.found.report c.write_found-verdict.result
-    c.in-Ok.ensures.report c.write_found-verdict.ensures.bytes
+    part (g.D.Read.remaining (inner_of c.args.reader.now)) c.args.options.now.byte_limit (targets_of c.args.suppressions.now) c.args.options.now.explain _ _ c.in-Ok.found.trace.names c.in-Ok.found.report c.write_found-replayed.result
+    c.in-Ok.ensures.report c.write_found-replayed.ensures.bytes
 
 pub returns-in-Ok-clause-nothing : goal.returns-in-Ok-clause-nothing
-returns-in-Ok-clause-nothing g c = nothing _ _ _ c.write_found-verdict.result c.write_found-verdict.ensures.bytes
+returns-in-Ok-clause-nothing g c = nothing _ _ _ c.write_found-replayed.result c.write_found-replayed.ensures.bytes
 
 pub returns-in-Ok-clause-whole : goal.returns-in-Ok-clause-whole
-returns-in-Ok-clause-whole g c = λ several. whole-verdict c.in-Ok.found.report c.write_found-verdict.result (c.in-Ok.ensures.whole several) c.write_found-verdict.ensures.verdict
+returns-in-Ok-clause-whole g c = λ several. whole-verdict c.in-Ok.found.report c.write_found-replayed.result (c.in-Ok.ensures.whole several) c.write_found-replayed.ensures.verdict
 
 pub returns-in-Err-clause-fault : goal.returns-in-Err-clause-fault
 returns-in-Err-clause-fault g c =

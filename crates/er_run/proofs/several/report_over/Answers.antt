@@ -4,7 +4,7 @@ use Rattle.er_damage.specs.Damaged.{IsDamageOf, no_damage}
 use Rattle.er_device.specs.Device.{inner_of}
 use Rattle.er_rules.specs.Rules.{Target, targets_of}
 use Rattle.er_run.specs.Inner.Inspected.{HasSeen}
-use Rattle.er_run.specs.Inner.Reports.{IsReportOfText, IsFaultOfText}
+use Rattle.er_run.specs.Inner.Reports.{IsReportOfSteps, IsFaultOfText}
 use Rattle.er_run.specs.Inner.Several.{HasReadOn}
 use Rattle.er_run.proofs.several.report_over.Goals as goal
 
@@ -14,10 +14,10 @@ returns-in-Ok-run-clause-report g c =
     let s = c.in-Ok.shared in
     let state : HasReadOn told (g.D.Read.remaining (inner_of c.start.new.reader)) s.lines s.trace s.crew s.builder s.steps.items s.numbers.items =
     subst (λ (known : Option (List ℕ)). HasReadOn told known s.lines s.trace s.crew s.builder s.steps.items s.numbers.items) (sym c.in-Ok.ensures.same.0) (c.in-Ok.ensures.come told) in
-    subst (λ (n : ℕ). IfOk c.end.result (λ found. IfSome told (λ text. IsReportOfText text n (targets_of c.args.suppressions.now) c.args.options.now.explain found.trace.names found.report))) c.in-Ok.ensures.limit
-    (subst (λ (explain : Bool). IfOk c.end.result (λ found. IfSome told (λ text. IsReportOfText text s.lines.place.limit (targets_of c.args.suppressions.now) explain found.trace.names found.report)))
+    subst (λ (n : ℕ). IfOk c.end.result (λ found. IfSome told (λ text. IsReportOfSteps text n (targets_of c.args.suppressions.now) c.args.options.now.explain found.trace.names found.report))) c.in-Ok.ensures.limit
+    (subst (λ (explain : Bool). IfOk c.end.result (λ found. IfSome told (λ text. IsReportOfSteps text s.lines.place.limit (targets_of c.args.suppressions.now) explain found.trace.names found.report)))
     (c.in-Ok-run.ensures.explains ∙ c.in-Ok.ensures.explains)
-    (subst (λ (rules : List Target). IfOk c.end.result (λ found. IfSome told (λ text. IsReportOfText text s.lines.place.limit rules (is_some c.run.new.self.builder.kept) found.trace.names found.report)))
+    (subst (λ (rules : List Target). IfOk c.end.result (λ found. IfSome told (λ text. IsReportOfSteps text s.lines.place.limit rules (is_some c.run.new.self.builder.kept) found.trace.names found.report)))
     (c.in-Ok-run.ensures.rules ∙ c.in-Ok.ensures.rules) (c.end.ensures.report told s.lines.place.limit (c.in-Ok-run.ensures.reported told state))))
 
 pub returns-in-Ok-run-clause-named : goal.returns-in-Ok-run-clause-named
@@ -36,6 +36,14 @@ returns-in-Ok-run-clause-fault g c =
     subst (λ (known : Option (List ℕ)). HasSeen told known s.lines s.trace s.inspector) (sym c.in-Ok.ensures.same.0) (c.in-Ok.ensures.seen told) in
     subst (λ (n : ℕ). IfErr c.end.result (λ why. IsFaultOfText told n why)) c.in-Ok.ensures.limit
     (c.end.ensures.fault told s.lines.place.limit (c.in-Ok-run.ensures.seen_all told state))
+
+pub returns-in-Ok-run-clause-ending : goal.returns-in-Ok-run-clause-ending
+returns-in-Ok-run-clause-ending g c =
+    let told : Option (List ℕ) = g.D.Read.remaining (inner_of c.args.reader.now) in
+    let s = c.in-Ok.shared in
+    let state : HasSeen told (g.D.Read.remaining (inner_of c.start.new.reader)) s.lines s.trace s.inspector =
+    subst (λ (known : Option (List ℕ)). HasSeen told known s.lines s.trace s.inspector) (sym c.in-Ok.ensures.same.0) (c.in-Ok.ensures.seen told) in
+    c.end.ensures.ending told s.lines.place.limit (c.in-Ok-run.ensures.seen_all told state)
 
 pub returns-in-Ok-run-clause-undamaged : goal.returns-in-Ok-run-clause-undamaged
 returns-in-Ok-run-clause-undamaged g c = λ strict.

@@ -1,18 +1,19 @@
 -- The reports of the batches are those of the text.
-use Rattle.std.proofs.Common.{◌∙◌, ℕ, Bool, List, IfSome, IfOk, IfErr, Option, sym, subst}
+use Rattle.std.proofs.Common.{◌∙◌, ℕ, Bool, List, None, IfSome, IfOk, IfErr, Option, sym, subst}
 use Rattle.er_device.specs.Device.{inner_of}
 use Rattle.er_rules.specs.Rules.{targets_of}
 use Rattle.er_unordered.specs.Faults.{IsFaultOf}
-use Rattle.er_unordered.specs.Reports.{AreReportsOfText}
+use Rattle.er_unordered.specs.Reports.{AreReportsBy}
 use Rattle.er_unordered.specs.declared.replay.Analysis.TheVariants.{Both}
+use Rattle.er_unordered.proofs.BothLemmas.{ends-all}
 use Rattle.er_unordered.proofs.both.report_with.Goals as goal
 
 pub returns-in-Ok-clause-reports : goal.returns-in-Ok-clause-reports
 returns-in-Ok-clause-reports g c =
     let told : Option (List ℕ) = g.D.Read.remaining (inner_of c.args.reader.now) in
     let ended = c.in-Ok.ensures.ended told (c.in_ok-pass.ensures.come told) in
-    subst (λ (n : ℕ). IfOk c.finish.result (λ found. IfSome told (λ text. AreReportsOfText text n (targets_of c.args.suppressions.now) c.args.options.now.explain found.trace.names found.lockset found.unordered))) c.in_ok-pass.ensures.limit
-    (subst (λ (explain : Bool). IfOk c.finish.result (λ found. IfSome told (λ text. AreReportsOfText text c.in_ok-pass.pass.lines.place.limit (targets_of c.args.suppressions.now) explain found.trace.names found.lockset found.unordered)))
+    subst (λ (n : ℕ). IfOk c.finish.result (λ found. IfSome told (λ text. AreReportsBy None text n (targets_of c.args.suppressions.now) c.args.options.now.explain found.trace.names found.lockset found.unordered))) c.in_ok-pass.ensures.limit
+    (subst (λ (explain : Bool). IfOk c.finish.result (λ found. IfSome told (λ text. AreReportsBy None text c.in_ok-pass.pass.lines.place.limit (targets_of c.args.suppressions.now) explain found.trace.names found.lockset found.unordered)))
     (c.in-Ok.ensures.explains ∙ c.in_ok-pass.ensures.explains)
     (c.finish.ensures.reports told c.in_ok-pass.pass.lines.place.limit (targets_of c.args.suppressions.now) ended
     (c.in-Ok.ensures.rules ∙ c.in_ok-pass.ensures.rules) (c.in-Ok.ensures.unordered ∙ c.in_ok-pass.ensures.unordered)
@@ -27,6 +28,11 @@ pub returns-in-Ok-clause-named_too : goal.returns-in-Ok-clause-named_too
 returns-in-Ok-clause-named_too g c =
     let told : Option (List ℕ) = g.D.Read.remaining (inner_of c.args.reader.now) in
     c.finish.ensures.named_too told c.in_ok-pass.pass.lines.place.limit (c.in-Ok.ensures.ended told (c.in_ok-pass.ensures.come told))
+
+pub returns-in-Ok-clause-ending : goal.returns-in-Ok-clause-ending
+returns-in-Ok-clause-ending g c =
+    let told : Option (List ℕ) = g.D.Read.remaining (inner_of c.args.reader.now) in
+    ends-all told c.run-ran.new.self.lines c.finish.result (c.in-Ok.ensures.ends told (c.in_ok-pass.ensures.come told)) c.finish.ensures.ending
 
 pub returns-in-Ok-clause-fault : goal.returns-in-Ok-clause-fault
 returns-in-Ok-clause-fault g c =

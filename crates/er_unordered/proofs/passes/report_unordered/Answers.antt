@@ -1,20 +1,29 @@
 -- The report of the batches is that of the text.
-use Rattle.std.proofs.Common.{◌∙◌, ℕ, Bool, List, IfSome, is_some, Option, subst}
+use Rattle.std.proofs.Common.{◌∙◌, ℕ, Bool, List, None, IfSome, is_some, Option, subst}
 use Rattle.er_device.specs.Device.{inner_of}
 use Rattle.er_rules.specs.Rules.{Target, targets_of}
 use Rattle.er_unordered.specs.Faults.{IsFaultOfText}
-use Rattle.er_unordered.specs.Reports.{IsReportOfText}
+use Rattle.er_unordered.specs.Reports.{IsReportBy}
+use Rattle.er_unordered.proofs.PassLemmas.{known-end}
+use Rattle.er_unordered.proofs.ReplayLemmas.{lost-alone}
 use Rattle.er_unordered.proofs.passes.report_unordered.Goals as goal
 
 pub returns-in-Ok-clause-report : goal.returns-in-Ok-clause-report
 returns-in-Ok-clause-report g c =
     let told : Option (List ℕ) = g.D.Read.remaining (inner_of c.args.reader.now) in
     let ended = c.in-Ok.ensures.ended told (c.in_ok-pass.ensures.come told) in
-    subst (λ (n : ℕ). IfSome told (λ text. IsReportOfText text n (targets_of c.args.suppressions.now) c.args.explain c.finish.result.trace.names c.finish.result.report)) c.in_ok-pass.ensures.limit
-    (subst (λ (explain : Bool). IfSome told (λ text. IsReportOfText text c.in_ok-pass.pass.lines.place.limit (targets_of c.args.suppressions.now) explain c.finish.result.trace.names c.finish.result.report))
+    lost-alone told c.args.byte_limit (targets_of c.args.suppressions.now) c.args.explain c.finish.result.trace.names c.finish.result.report c.finish.result.ending c.lost_events.result
+    (subst (λ (n : ℕ). IfSome told (λ text. IsReportBy None text n (targets_of c.args.suppressions.now) c.args.explain c.finish.result.trace.names c.finish.result.report)) c.in_ok-pass.ensures.limit
+    (subst (λ (explain : Bool). IfSome told (λ text. IsReportBy None text c.in_ok-pass.pass.lines.place.limit (targets_of c.args.suppressions.now) explain c.finish.result.trace.names c.finish.result.report))
     (c.in-Ok.ensures.explains ∙ c.in_ok-pass.ensures.explains)
-    (subst (λ (rules : List Target). IfSome told (λ text. IsReportOfText text c.in_ok-pass.pass.lines.place.limit rules (is_some c.run-ran.new.self.builder.reasons) c.finish.result.trace.names c.finish.result.report))
-    (c.in-Ok.ensures.rules ∙ c.in_ok-pass.ensures.rules) (c.finish.ensures.report told c.in_ok-pass.pass.lines.place.limit ended)))
+    (subst (λ (rules : List Target). IfSome told (λ text. IsReportBy None text c.in_ok-pass.pass.lines.place.limit rules (is_some c.run-ran.new.self.builder.reasons) c.finish.result.trace.names c.finish.result.report))
+    (c.in-Ok.ensures.rules ∙ c.in_ok-pass.ensures.rules) (c.finish.ensures.report told c.in_ok-pass.pass.lines.place.limit ended))))
+    (known-end told c.run-ran.new.self.lines c.finish.result.ending (c.in-Ok.ensures.ends told (c.in_ok-pass.ensures.come told)) c.finish.ensures.ending) c.lost_events.ensures
+
+pub returns-in-Ok-clause-ending : goal.returns-in-Ok-clause-ending
+returns-in-Ok-clause-ending g c =
+    let told : Option (List ℕ) = g.D.Read.remaining (inner_of c.args.reader.now) in
+    known-end told c.run-ran.new.self.lines c.finish.result.ending (c.in-Ok.ensures.ends told (c.in_ok-pass.ensures.come told)) c.finish.ensures.ending
 
 pub returns-in-Ok-clause-named : goal.returns-in-Ok-clause-named
 returns-in-Ok-clause-named g c =

@@ -2,13 +2,14 @@
 use Rattle.std.proofs.Common.{◌++◌, refl, sym, subst, rules}
 use Rattle.er_device.specs.Device.{inner_of}
 use Rattle.er_batch.proofs.BatchLemmas.{read-whole, read-part}
-use Rattle.er_text.specs.Batches.{joined}
+use Rattle.er_text.specs.Batches.{joined, HasRead}
 use Rattle.er_trace.specs.Trace.{Recording}
 use Rattle.er_unordered.specs.Faults.{IsFaultOf}
 use Rattle.er_unordered.specs.Inner.Both.{HaveCome}
 use Rattle.er_unordered.specs.Inner.Passes.{HasGathered}
 use Rattle.er_unordered.specs.Inner.Stopping.{HasOverflowed}
 use Rattle.er_unordered.specs.declared.replay.Analysis.TheVariants.{Both}
+use Rattle.er_unordered.proofs.PassLemmas.{end-known}
 use Rattle.er_unordered.proofs.StoppingLemmas.{overflowed}
 use Rattle.er_unordered.proofs.both.BothPass.turn.Goals as goal
 
@@ -24,6 +25,11 @@ returns-in-End-clause-ended g c = λ told come last.
       built = answered.answered.built;
       reasoned = answered.reasoned;
     }
+
+pub returns-in-End-clause-ends : goal.returns-in-End-clause-ends
+returns-in-End-clause-ends g c = λ told come last.
+    end-known told c.next_batch.new.self (λ text. HasRead text come.past come.lines c.args.self.now.lines (g.D.Read.remaining (inner_of c.args.reader.now)) c.args.self.now.trace) come.read
+    (λ text read. c.in_ok-batch.ensures.ends text come.past come.lines read c.in-End.is)
 
 pub returns-in-More-clause-come : goal.returns-in-More-clause-come
 returns-in-More-clause-come g c = λ told come more.

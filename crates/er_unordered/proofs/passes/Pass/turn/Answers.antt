@@ -2,12 +2,13 @@
 use Rattle.std.proofs.Common.{◌++◌, refl, sym, subst, rules}
 use Rattle.er_device.specs.Device.{inner_of}
 use Rattle.er_batch.proofs.BatchLemmas.{read-whole, read-part}
-use Rattle.er_text.specs.Batches.{joined}
+use Rattle.er_text.specs.Batches.{joined, HasRead}
 use Rattle.er_trace.specs.Trace.{Recording}
 use Rattle.er_unordered.specs.Faults.{IsFaultOf}
 use Rattle.er_unordered.specs.Inner.Passes.{HasGathered, HasCome}
 use Rattle.er_unordered.specs.Inner.Stopping.{HasOverflowed}
 use Rattle.er_unordered.specs.declared.replay.Analysis.TheVariants.{HappensBefore}
+use Rattle.er_unordered.proofs.PassLemmas.{end-known}
 use Rattle.er_unordered.proofs.StoppingLemmas.{overflowed}
 use Rattle.er_unordered.proofs.passes.Pass.turn.Goals as goal
 
@@ -23,6 +24,11 @@ returns-in-End-clause-ended g c = λ told come last.
       reasoned = run.reasoned;
       named = run.answered.named;
     }
+
+pub returns-in-End-clause-ends : goal.returns-in-End-clause-ends
+returns-in-End-clause-ends g c = λ told come last.
+    end-known told c.next_batch.new.self (λ text. HasRead text come.past come.lines c.args.self.now.lines (g.D.Read.remaining (inner_of c.args.reader.now)) c.args.self.now.trace) come.read
+    (λ text read. c.in_ok-batch.ensures.ends text come.past come.lines read c.in-End.is)
 
 pub returns-in-More-clause-come : goal.returns-in-More-clause-come
 returns-in-More-clause-come g c = λ told come more.
