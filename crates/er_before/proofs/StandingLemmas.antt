@@ -1,5 +1,5 @@
 -- What one event makes of a machine, and of the list that it stands for.
-use Rattle.std.proofs.Common.{◌≡◌, ℕ, Bool, true, false, nat_eq, nat_lt, ◌==◌, cond, List, [], ◌∷◌, ◌++◌, length, Some, None, Ok, refl, ap, ap₂, sym, ◌∙◌, Result, Err, IfOk}
+use Rattle.std.proofs.Common.{◌≡◌, ℕ, Bool, true, false, nat_eq, nat_lt, ◌==◌, cond, List, [], ◌∷◌, ◌++◌, length, Option, Some, None, Ok, refl, ap, ap₂, sym, ◌∙◌, arith, Result, Err, IfOk}
 use Rattle.std.proofs.Math.Path.{fun_ext}
 use Rattle.std.proofs.lemmas.Bool.{eqb-true}
 use Rattle.er_event.specs.declared.steps.Event.{Event}
@@ -7,27 +7,25 @@ use Rattle.er_event.specs.declared.steps.Event.TheVariants.{Acquire, Release, Ac
 use Rattle.er_event.specs.declared.steps.Kind.{Kind}
 use Rattle.er_event.proofs.Lists.{length_push, get_last}
 use Rattle.er_event.specs.declared.steps.Reply.TheVariants.{Done}
-use Rattle.er_event.specs.declared.steps.WordState.{WordState}
 use Rattle.er_model.specs.Words.{Nothing}
-use Rattle.er_model.specs.Following.{marked, replied}
-use Rattle.er_model.specs.Holdings.{Holdings, refused_by, changed_by, changed_unless, after_step, holdings_at, holdings_end}
-use Rattle.er_model.specs.Answers.{answer_unless, state_end, reading_of}
+use Rattle.er_model.specs.Following.{marked}
+use Rattle.er_model.specs.Holdings.{Holdings, refused_by, changed_by, changed_unless, after_step, holdings_at}
+use Rattle.er_model.specs.Answers.{answer_unless, reading_of}
 use Rattle.er_model.proofs.Prefixes.{holdings-grow, holdings-empty}
-use Rattle.er_model.proofs.Prefixes as grown
 use Rattle.er_event.specs.declared.steps.Step.{Step}
-use Rattle.er_order.specs.Order.{Effect, Local, sync_of, act_unless, acts_of}
-use Rattle.er_order.specs.Clocks.{OfThread, clocks_after, clocks_at}
+use Rattle.er_order.specs.Order.{Act, Effect, Local, sync_of, act_unless, acts_of}
+use Rattle.er_order.specs.Clocks.{OfThread, clocks_after, clocks_at, own_count}
 use Rattle.er_order.specs.Races.{order_answer}
 use Rattle.er_order.specs.Following.{act_by, kept_by, kept_at, kept_after, kept_moved, fresh, access_answered}
 use Rattle.er_order.proofs.ClockSteps.{local}
-use Rattle.er_order.proofs.StepLemmas.{clocks-grow}
+use Rattle.er_order.proofs.StepLemmas.{act-step, clocks-grow, held-front}
 use Rattle.er_order.proofs.Growing.{kept-grow, answer-grow}
 use Rattle.er_order.proofs.Following.{answer-other, kept-none}
 use Rattle.er_held.specs.Held.{nothing_held}
 use Rattle.er_clocks.specs.Counts.{count_by}
-use Rattle.er_clocks.specs.Standing.{ClockMaps, counts, Moves, StandsForClocksOf}
+use Rattle.er_clocks.specs.Standing.{ClockMaps, counts, Moves, StandsForClocksOf, act_flows}
 use Rattle.er_epochs.specs.Words.{AllWords, kept_among}
-use Rattle.er_before.specs.Standing.{Ordered, holding, clock_of, kept_of, Stands, Changes, IsSame, answered_by, is_show, holds_alone}
+use Rattle.er_before.specs.Standing.{Ordered, holding, clock_of, kept_of, Stands, Changes, IsSame, HasFullCount, IsFullAfter, answered_by, holds_alone}
 
 -- an accepted event
 module _ (before after : Ordered) (t : ℕ) (e : Event) (accepted : refused_by (holding before t) e ≡ None) where
@@ -151,28 +149,37 @@ access-answer before past t w site kind stands =
     ∙ ap (λ kept. access_answered (holdings_at past t (length past)) (clocks_at (acts_of past) (length past) (OfThread t)) kept kind step) (stands.kept w)
     ∙ sym (answer-grow past step w site kind refl)
 
--- where the lockset rule's answer doesn't look at words
+-- what isn't an access is done, unless it is refused
 other-answer : (before : Ordered) (past : List Step) (t : ℕ) (e : Event) → Stands before past → ((w site : ℕ) (kind : Kind) → e ≡ Access kind w site → ⊥) →
-    ((h : Holdings) (states : ℕ → WordState) → replied h states t e ≡ Done) →
     answer_unless (refused_by (holding before t) e) Done ≡ order_answer (past ++ record { thread = t; event = e } ∷ []) (length past)
-other-answer before past t e stands never done =
+other-answer before past t e stands never =
     let step : Step = record { thread = t; event = e } in
-    ap (λ h. answer_unless (refused_by h e) Done) (stands.held t)
-    ∙ ap (answer_unless (refused_by (holdings_end past t) e)) (sym (done (holdings_end past t) (state_end past)))
-    ∙ sym (grown.answer-grow past step)
+    ap (λ h. answer_unless (refused_by h e) Done) (stands.held t ∙ sym (held-front past (step ∷ []) t (length past) (omega arith)))
     ∙ sym (answer-other (past ++ step ∷ []) (length past) step (get_last past step) never)
 
-pub answer-stands : (before : Ordered) (past : List Step) (t : ℕ) (e : Event) → Stands before past → is_show e ≡ false →
+pub answer-stands : (before : Ordered) (past : List Step) (t : ℕ) (e : Event) → Stands before past →
     answered_by before (record { thread = t; event = e }) ≡ order_answer (past ++ record { thread = t; event = e } ∷ []) (length past)
-answer-stands before past t (Access kind w site) stands other = access-answer before past t w site kind stands
-answer-stands before past t (Acquire l m) stands other = other-answer before past t (Acquire l m) stands (λ w site kind same. cc) (λ h states. refl)
-answer-stands before past t (Release l m) stands other = other-answer before past t (Release l m) stands (λ w site kind same. cc) (λ h states. refl)
-answer-stands before past t (Reuse range) stands other = other-answer before past t (Reuse range) stands (λ w site kind same. cc) (λ h states. refl)
-answer-stands before past t IgnoreOn stands other = other-answer before past t IgnoreOn stands (λ w site kind same. cc) (λ h states. refl)
-answer-stands before past t IgnoreOff stands other = other-answer before past t IgnoreOff stands (λ w site kind same. cc) (λ h states. refl)
-answer-stands before past t (Level n) stands other = other-answer before past t (Level n) stands (λ w site kind same. cc) (λ h states. refl)
-answer-stands before past t (Show w) stands other = cc
-answer-stands before past t (Sync sync) stands other = other-answer before past t (Sync sync) stands (λ w site kind same. cc) (λ h states. refl)
+answer-stands before past t (Access kind w site) stands = access-answer before past t w site kind stands
+answer-stands before past t (Acquire l m) stands = other-answer before past t (Acquire l m) stands (λ w site kind same. cc)
+answer-stands before past t (Release l m) stands = other-answer before past t (Release l m) stands (λ w site kind same. cc)
+answer-stands before past t (Reuse range) stands = other-answer before past t (Reuse range) stands (λ w site kind same. cc)
+answer-stands before past t IgnoreOn stands = other-answer before past t IgnoreOn stands (λ w site kind same. cc)
+answer-stands before past t IgnoreOff stands = other-answer before past t IgnoreOff stands (λ w site kind same. cc)
+answer-stands before past t (Level n) stands = other-answer before past t (Level n) stands (λ w site kind same. cc)
+answer-stands before past t (Show v) stands = other-answer before past t (Show v) stands (λ w site kind same. cc)
+answer-stands before past t (Sync sync) stands = other-answer before past t (Sync sync) stands (λ w site kind same. cc)
+
+-- a count that is full before a step is full after the list that the machine stands for
+pub full-after : (before : Ordered) (past : List Step) (step : Step) → Stands before past → HasFullCount before step → IsFullAfter past step
+unfolding own_count
+full-after before past step stands full = (
+  full.0,
+  ap (λ (o : Option Act). act_flows o full.0)
+      (act-step (past ++ step ∷ []) (length past) step (get_last past step)
+      ∙ ap (λ h. act_by h step) (held-front past (step ∷ []) step.thread (length past) (omega arith) ∙ sym (stands.held step.thread)))
+      ∙ full.1,
+  sym (stands.clocks (OfThread full.0) full.0) ∙ full.2,
+)
 
 -- before any step
 pub stands-start : (machine : Ordered) → ((t : ℕ) → holding machine t ≡ nothing_held) → StandsForClocksOf machine.clocks [] → ((w : ℕ) → kept_of machine w ≡ fresh) → Stands machine []

@@ -1,7 +1,7 @@
 -- The lists of steps that a machine stands for, and what one more step makes of it.
-use Rattle.std.specs.Prelude.{ℕ, ◌≡◌, ◌-◌, ◌^◌, nat_lt, Bool, true, false, cond, List, length, Result}
+use Rattle.std.specs.Prelude.{ℕ, ◌≡◌, ◌-◌, ◌^◌, nat_lt, Bool, true, false, IsTrue, cond, List, [], ◌∷◌, ◌++◌, length, Result}
 use Rattle.er_event.specs.declared.steps.Event.{Event}
-use Rattle.er_event.specs.declared.steps.Event.TheVariants.{Access, Show, IgnoreOn, IgnoreOff, Level}
+use Rattle.er_event.specs.declared.steps.Event.TheVariants.{Access, Reuse, Show, IgnoreOn, IgnoreOff, Level}
 use Rattle.er_event.specs.declared.steps.Reply.{Reply}
 use Rattle.er_event.specs.declared.steps.Reply.TheVariants.{Done, Quiet, Race, Ignored}
 use Rattle.er_event.specs.declared.refusals.Refusal.{Refusal}
@@ -9,10 +9,10 @@ use Rattle.er_model.specs.Holdings.{Holdings, refused_by, after_step, holdings_a
 use Rattle.er_model.specs.Answers.{answer_unless}
 use Rattle.er_held.specs.ThreadLocks.{holding_among}
 use Rattle.er_event.specs.declared.steps.Step.{Step}
-use Rattle.er_order.specs.Clocks.{OfThread, clocks_at}
+use Rattle.er_order.specs.Clocks.{OfThread, own_count}
 use Rattle.er_order.specs.Order.{acts_of}
 use Rattle.er_order.specs.Following.{Kept, act_by, kept_at, kept_after, reports_at}
-use Rattle.er_clocks.specs.Standing.{ClockMaps, counts, SameCounts, Moves, StandsForClocksOf}
+use Rattle.er_clocks.specs.Standing.{ClockMaps, counts, SameCounts, Moves, StandsForClocksOf, act_flows}
 use Rattle.er_epochs.specs.Words.{AllWords, kept_among}
 
 -- the threads that took something, with their holdings; the clocks; and what is kept of the words
@@ -39,13 +39,21 @@ pub record Stands (machine : Ordered) (steps : List Step) : Type 0 where
   pub clocks : StandsForClocksOf machine.clocks steps
   pub kept : (w : ℕ) → kept_of machine w ≡ kept_at steps w (length steps)
 
--- some thread's own count is the greatest
-abbrev pub HasFullCount : Ordered → Type 0
-HasFullCount machine = (t : ℕ) × (clock_of machine t t ≡ 2 ^ 32 - 1)
+-- the event finds room always: an access inside a bracket, a reuse, a show, and the end of a bracket
+abbrev pub wants_nothing : Holdings → Event → Bool
+wants_nothing h (Access kind w site) = nat_lt 0 h.depth
+wants_nothing h (Reuse range) = true
+wants_nothing h (Show w) = true
+wants_nothing h IgnoreOff = true
+wants_nothing h _ = false
 
--- at the end of the list, some thread's own count is the greatest
-abbrev pub IsFullAfter : List Step → Type 0
-IsFullAfter steps = (t : ℕ) × (clocks_at (acts_of steps) (length steps) (OfThread t) t ≡ 2 ^ 32 - 1)
+-- the step makes the clock of a thread flow into another one, and that thread's own count is the greatest
+abbrev pub HasFullCount : Ordered → Step → Type 0
+HasFullCount machine step = (t : ℕ) × IsTrue (act_flows (act_by (holding machine step.thread) step) t) × (clock_of machine t t ≡ 2 ^ 32 - 1)
+
+-- the same of a step that comes after the list
+abbrev pub IsFullAfter : List Step → Step → Type 0
+IsFullAfter steps step = (t : ℕ) × IsTrue (act_flows (acts_of (steps ++ step ∷ []) (length steps)) t) × (own_count (acts_of steps) (length steps) t ≡ 2 ^ 32 - 1)
 
 -- they are what the step makes of those before
 pub record Changes (before : Ordered) (step : Step) (after : Ordered) : Type 0 where
@@ -59,7 +67,7 @@ pub record IsSame (before after : Ordered) : Type 0 where
   pub clocks : SameCounts before.clocks after.clocks
   pub kept : (w : ℕ) → kept_of after w ≡ kept_of before w
 
--- the reply to an event that isn't refused, by these; a show is done
+-- the reply to an event that isn't refused, by these
 abbrev pub reply_by : Holdings → (ℕ → ℕ) → (ℕ → Kept) → Event → Reply
 reply_by h clock kept (Access kind w site) = cond (nat_lt 0 h.depth) Ignored (cond (reports_at clock (kept w) kind) Race Quiet)
 reply_by h clock kept _ = Done
@@ -67,11 +75,6 @@ reply_by h clock kept _ = Done
 -- and the answer
 abbrev pub answered_by : Ordered → Step → Result Reply Refusal
 answered_by machine step = answer_unless (refused_by (holding machine step.thread) step.event) (reply_by (holding machine step.thread) (clock_of machine step.thread) (kept_of machine) step.event)
-
--- the event asks for a word's state
-abbrev pub is_show : Event → Bool
-is_show (Show w) = true
-is_show _ = false
 
 -- the event changes what its thread holds, and nothing else
 abbrev pub holds_alone : Event → Bool

@@ -1,13 +1,15 @@
 //! Every thread's holdings.
-ghost use Rattle.std.specs.Prelude.{◌≡◌, ℕ, nat_eq, cond, IsTrue, OnOk, OnErr, None};
+ghost use Rattle.std.specs.Prelude.{◌≡◌, ℕ, nat_eq, cond, IsTrue, IsOk, OnOk, OnErr, None};
 ghost use Rattle.er_event.specs.Lockset.{has};
 ghost use Rattle.er_model.specs.Holdings.{refused_by, changed_by};
 ghost use Rattle.er_held.specs.Held.{nothing_held};
 ghost use Rattle.er_held.specs.ThreadLocks.{holding_among};
 
-use er_clock::{Hints, index_of};
+use er_clock::Hints;
+use er_epochs::index_of;
 use er_event::{Event, LockId, Mode, Refusal, ThreadId};
 use er_held::Held;
+use er_keys::{HashKeys, NumberHasher};
 use indexmap::IndexMap;
 use std::alloc::{AllocError, Global};
 use std::marker::Model;
@@ -15,7 +17,7 @@ use std::marker::Model;
 /// The holdings of the threads that took something, by thread. Any other thread has nothing.
 #[derive(Drop)]
 pub(crate) struct Holders {
-    held: IndexMap<u32, Held>,
+    held: IndexMap<u64, Held, NumberHasher>,
     // Where a thread stands.
     places: Hints,
     nothing: Held,
@@ -35,12 +37,12 @@ impl Model for Holders {
 }
 
 impl Holders {
-    /// Nobody has anything.
-    pub(crate) fn new(alloc: Global) -> Self
+    /// Nobody has anything. Threads are hashed by these keys.
+    pub(crate) fn new(alloc: Global, keys: HashKeys) -> Self
         ensures { (t : ℕ) → holding_among result t ≡ nothing_held }
     {
         Holders {
-            held: IndexMap::new(alloc),
+            held: IndexMap::with_hasher(alloc, NumberHasher::new(keys)),
             places: Hints::new(alloc),
             nothing: Held::new(alloc),
             alloc,
@@ -52,8 +54,8 @@ impl Holders {
     pub(crate) fn get(&self, thread: ThreadId) -> &Held
         ensures { result.now ≡ holding_among self.now thread }
     {
-        let number = thread.number();
-        match index_of(&self.held, self.places.hint(number), number) {
+        let key = key_of(thread);
+        match index_of(&self.held, self.places.hint(thread.number()), key) {
             Some(index) => &self.held[index],
             None => &self.nothing,
         }
@@ -71,12 +73,13 @@ impl Holders {
         requires { refused_by (holding_among self.old thread) event ≡ None }
         ensures ok { OnOk result ((t : ℕ) → holding_among self.new t ≡ cond (nat_eq thread t) (changed_by (holding_among self.old thread) event) (holding_among self.old t)) }
         ensures err { OnErr result ((t : ℕ) → holding_among self.new t ≡ holding_among self.old t) }
+        ensures free { event ≡ Event.IgnoreOff → IsOk result }
         ensures within { (l : ℕ) → IsTrue (has (holding_among self.old thread).write_held l) → IsTrue (has (holding_among self.old thread).held l) }
     {
-        let number = thread.number();
-        match index_of(&self.held, self.places.hint(number), number) {
+        let key = key_of(thread);
+        match index_of(&self.held, self.places.hint(thread.number()), key) {
             Some(index) => {
-                self.places.note(number, index);
+                self.places.note(thread.number(), index);
                 let held = &mut self.held[index];
                 change(held, event)
             }
@@ -84,8 +87,8 @@ impl Holders {
                 let mut held = Held::new(self.alloc);
                 change(&mut held, event)?;
                 self.places.make_room()?;
-                self.places.note(number, self.held.len());
-                self.held.insert(number, held)?;
+                self.places.note(thread.number(), self.held.len());
+                self.held.insert(key, held)?;
                 Ok(())
             }
         }
@@ -96,8 +99,8 @@ impl Holders {
         requires { refused_by (holding_among self.old thread) (Event.Release lock mode) ≡ None }
         ensures { (t : ℕ) → holding_among self.new t ≡ cond (nat_eq thread t) (changed_by (holding_among self.old thread) (Event.Release lock mode)) (holding_among self.old t) }
     {
-        let number = thread.number();
-        match index_of(&self.held, self.places.hint(number), number) {
+        let key = key_of(thread);
+        match index_of(&self.held, self.places.hint(thread.number()), key) {
             Some(index) => {
                 let held = &mut self.held[index];
                 give_up(held, lock, mode);
@@ -105,6 +108,14 @@ impl Holders {
             None => {}
         }
     }
+}
+
+// The key of a thread.
+#[inline]
+fn key_of(thread: ThreadId) -> u64
+    ensures { result ≡ thread }
+{
+    u64::from(thread.number())
 }
 
 // Why an event of a thread with these holdings is refused, if it is.
@@ -179,11 +190,18 @@ fn change(held: &mut Held, event: Event) -> Result<(), AllocError>
     requires { refused_by held.old event ≡ None }
     ensures ok { OnOk result (held.new ≡ changed_by held.old event) }
     ensures err { OnErr result (held.new ≡ held.old) }
+    ensures free { event ≡ Event.IgnoreOff → IsOk result }
     ensures within { (l : ℕ) → IsTrue (has held.old.write_held l) → IsTrue (has held.old.held l) }
 {
     // What is held in write mode is held.
     let _locks = held.held();
-    held.follow(event)
+    match event {
+        Event::IgnoreOff => {
+            let _ = held.ignore_off();
+            Ok(())
+        }
+        _ => held.follow(event),
+    }
 }
 
 // Gives up a lock that is held in this mode.

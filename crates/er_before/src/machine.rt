@@ -1,5 +1,5 @@
 //! The machine: every thread's holdings, the clocks, and what is kept of every word.
-ghost use Rattle.std.specs.Prelude.{◌≡◌, ℕ, List, ◌++◌, ◌∷◌, [], IsFalse, IfOk, IsErrOf, OnOk, OnErr, None, is_ok, length, true};
+ghost use Rattle.std.specs.Prelude.{◌≡◌, ◌<◌, ℕ, List, ◌++◌, ◌∷◌, [], IfOk, IsErrOf, IsOk, IsTrue, Ok, Err, OnOk, OnErr, Some, None, is_ok, length, true};
 ghost use Rattle.er_model.specs.Holdings.{refused_by, holdings_end};
 ghost use Rattle.er_event.specs.declared.steps.Step.{Step as Steps};
 ghost use Rattle.er_order.specs.Order.{acts_of};
@@ -34,7 +34,7 @@ impl Model for OrderMachine {
 }
 
 impl OrderMachine {
-    ghost use Rattle.er_before.specs.Standing.{Stands, Changes, IsSame, HasFullCount, IsFullAfter, holding, clock_of, kept_of, reply_by, answered_by, is_show, holds_alone};
+    ghost use Rattle.er_before.specs.Standing.{Stands, Changes, IsSame, HasFullCount, IsFullAfter, wants_nothing, holding, clock_of, kept_of, reply_by, answered_by, holds_alone};
 
     // How many steps are looked at together.
     const AHEAD: usize = 16;
@@ -46,34 +46,38 @@ impl OrderMachine {
         OrderMachine::keyed(alloc, HashKeys::KNOWN)
     }
 
-    /// A machine that has taken no step, and finds each word by these keys.
+    /// A machine that has taken no step, and finds each word and each thread by these keys.
     pub fn keyed(alloc: Global, keys: HashKeys) -> Self
         ensures { Stands result [] }
     {
         OrderMachine {
-            holders: Holders::new(alloc),
+            holders: Holders::new(alloc, keys),
             clocks: Clocks::new(alloc),
             words: OrderWords::keyed(alloc, keys),
         }
     }
 
-    /// Takes one step and says what it is answered: a reply, or why it is refused. A show is done.
+    /// Takes one step and says what it is answered: a reply, or why it is refused.
     ///
     /// # Errors
     /// `CountFull`: a thread's own count would rise, and is the greatest, 2^32 - 1. `OutOfMemory`: memory was refused. The step may be
-    /// tried again.
+    /// tried again. A refused step has neither, nor has an access inside a bracket, a reuse, a show or the end of a bracket.
     pub fn step(&mut self, step: &Step) -> Result<Result<Reply, Refusal>, NoTick>
-        ensures answer { (past : List Steps) → Stands self.old past → IsFalse (is_show step.now.event)
+        ensures answer { (past : List Steps) → Stands self.old past
             → IfOk result (λ answer. answer ≡ order_answer (past ++ step.now ∷ []) (length past)) }
         ensures goes_on { (past : List Steps) → Stands self.old past → OnOk result (Stands self.new (past ++ step.now ∷ [])) }
         ensures err { (past : List Steps) → Stands self.old past → OnErr result (Stands self.new past) }
-        ensures full { (past : List Steps) → Stands self.old past → IsErrOf result NoTick.CountFull → IsFullAfter past }
+        ensures full { (past : List Steps) → Stands self.old past → IsErrOf result NoTick.CountFull → IsFullAfter past step.now }
+
+        // What the definitions refuse is answered so, whatever room there is.
+        ensures refused { (why : Refusal) → refused_by (holding self.old step.now.thread) step.now.event ≡ Some why → result ≡ Ok (Err why) }
+        ensures free { IsTrue (wants_nothing (holding self.old step.now.thread) step.now.event) → IsOk result }
 
         // The same by the machine's own holdings, clocks and words.
         ensures answered { IfOk result (λ answer. answer ≡ answered_by self.old step.now) }
         ensures changes { OnOk result (Changes self.old step.now self.new) }
         ensures same { OnErr result (IsSame self.old self.new) }
-        ensures full_count { IsErrOf result NoTick.CountFull → HasFullCount self.old }
+        ensures full_count { IsErrOf result NoTick.CountFull → HasFullCount self.old step.now }
     {
         self.take(step.thread, step.event)
     }
@@ -121,7 +125,9 @@ impl OrderMachine {
         ensures answered { IfOk result (λ answer. answer ≡ answered_by self.old (record { thread = thread; event = event })) }
         ensures changes { OnOk result (Changes self.old (record { thread = thread; event = event }) self.new) }
         ensures same { OnErr result (IsSame self.old self.new) }
-        ensures full { IsErrOf result NoTick.CountFull → HasFullCount self.old }
+        ensures refused { (why : Refusal) → refused_by (holding self.old thread) event ≡ Some why → result ≡ Ok (Err why) }
+        ensures free { IsTrue (wants_nothing (holding self.old thread) event) → IsOk result }
+        ensures full { IsErrOf result NoTick.CountFull → HasFullCount self.old (record { thread = thread; event = event }) }
     {
         // An access is never refused.
         match event {
@@ -142,7 +148,9 @@ impl OrderMachine {
         ensures answered { IfOk result (λ answer. answer ≡ answered_by self.old (record { thread = thread; event = event })) }
         ensures changes { OnOk result (Changes self.old (record { thread = thread; event = event }) self.new) }
         ensures same { OnErr result (IsSame self.old self.new) }
-        ensures full { IsErrOf result NoTick.CountFull → HasFullCount self.old }
+        ensures refused { (why : Refusal) → refused_by (holding self.old thread) event ≡ Some why → result ≡ Ok (Err why) }
+        ensures free { IsTrue (wants_nothing (holding self.old thread) event) → IsOk result }
+        ensures full { IsErrOf result NoTick.CountFull → HasFullCount self.old (record { thread = thread; event = event }) }
     {
         match self.holders.refusal(thread, &event) {
             Some(why) => Ok(Err(why)),
@@ -159,7 +167,8 @@ impl OrderMachine {
         ensures reply { IfOk result (λ reply. reply ≡ reply_by (holding self.old thread) (clock_of self.old thread) (kept_of self.old) event) }
         ensures changes { OnOk result (Changes self.old (record { thread = thread; event = event }) self.new) }
         ensures same { OnErr result (IsSame self.old self.new) }
-        ensures full { IsErrOf result NoTick.CountFull → HasFullCount self.old }
+        ensures free { IsTrue (wants_nothing (holding self.old thread) event) → IsOk result }
+        ensures full { IsErrOf result NoTick.CountFull → HasFullCount self.old (record { thread = thread; event = event }) }
     {
         match event {
             Event::Access(kind, word, _) => self.access(thread, kind, word),
@@ -182,6 +191,7 @@ impl OrderMachine {
         ensures reply { IfOk result (λ reply. reply ≡ reply_by (holding self.old thread) (clock_of self.old thread) (kept_of self.old) (Event.Access kind word 0)) }
         ensures changes { OnOk result (Changes self.old (record { thread = thread; event = Event.Access kind word 0 }) self.new) }
         ensures same { OnErr result (IsSame self.old self.new) }
+        ensures free { 0 < (holding self.old thread).depth → IsOk result }
         ensures full { IsErrOf result NoTick.CountFull → ⊥ }
     {
         if self.holders.get(thread).ignoring() {
@@ -207,7 +217,7 @@ impl OrderMachine {
         requires { refused_by (holding self.old thread) (Event.Acquire lock mode) ≡ None }
         ensures changes { OnOk result (Changes self.old (record { thread = thread; event = Event.Acquire lock mode }) self.new) }
         ensures same { OnErr result (IsSame self.old self.new) }
-        ensures full { IsErrOf result NoTick.CountFull → HasFullCount self.old }
+        ensures full { IsErrOf result NoTick.CountFull → HasFullCount self.old (record { thread = thread; event = Event.Acquire lock mode }) }
     {
         match self.holders.change(thread, Event::Acquire(lock, mode)) {
             Ok(()) => {}
@@ -231,7 +241,7 @@ impl OrderMachine {
         requires { refused_by (holding self.old thread) (Event.Release lock mode) ≡ None }
         ensures changes { OnOk result (Changes self.old (record { thread = thread; event = Event.Release lock mode }) self.new) }
         ensures same { OnErr result (IsSame self.old self.new) }
-        ensures full { IsErrOf result NoTick.CountFull → HasFullCount self.old }
+        ensures full { IsErrOf result NoTick.CountFull → HasFullCount self.old (record { thread = thread; event = Event.Release lock mode }) }
     {
         let step = Step {
             thread,
@@ -250,7 +260,7 @@ impl OrderMachine {
     fn synchronize(&mut self, thread: ThreadId, sync: Sync) -> Result<(), NoTick>
         ensures changes { OnOk result (Changes self.old (record { thread = thread; event = Event.Sync sync }) self.new) }
         ensures same { OnErr result (IsSame self.old self.new) }
-        ensures full { IsErrOf result NoTick.CountFull → HasFullCount self.old }
+        ensures full { IsErrOf result NoTick.CountFull → HasFullCount self.old (record { thread = thread; event = Event.Sync sync }) }
     {
         let step = Step {
             thread,
@@ -265,6 +275,7 @@ impl OrderMachine {
         requires local { holds_alone event ≡ true }
         ensures changes { OnOk result (Changes self.old (record { thread = thread; event = event }) self.new) }
         ensures same { OnErr result (IsSame self.old self.new) }
+        ensures free { event ≡ Event.IgnoreOff → IsOk result }
         ensures full { IsErrOf result NoTick.CountFull → ⊥ }
     {
         match self.holders.change(thread, event) {

@@ -4,6 +4,7 @@ ghost use Rattle.er_order.specs.Following.{kept_by, reports_at};
 ghost use Rattle.er_clocks.specs.Counts.{count_by};
 ghost use Rattle.er_epochs.specs.Words.{blank, word_at, list_of, kept_beside, is_place_in};
 
+use crate::finding::start_of;
 use crate::lists::ReadLists;
 use crate::word::OrderWord;
 use er_clocks::ThreadClock;
@@ -159,12 +160,4 @@ fn empty(words: &mut [OrderWord; WORDS], start: usize, end: usize)
     for place in start..end {
         words[place] = OrderWord::new();
     }
-}
-
-// Where a pass begins that goes from `lo` to this end, if it goes anywhere.
-fn start_of(lo: usize, end: usize) -> usize
-    ensures ordered { result ≤ end }
-    ensures same { (i : ℕ) → (nat_le result i && nat_lt i end) ≡ (nat_le lo i && nat_lt i end) }
-{
-    if lo <= end { lo } else { end }
 }

@@ -5,7 +5,7 @@ ghost use Rattle.er_order.specs.Following.{kept_by, reports_at};
 ghost use Rattle.er_clocks.specs.Counts.{count_by};
 ghost use Rattle.er_epochs.specs.Words.{list_of, kept_beside};
 
-use crate::hints::index_of;
+use crate::finding::index_of;
 use crate::reads::Reads;
 use crate::word::OrderWord;
 use er_clocks::ThreadClock;

@@ -1,12 +1,12 @@
 //! What is kept of each word.
-ghost use Rattle.std.specs.Prelude.{◌≡◌, ◌<◌, ◌≤◌, ◌/◌, ◌%◌, ◌^◌, ℕ, ◌==◌, nat_le, cond, OnOk, OnErr, IfOk};
+ghost use Rattle.std.specs.Prelude.{◌≡◌, ◌<◌, ◌^◌, ℕ, ◌==◌, cond, OnOk, OnErr, IfOk};
 ghost use Rattle.er_model.specs.Words.{is_within};
 ghost use Rattle.er_order.specs.Following.{fresh, kept_by, reports_at};
 ghost use Rattle.er_clocks.specs.Counts.{count_by};
 ghost use Rattle.er_epochs.specs.Words.{kept_among, is_place_in};
 
 use crate::block::Block;
-use crate::hints::index_of;
+use crate::finding::{BlockHints, block_of, from_in, index_of, place_of, to_in};
 use crate::lists::ReadLists;
 use er_clocks::ThreadClock;
 use er_event::{Kind, PageRange, Word};
@@ -14,12 +14,6 @@ use er_keys::{HashKeys, NumberHasher};
 use indexmap::IndexMap;
 use std::alloc::{AllocError, Global};
 use std::marker::Model;
-
-/// How many words a block has.
-const WORDS: u64 = 128;
-
-/// How many blocks are found without a hash.
-const HINTS: u64 = 4096;
 
 /// What is kept of each word, 16 bytes in a block of 128 words that is made at the first access of one of them. Contracts see it by
 /// `kept_among`.
@@ -29,9 +23,7 @@ const HINTS: u64 = 4096;
 #[derive(Drop)]
 pub struct OrderWords {
     blocks: IndexMap<u64, Block, NumberHasher>,
-    // Where the block of a number stood when it was accessed, by the lowest bits of the number. Another block may have the same bits, so
-    // whoever asks must check what it gets.
-    hints: Vec<usize>,
+    hints: BlockHints,
     lists: ReadLists,
     // What `look_ahead` has read. Nobody asks for it.
     ahead: u32,
@@ -60,7 +52,7 @@ impl OrderWords {
     {
         OrderWords {
             blocks: IndexMap::with_hasher(alloc, NumberHasher::new(keys)),
-            hints: Vec::new(alloc),
+            hints: BlockHints::new(alloc),
             lists: ReadLists::new(alloc, keys),
             ahead: 0,
             alloc,
@@ -81,17 +73,17 @@ impl OrderWords {
     {
         let number = block_of(word);
         let place = place_of(word);
-        match index_of(&self.blocks, hint(&self.hints, number), number) {
+        match index_of(&self.blocks, self.hints.hint(number), number) {
             Some(index) => {
-                note(&mut self.hints, number, index);
+                self.hints.note(number, index);
                 let block = &mut self.blocks[index];
                 block.access(&mut self.lists, word.number(), place, clock, kind)
             }
             None => {
                 let mut block = Block::new(self.alloc)?;
                 let reported = block.access(&mut self.lists, word.number(), place, clock, kind)?;
-                make_room(self.alloc, &mut self.hints)?;
-                note(&mut self.hints, number, self.blocks.len());
+                self.hints.make_room()?;
+                self.hints.note(number, self.blocks.len());
                 self.blocks.insert(number, block)?;
                 Ok(reported)
             }
@@ -105,8 +97,8 @@ impl OrderWords {
         ensures { self.new ≡ self.old }
     {
         let number = block_of(word);
-        if let Some(index) = index_of(&self.blocks, hint(&self.hints, number), number) {
-            note(&mut self.hints, number, index);
+        if let Some(index) = index_of(&self.blocks, self.hints.hint(number), number) {
+            self.hints.note(number, index);
             self.ahead ^= self.blocks[index].look_ahead(place_of(word));
         }
     }
@@ -129,78 +121,10 @@ impl OrderWords {
         requires number { number < 2 ^ 46 }
         ensures { (w : ℕ) → kept_among self.new w ≡ cond (is_place_in number from to w) fresh (kept_among self.old w) }
     {
-        if let Some(index) = index_of(&self.blocks, hint(&self.hints, number), number) {
+        if let Some(index) = index_of(&self.blocks, self.hints.hint(number), number) {
             let block = &mut self.blocks[index];
             block.forget_lists(&mut self.lists, number, from, to);
             block.reset(from, to);
         }
     }
-}
-
-// Makes room for all hints, unless it is there.
-fn make_room(alloc: Global, hints: &mut Vec<usize>) -> Result<(), AllocError> {
-    if hints.is_empty() {
-        *hints = vec![in alloc; 0; HINTS as usize]?;
-    }
-    Ok(())
-}
-
-// Where the block of this number stands, as a rule.
-#[inline(always)]
-fn hint(hints: &[usize], number: u64) -> usize {
-    match hints.get((number % HINTS) as usize) {
-        Some(&index) => index,
-        None => 0,
-    }
-}
-
-// Notes where the block of this number stands.
-#[inline(always)]
-fn note(hints: &mut [usize], number: u64, index: usize) {
-    if let Some(hint) = hints.get_mut((number % HINTS) as usize) {
-        *hint = index;
-    }
-}
-
-// The number of a word's block.
-#[inline]
-fn block_of(word: Word) -> u64
-    ensures value { result ≡ word / 128 }
-    ensures within { result < 2 ^ 46 }
-{
-    word.number() / WORDS
-}
-
-// Where the words from `lo` on begin in the block of this number.
-fn from_in(number: u64, lo: Word) -> usize
-    requires { lo / 128 ≤ number }
-    ensures { (w : ℕ) → number ≡ w / 128 → nat_le result (w % 128) ≡ nat_le lo w }
-{
-    if number == block_of(lo) {
-        place_of(lo)
-    } else {
-        0
-    }
-}
-
-// Where the words up to `hi` end in the block of this number.
-fn to_in(number: u64, hi: Word) -> usize
-    requires { number ≤ hi / 128 }
-    ensures place { (w : ℕ) → number ≡ w / 128 → nat_le (w % 128) result ≡ nat_le w hi }
-    ensures within { result < 128 }
-{
-    if number == block_of(hi) {
-        place_of(hi)
-    } else {
-        127
-    }
-}
-
-// Where a word stands in its block.
-#[inline]
-fn place_of(word: Word) -> usize
-    ensures value { result ≡ word % 128 }
-    ensures within { result < 128 }
-{
-    (word.number() % WORDS) as usize
 }

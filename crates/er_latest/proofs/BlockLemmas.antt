@@ -10,7 +10,8 @@ use Rattle.indexmap.proofs.CallerLemmas.{updates-with_value_at}
 use borrow.Author.Tests.{eqb-true, eqb-false, eq-eqb}
 use Rattle.er_event.specs.declared.addresses.PageRange.{PageRange}
 use Rattle.er_model.specs.Words.{is_within}
-use Rattle.er_latest.specs.Inner.Blocks.{Blocks, word_at_place, word_in_block, word_in, is_place_in}
+use Rattle.er_latest.specs.Inner.Blocks.{Blocks, word_at_place, word_in_block, word_in}
+use Rattle.er_epochs.specs.Words.{is_place_in}
 use Rattle.er_latest.specs.Latest.{Latest, untouched}
 
 slice_get-within : (xs : List ℕ) (i : ℕ) → i < length xs → slice_get xs i ≡ Some (get_or xs i 0)

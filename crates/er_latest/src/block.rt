@@ -8,6 +8,7 @@ ghost use Rattle.er_latest.specs.Latest.{tagged, untouched};
 
 use crate::word::LatestWord;
 use er_clocks::ThreadClock;
+use er_epochs::start_of;
 use er_event::Kind;
 use std::alloc::{AllocError, Global};
 use std::marker::Model;
@@ -166,12 +167,4 @@ fn emptied(slot: Slot) -> Slot
         Slot::Kept(number) => Slot::Emptied(number),
         Slot::Free | Slot::Emptied(_) => slot,
     }
-}
-
-// Where a pass begins that goes from `lo` to this end, if it goes anywhere.
-fn start_of(lo: usize, end: usize) -> usize
-    ensures ordered { result ≤ end }
-    ensures same { (i : ℕ) → (nat_le result i && nat_lt i end) ≡ (nat_le lo i && nat_lt i end) }
-{
-    if lo <= end { lo } else { end }
 }

@@ -1,26 +1,21 @@
 //! What is kept of all words, in blocks.
-ghost use Rattle.std.specs.Prelude.{◌≡◌, ◌==◌, ◌<◌, ◌≤◌, ◌/◌, ◌%◌, ℕ, nat_eq, nat_le, cond, slice_get, Some, None, IfSome, IfNone, OnOk, OnErr};
+ghost use Rattle.std.specs.Prelude.{◌≡◌, ◌==◌, ◌<◌, ℕ, nat_eq, cond, None, OnOk, OnErr};
 ghost use Rattle.std.specs.Map.{lookup};
-ghost use Rattle.indexmap.specs.IndexMap.{get, keys, index_map_len, IsUnique};
 ghost use Rattle.er_model.specs.Words.{is_within};
 ghost use Rattle.er_clocks.specs.Counts.{count_by};
-ghost use Rattle.er_latest.specs.Inner.Blocks.{word_at_place, word_in, is_place_in};
+ghost use Rattle.er_epochs.specs.Words.{is_place_in};
+ghost use Rattle.er_latest.specs.Inner.Blocks.{word_at_place, word_in};
 ghost use Rattle.er_latest.specs.Inner.Steps.{latest_by, tag_found};
 ghost use Rattle.er_latest.specs.Latest.{tagged, untouched};
 
 use crate::block::Block;
 use er_clocks::ThreadClock;
+use er_epochs::{BlockHints, block_of, from_in, index_of, place_of, to_in};
 use er_event::{Kind, PageRange, Word};
 use er_keys::{HashKeys, NumberHasher};
 use indexmap::IndexMap;
 use std::alloc::{AllocError, Global};
 use std::marker::Model;
-
-/// How many words a block has.
-const WORDS: u64 = 128;
-
-/// How many blocks are found without a hash.
-const HINTS: u64 = 4096;
 
 /// What is kept of each word, in blocks of 128 words that lie side by side. A block is made at the first access of one of them. Contracts see
 /// it by `word_in`.
@@ -29,9 +24,7 @@ const HINTS: u64 = 4096;
 #[derive(Drop)]
 pub(crate) struct WordBlocks<A> {
     blocks: IndexMap<u64, Block<A>, NumberHasher>,
-    // Where the block of a number stood when it was accessed, by the lowest bits of the number. Another block may have the same bits, so
-    // whoever asks must check what it gets.
-    hints: Vec<usize>,
+    hints: BlockHints,
     // Blocks that keep nothing, for words that are accessed later. So memory that is given back and taken again needs no new ones.
     spare: Vec<Block<A>>,
     alloc: Global,
@@ -52,7 +45,7 @@ impl<A: Copy> WordBlocks<A> {
     {
         WordBlocks {
             blocks: IndexMap::with_hasher(alloc, NumberHasher::new(keys)),
-            hints: Vec::new(alloc),
+            hints: BlockHints::new(alloc),
             spare: Vec::new(alloc),
             alloc,
         }
@@ -71,17 +64,17 @@ impl<A: Copy> WordBlocks<A> {
     {
         let number = block_of(word);
         let place = place_of(word);
-        match index_of_block(&self.blocks, hint(&self.hints, number), number) {
+        match index_of(&self.blocks, self.hints.hint(number), number) {
             Some(index) => {
-                note(&mut self.hints, number, index);
+                self.hints.note(number, index);
                 let block = &mut self.blocks[index];
                 block.access(self.alloc, place, clock, kind, tag)
             }
             None => {
                 let mut block = take_block(self.alloc, &mut self.spare);
                 block.access(self.alloc, place, clock, kind, tag)?;
-                make_room(self.alloc, &mut self.hints)?;
-                note(&mut self.hints, number, self.blocks.len());
+                self.hints.make_room()?;
+                self.hints.note(number, self.blocks.len());
                 self.blocks.insert(number, block)?;
                 Ok(())
             }
@@ -105,7 +98,7 @@ impl<A: Copy> WordBlocks<A> {
         requires { to < 128 }
         ensures { (w : ℕ) → word_in self.new w ≡ cond (is_place_in number from to w) untouched (word_in self.old w) }
     {
-        if let Some(index) = index_of_block(&self.blocks, hint(&self.hints, number), number) {
+        if let Some(index) = index_of(&self.blocks, self.hints.hint(number), number) {
             if self.blocks[index].reset(from, to) {
                 let_go(&mut self.blocks, &mut self.spare, number);
             }
@@ -117,7 +110,7 @@ impl<A: Copy> WordBlocks<A> {
         ensures { result ≡ tag_found (count_by clock.now) (word_in self.now word) kind }
     {
         let number = block_of(word);
-        match index_of_block(&self.blocks, hint(&self.hints, number), number) {
+        match index_of(&self.blocks, self.hints.hint(number), number) {
             Some(index) => self.blocks[index].find(place_of(word), clock, kind),
             None => None,
         }
@@ -149,89 +142,4 @@ fn let_go<A: Copy>(
         // Without memory for it, it is dropped.
         let _ = spare.push(block);
     }
-}
-
-// Makes room for all hints, unless it is there.
-fn make_room(alloc: Global, hints: &mut Vec<usize>) -> Result<(), AllocError> {
-    if hints.is_empty() {
-        *hints = vec![in alloc; 0; HINTS as usize]?;
-    }
-    Ok(())
-}
-
-// Where the block of this number stands, as a rule.
-#[inline(always)]
-fn hint(hints: &[usize], number: u64) -> usize {
-    match hints.get((number % HINTS) as usize) {
-        Some(&index) => index,
-        None => 0,
-    }
-}
-
-// Notes where the block of this number stands.
-#[inline(always)]
-fn note(hints: &mut [usize], number: u64, index: usize) {
-    if let Some(hint) = hints.get_mut((number % HINTS) as usize) {
-        *hint = index;
-    }
-}
-
-// Where the block of this number stands. It looks at the one at `hint` first, and needs no hash if that is the one.
-#[inline]
-fn index_of_block<A>(
-    blocks: &IndexMap<u64, Block<A>, NumberHasher>,
-    hint: usize,
-    number: u64,
-) -> Option<usize>
-    ensures key { IfSome result (λ index. slice_get (keys blocks.now) index ≡ Some number) }
-    ensures within { IfSome result (λ index. index < index_map_len blocks.now) }
-    ensures none { IfNone result (get nat_eq blocks.now number ≡ None) }
-    ensures unique { IsUnique nat_eq blocks.now }
-{
-    match blocks.as_slice().get_index(hint) {
-        Some((key, _)) if *key == number => Some(hint),
-        _ => blocks.get_index_of(&number),
-    }
-}
-
-// The number of a word's block.
-#[inline]
-fn block_of(word: Word) -> u64
-    ensures { result ≡ word / 128 }
-{
-    word.number() / WORDS
-}
-
-// Where the words from `lo` on begin in the block of this number.
-fn from_in(number: u64, lo: Word) -> usize
-    requires { lo / 128 ≤ number }
-    ensures { (w : ℕ) → number ≡ w / 128 → nat_le result (w % 128) ≡ nat_le lo w }
-{
-    if number == block_of(lo) {
-        place_of(lo)
-    } else {
-        0
-    }
-}
-
-// Where the words up to `hi` end in the block of this number.
-fn to_in(number: u64, hi: Word) -> usize
-    requires { number ≤ hi / 128 }
-    ensures place { (w : ℕ) → number ≡ w / 128 → nat_le (w % 128) result ≡ nat_le w hi }
-    ensures within { result < 128 }
-{
-    if number == block_of(hi) {
-        place_of(hi)
-    } else {
-        127
-    }
-}
-
-// Where a word stands in its block.
-#[inline]
-fn place_of(word: Word) -> usize
-    ensures value { result ≡ word % 128 }
-    ensures within { result < 128 }
-{
-    (word.number() % WORDS) as usize
 }

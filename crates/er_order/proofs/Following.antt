@@ -1,20 +1,19 @@
 -- What is kept of a word follows from what was kept, by the clock of the accessing thread.
-use Rattle.std.proofs.Common.{◌≡◌, ℕ, zero, suc, ◌<◌, ◌≤◌, Bool, true, false, ◌&&◌, ◌||◌, ◌==◌, not, cond, nat_le, nat_lt, List, [], ◌∷◌, filter, map, slice_get, Option, Some, None, Ok, refl, ap, ap₂, sym, ◌∙◌, arith}
+use Rattle.std.proofs.Common.{◌≡◌, ℕ, zero, suc, ◌<◌, ◌≤◌, Bool, true, false, ◌&&◌, ◌||◌, ◌==◌, not, cond, nat_le, nat_lt, List, [], ◌∷◌, filter, map, slice_get, Option, Some, None, refl, ap, ap₂, sym, ◌∙◌, arith}
 use Rattle.std.proofs.lemmas.Bool.{le-leb, lt-leb, eq-eqb, eqb-true, or_left, or_right, and_parts}
 use Rattle.std.specs.List.{list_any}
 use Rattle.er_event.specs.Lockset.{has}
 use Rattle.er_event.specs.declared.addresses.PageRange.{PageRange}
 use Rattle.er_event.specs.declared.steps.Event.{Event}
 use Rattle.er_event.specs.declared.steps.Event.TheVariants.{Acquire, Release, Access, Reuse, IgnoreOn, IgnoreOff, Show, Level, Sync}
-use Rattle.er_event.specs.declared.steps.Sync.{Sync as SyncEvent}
 use Rattle.er_event.specs.declared.steps.Kind.{Kind}
 use Rattle.er_event.specs.declared.steps.Kind.TheVariants.{Read as reading, Write as writing}
 use Rattle.er_event.specs.declared.steps.Reply.TheVariants.{Done, Quiet, Race, Ignored}
 use Rattle.er_model.specs.Search.{some_below, every_below, greatest_below}
 use Rattle.er_model.specs.Words.{Mark, Counted, Reused, Shown, Nothing, Reading, reuses, counts, thread_of, writes, era, counted_from, is_writing, is_within}
-use Rattle.er_model.specs.Threads.{refusal, accepted, depth}
+use Rattle.er_model.specs.Threads.{accepted, depth}
 use Rattle.er_model.specs.Holdings.{Holdings, holdings, refused_by, holdings_at}
-use Rattle.er_model.specs.Answers.{reply, answer, answer_unless, reading_of}
+use Rattle.er_model.specs.Answers.{answer_unless, reading_of}
 use Rattle.er_model.specs.Following.{locks_for, marked}
 use Rattle.er_model.proofs.Search.{some_below-none}
 use Rattle.er_model.proofs.Threads.{refusal_at}
@@ -303,7 +302,7 @@ module _ (steps : List Step) (k : ℕ) (s : Step) (is : slice_get steps k ≡ So
       (ap (answer_unless (refused_by (holdings_at steps s.thread k) s.event))
       (ap (order_reply steps k s.thread) event ∙ replied_event w site kind (mark-step ∙ ap (λ e. marked (holdings_at steps s.thread k) s.thread e) event))))
 
-  other_event : (t : ℕ) (e : Event) → ((w site : ℕ) (kind : Kind) → e ≡ Access kind w site → ⊥) → order_reply steps k t e ≡ reply steps k t e
+  other_event : (t : ℕ) (e : Event) → ((w site : ℕ) (kind : Kind) → e ≡ Access kind w site → ⊥) → order_reply steps k t e ≡ Done
   unfolding order_reply
   other_event t (Access kind w site) never = absurd (never w site kind refl)
   other_event t (Acquire l m) never = refl
@@ -315,11 +314,9 @@ module _ (steps : List Step) (k : ℕ) (s : Step) (is : slice_get steps k ≡ So
   other_event t (Level n) never = refl
   other_event t (Sync sync) never = refl
 
-  pub answer-other : ((w site : ℕ) (kind : Kind) → s.event ≡ Access kind w site → ⊥) → order_answer steps k ≡ answer steps k
-  unfolding order_answer answer
+  pub answer-other : ((w site : ℕ) (kind : Kind) → s.event ≡ Access kind w site → ⊥) →
+      order_answer steps k ≡ answer_unless (refused_by (holdings_at steps s.thread k) s.event) Done
+  unfolding order_answer holdings
   answer-other never =
-      rw is (ap (answer_unless (refusal (accepted steps k) s.thread s.event)) (other_event s.thread s.event never))
-
-  pub answer-done : (sync : SyncEvent) → s.event ≡ Sync sync → order_answer steps k ≡ Ok Done
-  unfolding order_answer refusal order_reply reply
-  answer-done sync event = rw (is, event) refl
+      rw is (rw (refusal_at steps k s.thread s.event)
+      (ap (answer_unless (refused_by (holdings_at steps s.thread k) s.event)) (other_event s.thread s.event never)))

@@ -31,7 +31,7 @@ IsReportedAt steps k = (w : ℕ) × (word_of (slice_get steps k) ≡ Some w) × 
 module _ (steps : List Step) (k : ℕ) where
   race_reply : (t : ℕ) (e : Event) → order_reply steps k t e ≡ Race →
       (w : ℕ) × (word_in e ≡ Some w) × (is_reported (happens_before (acts_of steps)) (reading_of steps) w k ≡ true)
-  unfolding order_reply reply
+  unfolding order_reply
   race_reply t (Access kind w site) race = (w, refl, by (is_ignoring (accepted steps k) t) (is_reported (happens_before (acts_of steps)) (reading_of steps) w k) race)
     where
       by : (ignores told : Bool) → cond ignores Ignored (cond told Race Quiet) ≡ Race → told ≡ true

@@ -8,7 +8,7 @@ use Rattle.er_event.specs.declared.steps.Reply.TheVariants.{Done, Quiet, Race, I
 use Rattle.er_model.specs.Search.{some_below, every_below, greatest_below}
 use Rattle.er_model.specs.Words.{Reading, counts, writes, era, counted_from}
 use Rattle.er_model.specs.Threads.{is_ignoring, refusal, accepted}
-use Rattle.er_model.specs.Answers.{reply, answer_unless, reading_of}
+use Rattle.er_model.specs.Answers.{answer_unless, reading_of}
 use Rattle.er_event.specs.declared.steps.Step.{Step}
 use Rattle.er_order.specs.Order.{acts_of, happens_before}
 
@@ -32,10 +32,10 @@ had_race order r w n = some_below n (λ j. counted_from r w (era r w n) j && is_
 unfoldable pub is_reported : Order → Reading → ℕ → ℕ → Bool
 is_reported order r w k = is_race order r w k && every_below k (λ j. not (counted_from r w (era r w (suc k)) j && is_race order r w j))
 
--- the reply to an event at position k, where it isn't refused; a show tells the lockset rule's state
+-- the reply to an event at position k, where it isn't refused; a show is done, since a word's state is the lockset rule's
 unfoldable pub order_reply : List Step → ℕ → ℕ → Event → Reply
 order_reply steps k t (Access kind w site) = cond (is_ignoring (accepted steps k) t) Ignored (cond (is_reported (happens_before (acts_of steps)) (reading_of steps) w k) Race Quiet)
-order_reply steps k t event = reply steps k t event
+order_reply steps k t event = Done
 
 -- the answer to what stands at a position
 abbrev pub order_answer_to : List Step → ℕ → Option Step → Result Reply Refusal

@@ -1,13 +1,12 @@
 //! The laws of races by happens-before: each function does nothing, and its contract is proved of the definitions in `specs/`.
-ghost use Rattle.std.specs.Prelude.{◌≡◌, ◌<◌, ◌≤◌, ◌++◌, ◌⊎◌, length, ◌||◌, ◌&&◌, not, slice_get, Option, Ok, [], ◌∷◌, ℕ, suc, List, false, IsTrue};
+ghost use Rattle.std.specs.Prelude.{◌≡◌, ◌<◌, ◌≤◌, ◌++◌, ◌⊎◌, length, ◌||◌, ◌&&◌, not, slice_get, Option, [], ◌∷◌, ℕ, suc, List, false, IsTrue};
 ghost use Rattle.std.specs.List.{list_any};
-ghost use Rattle.er_model.specs.Answers.{answer, reading_of};
+ghost use Rattle.er_model.specs.Answers.{answer_unless, reading_of};
 ghost use Rattle.er_model.specs.Words.{Reading, counts, thread_of, writes, era, counted_from};
 ghost use Rattle.er_event.specs.Lockset.{has};
-ghost use Rattle.er_event.specs.declared.steps.Event.TheVariants.{Access, Sync};
-ghost use Rattle.er_event.specs.declared.steps.Sync.{Sync as SyncEvent};
+ghost use Rattle.er_event.specs.declared.steps.Event.TheVariants.{Access};
 ghost use Rattle.er_event.specs.declared.steps.Step.{Step};
-ghost use Rattle.er_model.specs.Holdings.{holdings_at};
+ghost use Rattle.er_model.specs.Holdings.{refused_by, holdings_at};
 ghost use Rattle.er_order.specs.Order.{Act, Effect, sync_of, acts_of, happens_before};
 ghost use Rattle.er_order.specs.Clocks.{Epoch, OfThread, clocks_at};
 ghost use Rattle.er_order.specs.Races.{Order, is_apart, latest_from, last_write, latest_reads, is_race, had_race, is_reported, order_answer};
@@ -26,15 +25,14 @@ pub fn races_are_found()
 {}
 
 /// The answer to an access, and what is kept of each word, follow from what was kept of it, the kind of the access, and its thread's
-/// holdings and clock. Each other event has the lockset rule's answer, and a start, join, signal or await is done.
+/// holdings and clock. Each other event is done, unless its thread's holdings refuse it.
 pub fn an_access_follows_its_word()
     ensures answer { (steps : List Step) (k w site : ℕ) (kind : Kind) (step : Step) → slice_get steps k ≡ Option.Some step
         → step.event ≡ Access kind w site → order_answer steps k
         ≡ access_answered (holdings_at steps step.thread k) (clocks_at (acts_of steps) k (OfThread step.thread)) (kept_at steps w k) kind step }
     ensures other { (steps : List Step) (k : ℕ) (step : Step) → slice_get steps k ≡ Option.Some step
-        → ((w site : ℕ) (kind : Kind) → step.event ≡ Access kind w site → ⊥) → order_answer steps k ≡ answer steps k }
-    ensures done { (steps : List Step) (k : ℕ) (step : Step) (sync : SyncEvent) → slice_get steps k ≡ Option.Some step
-        → step.event ≡ Sync sync → order_answer steps k ≡ Ok Reply.Done }
+        → ((w site : ℕ) (kind : Kind) → step.event ≡ Access kind w site → ⊥) → order_answer steps k
+        ≡ answer_unless (refused_by (holdings_at steps step.thread k) step.event) Reply.Done }
     ensures kept { (steps : List Step) (k w : ℕ) (step : Step) → slice_get steps k ≡ Option.Some step → kept_at steps w (suc k)
         ≡ kept_after (holdings_at steps step.thread k) (clocks_at (acts_of steps) k (OfThread step.thread)) (kept_at steps w k) w step }
     ensures begins { (steps : List Step) (w : ℕ) → kept_at steps w 0 ≡ fresh }

@@ -11,9 +11,9 @@ use Rattle.er_event.specs.declared.steps.Reply.{Reply}
 use Rattle.er_event.specs.declared.steps.Reply.TheVariants.{Done, Quiet, Race, Ignored, State}
 use Rattle.er_event.specs.declared.steps.WordState.{WordState}
 use Rattle.er_event.specs.declared.steps.Step.{Step}
-use Rattle.er_before.specs.Standing.{Ordered, holding, answered_by, is_show}
-use Rattle.er_model.proofs.Prefixes.{answer-front, holdings-front, holdings-grow}
-use Rattle.er_model.specs.Answers.{answer_unless, reply}
+use Rattle.er_before.specs.Standing.{Ordered, holding, answered_by}
+use Rattle.er_model.proofs.Prefixes.{holdings-front, holdings-grow}
+use Rattle.er_model.specs.Answers.{answer_unless}
 use Rattle.er_model.specs.Explanations.{word_in}
 use Rattle.er_model.specs.Holdings.{Holdings, changed_unless, refused_by, holdings, holdings_at, holdings_end}
 use Rattle.er_model.specs.Threads.{accepted, held, refusal}
@@ -26,14 +26,14 @@ use Rattle.er_order.specs.Reasons.{unordered_with}
 use Rattle.er_report.specs.Names.{HaveStateNames}
 use Rattle.er_batch.proofs.StepLemmas.{past-next}
 use Rattle.er_trace.specs.Names.{NameTable}
-use Rattle.er_unordered.specs.Answers.{done_if_show, unordered_answer}
 
 -- steps that come later
 module _ (steps more : List Step) where
   other-front : (k : ℕ) (s : Step) → slice_get steps k ≡ Some s → k < length steps → ((w site : ℕ) (kind : Kind) → s.event ≡ Access kind w site → ⊥)
       → order_answer (steps ++ more) k ≡ order_answer steps k
   other-front k s is below never =
-      answer-other (steps ++ more) k s (get_front steps more k below ∙ is) never ∙ (answer-front steps more k below ∙ sym (answer-other steps k s is never))
+      answer-other (steps ++ more) k s (get_front steps more k below ∙ is) never
+      ∙ rw (held-front steps more s.thread k (omega arith)) (sym (answer-other steps k s is never))
 
   order-front-by : (k : ℕ) (s : Step) → slice_get steps k ≡ Some s → k < length steps → (e : Event) → s.event ≡ e → order_answer (steps ++ more) k ≡ order_answer steps k
   order-front-by k s is below (Access kind w site) event =
@@ -48,16 +48,10 @@ module _ (steps more : List Step) where
   order-front-by k s is below (Level n) event = other-front k s is below (λ w site kind same. let clash = sym event ∙ same in cc)
   order-front-by k s is below (Sync sync) event = other-front k s is below (λ w site kind same. let clash = sym event ∙ same in cc)
 
-  order-front : (k : ℕ) → k < length steps → order_answer (steps ++ more) k ≡ order_answer steps k
+  pub order-front : (k : ℕ) → k < length steps → order_answer (steps ++ more) k ≡ order_answer steps k
   order-front k below =
       let at = some-at steps k below in
       order-front-by k at.0 at.1 below at.0.event refl
-
-  pub unordered-front : (k : ℕ) → k < length steps → unordered_answer (steps ++ more) k ≡ unordered_answer steps k
-  unfolding unordered_answer
-  unordered-front k below =
-      ap (λ (o : Option Step). done_if_show o (order_answer (steps ++ more) k)) (get_front steps more k below)
-      ∙ ap (done_if_show (slice_get steps k)) (order-front k below)
 
 -- only an access is a race
 not-race : (o : Option Refusal) → answer_unless o Done ≡ Ok Race → ⊥
@@ -74,18 +68,6 @@ race-accesses machine t IgnoreOff race none = not-race (refused_by (holding mach
 race-accesses machine t (Show w) race none = not-race (refused_by (holding machine t) (Show w)) race
 race-accesses machine t (Level n) race none = not-race (refused_by (holding machine t) (Level n)) race
 race-accesses machine t (Sync sync) race none = not-race (refused_by (holding machine t) (Sync sync)) race
-
--- a show is done
-pub show-done : (machine : Ordered) (t : ℕ) (e : Event) → is_show e ≡ true → answered_by machine (record { thread = t; event = e }) ≡ Ok Done
-show-done machine t (Show w) shows = refl
-show-done machine t (Access kind w site) shows = cc
-show-done machine t (Acquire l m) shows = cc
-show-done machine t (Release l m) shows = cc
-show-done machine t (Reuse range) shows = cc
-show-done machine t IgnoreOn shows = cc
-show-done machine t IgnoreOff shows = cc
-show-done machine t (Level n) shows = cc
-show-done machine t (Sync sync) shows = cc
 
 -- an access leaves what its thread holds
 after-access : (h : Holdings) (event : Event) → (word_in event ≡ None → ⊥) → changed_unless (refused_by h event) h event ≡ h
@@ -132,17 +114,6 @@ module _ (steps : List Step) (k : ℕ) (step : Step) (here : slice_get steps k �
       ∙ sym (unordered-stays (take (k + 1) steps) (drop (k + 1) steps) k (omega (arith, next-long)))
       ∙ ap (λ (all : List Step). unordered_with all k) (take-append-drop (k + 1) steps)
 
-  said-by : (given : Result Reply Refusal) (b : Bool) → is_show step.event ≡ b → (b ≡ true → given ≡ Ok Done) → (b ≡ false → given ≡ order_answer (past ++ step ∷ []) (length past))
-      → given ≡ cond b (Ok Done) (order_answer steps k)
-  said-by given true shows done other = done refl
-  said-by given false shows done other = other refl ∙ order-here
-
-  pub answer-here : (given : Result Reply Refusal) → (is_show step.event ≡ true → given ≡ Ok Done) → (is_show step.event ≡ false → given ≡ order_answer (past ++ step ∷ []) (length past))
-      → given ≡ unordered_answer steps k
-  unfolding unordered_answer
-  answer-here given done other =
-      said-by given (is_show step.event) refl done other ∙ ap (λ (o : Option Step). done_if_show o (order_answer steps k)) (sym here)
-
   holdings-here : (t : ℕ) → holdings_end past t ≡ holdings_at steps t k
   holdings-here t =
       ap (holdings_at past t) long
@@ -169,29 +140,24 @@ no-state-unless : (o : Option Refusal) (r : Reply) (s : WordState) → (r ≡ St
 no-state-unless None r s never is = never (cc)
 no-state-unless (Some why) r s never is = cc
 
-no-state-reply : (steps : List Step) (k t : ℕ) (e : Event) (s : WordState) → is_show e ≡ false → order_reply steps k t e ≡ State s → ⊥
-unfolding order_reply reply
-no-state-reply steps k t (Access kind w site) s other is = no-state-access _ _ s is
-no-state-reply steps k t (Acquire l m) s other is = cc
-no-state-reply steps k t (Release l m) s other is = cc
-no-state-reply steps k t (Reuse range) s other is = cc
-no-state-reply steps k t IgnoreOn s other is = cc
-no-state-reply steps k t IgnoreOff s other is = cc
-no-state-reply steps k t (Show w) s other is = cc
-no-state-reply steps k t (Level n) s other is = cc
-no-state-reply steps k t (Sync sync) s other is = cc
+no-state-reply : (steps : List Step) (k t : ℕ) (e : Event) (s : WordState) → order_reply steps k t e ≡ State s → ⊥
+unfolding order_reply
+no-state-reply steps k t (Access kind w site) s is = no-state-access _ _ s is
+no-state-reply steps k t (Acquire l m) s is = cc
+no-state-reply steps k t (Release l m) s is = cc
+no-state-reply steps k t (Reuse range) s is = cc
+no-state-reply steps k t IgnoreOn s is = cc
+no-state-reply steps k t IgnoreOff s is = cc
+no-state-reply steps k t (Show w) s is = cc
+no-state-reply steps k t (Level n) s is = cc
+no-state-reply steps k t (Sync sync) s is = cc
 
-no-state-by : (steps : List Step) (k : ℕ) (o : Option Step) (s : WordState) → done_if_show o (order_answer_to steps k o) ≡ Ok (State s) → ⊥
+no-state-by : (steps : List Step) (k : ℕ) (o : Option Step) (s : WordState) → order_answer_to steps k o ≡ Ok (State s) → ⊥
 no-state-by steps k None s is = cc
-no-state-by steps k (Some step) s is = shown-by (is_show step.event) refl is
-  where
-    shown-by : (b : Bool) → is_show step.event ≡ b
-        → cond b (Ok Done) (answer_unless (refusal (accepted steps k) step.thread step.event) (order_reply steps k step.thread step.event)) ≡ Ok (State s) → ⊥
-    shown-by true shows done = cc
-    shown-by false shows said =
-        no-state-unless (refusal (accepted steps k) step.thread step.event) (order_reply steps k step.thread step.event) s
-        (no-state-reply steps k step.thread step.event s shows) said
+no-state-by steps k (Some step) s is =
+    no-state-unless (refusal (accepted steps k) step.thread step.event) (order_reply steps k step.thread step.event) s
+    (no-state-reply steps k step.thread step.event s) is
 
-pub no-state : (names : NameTable) (steps : List Step) → HaveStateNames names (unordered_answer steps)
-unfolding unordered_answer order_answer
+pub no-state : (names : NameTable) (steps : List Step) → HaveStateNames names (order_answer steps)
+unfolding order_answer
 no-state names steps k s is = absurd (no-state-by steps k (slice_get steps k) s is)

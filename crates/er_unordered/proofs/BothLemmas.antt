@@ -16,7 +16,7 @@ use Rattle.er_text.specs.Places.{Reached}
 use Rattle.er_text.specs.Trace.{IsTrace}
 use Rattle.er_trace.specs.Names.{no_names}
 use Rattle.er_trace.specs.Trace.{Recording, IsNamed, no_steps}
-use Rattle.er_unordered.specs.Answers.{unordered_answer}
+use Rattle.er_order.specs.Races.{order_answer}
 use Rattle.er_unordered.specs.Faults.{FailsBy, IsFaultOf, StopsFor, fault_of_room}
 use Rattle.er_unordered.specs.Inner.Both.{HaveCome, HaveEnded}
 use Rattle.er_unordered.specs.Inner.Passes.{IsReasoned, OrderBuilt, recorded}
@@ -28,7 +28,7 @@ use Rattle.er_unordered.specs.declared.replay.Analysis.TheVariants.{Both}
 -- before the first batch
 pub begun : (reader : Reached) (trace : Recording) (machine : Replayed) (builder : Built) (ordering : Ordered) (unordered : OrderBuilt) → trace ≡ no_steps
     → ((text : List ℕ) → HasRead text [] [] reader (Some text) no_steps) → Stands machine [] → ((r : Recording) → IsReported builder r 0) → Orders ordering []
-    → IsBuiltBy (unordered_answer []) unordered.built (recorded [] [] no_names) 0 → IsReasoned unordered (recorded [] [] no_names) 0 → (told : Option (List ℕ)) → HaveCome told told reader trace machine builder None ordering unordered
+    → IsBuiltBy (order_answer []) unordered.built (recorded [] [] no_names) 0 → IsReasoned unordered (recorded [] [] no_names) 0 → (told : Option (List ℕ)) → HaveCome told told reader trace machine builder None ordering unordered
 begun reader trace machine builder ordering unordered empty starts stands reported orders built reasoned told =
     subst (λ (t : Recording). HaveCome told told reader t machine builder None ordering unordered) (sym empty) (record {
       past = [];

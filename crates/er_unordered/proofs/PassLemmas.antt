@@ -4,7 +4,7 @@ use Rattle.std.specs.List.{All}
 use Rattle.std.proofs.lemmas.Bool.Decides.{nat_tests}
 use Rattle.std.proofs.Math.Seq.{take-append_seam, take-length}
 use Rattle.std.proofs.lemmas.List.Elements.{All-append, All-nil}
-use Rattle.er_before.specs.Standing.{Ordered, Stands, answered_by, clock_of, is_show}
+use Rattle.er_before.specs.Standing.{Ordered, Stands, answered_by, clock_of}
 use Rattle.er_clocks.specs.Counts.{count_by}
 use Rattle.er_latest.specs.Standing.{IsClockAfter}
 use Rattle.er_order.specs.Clocks.{OfThread}
@@ -27,8 +27,7 @@ use Rattle.er_text.specs.Named.{KeepsNames}
 use Rattle.er_trace.specs.Names.{NameTable, no_names}
 use Rattle.er_trace.specs.Trace.{Recording, IsNamed, no_steps}
 use Rattle.er_batch.proofs.StepLemmas.{past-next}
-use Rattle.er_unordered.proofs.AnswerLemmas.{answer-here, locks-here, race-accesses, show-done, unordered-front}
-use Rattle.er_unordered.specs.Answers.{unordered_answer}
+use Rattle.er_unordered.proofs.AnswerLemmas.{locks-here, order-front, order-here, race-accesses}
 use Rattle.er_unordered.proofs.ReasonLemmas.{kept-there}
 use Rattle.er_unordered.specs.Inner.Passes.{HasAnswered, HasCome, HasComeTo, HasExplained, HasExplainedTo, IsReasoned, OrderBuilt, recorded}
 use Rattle.er_unordered.specs.Inner.Reasons.{HasReasons, Reasoned}
@@ -48,8 +47,8 @@ module _ (past : List Step) (lines : List ℕ) (names : NameTable) (trace : Reco
   start =
       record {
         stands = subst (Stands old) (sym (take-append_seam past trace.steps)) run.stands;
-        built = goes-on-by (unordered_answer past) (unordered_answer (past ++ trace.steps)) oldest (recorded past lines names) after (length past) on (omega arith)
-            (λ k below. sym (unordered-front past trace.steps k below)) run.built;
+        built = goes-on-by (order_answer past) (order_answer (past ++ trace.steps)) oldest (recorded past lines names) after (length past) on (omega arith)
+            (λ k below. sym (order-front past trace.steps k below)) run.built;
       }
 
   -- and at the end of the batch all is answered
@@ -80,7 +79,7 @@ module _ (past : List Step) (lines : List ℕ) (names : NameTable) (trace : Reco
 
 -- before the first batch
 pub begun : (reader : Reached) (trace : Recording) (machine : Ordered) (builder : OrderBuilt) → trace ≡ no_steps → ((text : List ℕ) → HasRead text [] [] reader (Some text) no_steps)
-    → Stands machine [] → IsBuiltBy (unordered_answer []) builder.built (recorded [] [] no_names) 0 → IsReasoned builder (recorded [] [] no_names) 0 → (told : Option (List ℕ)) → HasCome told told reader trace machine builder
+    → Stands machine [] → IsBuiltBy (order_answer []) builder.built (recorded [] [] no_names) 0 → IsReasoned builder (recorded [] [] no_names) 0 → (told : Option (List ℕ)) → HasCome told told reader trace machine builder
 begun reader trace machine builder empty starts stands built reasoned told =
     subst (λ (t : Recording). HasCome told told reader t machine builder) (sym empty) (record {
       past = [];
@@ -106,23 +105,21 @@ begun reader trace machine builder empty starts stands built reasoned told =
 -- one step more
 module _ (machine next : Ordered) (builder : Built) (r : Recording) (n : ℕ) (step : Step) (here : slice_get r.steps n ≡ Some step) (come : HasComeTo machine builder r n)
     (given : Result Reply Refusal) (answered : given ≡ answered_by machine step)
-    (answer : (past : List Step) → Stands machine past → is_show step.event ≡ false → given ≡ order_answer (past ++ step ∷ []) (length past))
+    (answer : (past : List Step) → Stands machine past → given ≡ order_answer (past ++ step ∷ []) (length past))
     (goes_on : (past : List Step) → Stands machine past → Stands next (past ++ step ∷ [])) where
-  known : given ≡ unordered_answer r.steps n
-  known =
-      answer-here r.steps n step here given (λ shows. answered ∙ show-done machine step.thread step.event shows)
-      (λ other. answer (take n r.steps) come.stands other)
+  known : given ≡ order_answer r.steps n
+  known = answer (take n r.steps) come.stands ∙ order-here r.steps n step here
 
   stands : Stands next (take (n + 1) r.steps)
   stands = subst (Stands next) (past-next r.steps n step here) (goes_on (take n r.steps) come.stands)
 
-  pub plain-here : is_plain given ≡ true → ArePlainBy (unordered_answer r.steps) n 1
+  pub plain-here : is_plain given ≡ true → ArePlainBy (order_answer r.steps) n 1
   plain-here plain i low high =
       let same : n ≡ i = omega (arith, low, high) in
-      subst (λ (k : ℕ). is_plain (unordered_answer r.steps k) ≡ true) same (ap is_plain (sym known) ∙ plain)
+      subst (λ (k : ℕ). is_plain (order_answer r.steps k) ≡ true) same (ap is_plain (sym known) ∙ plain)
 
   pub step-here : (names : NameTable) (number : ℕ) (locks : List ℕ) → number ≡ slice_index r.lines n → names ≡ r.names
-      → ((past : List Step) → Stands next past → locks ≡ (holdings_end past step.thread).held) → IsStepBy (unordered_answer r.steps) r n names number step given locks
+      → ((past : List Step) → Stands next past → locks ≡ (holdings_end past step.thread).held) → IsStepBy (order_answer r.steps) r n names number step given locks
   step-here names number locks line named locked =
       record {
         here = here;
@@ -134,10 +131,10 @@ module _ (machine next : Ordered) (builder : Built) (r : Recording) (n : ℕ) (s
       }
 
   -- the answer is that of the definitions
-  pub known-here : given ≡ unordered_answer r.steps n
+  pub known-here : given ≡ order_answer r.steps n
   known-here = known
 
-  pub come-to : (new : Built) → IsBuiltBy (unordered_answer r.steps) new r (n + 1) → HasComeTo next new r (n + 1)
+  pub come-to : (new : Built) → IsBuiltBy (order_answer r.steps) new r (n + 1) → HasComeTo next new r (n + 1)
   come-to new built = record { stands = stands; built = built }
 
 -- a race is printed exactly if there is one printed race more

@@ -13,18 +13,15 @@ use Rattle.er_event.specs.declared.steps.Event.TheVariants.{Acquire, Release, Ac
 use Rattle.er_event.specs.declared.steps.Reply.{Reply}
 use Rattle.er_event.specs.declared.steps.Reply.TheVariants.{Done, Race}
 use Rattle.er_event.specs.declared.steps.Step.{Step}
-use Rattle.er_before.specs.Standing.{is_show}
 use Rattle.er_explain.proofs.RaceLemmas.{race-is}
 use Rattle.er_explain.specs.Racing.{is_race, places_below}
 use Rattle.er_latest.proofs.StepLemmas.{latest-front}
 use Rattle.er_latest.specs.Latest.{Latest}
 use Rattle.er_latest.specs.Standing.{Follows, IsClockAfter, is_counted}
-use Rattle.er_model.specs.Answers.{answer_unless, reply}
 use Rattle.er_model.specs.Explanations.{word_in, word_of}
-use Rattle.er_model.specs.Threads.{accepted, refusal}
 use Rattle.er_order.proofs.ReasonLemmas.{race-reported, with-conflict, with-earlier, with-word}
 use Rattle.er_order.proofs.ReasonsGrow.{unordered-stays}
-use Rattle.er_order.specs.Races.{order_answer, order_answer_to, order_reply}
+use Rattle.er_order.specs.Races.{order_answer}
 use Rattle.er_order.specs.Reasons.{unordered_with}
 use Rattle.er_report.proofs.NamedLemmas.{named_step}
 use Rattle.er_report.specs.Builder.{GoesOn}
@@ -37,54 +34,13 @@ use Rattle.er_rules.specs.Rules.{Target}
 use Rattle.er_batch.proofs.StepLemmas.{past-next}
 use Rattle.er_trace.specs.Trace.{Recording, IsNamed}
 use Rattle.er_unordered.proofs.AnswerLemmas.{long, order-here, with-here}
-use Rattle.er_unordered.specs.Answers.{done_if_show, unordered_answer}
 use Rattle.er_unordered.specs.Inner.Reasons.{HasReasons, Reasoned, access_reason_at, line_reason, reasons_below}
 use Rattle.er_unordered.specs.Reasons.{order_reasons, reasons_with}
 
--- a show is no race, and no counted access
-module _ (steps : List Step) (k : ℕ) where
-  ordered-by : (o : Option Step) → done_if_show o (order_answer steps k) ≡ Ok Race → order_answer steps k ≡ Ok Race
-  ordered-by None race = race
-  ordered-by (Some step) race = shown-by (is_show step.event) race
-    where
-      shown-by : (b : Bool) → cond b (Ok Done) (order_answer steps k) ≡ Ok Race → order_answer steps k ≡ Ok Race
-      shown-by true shown = cc
-      shown-by false shown = shown
-
-  pub race-ordered : unordered_answer steps k ≡ Ok Race → order_answer steps k ≡ Ok Race
-  unfolding unordered_answer
-  race-ordered race = ordered-by (slice_get steps k) race
-
-  show-uncounted : (o : Option Refusal) (t : ℕ) (e : Event) → is_show e ≡ true → is_counted (answer_unless o (order_reply steps k t e)) ≡ false
-  unfolding order_reply reply
-  show-uncounted None t (Show w) shows = refl
-  show-uncounted (Some why) t (Show w) shows = refl
-  show-uncounted o t (Access kind w site) shows = cc
-  show-uncounted o t (Acquire l m) shows = cc
-  show-uncounted o t (Release l m) shows = cc
-  show-uncounted o t (Reuse range) shows = cc
-  show-uncounted o t IgnoreOn shows = cc
-  show-uncounted o t IgnoreOff shows = cc
-  show-uncounted o t (Level n) shows = cc
-  show-uncounted o t (Sync sync) shows = cc
-
-  counted-by : (o : Option Step) → is_counted (done_if_show o (order_answer_to steps k o)) ≡ is_counted (order_answer_to steps k o)
-  counted-by None = refl
-  counted-by (Some step) = shown-by (is_show step.event) refl
-    where
-      shown-by : (b : Bool) → is_show step.event ≡ b
-          → is_counted (cond b (Ok Done) (order_answer_to steps k (Some step))) ≡ is_counted (order_answer_to steps k (Some step))
-      shown-by true shows = sym (show-uncounted (refusal (accepted steps k) step.thread step.event) step.thread step.event shows)
-      shown-by false shows = refl
-
-  pub counted-same : is_counted (unordered_answer steps k) ≡ is_counted (order_answer steps k)
-  unfolding unordered_answer order_answer
-  counted-same = counted-by (slice_get steps k)
-
 -- only an access is a race
-pub are-accesses : (steps : List Step) → AreAccesses (unordered_answer steps) steps
+pub are-accesses : (steps : List Step) → AreAccesses (order_answer steps) steps
 are-accesses steps k race none =
-    let told = race-reported steps k (race-ordered steps k race) in
+    let told = race-reported steps k race in
     let clash = sym told.1 ∙ none in
     cc
 
@@ -122,7 +78,7 @@ module _ (r : Recording) (k : ℕ) where
 -- the reasons below one more position
 module _ (r : Recording) (rules : List Target) (k : ℕ) where
   abbrev printed : ℕ → Bool
-  printed = is_printed_by (unordered_answer r.steps) r rules
+  printed = is_printed_by (order_answer r.steps) r rules
 
   more-places : (b : Bool) → map (order_reasons r) (places_below printed k ++ cond b (k ∷ []) []) ≡ reasons_below r rules k ++ cond b (order_reasons r k ∷ []) []
   more-places true = map-append (order_reasons r) (places_below printed k) (k ∷ [])
@@ -150,12 +106,12 @@ module _ (r : Recording) (rules : List Target) (k : ℕ) (step : Step) (here : s
   clock-here : IsClockAfter (past ++ step ∷ []) step.thread clock
   clock-here = subst (λ (steps : List Step). IsClockAfter steps step.thread clock) (sym (past-next r.steps k step here)) known
 
-  race-here : is_printed_by (unordered_answer r.steps) r rules k ≡ true → order_answer (past ++ step ∷ []) (length past) ≡ Ok Race
+  race-here : is_printed_by (order_answer r.steps) r rules k ≡ true → order_answer (past ++ step ∷ []) (length past) ≡ Ok Race
   race-here printed =
       order-here r.steps k step here
-      ∙ race-ordered r.steps k (race-is (unordered_answer r.steps k) (and_parts (is_race (unordered_answer r.steps k)) (is_none (matching_rule_by (unordered_answer r.steps) r rules k)) printed).0)
+      ∙ race-is (order_answer r.steps k) (and_parts (is_race (order_answer r.steps k)) (is_none (matching_rule_by (order_answer r.steps) r rules k)) printed).0
 
-  pub found-here : (latest : List (ℕ × Latest Because)) (found : Option Because) → Follows (access_reason_at r) latest past → true ≡ is_printed_by (unordered_answer r.steps) r rules k
+  pub found-here : (latest : List (ℕ × Latest Because)) (found : Option Because) → Follows (access_reason_at r) latest past → true ≡ is_printed_by (order_answer r.steps) r rules k
       → ((past : List Step) (tags : ℕ → Because) → Follows tags latest past → order_answer (past ++ step ∷ []) (length past) ≡ Ok Race
       → IsClockAfter (past ++ step ∷ []) step.thread clock → found ≡ option_map tags (unordered_with (past ++ step ∷ []) (length past)))
       → option_to_list found ≡ order_reasons r k
@@ -164,15 +120,15 @@ module _ (r : Recording) (rules : List Target) (k : ℕ) (step : Step) (here : s
       ∙ ap (option_map (access_reason_at r)) (with-here r.steps k step here))
       ∙ reason-told r k
 
-  module _ (old : Reasoned) (kept : HasReasons old r rules k) (given : Result Reply Refusal) (answered : given ≡ unordered_answer r.steps k) where
+  module _ (old : Reasoned) (kept : HasReasons old r rules k) (given : Result Reply Refusal) (answered : given ≡ order_answer r.steps k) where
     counted-here : is_counted given ≡ is_counted (order_answer (past ++ step ∷ []) (length past))
-    counted-here = ap is_counted answered ∙ counted-same r.steps k ∙ ap is_counted (sym (order-here r.steps k step here))
+    counted-here = ap is_counted answered ∙ ap is_counted (sym (order-here r.steps k step here))
 
     tag-here : (line : ℕ) → line ≡ slice_index r.lines k → access_reason_at r (length past) ≡ line_reason line (Some step)
     unfolding access_reason_at
     tag-here line is = ap (λ (n : ℕ). line_reason (slice_index r.lines n) (slice_get r.steps n)) (long r.steps k step here) ∙ ap₂ line_reason (sym is) here
 
-    pub next-kept : (new : Reasoned) (line : ℕ) (b : Bool) → line ≡ slice_index r.lines k → b ≡ is_printed_by (unordered_answer r.steps) r rules k
+    pub next-kept : (new : Reasoned) (line : ℕ) (b : Bool) → line ≡ slice_index r.lines k → b ≡ is_printed_by (order_answer r.steps) r rules k
         → ((past : List Step) (tags more : ℕ → Because) → Follows tags old.latest past → is_counted given ≡ is_counted (order_answer (past ++ step ∷ []) (length past))
         → IsClockAfter (past ++ step ∷ []) step.thread clock → ((i : ℕ) → i < length past → more i ≡ tags i) → more (length past) ≡ line_reason line (Some step)
         → Follows more new.latest (past ++ step ∷ []))
@@ -239,13 +195,13 @@ module _ (before after : Recording) (on : GoesOn before after) where
       ∙ latest-front before.steps on.more (access_reason_at after) (access_reason_at after) w (length before.steps) (omega arith) (λ k below. refl)
 
   pub kept-there : (kept : Reasoned) (rules : List Target)
-      → places_below (is_printed_by (unordered_answer before.steps) before rules) (length before.steps) ≡ places_below (is_printed_by (unordered_answer after.steps) after rules) (length before.steps)
+      → places_below (is_printed_by (order_answer before.steps) before rules) (length before.steps) ≡ places_below (is_printed_by (order_answer after.steps) after rules) (length before.steps)
       → HasReasons kept before rules (length before.steps) → HasReasons kept after rules (length before.steps)
   kept-there kept rules same kept_before = record {
     follows = subst (λ (steps : List Step). Follows (access_reason_at after) kept.latest steps) (sym front)
         (follows-there kept.latest (subst (λ (steps : List Step). Follows (access_reason_at before) kept.latest steps) (take-length before.steps) kept_before.follows));
     reasons = kept_before.reasons
-        ∙ map-places (order_reasons before) (order_reasons after) (is_printed_by (unordered_answer before.steps) before rules) (length before.steps) (λ k below. sym (reasons-there k below))
+        ∙ map-places (order_reasons before) (order_reasons after) (is_printed_by (order_answer before.steps) before rules) (length before.steps) (λ k below. sym (reasons-there k below))
         ∙ ap (map (order_reasons after)) same;
   }
     where

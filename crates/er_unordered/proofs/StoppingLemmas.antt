@@ -1,13 +1,16 @@
 -- A count that is full at a step is full there whatever steps come behind it, and a text whose rest was read has its first fault or is a trace.
-use Rattle.std.proofs.Common.{◌≡◌, ◌<◌, ◌∙◌, ◌++◌, ℕ, List, length, length-append, take, drop, Option, Some, None, IfSome, Ok, refl, sym, ap, subst, arith}
+use Rattle.std.proofs.Common.{◌≡◌, ◌<◌, ◌+◌, ◌∙◌, ◌++◌, ◌∷◌, [], ℕ, List, length, slice_get, length-append, take, drop, Option, Some, None, IfSome, Ok, refl, sym, ap, subst, arith}
 use Rattle.std.proofs.lemmas.List.{take-append-drop, length-take-le}
+use Rattle.std.proofs.lemmas.Option.{slice_get_within}
+use Rattle.er_batch.proofs.StepLemmas.{past-next}
 use Rattle.er_before.specs.Standing.{IsFullAfter}
 use Rattle.er_clock.specs.declared.clock.NoTick.{NoTick}
 use Rattle.er_clock.specs.declared.clock.NoTick.TheVariants as tick
 use Rattle.er_event.specs.declared.steps.Step.{Step}
-use Rattle.er_order.proofs.StepLemmas.{clocks-front}
+use Rattle.er_clocks.specs.Standing.{act_flows}
+use Rattle.er_order.proofs.StepLemmas.{acts-front, clocks-front}
 use Rattle.er_order.specs.Clocks.{Clocks, OfThread, clocks_at, own_count}
-use Rattle.er_order.specs.Order.{acts_of}
+use Rattle.er_order.specs.Order.{Act, acts_of}
 use Rattle.er_text.proofs.BatchLaws.{forgotten}
 use Rattle.er_text.specs.Batches.{GivesBatch, HasRead}
 use Rattle.er_text.specs.Places.{Reached}
@@ -27,22 +30,30 @@ overflows-on steps more is = record {
   at = is.at;
   within = (let low : is.at < length steps = is.within in omega (arith, length-append steps more));
   thread = is.thread;
+  flows = (let low : is.at < length steps = is.within in ap (λ (o : Option Act). act_flows o is.thread) (acts-front steps more is.at low) ∙ is.flows);
   full = (let low : is.at < length steps = is.within in
       ap (λ (clocks : Clocks). clocks (OfThread is.thread) is.thread) (clocks-front steps more is.at (omega arith)) ∙ is.full);
 }
 
--- a count that is full behind the first n steps
-pub full-here : (steps : List Step) (n : ℕ) → n < length steps → IsFullAfter (take n steps) → OverflowsIn steps
+-- a count that is full behind the first n steps, and would rise at the next one
+pub full-here : (steps : List Step) (n : ℕ) (step : Step) → slice_get steps n ≡ Some step → IsFullAfter (take n steps) step → OverflowsIn steps
 unfolding own_count
-full-here steps n within full =
+full-here steps n step here full =
+    let within : n < length steps = slice_get_within steps n step here in
     let size : length (take n steps) ≡ n = length-take-le n steps (omega arith) in
+    let longer : length (take (n + 1) steps) ≡ n + 1 = length-take-le (n + 1) steps (omega arith) in
     record {
       at = n;
       within = within;
       thread = full.0;
+      flows = ap (λ (s : List Step). act_flows (acts_of s n) full.0) (sym (take-append-drop (n + 1) steps))
+          ∙ ap (λ (o : Option Act). act_flows o full.0) (acts-front (take (n + 1) steps) (drop (n + 1) steps) n (omega (arith, longer)))
+          ∙ ap (λ (s : List Step). act_flows (acts_of s n) full.0) (sym (past-next steps n step here))
+          ∙ ap (λ (k : ℕ). act_flows (acts_of (take n steps ++ step ∷ []) k) full.0) (sym size)
+          ∙ full.1;
       full = ap (λ (s : List Step). clocks_at (acts_of s) n (OfThread full.0) full.0) (sym (take-append-drop n steps))
           ∙ (ap (λ (clocks : Clocks). clocks (OfThread full.0) full.0) (clocks-front (take n steps) (drop n steps) n (omega (arith, size)))
-          ∙ (ap (λ (k : ℕ). clocks_at (acts_of (take n steps)) k (OfThread full.0) full.0) (sym size) ∙ full.1));
+          ∙ (ap (λ (k : ℕ). clocks_at (acts_of (take n steps)) k (OfThread full.0) full.0) (sym size) ∙ full.2));
     }
 
 -- why a step isn't answered

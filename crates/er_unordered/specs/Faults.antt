@@ -1,7 +1,8 @@
 -- The faults of a replay by happens-before, alone or beside the lockset rule.
-use Rattle.std.specs.Prelude.{◌≡◌, ℕ, ◌<◌, ◌-◌, ◌^◌, Bool, true, false, List, length, Option, Some, IfSome, Result, Ok, Err}
+use Rattle.std.specs.Prelude.{◌≡◌, ℕ, ◌<◌, ◌-◌, ◌^◌, Bool, true, false, IsTrue, List, length, Option, Some, IfSome, Result, Ok, Err}
 use Rattle.er_clock.specs.declared.clock.NoTick.{NoTick}
 use Rattle.er_clock.specs.declared.clock.NoTick.TheVariants as tick
+use Rattle.er_clocks.specs.Standing.{act_flows}
 use Rattle.er_event.specs.declared.refusals.NoRoom.{NoRoom}
 use Rattle.er_event.specs.declared.refusals.NoRoom.TheVariants as room
 use Rattle.er_event.specs.declared.steps.Step.{Step}
@@ -41,14 +42,15 @@ abbrev pub MayFill : Analysis → Option (List ℕ) → ℕ → Type 0
 MayFill HappensBefore told limit = ⊥
 MayFill Both told limit = IfSome told (λ text. StopsFor text limit room.TableFull)
 
--- at one of the steps a thread's own count is the greatest
+-- one of the steps makes the clock of a thread flow into another one, and that thread's own count is the greatest
 pub record OverflowsIn (steps : List Step) : Type 0 where
   pub at : ℕ
   pub within : at < length steps
   pub thread : ℕ
+  pub flows : IsTrue (act_flows (acts_of steps at) thread)
   pub full : own_count (acts_of steps) at thread ≡ 2 ^ 32 - 1
 
--- the text is a trace, and a thread's own count is the greatest at one of its steps
+-- the text is a trace, and at one of its steps a count that would rise is the greatest
 pub record Overflows (text : List ℕ) (limit : ℕ) : Type 0 where
   pub recording : Recording
   pub trace : IsTrace text limit recording

@@ -7,12 +7,12 @@ use Rattle.er_text.specs.Ending.{lost_told}
 use Rattle.er_text.specs.Trace.{IsTrace}
 use Rattle.er_trace.specs.Names.{NameTable}
 use Rattle.er_trace.specs.Trace.{Recording}
-use Rattle.er_unordered.specs.Answers.{unordered_answer}
+use Rattle.er_order.specs.Races.{order_answer}
 use Rattle.er_unordered.specs.Reasons.{order_reasons_if}
 
 -- the report of a recording's unordered accesses under these rules, with reasons or without
 abbrev pub unordered_report : Recording → List Target → Bool → Summary
-unordered_report recording rules explain = report_by (unordered_answer recording.steps) (order_reasons_if explain recording) recording rules None
+unordered_report recording rules explain = report_by (order_answer recording.steps) (order_reasons_if explain recording) recording rules None
 
 -- a report with so many lost events
 abbrev pub with_lost : Option ℕ → Summary → Summary

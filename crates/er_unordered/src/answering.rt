@@ -98,7 +98,7 @@ fn explain_step(
     ensures run { (r : Recording) (k : ℕ) → HasExplainedTo machine.old builder.old reasons.old r k → slice_get r.steps k ≡ Some step.now → line ≡ slice_index r.lines k → names.now ≡ r.names
         → OnOk result (HasExplainedTo machine.new builder.new reasons.new r (k + 1)) }
     ensures fault { IfErr result (λ why. IsOrderFault why) }
-    ensures full { (r : Recording) (k : ℕ) → HasExplainedTo machine.old builder.old reasons.old r k → k < length r.steps → IfErr result (λ why. IsStopIn r.steps why) }
+    ensures full { (r : Recording) (k : ℕ) → HasExplainedTo machine.old builder.old reasons.old r k → slice_get r.steps k ≡ Some step.now → IfErr result (λ why. IsStopIn r.steps why) }
 {
     let answer = machine.step(step)?;
     let before = builder.races();

@@ -9,7 +9,7 @@ ghost use Rattle.er_text.specs.Batches.{joined};
 ghost use Rattle.er_text.specs.Named.{KeepsNames};
 ghost use Rattle.er_trace.specs.Names.{NameTable};
 ghost use Rattle.er_trace.specs.Trace.{Recording, IsNamed};
-ghost use Rattle.er_unordered.specs.Answers.{unordered_answer};
+ghost use Rattle.er_order.specs.Races.{order_answer};
 ghost use Rattle.er_unordered.specs.Inner.Passes.{HasGathered, IsOrderFault, IsReasoned, recorded};
 ghost use Rattle.er_unordered.specs.Inner.Reasons.{HasReasons};
 ghost use Rattle.er_unordered.specs.Inner.Stopping.{IsStopIn};
@@ -50,7 +50,7 @@ impl<'r> OrderBuilder<'r> {
     ) -> Result<OrderBuilder<'r>, AllocError>
         ensures rules { IfOk result (λ builder. builder.built.rules ≡ targets_of suppressions.now) }
         ensures explains { IfOk result (λ builder. is_some builder.reasons ≡ explain) }
-        ensures built { IfOk result (λ builder. (r : Recording) → IsBuiltBy (unordered_answer r.steps) builder.built r 0) }
+        ensures built { IfOk result (λ builder. (r : Recording) → IsBuiltBy (order_answer r.steps) builder.built r 0) }
         ensures reasoned { IfOk result (λ builder. (r : Recording) → IsReasoned builder r 0) }
     {
         let report = ReportBuilder::new(alloc, suppressions)?;
@@ -96,9 +96,9 @@ impl<'r> OrderBuilder<'r> {
 
     /// The report of the steps so far.
     pub(crate) fn finish(self) -> Report
-        ensures report { (r : Recording) → IsBuiltBy (unordered_answer r.steps) self.entry.built r (length r.steps) → IsReasoned self.entry r (length r.steps)
+        ensures report { (r : Recording) → IsBuiltBy (order_answer r.steps) self.entry.built r (length r.steps) → IsReasoned self.entry r (length r.steps)
             → told result ≡ unordered_report r self.entry.built.rules (is_some self.entry.reasons) }
-        ensures named { (r : Recording) → IsBuiltBy (unordered_answer r.steps) self.entry.built r (length r.steps) → IsReasoned self.entry r (length r.steps)
+        ensures named { (r : Recording) → IsBuiltBy (order_answer r.steps) self.entry.built r (length r.steps) → IsReasoned self.entry r (length r.steps)
             → All (IsNamed r.names) r.steps → All (HasNames r.names) result.lines.items }
     {
         let OrderBuilder { report, reasons } = self;

@@ -6,7 +6,7 @@ ghost use Rattle.er_explain.specs.Book.{event_kind};
 ghost use Rattle.er_report.specs.Report.{is_printed_by};
 ghost use Rattle.er_rules.specs.Rules.{Target};
 ghost use Rattle.er_trace.specs.Trace.{Recording};
-ghost use Rattle.er_unordered.specs.Answers.{unordered_answer};
+ghost use Rattle.er_order.specs.Races.{order_answer};
 ghost use Rattle.er_unordered.specs.Inner.Reasons.{HasReasons, access_reason_at, line_reason};
 ghost use Rattle.er_unordered.specs.Reasons.{order_reasons};
 
@@ -58,7 +58,7 @@ impl Reasons {
         printed: bool,
     ) -> Result<(), AllocError>
         ensures { (r : Recording) (rules : List Target) (k : ℕ) → HasReasons self.old r rules k → slice_get r.steps k ≡ Some step.now → line ≡ slice_index r.lines k
-            → answer.now ≡ unordered_answer r.steps k → printed ≡ is_printed_by (unordered_answer r.steps) r rules k
+            → answer.now ≡ order_answer r.steps k → printed ≡ is_printed_by (order_answer r.steps) r rules k
             → IsClockAfter (take (k + 1) r.steps) step.now.thread clock.now → OnOk result (HasReasons self.new r rules (k + 1)) }
     {
         tell(
@@ -97,7 +97,7 @@ fn tell(
     printed: bool,
 ) -> Result<(), AllocError>
     ensures { (r : Recording) (rules : List Target) (k : ℕ) → Follows (access_reason_at r) latest.now (take k r.steps) → slice_get r.steps k ≡ Some step.now
-        → printed ≡ is_printed_by (unordered_answer r.steps) r rules k → IsClockAfter (take (k + 1) r.steps) step.now.thread clock.now
+        → printed ≡ is_printed_by (order_answer r.steps) r rules k → IsClockAfter (take (k + 1) r.steps) step.now.thread clock.now
         → OnOk result (map (λ reasons. reasons.items) told.new.items ≡ map (λ reasons. reasons.items) told.old.items ++ cond printed (order_reasons r k ∷ []) []) }
 {
     if printed {

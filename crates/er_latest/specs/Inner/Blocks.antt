@@ -1,5 +1,5 @@
 -- What is kept of all words, in blocks of 128 words.
-use Rattle.std.specs.Prelude.{ℕ, zero, suc, ◌*◌, ◌/◌, ◌%◌, ◌&&◌, nat_eq, nat_le, Bool, List, [], ◌∷◌, ◌++◌, slice_index_or, Option, Some, None}
+use Rattle.std.specs.Prelude.{ℕ, zero, suc, ◌*◌, ◌/◌, ◌%◌, nat_eq, List, [], ◌∷◌, ◌++◌, slice_index_or, Option, Some, None}
 use Rattle.std.specs.Map.{lookup}
 use Rattle.er_latest.specs.Latest.{Latest, untouched}
 
@@ -19,10 +19,6 @@ word_in_block (Some words) place = word_at_place words place
 -- what is kept of the word
 unfoldable pub word_in : {A : Type 0} → Blocks A → ℕ → Latest A
 word_in blocks w = word_in_block (lookup (nat_eq (w / 128)) blocks) (w % 128)
-
--- the word stands in the block of this number, at one of these places
-abbrev pub is_place_in : ℕ → ℕ → ℕ → ℕ → Bool
-is_place_in number lo hi w = nat_eq number (w / 128) && (nat_le lo (w % 128) && nat_le (w % 128) hi)
 
 -- the words from this number on, this many
 unfoldable pub numbered : {A : Type 0} → (ℕ → Latest A) → ℕ → ℕ → List (ℕ × Latest A)

@@ -10,7 +10,7 @@ use Rattle.er_text.specs.Batches.{HasRead}
 use Rattle.er_text.specs.Places.{Reached}
 use Rattle.er_text.specs.Trace.{IsTrace}
 use Rattle.er_trace.specs.Trace.{Recording}
-use Rattle.er_unordered.specs.Answers.{unordered_answer}
+use Rattle.er_order.specs.Races.{order_answer}
 use Rattle.er_unordered.specs.Inner.Passes.{HasGathered, IsReasoned, OrderBuilt, recorded}
 
 -- between two batches: some steps were read and answered by both, and nobody keeps them
@@ -29,5 +29,5 @@ pub record HaveEnded (told : Option (List ℕ)) (limit : ℕ) (trace : Recording
   pub read : IfSome told (λ text. IsTrace text limit recording)
   pub names : trace.names ≡ recording.names
   pub run : HasRun machine builder stop recording
-  pub built : IsBuiltBy (unordered_answer recording.steps) unordered.built recording (length recording.steps)
+  pub built : IsBuiltBy (order_answer recording.steps) unordered.built recording (length recording.steps)
   pub reasoned : IsReasoned unordered recording (length recording.steps)

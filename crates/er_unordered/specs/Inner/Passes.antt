@@ -8,7 +8,7 @@ use Rattle.er_text.specs.Places.{Reached}
 use Rattle.er_text.specs.Trace.{IsTrace}
 use Rattle.er_trace.specs.Names.{NameTable}
 use Rattle.er_trace.specs.Trace.{Recording, IsNamed}
-use Rattle.er_unordered.specs.Answers.{unordered_answer}
+use Rattle.er_order.specs.Races.{order_answer}
 use Rattle.er_unordered.specs.Inner.Reasons.{HasReasons, Reasoned}
 use Rattle.er_unordered.specs.declared.fault.OrderFault.{OrderFault}
 use Rattle.er_unordered.specs.declared.fault.OrderFault.TheVariants.{Read, Write, TableFull, CountFull, Memory}
@@ -20,12 +20,12 @@ recorded steps lines names = record { steps = steps; lines = lines; names = name
 -- the machine stands for the recording's first n steps, and the report is theirs
 pub record HasComeTo (machine : Ordered) (builder : Built) (r : Recording) (n : ℕ) : Type 0 where
   pub stands : Stands machine (take n r.steps)
-  pub built : IsBuiltBy (unordered_answer r.steps) builder r n
+  pub built : IsBuiltBy (order_answer r.steps) builder r n
 
 -- all of the recording's steps were answered
 pub record HasAnswered (machine : Ordered) (builder : Built) (r : Recording) : Type 0 where
   pub stands : Stands machine r.steps
-  pub built : IsBuiltBy (unordered_answer r.steps) builder r (length r.steps)
+  pub built : IsBuiltBy (order_answer r.steps) builder r (length r.steps)
   pub named : All (IsNamed r.names) r.steps
   pub long : length r.lines ≡ length r.steps
 
@@ -67,7 +67,7 @@ pub record HasEnded (told : Option (List ℕ)) (limit : ℕ) (trace : Recording)
   pub recording : Recording
   pub read : IfSome told (λ text. IsTrace text limit recording)
   pub names : trace.names ≡ recording.names
-  pub built : IsBuiltBy (unordered_answer recording.steps) builder.built recording (length recording.steps)
+  pub built : IsBuiltBy (order_answer recording.steps) builder.built recording (length recording.steps)
   pub reasoned : IsReasoned builder recording (length recording.steps)
   pub named : All (IsNamed recording.names) recording.steps
 

@@ -11,7 +11,7 @@ use Rattle.er_report.specs.declared.report.Because.{Because}
 use Rattle.er_report.specs.declared.report.Label.TheVariants as label
 use Rattle.er_rules.specs.Rules.{Target}
 use Rattle.er_trace.specs.Trace.{Recording}
-use Rattle.er_unordered.specs.Answers.{unordered_answer}
+use Rattle.er_order.specs.Races.{order_answer}
 use Rattle.er_unordered.specs.Reasons.{order_reasons}
 
 -- the latest accesses of each word, as reasons of later races, and the reasons of the races so far
@@ -30,7 +30,7 @@ access_reason_at r i = line_reason (slice_index r.lines i) (slice_get r.steps i)
 
 -- the reasons of the printed races among the first n steps, in order
 abbrev pub reasons_below : Recording → List Target → ℕ → List (List Because)
-reasons_below r rules n = map (order_reasons r) (places_below (is_printed_by (unordered_answer r.steps) r rules) n)
+reasons_below r rules n = map (order_reasons r) (places_below (is_printed_by (order_answer r.steps) r rules) n)
 
 -- this is kept of the recording's first n steps under these rules
 pub record HasReasons (kept : Reasoned) (r : Recording) (rules : List Target) (n : ℕ) : Type 0 where

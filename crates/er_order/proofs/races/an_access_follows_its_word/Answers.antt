@@ -1,4 +1,4 @@
-use Rattle.er_order.proofs.Following.{kept-none, kept-step, answer-access, answer-other, answer-done}
+use Rattle.er_order.proofs.Following.{kept-none, kept-step, answer-access, answer-other}
 use Rattle.er_order.proofs.races.an_access_follows_its_word.Goals as goal
 
 pub returns-clause-answer : goal.returns-clause-answer
@@ -6,9 +6,6 @@ returns-clause-answer c = λ steps k w site kind step is event. answer-access st
 
 pub returns-clause-other : goal.returns-clause-other
 returns-clause-other c = λ steps k step is never. answer-other steps k step is never
-
-pub returns-clause-done : goal.returns-clause-done
-returns-clause-done c = λ steps k step sync is event. answer-done steps k step is sync event
 
 pub returns-clause-kept : goal.returns-clause-kept
 returns-clause-kept c = λ steps k w step is. kept-step steps k step is w

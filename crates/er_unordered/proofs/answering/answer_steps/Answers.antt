@@ -8,7 +8,7 @@ use Rattle.er_model.specs.Holdings.{Holdings}
 use Rattle.er_replay.proofs.ThreadsLemmas.{err_from}
 use Rattle.er_batch.proofs.BatchLemmas.{number-behind}
 use Rattle.er_text.specs.Batches.{joined}
-use Rattle.er_unordered.specs.Answers.{unordered_answer}
+use Rattle.er_order.specs.Races.{order_answer}
 use Rattle.er_trace.specs.Trace.{Recording}
 use Rattle.er_unordered.specs.Inner.Passes.{HasComeTo}
 use Rattle.er_unordered.proofs.PassLemmas.{come-to, plain-here, start, step-here, whole}
@@ -39,7 +39,7 @@ loop-k-preserved c =
             rw w.builder-is
             (subst (λ (n : ℕ). HasComeTo c.step.new.self w.add_plain.new.self r n) one
             (come-to c.look_ahead.new.self c.step.new.self c.loop-k.builder r at step (here past) come c.in_ok-answer.answer c.in_ok-answer.ensures.answered c.in_ok-answer.ensures.answer c.in_ok-answer.ensures.goes_on w.add_plain.new.self
-            (w.add_plain.ensures.built_by (unordered_answer r.steps) r at come.built plain)));
+            (w.add_plain.ensures.built_by (order_answer r.steps) r at come.built plain)));
       }
       | else-is_plain+in_ok-add w ↦ record {
         steps = rw w.builder-is (let so_far = c.loop-k.invariant.steps in let added = w.in_ok-add.ensures.steps in omega arith);
@@ -55,7 +55,7 @@ loop-k-preserved c =
             rw w.builder-is
             (subst (λ (n : ℕ). HasComeTo c.step.new.self w.add.new.self r n) one
             (come-to c.look_ahead.new.self c.step.new.self c.loop-k.builder r at step (here past) come c.in_ok-answer.answer c.in_ok-answer.ensures.answered c.in_ok-answer.ensures.answer c.in_ok-answer.ensures.goes_on w.add.new.self
-            (w.in_ok-add.ensures.built_by (unordered_answer r.steps) r at come.built told)));
+            (w.in_ok-add.ensures.built_by (order_answer r.steps) r at come.built told)));
       }
     ]
 
@@ -78,7 +78,9 @@ returns-in_err-answer-clause-full c = λ past lines names kept run.
     start past lines names c.args.trace.now kept c.steps-steps.ensures.named c.lines.ensures.one_per_step c.args.machine.now c.args.builder.now run in
     let come : HasComeTo c.loop-k.machine c.loop-k.builder r at = c.loop-k.invariant.run past lines run.long before in
     let low : c.loop-k.k < length c.args.trace.now.steps = rw c.steps-steps.ensures.value at c.loop-k-test.true in
-    let within : at < length r.steps = omega (arith, low, length-append past c.args.trace.now.steps) in
+    let step : Step = c.index-steps-k.result in
+    let read : slice_get c.steps-steps.result.now c.loop-k.k ≡ Some step = slice_get_read c.steps-steps.result.now _ c.loop-k.k step refl (omega arith) c.index-steps-k.is in
+    let here : slice_get r.steps at ≡ Some step = get_behind past c.args.trace.now.steps c.loop-k.k at refl ∙ (rw c.steps-steps.ensures.value at read) in
     let stands : Stands c.look_ahead.new.self (take at r.steps) = subst (λ (m : Ordered). Stands m (take at r.steps)) (sym c.look_ahead.ensures) come.stands in
     err_from c.from_residual.result _ _ c.from_residual.ensures.1 (λ e is.
-    stop-by r.steps c.in_err-answer.field-0.0 e is (λ full. full-here r.steps at within (c.in_err-answer.ensures.full (take at r.steps) stands (ap Err full))))
+    stop-by r.steps c.in_err-answer.field-0.0 e is (λ full. full-here r.steps at step here (c.in_err-answer.ensures.full (take at r.steps) stands (ap Err full))))

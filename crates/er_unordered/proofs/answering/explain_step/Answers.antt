@@ -4,7 +4,7 @@ use Rattle.er_model.specs.Holdings.{Holdings}
 use Rattle.er_replay.proofs.ThreadsLemmas.{err_from}
 use Rattle.er_report.specs.Builder.{IsBuiltBy}
 use Rattle.er_rules.specs.Rules.{Target}
-use Rattle.er_unordered.specs.Answers.{unordered_answer}
+use Rattle.er_order.specs.Races.{order_answer}
 use Rattle.er_unordered.specs.Inner.Passes.{HasComeTo}
 use Rattle.er_unordered.specs.Inner.Reasons.{HasReasons}
 use Rattle.er_unordered.proofs.PassLemmas.{clock-lent, come-to, known-here, printed-here, step-here}
@@ -15,7 +15,7 @@ pub returns-clause-run : goal.returns-clause-run
 returns-clause-run c = λ r k old here line named.
     let given = step-here c.args.machine.now c.step.new.self c.args.builder.now r k c.args.step.now here old.come c.in_ok-answer.answer c.in_ok-answer.ensures.answered c.in_ok-answer.ensures.answer c.in_ok-answer.ensures.goes_on
     _ _ _ line named (λ past stands. c.held-held.ensures.locks ∙ ap (λ (h : Holdings). h.held) (c.held.ensures past stands)) in
-    let built : IsBuiltBy (unordered_answer r.steps) c.add.new.self r (k + 1) = c.in_ok-add.ensures.built_by (unordered_answer r.steps) r k old.come.built given in
+    let built : IsBuiltBy (order_answer r.steps) c.add.new.self r (k + 1) = c.in_ok-add.ensures.built_by (order_answer r.steps) r k old.come.built given in
     let come : HasComeTo c.step.new.self c.add.new.self r (k + 1) =
     come-to c.args.machine.now c.step.new.self c.args.builder.now r k c.args.step.now here old.come c.in_ok-answer.answer c.in_ok-answer.ensures.answered c.in_ok-answer.ensures.answer c.in_ok-answer.ensures.goes_on c.add.new.self built in
     let known = known-here c.args.machine.now c.step.new.self c.args.builder.now r k c.args.step.now here old.come c.in_ok-answer.answer c.in_ok-answer.ensures.answered c.in_ok-answer.ensures.answer c.in_ok-answer.ensures.goes_on in
@@ -23,11 +23,11 @@ returns-clause-run c = λ r k old here line named.
       come = come;
       explained = subst (λ (rules : List Target). HasReasons c.follow.new.self r rules (k + 1)) (sym c.in_ok-add.ensures.rules)
           (c.in_ok-follow.ensures r c.args.builder.now.rules k old.explained here line known
-          (ap₂ nat_lt c.races-before.ensures c.races.ensures ∙ printed-here (unordered_answer r.steps) c.args.builder.now c.add.new.self r k old.come.built built c.in_ok-add.ensures.rules)
+          (ap₂ nat_lt c.races-before.ensures c.races.ensures ∙ printed-here (order_answer r.steps) c.args.builder.now c.add.new.self r k old.come.built built c.in_ok-add.ensures.rules)
           (clock-lent c.step.new.self _ c.args.step.now.thread c.clock-clock.result come.stands c.clock-clock.ensures.thread c.clock-clock.ensures.counts));
     }
 
 pub returns-in_err-answer-clause-full : goal.returns-in_err-answer-clause-full
-returns-in_err-answer-clause-full c = λ r k old within.
+returns-in_err-answer-clause-full c = λ r k old here.
     err_from c.from_residual.result _ _ c.from_residual.ensures.1 (λ e is.
-    stop-by r.steps c.in_err-answer.field-0.0 e is (λ full. full-here r.steps k within (c.in_err-answer.ensures.full (take k r.steps) old.come.stands (ap Err full))))
+    stop-by r.steps c.in_err-answer.field-0.0 e is (λ full. full-here r.steps k c.args.step.now here (c.in_err-answer.ensures.full (take k r.steps) old.come.stands (ap Err full))))

@@ -51,7 +51,8 @@ returns-in_err-explain_step-clause-full c = λ past lines names kept run.
     start-explained past lines names c.args.trace.now kept c.steps-steps.ensures.named c.lines.ensures.one_per_step c.args.machine.now c.args.builder.now run.answered c.args.reasons.now run.explained in
     let come : HasExplainedTo c.look_ahead.new.self c.loop-k.builder c.loop-k.reasons r at =
     subst (λ (m : Ordered). HasExplainedTo m c.loop-k.builder c.loop-k.reasons r at) (sym c.look_ahead.ensures) (c.loop-k.invariant.run past lines run.answered.long before) in
-    let low : c.loop-k.k < length c.args.trace.now.steps = rw c.steps-steps.ensures.value at c.loop-k-test.true in
-    let within : at < length r.steps = omega (arith, low, length-append past c.args.trace.now.steps) in
-    let known : IsStopIn r.steps c.in_err-explain_step.field-0.0 = c.in_err-explain_step.ensures.full r at come within in
+    let step : Step = c.index-steps-k.result in
+    let read : slice_get c.steps-steps.result.now c.loop-k.k ≡ Some step = slice_get_read c.steps-steps.result.now _ c.loop-k.k step refl (omega arith) c.index-steps-k.is in
+    let here : slice_get r.steps at ≡ Some step = get_behind past c.args.trace.now.steps c.loop-k.k at refl ∙ (rw c.steps-steps.ensures.value at read) in
+    let known : IsStopIn r.steps c.in_err-explain_step.field-0.0 = c.in_err-explain_step.ensures.full r at come here in
     search rules

@@ -1,7 +1,7 @@
 use Rattle.std.proofs.Common.{◌≡◌, ◌∙◌, ℕ, Bool, true, false, nat_eq, cond, None, Some, slice_get, refl, ap, ap₂, sym, subst}
 use Rattle.std.specs.Map.{lookup}
 use Rattle.indexmap.specs.IndexMap.{values, with_value_at}
-use Rattle.er_clock.proofs.Maps.{entry_found, entry_put}
+use Rattle.er_epochs.proofs.Maps.{entry_found, entry_put}
 use Rattle.er_event.specs.Lockset.{is_level_lock}
 use Rattle.er_event.specs.declared.steps.Event.TheVariants.{Release}
 use Rattle.er_event.specs.declared.steps.Mode.{Mode}
@@ -24,11 +24,11 @@ module _ (c : In-Some) (was : Holdings) (is : slice_get (values c.self.inside.he
   -- the holdings that stand there are the thread's
   found : was ≡ holding_among c.args.self.now c.args.thread
   found =
-      holding_found c.self.inside.held.entries c.number-number.result was (entry_found c.self.inside.held c.in-Some.index c.number-number.result was c.in-Some.ensures.unique c.in-Some.ensures.key is)
-      ∙ ap (λ threads. holding_among threads c.number-number.result) c.self.view_is ∙ ap (holding_among c.args.self.now) c.number-number.ensures.value
+      holding_found c.self.inside.held.entries c.key_of-key.result was (entry_found c.self.inside.held c.in-Some.index c.key_of-key.result was c.in-Some.ensures.unique c.in-Some.ensures.key is)
+      ∙ ap (λ threads. holding_among threads c.key_of-key.result) c.self.view_is ∙ ap (holding_among c.args.self.now) c.key_of-key.ensures
 
-  put : (h : Holdings) (q : ℕ) → lookup (nat_eq q) (with_value_at c.self.inside.held c.in-Some.index h).entries ≡ cond (nat_eq c.number-number.result q) (Some h) (lookup (nat_eq q) c.self.inside.held.entries)
-  put = entry_put c.self.inside.held c.in-Some.index c.number-number.result was c.in-Some.ensures.unique c.in-Some.ensures.key is
+  put : (h : Holdings) (q : ℕ) → lookup (nat_eq q) (with_value_at c.self.inside.held c.in-Some.index h).entries ≡ cond (nat_eq c.key_of-key.result q) (Some h) (lookup (nat_eq q) c.self.inside.held.entries)
+  put = entry_put c.self.inside.held c.in-Some.index c.key_of-key.result was c.in-Some.ensures.unique c.in-Some.ensures.key is
 
 pub give_up-requires : goal.give_up-requires
 give_up-requires c =
@@ -40,14 +40,14 @@ returns-in-Some c t =
     let some = (goal.at.returns-in-Some c).In-Some in
     let was = c.index_mut-held.result.now in
     let is = c.index_mut-held.ensures.value in
-    holding_written c.self.inside.held.entries _ c.number-number.result c.give_up.new.held (put some was is c.give_up.new.held) t
-    ∙ ap (λ n. cond (nat_eq n t) c.give_up.new.held (holding_among c.self.inside.held.entries t)) c.number-number.ensures.value
+    holding_written c.self.inside.held.entries _ c.key_of-key.result c.give_up.new.held (put some was is c.give_up.new.held) t
+    ∙ ap (λ n. cond (nat_eq n t) c.give_up.new.held (holding_among c.self.inside.held.entries t)) c.key_of-key.ensures
     ∙ ap₂ (λ h rest. cond (nat_eq c.args.thread t) h rest)
     (c.give_up.ensures ∙ ap (λ h. changed_by h (Release c.args.lock c.args.mode)) (found some was is)) (ap (λ threads. holding_among threads t) c.self.view_is)
 
 pub returns-in-None : goal.returns-in-None
 returns-in-None c =
     let absent : nothing_held ≡ holding_among c.args.self.now c.args.thread =
-    holding_absent c.self.inside.held.entries c.number-number.result (sym c.in-None.ensures.none)
-    ∙ ap (λ threads. holding_among threads c.number-number.result) c.self.view_is ∙ ap (holding_among c.args.self.now) c.number-number.ensures.value in
+    holding_absent c.self.inside.held.entries c.key_of-key.result (sym c.in-None.ensures.none)
+    ∙ ap (λ threads. holding_among threads c.key_of-key.result) c.self.view_is ∙ ap (holding_among c.args.self.now) c.key_of-key.ensures in
     absurd (nothing_given c.args.lock c.args.mode (is_level_lock c.args.lock) refl (subst (λ (h : Holdings). refused_by h (Release c.args.lock c.args.mode) ≡ None) (sym absent) c.requires))

@@ -16,7 +16,7 @@ returns-in-Some-clause-ok g c =
     ≡ cond (c.args.word == w) (latest_by (count_by c.args.clock.now) (word_in old c.args.word) (tagged c.args.clock.now.0 (count_by c.args.clock.now c.args.clock.now.0) c.args.tag) c.args.kind) (word_in old w)) c.self.view_is
     (one_word c.self.inside.blocks.entries (with_value_at c.self.inside.blocks c.in-Some.index c.access.new.self).entries c.args.word c.block_of-number.result c.place_of-place.result (Some c.index_mut-block.result.now) c.access.new.self
     (λ kept. latest_by (count_by c.args.clock.now) kept (tagged c.args.clock.now.0 (count_by c.args.clock.now c.args.clock.now.0) c.args.tag) c.args.kind)
-    c.block_of-number.ensures c.place_of-place.ensures.value
+    c.block_of-number.ensures.value c.place_of-place.ensures.value
     (block_found c.self.inside.blocks c.in-Some.index c.block_of-number.result c.index_mut-block.result.now c.in-Some.ensures.unique c.in-Some.ensures.key c.index_mut-block.ensures.value)
     (block_put c.self.inside.blocks c.in-Some.index c.block_of-number.result c.index_mut-block.result.now c.in-Some.ensures.unique c.in-Some.ensures.key c.index_mut-block.ensures.value c.access.new.self)
     goes))
@@ -36,4 +36,4 @@ returns-in_ok-insert-in-None-clause-ok g c =
     ≡ cond (c.args.word == w) (latest_by (count_by c.args.clock.now) (word_in old c.args.word) (tagged c.args.clock.now.0 (count_by c.args.clock.now c.args.clock.now.0) c.args.tag) c.args.kind) (word_in old w)) c.self.view_is
     (first_word c.self.inside.blocks.entries c.insert.new.self.entries c.args.word c.block_of-number.result c.place_of-place.result c.take_block-block.result c.access-in-None.new.self
     (λ kept. latest_by (count_by c.args.clock.now) kept (tagged c.args.clock.now.0 (count_by c.args.clock.now c.args.clock.now.0) c.args.tag) c.args.kind)
-    c.block_of-number.ensures c.place_of-place.ensures.value c.in-None.ensures.none c.in_ok-insert-in-None.ensures.updates.0 c.take_block-block.ensures c.in_ok-access-in-None.ensures.ok)
+    c.block_of-number.ensures.value c.place_of-place.ensures.value c.in-None.ensures.none c.in_ok-insert-in-None.ensures.updates.0 c.take_block-block.ensures c.in_ok-access-in-None.ensures.ok)

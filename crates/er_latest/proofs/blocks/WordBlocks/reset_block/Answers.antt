@@ -1,5 +1,6 @@
 use Rattle.std.proofs.Common.{◌≡◌, ℕ, cond, subst}
-use Rattle.er_latest.specs.Inner.Blocks.{word_in, is_place_in}
+use Rattle.er_latest.specs.Inner.Blocks.{word_in}
+use Rattle.er_epochs.specs.Words.{is_place_in}
 use Rattle.indexmap.specs.IndexMap.{with_value_at}
 use Rattle.er_latest.proofs.BlockLemmas.{block_found, block_put, emptied_block, emptied_away, absent_block}
 use Rattle.er_latest.specs.Latest.{untouched}

@@ -1,11 +1,11 @@
 use Rattle.std.proofs.Common.{◌≡◌, ℕ, List, Option, Some, None, IfSome, nat_eq, position, slice_get, sym}
 use Rattle.indexmap.specs.IndexMap.{keys}
-use Rattle.er_latest.proofs.BlockLemmas.{number_at}
-use Rattle.er_latest.proofs.blocks.index_of_block.Goals as goal
+use Rattle.er_epochs.proofs.Maps.{number_at}
+use Rattle.er_epochs.proofs.finding.index_of.Goals as goal
 
 by : (ks : List ℕ) (n : ℕ) (o : Option ℕ) → o ≡ position (nat_eq n) ks → IfSome o (λ index. slice_get ks index ≡ Some n)
 by ks n None found = tt
 by ks n (Some i) found = number_at ks n i (sym found)
 
 pub returns-in_default-clause-key : goal.returns-in_default-clause-key
-returns-in_default-clause-key g c = by (keys c.args.blocks.now) c.args.number c.get_index_of.result c.get_index_of.ensures.index
+returns-in_default-clause-key g c = by (keys c.args.map.now) c.args.number c.get_index_of.result c.get_index_of.ensures.index
