@@ -12,7 +12,7 @@ use Rattle.er_event.specs.declared.refusals.Refusal.{Refusal}
 use Rattle.er_event.specs.declared.steps.Event.{Event}
 use Rattle.er_event.specs.declared.steps.Event.TheVariants.{Acquire, Release, Access, Reuse, IgnoreOn, IgnoreOff, Show, Level, Sync}
 use Rattle.er_event.specs.declared.steps.Reply.{Reply}
-use Rattle.er_event.specs.declared.steps.Reply.TheVariants.{Done, Race}
+use Rattle.er_event.specs.declared.steps.Reply.TheVariants.{Race}
 use Rattle.er_event.specs.declared.steps.Step.{Step}
 use Rattle.er_explain.proofs.RaceLemmas.{race-is}
 use Rattle.er_explain.specs.Racing.{is_race, places_below}

@@ -17,7 +17,7 @@ use Rattle.er_trace.specs.Trace.{Recording}
 use Rattle.er_unordered.specs.Faults.{IsFaultOf}
 use Rattle.er_unordered.specs.Inner.Written.{WritesFound}
 use Rattle.er_unordered.specs.Replays.{IsBegunBy, IsFailedBy, IsReplayedBy, WritesNothing, has_races, lockset_output, output_by, verdict_if}
-use Rattle.er_unordered.specs.Reports.{AreReportsBy, AreReportsOfText, IsReportBy, IsReportOfText, with_lost}
+use Rattle.er_unordered.specs.Reports.{AreReportsBy, AreReportsOfText, IsReportBy, IsReportOfText, unordered_report, with_lost}
 use Rattle.er_unordered.specs.Text.{unordered_text}
 use Rattle.er_unordered.specs.declared.fault.OrderFault.{OrderFault}
 use Rattle.er_unordered.specs.declared.fault.OrderFault.TheVariants.{Read, Write, TableFull, CountFull, Memory}
@@ -135,7 +135,7 @@ lost-alone None limit rules explain names report ending lost is ends says = tt
 lost-alone (Some text) limit rules explain names report ending lost is ends says = record {
   recording = is.recording;
   trace = is.trace;
-  says = set-lost lost (lost_told text) (summary report) _ is.says (says-lost text ending lost ends says);
+  says = set-lost lost (lost_told text) (summary report) (unordered_report is.recording rules explain) is.says (says-lost text ending lost ends says);
   names = is.names;
 }
 
@@ -147,7 +147,7 @@ lost-both None limit rules explain names lockset unordered ending lost are ends 
 lost-both (Some text) limit rules explain names lockset unordered ending lost are ends says = record {
   recording = are.recording;
   trace = are.trace;
-  says = set-lost lost (lost_told text) (summary lockset) _ are.says (says-lost text ending lost ends says);
-  says_too = set-lost lost (lost_told text) (summary unordered) _ are.says_too (says-lost text ending lost ends says);
+  says = set-lost lost (lost_told text) (summary lockset) (report_of are.recording rules explain None) are.says (says-lost text ending lost ends says);
+  says_too = set-lost lost (lost_told text) (summary unordered) (unordered_report are.recording rules explain) are.says_too (says-lost text ending lost ends says);
   names = are.names;
 }

@@ -1,5 +1,5 @@
 //! Answers the steps of a batch by happens-before, one by one, with reasons or without.
-ghost use Rattle.std.specs.Prelude.{◌≡◌, ◌+◌, ◌++◌, ◌<◌, ◌^◌, ℕ, List, Some, length, slice_get, slice_index, IfErr, OnOk};
+ghost use Rattle.std.specs.Prelude.{◌≡◌, ◌+◌, ◌++◌, ◌<◌, ◌^◌, ℕ, List, Some, slice_get, slice_index, IfErr, OnOk};
 ghost use Rattle.er_event.specs.declared.steps.Step.{Step as Steps};
 ghost use Rattle.er_report.specs.Builder.{is_plain};
 ghost use Rattle.er_report.specs.Names.{HasSiteName};

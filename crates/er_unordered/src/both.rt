@@ -259,16 +259,12 @@ fn abandon(trace: Trace, builder: ReportBuilder<'_>, unordered: OrderBuilder<'_>
     drop(unordered);
 }
 
-/// Reads a trace text and reports its races by the lockset rule and its unordered accesses, without those that the rules take. Of the
-/// options it takes how many sets and bytes may be, and whether races and unordered accesses are explained.
-///
-/// The text is read once. If the lockset rule finds no room for a step, there is no report. The watcher is told how far it has come, as by
-/// `replay_text_watched`, with the races of both reports.
+/// Reads a trace text once and reports its races by the lockset rule and its unordered accesses, without those that the rules take. Of the
+/// options it takes how many sets and bytes may be, and whether races and unordered accesses are explained. The watcher is told how far it
+/// has come, as by `replay_text_watched`, with the races of both reports.
 ///
 /// # Errors
-/// `Read`: the text has a fault, a read failed, or memory was refused to the reader. `TableFull`: a step of the text wants one set of locks
-/// more than may be kept. `CountFull`: a thread releases, starts, signals and is joined 2^32 - 1 times or more. `Memory`: memory was
-/// refused.
+/// As [`crate::replay_by`] by both analyses, but for `Write`.
 pub fn report_both<R: Wait, D: Read, V: Watch>(
     rt: &R,
     alloc: Global,

@@ -20,7 +20,7 @@
 //! let mut sink = Device::new(Vec::new(rt.alloc()));
 //! let rules = Suppressions::new(rt.alloc());
 //! let options = Options::usual();
-//! let verdict = replay_by(&rt, &mut source, &mut sink, &rules, &options, Analysis::HappensBefore, &mut Unwatched)?;   // Verdict::Races
+//! let replayed = replay_by(&rt, &mut source, &mut sink, &rules, &options, Analysis::HappensBefore, &mut Unwatched)?;   // verdict: Races
 //! // What was written:
 //! // line 3: unordered: t2 write 0x000000001000 at -, holds none
 //! // steps 2, unordered 1, suppressed 0, refused 0

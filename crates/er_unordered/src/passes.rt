@@ -170,7 +170,8 @@ impl<'r> Pass<'r> {
             builder,
         } = self;
         let ending = lines.ending();
-        close(lines, machine);
+        drop(lines);
+        drop(machine);
         UnorderedReport {
             report: builder.finish(),
             trace,
@@ -179,19 +180,11 @@ impl<'r> Pass<'r> {
     }
 }
 
-// Lets go of what has read and answered the steps. Split for the prover.
-fn close(lines: TraceReader, machine: OrderMachine) {
-    drop(lines);
-    drop(machine);
-}
-
 /// Reads a trace text of at most so many bytes, and reports its unordered accesses, without those that the rules take. If `explain` is
-/// set, each has the earlier access that it is unordered with. Its names are hashed by the keys. The watcher is told how far it has come,
-/// as by `replay_text_watched`.
+/// set, each has the earlier access that it is unordered with. The keys hash its names. The watcher is told as by `replay_text_watched`.
 ///
 /// # Errors
-/// `Read`: the text has a fault, a read failed, or memory was refused to the reader. `CountFull`: a thread releases, starts,
-/// signals and is joined 2^32 - 1 times or more. `Memory`: memory was refused.
+/// As [`crate::replay_by`] by happens-before alone, but for `Write`.
 pub fn report_unordered<D: Read, V: Watch>(
     alloc: Global,
     reader: &mut Device<D>,

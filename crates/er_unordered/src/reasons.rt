@@ -78,11 +78,7 @@ impl Reasons {
     pub(crate) fn into_told(self) -> Vec<Vec<Because>>
         ensures { map (λ reasons. reasons.items) result.items ≡ self.told }
     {
-        let Reasons {
-            latest: _,
-            told,
-            alloc: _,
-        } = self;
+        let Reasons { told, .. } = self;
         told
     }
 }
@@ -115,8 +111,7 @@ fn put_found(
 ) -> Result<(), AllocError>
     ensures { OnOk result (map (λ reasons. reasons.items) told.new.items ≡ map (λ reasons. reasons.items) told.old.items ++ option_to_list found ∷ []) }
 {
-    let list = list_of(alloc, found)?;
-    told.push(list)?;
+    told.push(list_of(alloc, found)?)?;
     Ok(())
 }
 
@@ -125,21 +120,10 @@ fn list_of(alloc: Global, found: Option<Because>) -> Result<Vec<Because>, AllocE
     ensures { IfOk result (λ list. list.items ≡ option_to_list found) }
 {
     let mut list = Vec::new(alloc);
-    if let Some(
-        Because {
-            label,
-            line,
-            thread,
-            kind,
-        },
-    ) = found
-    {
-        list.push(Because {
-            label,
-            line,
-            thread,
-            kind,
-        })?;
+    if let Some(reason) = found {
+        // The prover wants to see the label by itself.
+        let label = reason.label;
+        list.push(Because { label, ..reason })?;
     }
     Ok(list)
 }

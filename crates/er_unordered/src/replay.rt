@@ -44,7 +44,7 @@ pub enum Analysis {
 /// `Read`: the text has a fault, a read failed, or memory was refused to the reader. `Write`: a write failed, or memory was refused to the
 /// text. `TableFull`: a step of the lockset rule wants one set of locks more than may be kept. `CountFull`: a thread releases, starts,
 /// signals and is joined 2^32 - 1 times or more. `Memory`: memory was refused.
-pub fn replay_by<R, D, W, V>(
+pub fn replay_by<R: AllocGlobal + Wait, D: Read, W: Write, V: Watch>(
     rt: &R,
     reader: &mut Device<D>,
     writer: &mut Device<W>,
@@ -53,11 +53,6 @@ pub fn replay_by<R, D, W, V>(
     analysis: Analysis,
     watcher: &mut V,
 ) -> Result<Replayed, OrderFault>
-where
-    R: AllocGlobal + Wait,
-    D: Read,
-    W: Write,
-    V: Watch,
     requires reader { has_failed reader.old ≡ false }
     requires writer { has_failed writer.old ≡ false }
     ensures report { IfOk result (λ replayed. IfSome (D.remaining (inner_of reader.old)) (λ text. IsReplayedBy analysis text options.now.byte_limit (targets_of suppressions.now) options.now.explain (W.contents (inner_of writer.old)) (W.contents (inner_of writer.new)) replayed.verdict)) }
@@ -112,7 +107,7 @@ fn replay_unordered<D: Read, W: Write, V: Watch>(
 }
 
 // The same by both analyses.
-fn replay_both<R, D, W, V>(
+fn replay_both<R: AllocGlobal + Wait, D: Read, W: Write, V: Watch>(
     rt: &R,
     reader: &mut Device<D>,
     writer: &mut Device<W>,
@@ -120,11 +115,6 @@ fn replay_both<R, D, W, V>(
     options: &Options,
     watcher: &mut V,
 ) -> Result<Replayed, OrderFault>
-where
-    R: AllocGlobal + Wait,
-    D: Read,
-    W: Write,
-    V: Watch,
     requires reader { has_failed reader.old ≡ false }
     requires writer { has_failed writer.old ≡ false }
     ensures report { IfOk result (λ replayed. IfSome (D.remaining (inner_of reader.old)) (λ text. IsReplayedBy Both text options.now.byte_limit (targets_of suppressions.now) options.now.explain (W.contents (inner_of writer.old)) (W.contents (inner_of writer.new)) replayed.verdict)) }

@@ -1,5 +1,5 @@
 -- Each step is answered as the definitions say, and added to the report.
-use Rattle.std.proofs.Common.{◌≡◌, ◌<◌, ◌≤◌, ◌+◌, ◌∙◌, ◌++◌, ℕ, List, length, length-append, Err, take, slice_get, slice_index, Some, refl, sym, ap, subst, arith}
+use Rattle.std.proofs.Common.{◌≡◌, ◌<◌, ◌≤◌, ◌+◌, ◌∙◌, ◌++◌, ℕ, List, length, Err, take, slice_get, slice_index, Some, refl, sym, ap, subst, arith}
 use Rattle.std.proofs.lemmas.Option.{slice_get_read}
 use Rattle.er_before.specs.Standing.{Ordered, Stands}
 use Rattle.er_event.proofs.Lists.{get_behind}

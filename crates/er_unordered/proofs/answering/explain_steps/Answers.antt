@@ -1,5 +1,5 @@
 -- Each step is answered and explained as the definitions say.
-use Rattle.std.proofs.Common.{◌≡◌, ◌<◌, ◌≤◌, ◌+◌, ◌∙◌, ◌++◌, ℕ, List, length, length-append, slice_get, slice_index, Some, refl, sym, ap, subst, arith, rules}
+use Rattle.std.proofs.Common.{◌≡◌, ◌≤◌, ◌+◌, ◌∙◌, ◌++◌, ℕ, List, length, slice_get, slice_index, Some, refl, sym, ap, subst, arith, rules}
 use Rattle.std.proofs.lemmas.Option.{slice_get_read}
 use Rattle.er_before.specs.Standing.{Ordered}
 use Rattle.er_event.proofs.Lists.{get_behind}

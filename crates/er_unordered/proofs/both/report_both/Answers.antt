@@ -7,4 +7,4 @@ use Rattle.er_unordered.proofs.both.report_both.Goals as goal
 pub returns-in-Ok-clause-reports : goal.returns-in-Ok-clause-reports
 returns-in-Ok-clause-reports g c =
     lost-both (g.D.Read.remaining (inner_of c.args.reader.now)) c.args.options.now.byte_limit (targets_of c.args.suppressions.now) c.args.options.now.explain c.in-Ok.found.trace.names c.in-Ok.found.lockset
-    c.in-Ok.found.unordered c.in-Ok.found.ending c.lost_events.result c.in-Ok.ensures.reports c.in-Ok.ensures.ending c.lost_events.ensures
+    c.in-Ok.found.unordered c.in-Ok.found.ending c.lost_events-found.result c.in-Ok.ensures.reports c.in-Ok.ensures.ending c.lost_events-found.ensures

@@ -1,5 +1,5 @@
 -- What was found at a race that has a line is the reason that the definitions name.
-use Rattle.std.proofs.Common.{◌∙◌, map, sym}
+use Rattle.std.proofs.Common.{◌∙◌, sym}
 use Rattle.std.specs.Option.{option_to_list}
 use Rattle.std.proofs.lemmas.Result.{on_ok_weaker}
 use Rattle.er_unordered.specs.Reasons.{order_reasons}
