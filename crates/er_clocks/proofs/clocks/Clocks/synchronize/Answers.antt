@@ -11,4 +11,3 @@ returns-in-Join-clause-full c = rw c.in-Join.is (λ full. (c.in-Join.joined, flo
 
 pub returns-in-Signal-clause-full : goal.returns-in-Signal-clause-full
 returns-in-Signal-clause-full c = rw c.in-Signal.is (λ full. (c.args.thread, flows-own (record { thread = c.args.thread; sync = Signalled c.in-Signal.object }) refl, c.signal.ensures.full full))
-
