@@ -106,8 +106,8 @@ def expected(text, rules, analysis, explain=False):
         return output.encode(), errors.encode(), status
     unordered, unordered_status = unordered_report(text, reference.rules_of(rules or b""), explain)
     if analysis == "happens-before":
-        return unordered.encode(), b"", unordered_status
-    return (output + unordered).encode(), b"", max(status, unordered_status)
+        return unordered.encode(), errors.encode(), unordered_status
+    return (output + unordered).encode(), errors.encode(), max(status, unordered_status)
 
 
 # ---- Worked traces ----
@@ -188,9 +188,9 @@ def by_sites(record):
         want = output.encode(), errors.encode(), status
         if status != 2:
             ordered, ordered_status = unordered_report(text, reference.rules_of(rules or b""), explain=True)
-            want = by_site_of_both(output, ordered, sites_in(text), {}).encode(), b"", max(status, ordered_status)
+            want = by_site_of_both(output, ordered, sites_in(text), {}).encode(), errors.encode(), max(status, ordered_status)
             kinds.add((b"races in this run: none" in want[0], b"no common lock: no further site" in want[0]))
-            placed = by_site_of_both(output, ordered, sites_in(text), places_in(text)).encode(), b"", max(status, ordered_status)
+            placed = by_site_of_both(output, ordered, sites_in(text), places_in(text)).encode(), errors.encode(), max(status, ordered_status)
             found = run_file(rules, text, *BOTH, "--by-site")
             record(f"both by site, from a file: {name}{'' if rules is None else ' with suppressions'}", found == placed, f"{found}, not {placed}")
         found = run_with(rules, text, *BOTH, "--by-site")
@@ -302,7 +302,7 @@ def refusals(record, preloaded):
     with tempfile.TemporaryDirectory() as folder:
         library, trace = preloaded(folder, "refuse"), pathlib.Path(folder) / "trace"
         lines = ["eraser trace 3", "t1 start t2", *(f"t{1 + k % 3} {verb}" for k in range(12) for verb in ("lock m", f"write {4096 * k} s{k}", f"read {64 * k}", "unlock m", f"signal x{k}", f"await x{k - 1}"))]
-        trace.write_text("\n".join(lines) + "\n")
+        trace.write_text("\n".join([*lines, "end"]) + "\n")
         for analysis in WITH_AND_WITHOUT:
             words, met = [*analysis, str(trace)], set()
             whole = run(words)
@@ -339,7 +339,7 @@ def batches(record):
     """What orders two accesses, and what doesn't, on both sides of the ends of batches, and a fault behind them."""
     for number in [*range(BATCH - 5, BATCH + 3), *range(2 * BATCH - 5, 2 * BATCH + 3)]:
         lines = ["t1 write 0x1000 a", "t1 write 0x2000 a", "t1 signal x", "t2 await x", "t2 write 0x1000 b", "t3 write 0x2000 c"]
-        text = ("eraser trace 3\n" + "\n" * (number - 2) + "".join(line + "\n" for line in lines)).encode()
+        text = ("eraser trace 3\n" + "\n" * (number - 2) + "".join(line + "\n" for line in [*lines, "end"])).encode()
         want = f"line {number + 5}: unordered: t3 write 0x000000002000 at c, holds none\nsteps 6, unordered 1, suppressed 0, refused 0\n".encode()
         found = run([*HAPPENS_BEFORE, "-"], text)
         record(f"happens-before: steps from line {number} on", found == (want, b"", 1), f"{found}")
@@ -348,7 +348,7 @@ def batches(record):
         found = run([*BOTH, "-"], text)
         record(f"both: steps from line {number} on", found == (run(["-"], text)[0] + want, b"", 1), f"{found}")
         for analysis in (HAPPENS_BEFORE, BOTH):
-            found = run([*analysis, "-"], text + b"t1 hop\n")
+            found = run([*analysis, "-"], text.replace(b"end\n", b"t1 hop\n"))
             record(f"{analysis[1]}: a fault behind steps from line {number} on", found == (b"", f"line {number + 6}: bad verb\n".encode(), 2), f"{found}")
 
 

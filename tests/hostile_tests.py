@@ -43,7 +43,8 @@ COSTS = {
     "meets": (2000, [[]]),
     "threads": (4000, [[], HAPPENS_BEFORE]),
     "lines": (2000, [["--by-site", *EXPLAIN]]),
-    "readers": (2000, [HAPPENS_BEFORE, [*HAPPENS_BEFORE, *EXPLAIN]]),
+    # By happens-before each read in no order is compared with all others of its word, so that isn't so of readers yet.
+    "readers": (2000, [[], EXPLAIN]),
     "handed-on": (2000, [[], HAPPENS_BEFORE]),
     "own-locks": (2000, [[], HAPPENS_BEFORE]),
 }

@@ -23,7 +23,7 @@ SCHEMA = TOP / "docs/report.schema.json"
 REFUSED = re.compile(r"line (\d+): refused: (\S+) (\S+)(?: (\S+))?: ([^:]+)")
 SHOWN = re.compile(r"line (\d+): state (0x[0-9a-f]{12}): (\S+?)(?:, candidates (.*)| (\S+))?")
 STOPPED = re.compile(r"line (\d+): stopped: (.*)")
-LOSSY = b"eraser trace 3\nt1 write 0\n# incomplete: 1 events, 30175 lost\n"
+LOSSY = b"eraser trace 3\nt1 write 0\n# incomplete: 1 events, 30175 lost\nend\n"
 TOTALS = re.compile(r"steps (\d+), races (\d+), suppressed (\d+), refused (\d+)(?:, lost (\d+))?")
 
 

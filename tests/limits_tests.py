@@ -44,7 +44,8 @@ def totals(trace, races=0, suppressed=0, what="races"):
 
 
 def check(record, name, options, trace, output, errors=(), status=0):
-    found, wanted = run(["replay", *options, "-"], text_of(trace)), (text_of(output), text_of(errors), status)
+    end = ["end"] if trace[0] == "eraser trace 3" else []
+    found, wanted = run(["replay", *options, "-"], text_of([*trace, *end])), (text_of(output), text_of(errors), status)
     record(f"limits: {name} {' '.join(map(str, options))}", found == wanted, f"{found}"[:1000])
 
 
@@ -147,8 +148,8 @@ def many_locks(record):
 
 
 def peak_of(options, trace):
-    """The output of a replay, and the most bytes of memory that it had before the trace's last byte came."""
-    text = text_of(trace)
+    """The output of a replay, and the most bytes of memory that it had before the trace's last byte came, that of its line `end`."""
+    text = text_of([*trace, "end"])
     replay = subprocess.Popen([str(PROGRAM), "replay", *options, "-"], stdin=subprocess.PIPE, stdout=subprocess.PIPE)
     replay.stdin.write(text[:-1])
     replay.stdin.flush()

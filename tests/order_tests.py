@@ -44,7 +44,7 @@ def worked_lists():
     for name, rows in cases_of(CASES / "worked.txt").items():
         pairs = [row.split(" -> ") for row in rows if row and not row.startswith("#")]
         lines = [" ".join(WORDS.get(word, word) for word in line.split()) for line, _ in pairs]
-        yield name, "".join(line + "\n" for line in ["eraser trace 3", *lines]).encode(), [answer for _, answer in pairs]
+        yield name, "".join(line + "\n" for line in ["eraser trace 3", *lines, "end"]).encode(), [answer for _, answer in pairs]
 
 
 def worked(record):
@@ -92,7 +92,7 @@ def random_step(dice, threads):
 
 
 def random_list(seed):
-    """Some lines, and now and then the start of a thread that has none before it."""
+    """Some lines, and now and then the start of a thread that has none before it. Half of the lists have the line `end`."""
     dice, lines, acted = random.Random(seed), [], set()
     threads = [f"t{n}" for n in range(1, 3 + seed % 4)]
     for _ in range(dice.randrange(2, 45)):
@@ -102,7 +102,7 @@ def random_list(seed):
             line = f"{thread} start {fresh[0]}"
         lines.append(line)
         acted.add(thread)
-    return "".join(line + "\n" for line in ["eraser trace 3", *lines]).encode()
+    return "".join(line + "\n" for line in ["eraser trace 3", *lines, *["end"] * (seed % 2)]).encode()
 
 
 def random_lists(record):

@@ -21,6 +21,7 @@ import threading
 import tty
 
 sys.dont_write_bytecode = True
+import reference
 from alone import each_refused, program, run_alone
 from site_tests import preloaded
 
@@ -216,7 +217,7 @@ def files(record, folder):
     record("for people: a demo has nothing to say", found[0] == b"", f"{found}")
 
 
-NO_END, NO_LINE_FEED = b"note: the trace has no end: it may be cut off\n", b"note: the last line has no line feed: it may be cut off\n"
+NO_LINE_FEED = b"note: the last line has no line feed: it may be cut off\n"
 NOTED = ([], ["--explain"], ["--by-site"], ["--format", "json"], ["--format", "html"], ["--workers", "2"], ["--until-fault"], ["--max-races", "0"],
     ["--write-rules", "known.rules"], ["--analysis", "both"], ["--analysis", "both", "--by-site"], ["--analysis", "happens-before"],
     ["--analysis", "happens-before", "--max-races", "1"])
@@ -229,7 +230,7 @@ def notes(record, folder):
             for feed in ("\n", ""):
                 text = ("\n".join([f"eraser trace {version}", "t1 write 0", "t2 write 0", *end]) + feed).encode()
                 (folder / "n.trace").write_bytes(text)
-                lines = NO_END if version == 3 and "end" not in end else b""
+                lines = reference.note_of(text).encode()
                 more, name = lines + (b"" if feed else NO_LINE_FEED), f"notes: text {version} {end} {bool(feed)}"
                 for options in NOTED:
                     left, words, title = b"races left out: 1\n" if "0" in options else b"", ["replay", *options, "n.trace"], f"{name} {' '.join(options)}"

@@ -158,6 +158,12 @@ def lost_part(text):
     return "" if lost is None else f", lost {lost}"
 
 
+def note_of(text):
+    """What standard error gets behind the report of a text that has no fault: a note if it is a text 3 without the line `end`."""
+    words = [words for _, words in content_of(text) if words]
+    return "note: the trace has no end: it may be cut off\n" if words[0][-1] == b"3" and words[-1] != [b"end"] else ""
+
+
 def rule_of(line, words):
     """A site, or the first and the last word of a run of bytes, which are the wrong way round where it is of no byte."""
     wanted = {b"site": 1, b"words": 2}.get(words[0])
@@ -338,7 +344,7 @@ def replay(text, rules=b"", explain=False):
         run.step(line, thread, verb, operands)
     run.lines += [f"suppression {number}: {count}" for number, count in enumerate(run.taken, 1)]
     run.lines.append(f"steps {run.steps}, races {run.races}, suppressed {sum(run.taken)}, refused {run.refused}{lost_part(text)}")
-    return "".join(line + "\n" for line in run.lines), "", 1 if run.races else 0
+    return "".join(line + "\n" for line in run.lines), note_of(text), 1 if run.races else 0
 
 
 # Sites that only a text 3 may have, with bytes that mean something in JSON, URIs, HTML, regular expressions and shells.

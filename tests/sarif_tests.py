@@ -181,7 +181,7 @@ def log_tests(record):
             races, suppressed = (int(count) for count in re.search(rb"races (\d+), suppressed (\d+)", run_with(rules, text)[0]).groups())
             record(f"{name} as SARIF has each race once", (sum(shown), sum(hidden)) == (races, suppressed), f"{shown}, {hidden}")
     record("logs have results, results that stand for several races, and suppressed ones", results > 100 and doubles > 20 and taken > 20, f"{results}, {doubles}, {taken}")
-    lines = ["eraser trace 3"] + [f"t{who} write {4 * k} {site}" for who in (1, 2) for k, site in enumerate(PLACES)]
+    lines = ["eraser trace 3"] + [f"t{who} write {4 * k} {site}" for who in (1, 2) for k, site in enumerate(PLACES)] + ["end"]
     log = json.loads(run(["replay", "--format", "sarif", "-"], "\n".join(lines).encode())[0])
     found = [result["locations"][0] for result in log["runs"][0]["results"]]
     record("each site has its location", len(found) == len(PLACES), f"{found}")
@@ -222,7 +222,7 @@ def refusal_tests(record, preloaded):
 
 def required_tests(record):
     """The check of what SARIF requires finds what is missing."""
-    good = json.loads(expected(b"eraser trace 3\nt1 write 0 a:1\nt2 write 0 a:1\nt1 write 4 b:1\nt2 write 4 b:1\n# incomplete: 4 events, 2 lost\n", b"site b:1\n")[0])
+    good = json.loads(expected(b"eraser trace 3\nt1 write 0 a:1\nt2 write 0 a:1\nt1 write 4 b:1\nt2 write 4 b:1\n# incomplete: 4 events, 2 lost\nend\n", b"site b:1\n")[0])
     record("a log with one result and a suppressed one", not list(faults(good)) and len(good["runs"][0]["results"]) == 2)
     for path in (["version"], ["runs"], ["runs", 0, "tool"], ["runs", 0, "tool", "driver", "name"], ["runs", 0, "tool", "driver", "rules", 1], ["runs", 0, "results", 0, "message"],
                  ["runs", 0, "results", 0, "level"], ["runs", 0, "results", 0, "occurrenceCount"], ["runs", 0, "results", 0, "partialFingerprints"],

@@ -94,7 +94,7 @@ def written_rules(record, folder):
             record(f"{name} {more}: written rules", second.read_bytes() == known_races(before[0]), f"{second.read_bytes()}")
         output, errors, status = run(["replay", *options, "--suppress", first, "--suppress", second, "-"], text)
         steps, raced, suppressed, *others = totals(before[0])
-        is_quiet = (errors, status) == (b"", 0) and totals(output) == [steps, 0, suppressed + raced, *others]
+        is_quiet = (errors, status) == (reference.note_of(text).encode(), 0) and totals(output) == [steps, 0, suppressed + raced, *others]
         record(f"{name}: written rules leave no race", is_quiet, f"{output}")
         counts = [int(count) for count in re.findall(rb"suppression \d+: (\d+)", output)][rules_in(rules):]
         told = [int(count) for count in re.findall(rb"# races (\d+)", second.read_bytes())]
@@ -175,7 +175,8 @@ def unused_rules(record, folder):
         counts = [int(count) for count in re.findall(rb"suppression \d+: (\d+)", plain[0])]
         numbers = [place for place, count in enumerate(counts, 1) if count == 0]
         told = [int(number) for number in re.findall(rb"unused suppression (\d+): (?:site \S+|words 0x[0-9a-f]{12} \d+|words 0 0)\n", found[1])]
-        is_right = (found[0], found[2]) == (plain[0], plain[2]) and told == numbers and found[1].count(b"\n") == len(numbers)
+        note = reference.note_of(text).encode()
+        is_right = (found[0], found[2]) == (plain[0], plain[2]) and told == numbers and found[1].endswith(note) and found[1].count(b"\n") == len(numbers) + len(note.splitlines())
         record(f"{name}: unused rules", is_right, f"{found}, {numbers}")
         unused += len(numbers)
     record("some rules were unused", unused > 100, f"{unused}")
@@ -201,7 +202,7 @@ def first_races(record, folder):
                     kept += [line] if is_kept else []
                 errors = f"races left out: {races - most}\n" if races > most else ""
                 found = run(["replay", *options, *explained, "--max-races", most, "-"], text)
-                record(f"{name} {explained}: the first {most} races", found == (b"".join(kept), errors.encode(), lines[2]), f"{found}")
+                record(f"{name} {explained}: the first {most} races", found == (b"".join(kept), (errors + reference.note_of(text)).encode(), lines[2]), f"{found}")
 
 
 def many_races(record, folder):

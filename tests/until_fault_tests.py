@@ -72,13 +72,15 @@ def before(text, line):
 
 
 def expected(text, rules, *options):
-    """What --until-fault gives, by what the program gives without it of the text and of the lines before its fault."""
+    """What --until-fault gives, by what the program gives without it of the text and of the lines before its fault. These have no note."""
     whole = run_with(rules, text, *options)
     line = fault_of(whole[1])
     if whole[2] != 2 or whole[0] or line is None:
         return whole
     output, errors, status = run_with(rules, before(text, line), *options)
-    return whole if status >= 2 else (output, errors + whole[1], 2)
+    if status >= 2:
+        return whole
+    return output, errors.removesuffix(reference.note_of(before(text, line)).encode()) + whole[1], 2
 
 
 def check(record, name, text, rules, *options):
