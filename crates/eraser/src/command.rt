@@ -108,15 +108,27 @@ where
     ensures unwatched { asks_progress request.entry ≡ false → Keeps (P.contents (inner_of progress.old)) (P.contents (inner_of progress.new)) }
 {
     match request {
-        Request::Replay(mut replay) => {
-            replay.hints = replay.hints || on_terminal;
-            let status = end_replay(rt, &replay, input, output, errors, progress, on_terminal);
-            drop(replay);
+        Request::Replay(replay) => {
+            let asked = with_hints(replay, on_terminal);
+            let status = end_replay(rt, &asked, input, output, errors, progress, on_terminal);
+            drop(asked);
             status
         }
         Request::Explain(asked) => end_story(rt, &asked, input, output, errors),
         Request::Demo(demo) => end_demo(rt, demo, output, errors),
     }
+}
+
+// The replay, for people if it asked for that or the errors are a terminal.
+fn with_hints(mut replay: Replay<'_>, on_terminal: bool) -> Replay<'_>
+    ensures hints { result.hints ≡ (replay.hints || on_terminal) }
+    ensures unused { result.unused_rules ≡ replay.unused_rules }
+    ensures most { result.max_races ≡ replay.max_races }
+    ensures until { result.until_fault ≡ replay.until_fault }
+    ensures progress { result.progress ≡ replay.progress }
+{
+    replay.hints = replay.hints || on_terminal;
+    replay
 }
 
 // Runs a replay, and writes its notes, or its fault and what helps people.
