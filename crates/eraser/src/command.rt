@@ -121,11 +121,11 @@ where
 
 // The replay, for people if it asked for that or the errors are a terminal.
 fn with_hints(mut replay: Replay<'_>, on_terminal: bool) -> Replay<'_>
-    ensures hints { result.hints ≡ (replay.hints || on_terminal) }
-    ensures unused { result.unused_rules ≡ replay.unused_rules }
-    ensures most { result.max_races ≡ replay.max_races }
-    ensures until { result.until_fault ≡ replay.until_fault }
-    ensures progress { result.progress ≡ replay.progress }
+    ensures hints { result.hints ≡ (replay.entry.hints || on_terminal) }
+    ensures unused { result.unused_rules ≡ replay.entry.unused_rules }
+    ensures most { result.max_races ≡ replay.entry.max_races }
+    ensures until { result.until_fault ≡ replay.entry.until_fault }
+    ensures progress { result.progress ≡ replay.entry.progress }
 {
     replay.hints = replay.hints || on_terminal;
     replay
