@@ -7,8 +7,8 @@
   random bytes to hash by
 - no text takes more than 400 bytes of memory for each of its own, beside 32 MiB. The dearest line takes a page: 4,096 bytes by locks, and 2,048 by
   happens-before
-- a text that is four times as long takes at most 5.5 times the instructions, as valgrind counts them. What compares each with all others takes up to 16
-  times as many, and what keeps all for each does so too
+- a text that is four times as long takes at most 5.5 times the instructions, as valgrind counts them, but for some kinds by happens-before. What
+  compares each with all others takes up to 16 times as many, and what keeps all for each does so too
 """
 
 import functools
@@ -43,11 +43,13 @@ COSTS = {
     "meets": (2000, [[]]),
     "threads": (4000, [[], HAPPENS_BEFORE]),
     "lines": (2000, [["--by-site", *EXPLAIN]]),
-    # By happens-before each read in no order is compared with all others of its word, so that isn't so of readers yet.
-    "readers": (2000, [[], EXPLAIN]),
+    "readers": (2000, [[], EXPLAIN, HAPPENS_BEFORE]),
     "handed-on": (2000, [[], HAPPENS_BEFORE]),
     "own-locks": (2000, [[], HAPPENS_BEFORE]),
 }
+# By happens-before a step takes time by the threads that its thread knows, and a read in no order is compared with all others of its word. So of these
+# kinds memory alone is limited there: their instructions grow faster than the text.
+NOT_BY_INSTRUCTIONS = {"thread-names", "threads", "readers", "handed-on", "own-locks"}
 COUNTED = ["valgrind", "--tool=cachegrind", "--cache-sim=no", "--cachegrind-out-file=/dev/null"]
 
 
@@ -126,7 +128,7 @@ def costs(record):
                 is_whole = b"steps %d, " % steps in found[0] and found[1] == b"" and found[2] < 2
                 record(f"{name}: memory of a text of {size} bytes", is_whole, f"{found}"[:300])
                 # What takes too much memory isn't run without a limit.
-                if is_whole:
+                if is_whole and not (kind in NOT_BY_INSTRUCTIONS and options == HAPPENS_BEFORE):
                     few, many = instructions([*options, short]), instructions([*options, long])
                     record(f"{name}: instructions", many <= MOST_TIMES * longer * few, f"{few} and {many}, {many / few / longer:.2f} times as many")
 
