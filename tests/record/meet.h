@@ -54,4 +54,17 @@ static inline void run_threads(int count, body *run)
     pthread_barrier_destroy(&meeting);
 }
 
+/* Starts `count` threads that nobody joins. */
+static inline void run_unjoined(int count, void *(*use)(void *))
+{
+    pthread_attr_t how;
+    pthread_attr_init(&how);
+    pthread_attr_setdetachstate(&how, PTHREAD_CREATE_DETACHED);
+    for (int i = 0; i < count; i++) {
+        pthread_t thread;
+        if (pthread_create(&thread, &how, use, NULL) != 0)
+            exit(99);
+    }
+}
+
 #endif

@@ -18,15 +18,8 @@ static void *use(void *nothing)
 
 static void run(int number)
 {
-    pthread_attr_t how;
     (void)number;
-    pthread_attr_init(&how);
-    pthread_attr_setdetachstate(&how, PTHREAD_CREATE_DETACHED);
-    for (int i = 0; i < 12; i++) {
-        pthread_t thread;
-        if (pthread_create(&thread, &how, use, NULL) != 0)
-            exit(99);
-    }
+    run_unjoined(12, use);
 }
 
 int main(int count, char **words)

@@ -30,15 +30,8 @@ static void *use_stack(void *nothing)
 /* Each starter waits for the end of its own threads alone. */
 static void run(int number)
 {
-    pthread_attr_t how;
     (void)number;
-    pthread_attr_init(&how);
-    pthread_attr_setdetachstate(&how, PTHREAD_CREATE_DETACHED);
-    for (int i = 0; i < 6; i++) {
-        pthread_t thread;
-        if (pthread_create(&thread, &how, use_stack, NULL) != 0)
-            exit(99);
-    }
+    run_unjoined(6, use_stack);
 }
 
 int main(void)
