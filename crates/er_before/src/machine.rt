@@ -209,7 +209,8 @@ impl OrderMachine {
     fn reuse(&mut self, thread: ThreadId, range: PageRange)
         ensures { Changes self.old (record { thread = thread; event = Event.Reuse range }) self.new }
     {
-        self.words.reset(range);
+        let clock = self.clocks.clock(thread);
+        let _ = self.words.reset(range, &clock);
     }
 
     // If the clocks lack room, the lock is given back.

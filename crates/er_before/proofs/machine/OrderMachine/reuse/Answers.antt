@@ -9,4 +9,4 @@ pub returns : goal.returns
 returns c =
     rw (← c.self.view_is)
     (changes (the_view c.self.inside) (the_view (record { holders = c.self.inside.holders; clocks = c.self.inside.clocks; words = c.reset.new.self })) c.args.thread (Reuse c.args.range) refl
-    (held_same (the_view c.self.inside) c.args.thread) (clocks_same c.self.inside.clocks c.args.thread Local refl) c.reset.ensures)
+    (held_same (the_view c.self.inside) c.args.thread) (clocks_same c.self.inside.clocks c.args.thread Local refl) c.reset.ensures.reset)
