@@ -17,13 +17,13 @@ equal_Bool true false f g = let never = f refl in cc
 equal_Bool false true f g = let never = g refl in cc
 
 -- the raised number
-raised-more : (g f : Bool) (x y : ℕ) → x ≤ raised g f x y
+pub raised-more : (g f : Bool) (x y : ℕ) → x ≤ raised g f x y
 raised-more true true x y = omega arith
 raised-more true false x y = omega arith
 raised-more false true x y = omega arith
 raised-more false false x y = omega arith
 
-raised-seen : (g f : Bool) (x y : ℕ) → g ≡ true → y ≤ raised g f x y
+pub raised-seen : (g f : Bool) (x y : ℕ) → g ≡ true → y ≤ raised g f x y
 raised-seen true true x y e = omega arith
 raised-seen true false x y e = omega arith
 raised-seen false f x y e = cc
@@ -33,12 +33,12 @@ raised-flows true true x y e = omega arith
 raised-flows false true x y e = omega arith
 raised-flows g false x y e = cc
 
-raised-kept : (g f : Bool) (x y : ℕ) → g ≡ false → f ≡ false → raised g f x y ≡ x
+pub raised-kept : (g f : Bool) (x y : ℕ) → g ≡ false → f ≡ false → raised g f x y ≡ x
 raised-kept false false x y e h = omega arith
 raised-kept true f x y e h = cc
 raised-kept false true x y e h = cc
 
-raised-or : (g f : Bool) (x y z : ℕ) → g ≡ true → f ≡ false → z ≤ raised g f x y → (z ≤ x) ⊎ (z ≤ y)
+pub raised-or : (g f : Bool) (x y z : ℕ) → g ≡ true → f ≡ false → z ≤ raised g f x y → (z ≤ x) ⊎ (z ≤ y)
 raised-or true false x y z e h low = grind arith
 raised-or false f x y z e h low = cc
 raised-or true true x y z e h low = cc

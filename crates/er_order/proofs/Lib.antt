@@ -9,6 +9,8 @@ pub mod StepLemmas
 pub mod LockOrder
 pub mod Following
 pub mod Growing
+pub mod ClockFlows
+pub mod Keeping
 pub mod Locality
 pub mod ClockSteps
 pub mod Rivals

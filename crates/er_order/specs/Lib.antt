@@ -5,5 +5,6 @@ pub mod Races
 pub mod Exclusion
 pub mod Reasons
 pub mod Following
+pub mod Keeping
 pub mod Locality
 pub mod Examples

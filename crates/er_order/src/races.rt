@@ -10,7 +10,8 @@ ghost use Rattle.er_model.specs.Holdings.{refused_by, holdings_at};
 ghost use Rattle.er_order.specs.Order.{Act, Effect, sync_of, acts_of, happens_before};
 ghost use Rattle.er_order.specs.Clocks.{Epoch, OfThread, clocks_at};
 ghost use Rattle.er_order.specs.Races.{Order, is_apart, latest_from, last_write, latest_reads, is_race, had_race, is_reported, order_answer};
-ghost use Rattle.er_order.specs.Following.{Shadow, shadow_by, kept_by, kept_of, fresh, kept_at, kept_after, access_answered};
+ghost use Rattle.er_order.specs.Keeping.{Serves, IsKeptBy, IsKeptAfter};
+ghost use Rattle.er_order.specs.Following.{Kept, reports_at, Shadow, shadow_by, kept_by, kept_of, fresh, kept_at, kept_after, access_answered};
 ghost use Rattle.er_order.specs.Locality.{clocked_on};
 
 use er_event::{Kind, Reply};
@@ -36,6 +37,18 @@ pub fn an_access_follows_its_word()
     ensures kept { (steps : List Step) (k w : ℕ) (step : Step) → slice_get steps k ≡ Option.Some step → kept_at steps w (suc k)
         ≡ kept_after (holdings_at steps step.thread k) (clocks_at (acts_of steps) k (OfThread step.thread)) (kept_at steps w k) w step }
     ensures begins { (steps : List Step) (w : ℕ) → kept_at steps w 0 ≡ fresh }
+{}
+
+/// What a store has of a word may have other reads than the latest. While it serves for what is kept, accesses are answered by it as by what is
+/// kept, and it goes on to serve.
+pub fn what_serves_is_as_good()
+    ensures answer { (steps : List Step) (t : ℕ) (stored kept : Kept) (kind : Kind) → Serves steps stored kept
+        → reports_at (clocks_at (acts_of steps) (length steps) (OfThread t)) stored kind ≡ reports_at (clocks_at (acts_of steps) (length steps) (OfThread t)) kept kind }
+    ensures goes_on { (steps : List Step) (step : Step) (w : ℕ) (stored after : Kept) → Serves steps stored (kept_at steps w (length steps))
+        → IsKeptAfter (holdings_at steps step.thread (length steps)) (clocks_at (acts_of steps) (length steps) (OfThread step.thread)) stored w step after
+        → Serves (steps ++ step ∷ []) after (kept_at (steps ++ step ∷ []) w (suc (length steps))) }
+    ensures itself { (steps : List Step) (kept : Kept) → Serves steps kept kept }
+    ensures by_itself { (clock : ℕ → ℕ) (before : Kept) (t : ℕ) (kind : Kind) → IsKeptBy clock before t kind (kept_by clock before t kind) }
 {}
 
 /// Where more comes in order, no more accesses are races.
