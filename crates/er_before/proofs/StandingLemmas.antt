@@ -1,12 +1,13 @@
 -- What one event makes of a machine, and of the list that it stands for.
-use Rattle.std.proofs.Common.{◌≡◌, ℕ, Bool, true, false, nat_eq, nat_lt, ◌==◌, cond, List, [], ◌∷◌, ◌++◌, length, Option, Some, None, Ok, refl, ap, ap₂, sym, ◌∙◌, arith, Result, Err, IfOk}
+use Rattle.std.proofs.Common.{◌≡◌, ℕ, Bool, true, false, nat_eq, nat_lt, ◌==◌, cond, List, [], ◌∷◌, ◌++◌, length, Option, Some, None, Ok, refl, ap, ap₂, sym, subst, ◌∙◌, arith, Result, Err, IfOk}
 use Rattle.std.proofs.Math.Path.{fun_ext}
+use Rattle.std.specs.Bool.{MatchBool}
 use Rattle.std.proofs.lemmas.Bool.{eqb-true}
 use Rattle.er_event.specs.declared.steps.Event.{Event}
 use Rattle.er_event.specs.declared.steps.Event.TheVariants.{Acquire, Release, Access, Reuse, IgnoreOn, IgnoreOff, Show, Level, Sync}
 use Rattle.er_event.specs.declared.steps.Kind.{Kind}
 use Rattle.er_event.proofs.Lists.{length_push, get_last}
-use Rattle.er_event.specs.declared.steps.Reply.TheVariants.{Done}
+use Rattle.er_event.specs.declared.steps.Reply.TheVariants.{Done, Quiet, Race, Ignored}
 use Rattle.er_model.specs.Words.{Nothing}
 use Rattle.er_model.specs.Following.{marked}
 use Rattle.er_model.specs.Holdings.{Holdings, refused_by, changed_by, changed_unless, after_step, holdings_at}
@@ -16,10 +17,12 @@ use Rattle.er_event.specs.declared.steps.Step.{Step}
 use Rattle.er_order.specs.Order.{Act, Effect, Local, sync_of, act_unless, acts_of}
 use Rattle.er_order.specs.Clocks.{OfThread, clocks_after, clocks_at, own_count}
 use Rattle.er_order.specs.Races.{order_answer}
-use Rattle.er_order.specs.Following.{act_by, kept_by, kept_at, kept_after, kept_moved, fresh, access_answered}
+use Rattle.er_order.specs.Following.{Kept, act_by, kept_at, fresh, access_answered}
+use Rattle.er_order.specs.Keeping.{Serves, IsKeptBy, IsKeptMoved, IsKeptAfter}
 use Rattle.er_order.proofs.ClockSteps.{local}
 use Rattle.er_order.proofs.StepLemmas.{act-step, clocks-grow, held-front}
-use Rattle.er_order.proofs.Growing.{kept-grow, answer-grow}
+use Rattle.er_order.proofs.Growing.{answer-grow}
+use Rattle.er_order.proofs.Keeping.{serves-reports, serves-on, serves-itself}
 use Rattle.er_order.proofs.Following.{answer-other, kept-none}
 use Rattle.er_held.specs.Held.{nothing_held}
 use Rattle.er_clock.specs.Clock.{Counts}
@@ -39,7 +42,7 @@ module _ (before after : Ordered) (t : ℕ) (e : Event) (accepted : refused_by (
 
   pub changes : ((u : ℕ) → holding after u ≡ cond (nat_eq t u) (changed_by (holding before t) e) (holding before u)) →
       Moves before.clocks (Some (record { thread = t; sync = sync_of e })) after.clocks →
-      ((w : ℕ) → kept_of after w ≡ kept_moved (clock_of before t) (kept_of before w) w (marked (holding before t) t e)) →
+      ((w : ℕ) → IsKeptMoved (clock_of before t) (kept_of before w) w (marked (holding before t) t e) (kept_of after w)) →
       Changes before (record { thread = t; event = e }) after
   changes held moves kept =
       record {
@@ -92,21 +95,23 @@ ignored before t w kind ignores =
 -- one that is
 pub accessed : (before : Ordered) (words : AllWords) (t w : ℕ) (kind : Kind) (clock : ℕ × Counts) → nat_lt 0 (holding before t).depth ≡ false →
     clock.0 ≡ t → ((u : ℕ) → count_by clock u ≡ clock_of before t u) →
-    ((v : ℕ) → kept_among words v ≡ cond (w == v) (kept_by (count_by clock) (kept_of before w) clock.0 kind) (kept_of before v)) →
+    IsKeptBy (count_by clock) (kept_of before w) clock.0 kind (kept_among words w) → ((v : ℕ) → (w == v) ≡ false → kept_among words v ≡ kept_of before v) →
     Changes before (record { thread = t; event = Access kind w 0 }) (record { holders = before.holders; clocks = before.clocks; words = words })
-accessed before words t w kind clock heeds thread same kept =
+accessed before words t w kind clock heeds thread same kept others =
     changes before (record { holders = before.holders; clocks = before.clocks; words = words }) t (Access kind w 0) refl (held_same before t) (clocks_same before.clocks t Local refl)
-    (λ v. rw heeds (kept v ∙ by v (w == v) refl))
+    (λ v. rw heeds (by v (w == v) refl))
   where
     all : count_by clock ≡ clock_of before t
     all = fun_ext same
 
-    by : (v : ℕ) (b : Bool) → (w == v) ≡ b → cond b (kept_by (count_by clock) (kept_of before w) clock.0 kind) (kept_of before v) ≡
-        cond b (kept_by (clock_of before t) (kept_of before v) t kind) (kept_of before v)
-    by v true here =
-        ap₂ (λ counts thread. kept_by counts (kept_of before w) thread kind) all thread
-        ∙ ap (λ x. kept_by (clock_of before t) (kept_of before x) t kind) (eqb-true w v here)
-    by v false here = refl
+    here_kept : IsKeptBy (clock_of before t) (kept_of before w) t kind (kept_among words w)
+    here_kept =
+        subst (λ (counts : ℕ → ℕ). IsKeptBy counts (kept_of before w) t kind (kept_among words w)) all
+        (subst (λ (u : ℕ). IsKeptBy (count_by clock) (kept_of before w) u kind (kept_among words w)) thread kept)
+
+    by : (v : ℕ) (b : Bool) → (w == v) ≡ b → MatchBool b (IsKeptBy (clock_of before t) (kept_of before v) t kind (kept_among words v)) (kept_among words v ≡ kept_of before v)
+    by v true here = subst (λ (v : ℕ). IsKeptBy (clock_of before t) (kept_of before v) t kind (kept_among words v)) (eqb-true w v here) here_kept
+    by v false there = others v there
 
 -- a machine that stands for a list stands for the longer one
 module _ (before : Ordered) (past : List Step) (step : Step) (stands : Stands before past) where
@@ -126,10 +131,10 @@ module _ (before : Ordered) (past : List Step) (step : Step) (stands : Stands be
         clocks = λ k u. changed.clocks k u
             ∙ ap₂ (λ clocks h. clocks_after clocks (act_by h step) k u) clocks_are held_is
             ∙ sym (clocks-grow past step k u) ∙ ap (λ n. clocks_at (acts_of (past ++ step ∷ [])) n k u) (sym (length_push past step));
-        kept = λ w. changed.kept w
-            ∙ ap₂ (λ h clock. kept_after h clock (kept_of before w) w step) held_is clock_is
-            ∙ ap (λ kept. kept_after (holdings_at past step.thread (length past)) (clocks_at (acts_of past) (length past) (OfThread step.thread)) kept w step) (stands.kept w)
-            ∙ sym (kept-grow past step w) ∙ ap (λ n. kept_at (past ++ step ∷ []) w n) (sym (length_push past step));
+        kept = λ w. subst (λ (n : ℕ). Serves (past ++ step ∷ []) (kept_of after w) (kept_at (past ++ step ∷ []) w n)) (sym (length_push past step))
+            (serves-on past step w (kept_of before w) (kept_of after w) (stands.kept w)
+            (subst (λ (clock : ℕ → ℕ). IsKeptAfter (holdings_at past step.thread (length past)) clock (kept_of before w) w step (kept_of after w)) clock_is
+            (subst (λ (h : Holdings). IsKeptAfter h (clock_of before step.thread) (kept_of before w) w step (kept_of after w)) held_is (changed.kept w))));
       }
 
   pub stands-still : (after : Ordered) → IsSame before after → Stands after past
@@ -137,7 +142,7 @@ module _ (before : Ordered) (past : List Step) (step : Step) (stands : Stands be
       record {
         held = λ t. same.held t ∙ stands.held t;
         clocks = λ k u. same.clocks k u ∙ stands.clocks k u;
-        kept = λ w. same.kept w ∙ stands.kept w;
+        kept = λ w. subst (λ (k : Kept). Serves past k (kept_at past w (length past))) (sym (same.kept w)) (stands.kept w);
       }
 
 -- the answer to the step
@@ -147,7 +152,8 @@ access-answer before past t w site kind stands =
     let step : Step = record { thread = t; event = Access kind w site } in
     ap (λ h. access_answered h (clock_of before t) (kept_of before w) kind step) (held_is before past step stands)
     ∙ ap (λ clock. access_answered (holdings_at past t (length past)) clock (kept_of before w) kind step) (clock_is before past step stands)
-    ∙ ap (λ kept. access_answered (holdings_at past t (length past)) (clocks_at (acts_of past) (length past) (OfThread t)) kept kind step) (stands.kept w)
+    ∙ ap (λ (reported : Bool). answer_unless (refused_by (holdings_at past t (length past)) (Access kind w site)) (cond (nat_lt 0 (holdings_at past t (length past)).depth) Ignored (cond reported Race Quiet)))
+    (serves-reports past t (kept_of before w) (kept_at past w (length past)) kind (stands.kept w))
     ∙ sym (answer-grow past step w site kind refl)
 
 -- what isn't an access is done, unless it is refused
@@ -188,7 +194,7 @@ stands-start machine nothing clocks fresh_all =
     record {
       held = λ t. nothing t ∙ sym (holdings-empty t);
       clocks = clocks;
-      kept = λ w. fresh_all w ∙ sym (kept-none (acts_of []) (reading_of []) w);
+      kept = λ w. subst (λ (k : Kept). Serves [] k (kept_at [] w 0)) (sym (fresh_all w ∙ sym (kept-none (acts_of []) (reading_of []) w))) (serves-itself [] (kept_at [] w 0));
     }
 
 -- what holds of a reply

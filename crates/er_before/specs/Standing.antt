@@ -11,7 +11,8 @@ use Rattle.er_held.specs.ThreadLocks.{holding_among}
 use Rattle.er_event.specs.declared.steps.Step.{Step}
 use Rattle.er_order.specs.Clocks.{OfThread, own_count}
 use Rattle.er_order.specs.Order.{acts_of}
-use Rattle.er_order.specs.Following.{Kept, act_by, kept_at, kept_after, reports_at}
+use Rattle.er_order.specs.Following.{Kept, act_by, kept_at, reports_at}
+use Rattle.er_order.specs.Keeping.{Serves, IsKeptAfter}
 use Rattle.er_clocks.specs.Standing.{ClockMaps, counts, SameCounts, Moves, StandsForClocksOf, act_flows}
 use Rattle.er_epochs.specs.Words.{AllWords, kept_among}
 
@@ -33,11 +34,11 @@ clock_of machine t u = counts machine.clocks (OfThread t) u
 abbrev pub kept_of : Ordered → ℕ → Kept
 kept_of machine w = kept_among machine.words w
 
--- its holdings, its clocks and what it keeps are those at the end of the list
+-- its holdings and its clocks are those at the end of the list, and what it keeps serves for what is kept there
 pub record Stands (machine : Ordered) (steps : List Step) : Type 0 where
   pub held : (t : ℕ) → holding machine t ≡ holdings_at steps t (length steps)
   pub clocks : StandsForClocksOf machine.clocks steps
-  pub kept : (w : ℕ) → kept_of machine w ≡ kept_at steps w (length steps)
+  pub kept : (w : ℕ) → Serves steps (kept_of machine w) (kept_at steps w (length steps))
 
 -- the event finds room always: an access inside a bracket, a reuse, a show, and the end of a bracket
 abbrev pub wants_nothing : Holdings → Event → Bool
@@ -55,11 +56,11 @@ HasFullCount machine step = (t : ℕ) × IsTrue (act_flows (act_by (holding mach
 abbrev pub IsFullAfter : List Step → Step → Type 0
 IsFullAfter steps step = (t : ℕ) × IsTrue (act_flows (acts_of (steps ++ step ∷ []) (length steps)) t) × (own_count (acts_of steps) (length steps) t ≡ 2 ^ 32 - 1)
 
--- they are what the step makes of those before
+-- they are what the step makes of those before, or what may be kept after it
 pub record Changes (before : Ordered) (step : Step) (after : Ordered) : Type 0 where
   pub held : (t : ℕ) → holding after t ≡ after_step (holding before t) t step
   pub clocks : Moves before.clocks (act_by (holding before step.thread) step) after.clocks
-  pub kept : (w : ℕ) → kept_of after w ≡ kept_after (holding before step.thread) (clock_of before step.thread) (kept_of before w) w step
+  pub kept : (w : ℕ) → IsKeptAfter (holding before step.thread) (clock_of before step.thread) (kept_of before w) w step (kept_of after w)
 
 -- they are the same
 pub record IsSame (before after : Ordered) : Type 0 where

@@ -1,5 +1,5 @@
 -- One word, or some that lie side by side, change in one block: what that makes of what is kept of all words.
-use Rattle.std.proofs.Common.{◌≡◌, ◌≢◌, ◌∙◌, ◌==◌, ℕ, ◌+◌, ◌≤◌, ◌/◌, ◌%◌, ◌&&◌, nat_eq, nat_le, nat_lt, Bool, true, false, cond, [], Some, None, refl, sym, ap, arith}
+use Rattle.std.proofs.Common.{◌≡◌, ◌≢◌, ◌∙◌, ℕ, ◌+◌, ◌≤◌, ◌/◌, ◌%◌, ◌&&◌, nat_eq, nat_le, nat_lt, Bool, true, false, cond, [], Some, None, refl, sym, ap, subst, arith}
 use Rattle.std.specs.Map.{lookup}
 use Rattle.std.proofs.lemmas.Bool.Decides.{nat_tests}
 use borrow.Author.Tests.{eqb-true, eqb-false}
@@ -48,27 +48,6 @@ module _ (old new : WordBlocks) (word number place : ℕ) (was words : BlockWord
             same (w % 128) (other_place w beside apart) ∙ (sym (has (w % 128)) ∙ ap (λ q. word_in_block (lookup (nat_eq q) old) (w % 128)) beside)
         by false e = refl
 
--- one word changes, with its list
-one_word : (before after : AllWords) (word : ℕ) (k : Kept)
-    → ((w : ℕ) → nat_eq word w ≡ false → word_among after.blocks w ≡ word_among before.blocks w)
-    → ((w : ℕ) → nat_eq word w ≡ false → list_of after.lists w ≡ list_of before.lists w)
-    → kept_beside after.lists word (word_among after.blocks word) ≡ k
-    → (w : ℕ) → kept_among after w ≡ cond (word == w) k (kept_among before w)
-unfolding kept_among
-one_word before after word k words lists is w = by (nat_eq word w) refl
-  where
-    by : (same : Bool) → nat_eq word w ≡ same → kept_beside after.lists w (word_among after.blocks w) ≡ cond same k (kept_beside before.lists w (word_among before.blocks w))
-    by true e = ap (λ v. kept_beside after.lists v (word_among after.blocks v)) (sym (eqb-true word w e)) ∙ is
-    by false e = λ j. kept_in (words w e j) (lists w e j)
-
--- it is as it was
-unchanged : (f g : ℕ → Kept) (word : ℕ) → ((w : ℕ) → f w ≡ cond (word == w) (g word) (g w)) → (w : ℕ) → f w ≡ g w
-unchanged f g word is w = is w ∙ by (nat_eq word w) refl
-  where
-    by : (same : Bool) → nat_eq word w ≡ same → cond same (g word) (g w) ≡ g w
-    by true e = ap g (eqb-true word w e)
-    by false e = refl
-
 -- an access of one word, whose list is found by the number n
 module _ (old : AllWords) (word n number place : ℕ) (was : BlockWords) (is : n ≡ word) (block : number ≡ word / 128) (at : place ≡ word % 128) (has : HasWords old.blocks number was) where
   -- what is kept of it
@@ -78,17 +57,27 @@ module _ (old : AllWords) (word n number place : ℕ) (was : BlockWords) (is : n
 
   module _ (new : AllWords) (words : BlockWords) (puts : Puts old.blocks new.blocks number words)
       (places : (i : ℕ) → nat_eq place i ≡ false → word_at words i ≡ word_at was i) (lists : (w : ℕ) → nat_eq n w ≡ false → list_of new.lists w ≡ list_of old.lists w) where
-    -- the word goes on
-    pub accessed : (f : Kept → Kept) → kept_beside new.lists n (word_at words place) ≡ f (kept_beside old.lists n (word_at was place))
-        → (w : ℕ) → kept_among new w ≡ cond (word == w) (f (kept_among old word)) (kept_among old w)
-    accessed f on =
-        one_word old new word (f (kept_among old word)) (words_stay old.blocks new.blocks word number place was words block at has puts places)
-        (λ w apart. lists w (ap (λ v. nat_eq v w) is ∙ apart))
-        ((λ k. kept_beside new.lists (sym is k) (word_is old.blocks new.blocks word number place was words block at has puts k)) ∙ (on ∙ ap f found_word))
+    new_word : kept_among new word ≡ kept_beside new.lists n (word_at words place)
+    unfolding kept_among
+    new_word = λ k. kept_beside new.lists (sym is k) (word_is old.blocks new.blocks word number place was words block at has puts k)
 
-    -- or says what it said
+    -- the word goes on
+    pub accessed : (R : Kept → Kept → Type 0) → R (kept_beside old.lists n (word_at was place)) (kept_beside new.lists n (word_at words place)) → R (kept_among old word) (kept_among new word)
+    accessed R on =
+        subst (λ (k : Kept). R (kept_among old word) k) (sym new_word) (subst (λ (k : Kept). R k (kept_beside new.lists n (word_at words place))) found_word on)
+
+    -- the others say what they said
+    pub others_stay : (w : ℕ) → nat_eq word w ≡ false → kept_among new w ≡ kept_among old w
+    unfolding kept_among
+    others_stay w apart = λ j. kept_in (words_stay old.blocks new.blocks word number place was words block at has puts places w apart j) (lists w (ap (λ v. nat_eq v w) is ∙ apart) j)
+
+    -- or all do
     pub same_words : kept_beside new.lists n (word_at words place) ≡ kept_beside old.lists n (word_at was place) → (w : ℕ) → kept_among new w ≡ kept_among old w
-    same_words same = unchanged (kept_among new) (kept_among old) word (accessed (λ k. k) same)
+    same_words same w = by (nat_eq word w) refl
+      where
+        by : (b : Bool) → nat_eq word w ≡ b → kept_among new w ≡ kept_among old w
+        by true e = subst (λ (v : ℕ). kept_among new v ≡ kept_among old v) (eqb-true word w e) (accessed (λ before after. after ≡ before) same)
+        by false e = others_stay w e
 
 -- where there is no block, a word says nothing with any list
 pub same_absent : (old new : AllWords) (word n number : ℕ) → n ≡ word → number ≡ word / 128 → lookup (nat_eq number) old.blocks ≡ None → new.blocks ≡ old.blocks

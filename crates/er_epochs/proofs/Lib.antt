@@ -3,4 +3,5 @@ pub mod Epochs
 pub mod Listed
 pub mod Lowest
 pub mod Maps
+pub mod Noted
 pub mod Places

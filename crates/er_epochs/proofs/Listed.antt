@@ -1,5 +1,5 @@
 -- The lists of words: one is made, goes on, or goes.
-use Rattle.std.proofs.Common.{◌≡◌, ◌∙◌, ℕ, nat_eq, Bool, true, false, cond, [], Some, None, Result, Ok, Err, IfOk, refl, sym, ap, arith}
+use Rattle.std.proofs.Common.{◌≡◌, ◌∙◌, ℕ, nat_eq, Bool, true, false, cond, [], Some, None, Result, Ok, Err, IfOk, refl, sym, ap, subst, arith}
 use Rattle.std.proofs.lemmas.Bool.Decides.{nat_tests}
 use Rattle.std.specs.Map.{lookup}
 use Rattle.std.specs.Option.{unwrap_or}
@@ -34,9 +34,10 @@ pub list_others : (old new : WordLists) (n : ℕ) (reads : EpochList) → Puts o
 list_others old new n reads puts w apart = ap (λ o. unwrap_or o []) (puts w) ∙ ap (λ b. unwrap_or (cond b (Some reads) (lookup (nat_eq w) old)) []) apart
 
 -- a word goes on with its list
-pub goes_on : (old new : WordLists) (n : ℕ) (before after : EpochList) (word next : OrderWord) (f : Kept → Kept)
-    → before ≡ list_of old n → list_of new n ≡ after → kept_in next after ≡ f (kept_in word before) → kept_beside new n next ≡ f (kept_beside old n word)
-goes_on old new n before after word next f was is on = ap (λ reads. kept_in next reads) is ∙ (on ∙ ap (λ reads. f (kept_in word reads)) was)
+pub goes_on : (old new : WordLists) (n : ℕ) (before after : EpochList) (word next : OrderWord) (R : Kept → Kept → Type 0)
+    → before ≡ list_of old n → list_of new n ≡ after → R (kept_in word before) (kept_in next after) → R (kept_beside old n word) (kept_beside new n next)
+goes_on old new n before after word next R was is on =
+    subst (λ (reads : EpochList). R (kept_beside old n word) (kept_in next reads)) (sym is) (subst (λ (reads : EpochList). R (kept_in word reads) (kept_in next after)) was on)
 
 -- what follows from a fact about the value
 pub if_ok : {T E : Type 0} (r : Result T E) (P Q : T → Type 0) → IfOk r P → ((v : T) → P v → Q v) → IfOk r Q

@@ -1,6 +1,7 @@
 //! Words that lie side by side.
 ghost use Rattle.std.specs.Prelude.{◌≡◌, ◌+◌, ◌*◌, ◌<◌, ◌≤◌, ◌^◌, ◌&&◌, ℕ, nat_eq, nat_le, nat_lt, cond, false, IfOk, OnOk, OnErr};
-ghost use Rattle.er_order.specs.Following.{kept_by, reports_at};
+ghost use Rattle.er_order.specs.Following.{reports_at};
+ghost use Rattle.er_order.specs.Keeping.{IsKeptBy};
 ghost use Rattle.er_clocks.specs.Counts.{count_by};
 ghost use Rattle.er_epochs.specs.Words.{blank, word_at, list_of, kept_beside, is_place_in, IsLowest};
 
@@ -51,7 +52,7 @@ impl Block {
         kind: Kind,
     ) -> Result<bool, AllocError>
         requires { place < 128 }
-        ensures ok { OnOk result (kept_beside lists.new number (word_at self.new place) ≡ kept_by (count_by clock.now) (kept_beside lists.old number (word_at self.old place)) clock.now.0 kind) }
+        ensures ok { OnOk result (IsKeptBy (count_by clock.now) (kept_beside lists.old number (word_at self.old place)) clock.now.0 kind (kept_beside lists.new number (word_at self.new place))) }
         ensures reported { IfOk result (λ reported. reported ≡ reports_at (count_by clock.now) (kept_beside lists.old number (word_at self.old place)) kind) }
         ensures err { OnErr result (kept_beside lists.new number (word_at self.new place) ≡ kept_beside lists.old number (word_at self.old place)) }
         ensures places { (i : ℕ) → nat_eq place i ≡ false → word_at self.new i ≡ word_at self.old i }
@@ -136,7 +137,7 @@ fn advance(
     clock: &ThreadClock<'_>,
     kind: Kind,
 ) -> Result<(OrderWord, bool), AllocError>
-    ensures kept { IfOk result (λ r. kept_beside lists.new number r.0 ≡ kept_by (count_by clock.now) (kept_beside lists.old number word) clock.now.0 kind) }
+    ensures kept { IfOk result (λ r. IsKeptBy (count_by clock.now) (kept_beside lists.old number word) clock.now.0 kind (kept_beside lists.new number r.0)) }
     ensures reported { IfOk result (λ r. r.1 ≡ reports_at (count_by clock.now) (kept_beside lists.old number word) kind) }
     ensures err { OnErr result (kept_beside lists.new number word ≡ kept_beside lists.old number word) }
     ensures others { (w : ℕ) → nat_eq number w ≡ false → list_of lists.new w ≡ list_of lists.old w }

@@ -2,7 +2,8 @@
 ghost use Rattle.std.specs.Prelude.{◌≡◌, ◌<◌, ℕ, nat_eq, slice_get, false, Some, [], IsTrue, IfOk, OnErr};
 ghost use Rattle.indexmap.specs.IndexMap.{keys, index_map_len, IsUnique};
 ghost use Rattle.std.specs.List.{list_any};
-ghost use Rattle.er_order.specs.Following.{is_unordered, kept_by, reports_at};
+ghost use Rattle.er_order.specs.Following.{is_unordered, reports_at};
+ghost use Rattle.er_order.specs.Keeping.{IsKeptBy};
 ghost use Rattle.er_clocks.specs.Counts.{count_by};
 ghost use Rattle.er_epochs.specs.Words.{list_of, kept_beside};
 
@@ -21,6 +22,7 @@ use std::marker::Model;
 #[derive(Drop)]
 pub(crate) struct ReadLists {
     lists: IndexMap<u64, Reads, NumberHasher>,
+    keys: HashKeys,
     alloc: Global,
 }
 
@@ -39,6 +41,7 @@ impl ReadLists {
     {
         ReadLists {
             lists: IndexMap::with_hasher(alloc, NumberHasher::new(keys)),
+            keys,
             alloc,
         }
     }
@@ -59,7 +62,7 @@ impl ReadLists {
         clock: &ThreadClock<'_>,
         kind: Kind,
     ) -> Result<(OrderWord, bool), AllocError>
-        ensures kept { IfOk result (λ r. kept_beside self.new number r.0 ≡ kept_by (count_by clock.now) (kept_beside self.old number word) clock.now.0 kind) }
+        ensures kept { IfOk result (λ r. IsKeptBy (count_by clock.now) (kept_beside self.old number word) clock.now.0 kind (kept_beside self.new number r.0)) }
         ensures reported { IfOk result (λ r. r.1 ≡ reports_at (count_by clock.now) (kept_beside self.old number word) kind) }
         ensures err { OnErr result (kept_beside self.new number word ≡ kept_beside self.old number word) }
         ensures others { (w : ℕ) → nat_eq number w ≡ false → list_of self.new w ≡ list_of self.old w }
@@ -79,14 +82,14 @@ impl ReadLists {
         clock: &ThreadClock<'_>,
         kind: Kind,
     ) -> Result<(OrderWord, bool), AllocError>
-        ensures kept { IfOk result (λ r. kept_beside self.new number r.0 ≡ kept_by (count_by clock.now) (kept_beside self.old number word) clock.now.0 kind) }
+        ensures kept { IfOk result (λ r. IsKeptBy (count_by clock.now) (kept_beside self.old number word) clock.now.0 kind (kept_beside self.new number r.0)) }
         ensures reported { IfOk result (λ r. r.1 ≡ reports_at (count_by clock.now) (kept_beside self.old number word) kind) }
         ensures err { OnErr result (kept_beside self.new number word ≡ kept_beside self.old number word) }
         ensures others { (w : ℕ) → nat_eq number w ≡ false → list_of self.new w ≡ list_of self.old w }
     {
         let index = reach(self.alloc, &mut self.lists, word.hint(), number)?;
         let reads = &mut self.lists[index];
-        word.access_listed(reads, index, clock, kind)
+        word.access_listed(reads, index, self.alloc, self.keys, clock, kind)
     }
 
     /// Whether one of the listed reads of the word of this number doesn't happen before what the clock's thread does now.

@@ -1,6 +1,7 @@
 //! What is kept of one word, in 16 bytes.
 ghost use Rattle.std.specs.Prelude.{◌≡◌, ℕ, List, [], ◌∷◌, Some, false, not, IsTrue, IfSome, IfOk, OnErr};
 ghost use Rattle.std.specs.List.{list_any};
+ghost use Rattle.er_order.specs.Keeping.{IsKeptBy};
 ghost use Rattle.er_order.specs.Following.{Seen, Reported, is_unordered, kept_by, reports_at, write_is_unordered};
 ghost use Rattle.er_clocks.specs.Counts.{count_by};
 ghost use Rattle.er_epochs.specs.Epochs.{pair_of, epoch_in, reads_in, EpochList};
@@ -10,7 +11,8 @@ use crate::reads::Reads;
 use er_clock::Epoch;
 use er_clocks::ThreadClock;
 use er_event::{Kind, ThreadId};
-use std::alloc::AllocError;
+use er_keys::HashKeys;
+use std::alloc::{AllocError, Global};
 
 /// In the place of a thread's number, which is less: there is none.
 pub(crate) const NONE: u32 = 1 << 30;
@@ -143,10 +145,12 @@ impl OrderWord {
         self,
         reads: &mut Reads,
         index: usize,
+        alloc: Global,
+        keys: HashKeys,
         clock: &ThreadClock<'_>,
         kind: Kind,
     ) -> Result<(OrderWord, bool), AllocError>
-        ensures kept { IfOk result (λ r. kept_in r.0 reads.new ≡ kept_by (count_by clock.now) (kept_in self reads.old) clock.now.0 kind) }
+        ensures kept { IfOk result (λ r. IsKeptBy (count_by clock.now) (kept_in self reads.old) clock.now.0 kind (kept_in r.0 reads.new)) }
         ensures reported { IfOk result (λ r. r.1 ≡ reports_at (count_by clock.now) (kept_in self reads.old) kind) }
         ensures err { OnErr result (kept_in self reads.new ≡ kept_in self reads.old) }
     {
@@ -159,7 +163,7 @@ impl OrderWord {
         reads.gather(self.reader, self.read_count)?;
         match kind {
             Kind::Read => {
-                reads.note(clock)?;
+                reads.note(alloc, keys, clock)?;
                 Ok((self.listed(index), false))
             }
             Kind::Write => {

@@ -1,8 +1,9 @@
 //! What is kept of each word.
-ghost use Rattle.std.specs.Prelude.{◌≡◌, ◌+◌, ◌*◌, ◌<◌, ◌^◌, ◌&&◌, ℕ, ◌==◌, cond, OnOk, OnErr, IfOk};
+ghost use Rattle.std.specs.Prelude.{◌≡◌, ◌+◌, ◌*◌, ◌<◌, ◌^◌, ◌&&◌, ℕ, ◌==◌, cond, false, OnOk, OnErr, IfOk};
 ghost use Rattle.std.specs.Option.{ForSome, option_map};
 ghost use Rattle.er_model.specs.Words.{is_within};
-ghost use Rattle.er_order.specs.Following.{fresh, kept_by, reports_at};
+ghost use Rattle.er_order.specs.Following.{fresh, reports_at};
+ghost use Rattle.er_order.specs.Keeping.{IsKeptBy};
 ghost use Rattle.er_clocks.specs.Counts.{count_by};
 ghost use Rattle.er_epochs.specs.Words.{kept_among, is_place_in, IsLowest};
 
@@ -68,8 +69,9 @@ impl OrderWords {
         clock: &ThreadClock<'_>,
         kind: Kind,
     ) -> Result<bool, AllocError>
-        ensures ok { OnOk result ((w : ℕ) → kept_among self.new w ≡ cond (word == w) (kept_by (count_by clock.now) (kept_among self.old word) clock.now.0 kind) (kept_among self.old w)) }
+        ensures ok { OnOk result (IsKeptBy (count_by clock.now) (kept_among self.old word) clock.now.0 kind (kept_among self.new word)) }
         ensures reported { IfOk result (λ reported. reported ≡ reports_at (count_by clock.now) (kept_among self.old word) kind) }
+        ensures others { (w : ℕ) → (word == w) ≡ false → kept_among self.new w ≡ kept_among self.old w }
         ensures err { OnErr result ((w : ℕ) → kept_among self.new w ≡ kept_among self.old w) }
     {
         let number = block_of(word);

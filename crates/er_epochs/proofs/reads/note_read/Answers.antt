@@ -1,19 +1,22 @@
-use Rattle.std.proofs.Common.{◌≡◌, ◌∷◌, ◌∙◌, filter, if◌then◌else◌, IsOk, ap, ap₂, rules, tests, arith}
-use Rattle.std.specs.List.{insert}
-use Rattle.er_order.specs.Following.{is_unordered}
+use Rattle.std.proofs.Common.{◌≡◌, ◌∷◌, ◌++◌, ◌∙◌, [], sym, ap, subst}
+use Rattle.er_event.proofs.Results.{on_ok}
+use Rattle.er_order.specs.Keeping.{IsNoted}
 use Rattle.er_clocks.specs.Counts.{count_by}
-use Rattle.er_epochs.specs.Epochs.{pair_of, reads_of}
-use Rattle.er_epochs.proofs.Epochs.{filter-mapped, retained}
+use Rattle.er_epochs.specs.Epochs.{EpochList, pair_of, pairs_of}
+use Rattle.er_epochs.proofs.Epochs.{map-push}
+use Rattle.er_epochs.proofs.Noted.{noted_behind, noted_few}
 use Rattle.er_epochs.proofs.reads.note_read.Goals as goal
 
-pub returns-clause-ok : goal.returns-clause-ok
-returns-clause-ok c =
-    let room : IsOk c.insert-noted.result = c.insert-noted.ensures.succeeds (omega (arith, c.in_ok-reserve.ensures.ok, c.retain.ensures.bound, c.retain.ensures.capacity)) in
-    let kept : c.retain.new.self.items ≡ filter (λ epoch. is_unordered (count_by c.args.clock.now) (pair_of epoch)) c.reserve.new.self.items =
-    retained _ (λ epoch. is_unordered (count_by c.args.clock.now) (pair_of epoch)) _ (λ x b q k. search (rules, tests)) _ _ c.retain.ensures.filtered in
-    let noted : c.insert-noted.new.self.items ≡ c.epoch.result ∷ c.retain.new.self.items =
-    c.insert-noted.ensures.items ∙ ap (λ b. if◌then◌else◌ b (insert c.retain.new.self.items 0 c.epoch.result) c.retain.new.self.items) room in
-    ap reads_of noted
-    ∙ ap₂ (λ first rest. first ∷ rest) (ap pair_of c.epoch.ensures)
-    (ap reads_of kept ∙ filter-mapped (is_unordered (count_by c.args.clock.now)) pair_of c.reserve.new.self.items
-    ∙ ap (λ items. filter (is_unordered (count_by c.args.clock.now)) (reads_of items)) c.reserve.ensures.items)
+pub returns-then-len-lt-FEW-clause-ok : goal.returns-then-len-lt-FEW-clause-ok
+returns-then-len-lt-FEW-clause-ok c =
+    on_ok c.note_among_few.result _ _ c.note_among_few.ensures.ok (λ is.
+    subst (λ (reads : EpochList). IsNoted (count_by c.args.clock.now) (pairs_of c.args.reads.now.items) c.args.clock.now.0 reads) (sym is)
+    (noted_few (count_by c.args.clock.now) c.args.clock.now.0 (pairs_of c.args.reads.now.items)))
+
+pub returns-in_ok-push-clause-ok : goal.returns-in_ok-push-clause-ok
+returns-in_ok-push-clause-ok c =
+    let all : pairs_of c.push.new.self.items ≡ pairs_of c.args.reads.now.items ++ (c.args.clock.now.0, count_by c.args.clock.now c.args.clock.now.0) ∷ [] =
+    ap pairs_of c.in_ok-push.ensures.items
+    ∙ (map-push pair_of c.args.reads.now.items c.epoch.result ∙ ap (λ last. pairs_of c.args.reads.now.items ++ last ∷ []) (ap pair_of c.epoch.ensures)) in
+    subst (λ (reads : EpochList). IsNoted (count_by c.args.clock.now) (pairs_of c.args.reads.now.items) c.args.clock.now.0 reads) (sym all)
+    (noted_behind (count_by c.args.clock.now) c.args.clock.now.0 (pairs_of c.args.reads.now.items))

@@ -34,8 +34,8 @@ returns-clause-changes c =
     rw (← c.self.view_is)
     (elim c.match-access.branch [
       | in-Ok-true w ↦ rw w.result-is
-          (accessed (the_view c.self.inside) c.access.new.self c.args.thread c.args.word c.args.kind c.clock-clock.result heeds c.clock-clock.ensures.thread c.clock-clock.ensures.clock w.in-Ok-true.ensures.ok)
+          (accessed (the_view c.self.inside) c.access.new.self c.args.thread c.args.word c.args.kind c.clock-clock.result heeds c.clock-clock.ensures.thread c.clock-clock.ensures.clock w.in-Ok-true.ensures.ok c.access.ensures.others)
       | in-Ok-false w ↦ rw w.result-is
-          (accessed (the_view c.self.inside) c.access.new.self c.args.thread c.args.word c.args.kind c.clock-clock.result heeds c.clock-clock.ensures.thread c.clock-clock.ensures.clock w.in-Ok-false.ensures.ok)
+          (accessed (the_view c.self.inside) c.access.new.self c.args.thread c.args.word c.args.kind c.clock-clock.result heeds c.clock-clock.ensures.thread c.clock-clock.ensures.clock w.in-Ok-false.ensures.ok c.access.ensures.others)
       | in-Err w ↦ rw w.result-is tt
     ])

@@ -1,7 +1,8 @@
 -- The list that was reached and the word go on together.
 use Rattle.std.proofs.Common.{◌≡◌, ◌∙◌, ap}
 use Rattle.er_event.proofs.Results.{on_err}
-use Rattle.er_order.specs.Following.{kept_by, reports_at}
+use Rattle.er_order.specs.Following.{reports_at}
+use Rattle.er_order.specs.Keeping.{IsKeptBy}
 use Rattle.er_clocks.specs.Counts.{count_by}
 use Rattle.indexmap.specs.IndexMap.{with_value_at}
 use Rattle.er_epochs.specs.Words.{list_of, kept_in}
@@ -18,7 +19,7 @@ returns-clause-kept c =
     entry_put c.reach.new.lists c.in_ok-index.index c.args.number c.index_mut-reads.result.now c.reach.ensures.unique c.in_ok-index.ensures.key c.index_mut-reads.ensures.value c.access_listed.new.reads in
     if_ok c.access_listed.result _ _ c.access_listed.ensures.kept (λ r on.
     goes_on c.args.self.now (with_value_at c.reach.new.lists c.in_ok-index.index c.access_listed.new.reads).entries c.args.number c.index_mut-reads.result.now c.access_listed.new.reads c.args.word r.0
-    (λ k. kept_by (count_by c.args.clock.now) k c.args.clock.now.0 c.args.kind) was (list_put c.reach.new.lists.entries _ c.args.number c.access_listed.new.reads puts) on)
+    (λ before after. IsKeptBy (count_by c.args.clock.now) before c.args.clock.now.0 c.args.kind after) was (list_put c.reach.new.lists.entries _ c.args.number c.access_listed.new.reads puts) on)
 
 pub returns-clause-reported : goal.returns-clause-reported
 returns-clause-reported c =
@@ -37,7 +38,7 @@ returns-clause-err c =
     entry_put c.reach.new.lists c.in_ok-index.index c.args.number c.index_mut-reads.result.now c.reach.ensures.unique c.in_ok-index.ensures.key c.index_mut-reads.ensures.value c.access_listed.new.reads in
     on_err c.access_listed.result _ _ c.access_listed.ensures.err (λ same.
     goes_on c.args.self.now (with_value_at c.reach.new.lists c.in_ok-index.index c.access_listed.new.reads).entries c.args.number c.index_mut-reads.result.now c.access_listed.new.reads c.args.word c.args.word
-    (λ k. k) was (list_put c.reach.new.lists.entries _ c.args.number c.access_listed.new.reads puts) same)
+    (λ before after. after ≡ before) was (list_put c.reach.new.lists.entries _ c.args.number c.access_listed.new.reads puts) same)
 
 pub returns-clause-others : goal.returns-clause-others
 returns-clause-others c w apart =
