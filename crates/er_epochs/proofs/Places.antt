@@ -14,10 +14,10 @@ blank_at (suc n) (suc i) = blank_at n i
 pub replicated : (words : List OrderWord) → words ≡ replicate 128 blank → (i : ℕ) → word_at words i ≡ blank
 replicated words is i = ap (λ (all : List OrderWord). word_at all i) is ∙ blank_at 128 i
 
-in_block : (number place : ℕ) → place < 128 → (number * 128 + place) / 128 ≡ number
+pub in_block : (number place : ℕ) → place < 128 → (number * 128 + place) / 128 ≡ number
 in_block number place within = omega arith
 
-at_place : (number place : ℕ) → place < 128 → (number * 128 + place) % 128 ≡ place
+pub at_place : (number place : ℕ) → place < 128 → (number * 128 + place) % 128 ≡ place
 at_place number place within = omega arith
 
 -- the word at one of these places is none of those that stand elsewhere

@@ -1,5 +1,5 @@
 -- What is kept of all words: the words in blocks of 128, and lists of reads beside some of them.
-use Rattle.std.specs.Prelude.{ℕ, ◌+◌, ◌^◌, ◌/◌, ◌%◌, ◌&&◌, nat_eq, nat_le, Bool, cond, List, [], slice_index_or, Option, Some, None}
+use Rattle.std.specs.Prelude.{ℕ, ◌≡◌, ◌<◌, ◌+◌, ◌^◌, ◌/◌, ◌%◌, ◌&&◌, nat_eq, nat_le, Bool, true, false, cond, List, [], slice_index_or, Option, Some, None}
 use Rattle.std.specs.Map.{lookup}
 use Rattle.std.specs.Option.{unwrap_or}
 use Rattle.er_order.specs.Following.{Kept, Seen, Reported}
@@ -63,3 +63,8 @@ kept_among all w = kept_beside all.lists w (word_among all.blocks w)
 -- the word stands in the block of this number, at one of these places
 abbrev pub is_place_in : ℕ → ℕ → ℕ → ℕ → Bool
 is_place_in number lo hi w = nat_eq number (w / 128) && (nat_le lo (w % 128) && nat_le (w % 128) hi)
+
+-- the lowest number that passes the test, if one does
+abbrev pub IsLowest : (ℕ → Bool) → Option ℕ → Type 0
+IsLowest test (Some n) = (test n ≡ true) × ((k : ℕ) → k < n → test k ≡ false)
+IsLowest test None = (k : ℕ) → test k ≡ false

@@ -1,8 +1,8 @@
 //! Words that lie side by side.
-ghost use Rattle.std.specs.Prelude.{◌≡◌, ◌<◌, ◌≤◌, ◌^◌, ◌&&◌, ℕ, nat_eq, nat_le, nat_lt, cond, false, IfOk, OnOk, OnErr};
+ghost use Rattle.std.specs.Prelude.{◌≡◌, ◌+◌, ◌*◌, ◌<◌, ◌≤◌, ◌^◌, ◌&&◌, ℕ, nat_eq, nat_le, nat_lt, cond, false, IfOk, OnOk, OnErr};
 ghost use Rattle.er_order.specs.Following.{kept_by, reports_at};
 ghost use Rattle.er_clocks.specs.Counts.{count_by};
-ghost use Rattle.er_epochs.specs.Words.{blank, word_at, list_of, kept_beside, is_place_in};
+ghost use Rattle.er_epochs.specs.Words.{blank, word_at, list_of, kept_beside, is_place_in, IsLowest};
 
 use crate::finding::start_of;
 use crate::lists::ReadLists;
@@ -74,6 +74,29 @@ impl Block {
         get(&self.words, place).peek()
     }
 
+    /// The lowest place from `lo` to `hi`, both included, of a word of which a write by the clock's thread would be reported, where this is the
+    /// block of this number.
+    pub(crate) fn first_in_use(
+        &self,
+        lists: &ReadLists,
+        number: u64,
+        lo: usize,
+        hi: usize,
+        clock: &ThreadClock<'_>,
+    ) -> Option<usize>
+        requires hi { hi < 128 }
+        requires number { number < 2 ^ 39 }
+        ensures { IsLowest (λ i. (nat_le lo i && nat_le i hi) && reports_at (count_by clock.now) (kept_beside lists.now (number * 128 + i) (word_at self.now i)) Kind.Write) result }
+    {
+        for place in lo..hi + 1 {
+            let word = get(&self.words, place);
+            if refuses_write(lists, number * 128 + place as u64, word, clock) {
+                return Some(place);
+            }
+        }
+        None
+    }
+
     /// Ends the era of the words from `lo` to `hi`, both included.
     pub(crate) fn reset(&mut self, lo: usize, hi: usize)
         requires { hi < 128 }
@@ -121,6 +144,18 @@ fn advance(
     match word.access(clock, kind) {
         Some(after) => Ok(after),
         None => lists.access(number, word, clock, kind),
+    }
+}
+
+// Whether a write of the word of this number by the clock's thread would be reported.
+#[inline]
+fn refuses_write(lists: &ReadLists, number: u64, word: OrderWord, clock: &ThreadClock<'_>) -> bool
+    ensures { result ≡ reports_at (count_by clock.now) (kept_beside lists.now number word) Kind.Write }
+{
+    if word.has_list() {
+        word.refuses_write(clock, lists.has_unordered(word.hint(), number, clock))
+    } else {
+        word.refuses_write(clock, false)
     }
 }
 

@@ -72,7 +72,7 @@ pub fn index_of<V>(map: &IndexMap<u64, V, NumberHasher>, hint: usize, number: u6
 #[inline]
 pub fn block_of(word: Word) -> u64
     ensures value { result ≡ word / 128 }
-    ensures within { result < 2 ^ 46 }
+    ensures within { result < 2 ^ 39 }
 {
     word.number() / WORDS
 }

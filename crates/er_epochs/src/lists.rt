@@ -1,7 +1,8 @@
 //! The lists of reads of the words that have several.
 ghost use Rattle.std.specs.Prelude.{◌≡◌, ◌<◌, ℕ, nat_eq, slice_get, false, Some, [], IsTrue, IfOk, OnErr};
 ghost use Rattle.indexmap.specs.IndexMap.{keys, index_map_len, IsUnique};
-ghost use Rattle.er_order.specs.Following.{kept_by, reports_at};
+ghost use Rattle.std.specs.List.{list_any};
+ghost use Rattle.er_order.specs.Following.{is_unordered, kept_by, reports_at};
 ghost use Rattle.er_clocks.specs.Counts.{count_by};
 ghost use Rattle.er_epochs.specs.Words.{list_of, kept_beside};
 
@@ -86,6 +87,16 @@ impl ReadLists {
         let index = reach(self.alloc, &mut self.lists, word.hint(), number)?;
         let reads = &mut self.lists[index];
         word.access_listed(reads, index, clock, kind)
+    }
+
+    /// Whether one of the listed reads of the word of this number doesn't happen before what the clock's thread does now.
+    pub(crate) fn has_unordered(&self, hint: usize, number: u64, clock: &ThreadClock<'_>) -> bool
+        ensures { result ≡ list_any (is_unordered (count_by clock.now)) (list_of self.now number) }
+    {
+        match index_of(&self.lists, hint, number) {
+            Some(index) => self.lists[index].has_unordered(clock),
+            None => false,
+        }
     }
 
     /// Lets go of the list of the word of this number, if there is one.

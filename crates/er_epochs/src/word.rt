@@ -1,6 +1,7 @@
 //! What is kept of one word, in 16 bytes.
 ghost use Rattle.std.specs.Prelude.{◌≡◌, ℕ, List, [], ◌∷◌, Some, false, not, IsTrue, IfSome, IfOk, OnErr};
-ghost use Rattle.er_order.specs.Following.{Seen, Reported, kept_by, reports_at, write_is_unordered};
+ghost use Rattle.std.specs.List.{list_any};
+ghost use Rattle.er_order.specs.Following.{Seen, Reported, is_unordered, kept_by, reports_at, write_is_unordered};
 ghost use Rattle.er_clocks.specs.Counts.{count_by};
 ghost use Rattle.er_epochs.specs.Epochs.{pair_of, epoch_in, reads_in, EpochList};
 ghost use Rattle.er_epochs.specs.Words.{kept_in, kept_with, blank};
@@ -114,6 +115,25 @@ impl OrderWord {
                     Some((told(), true))
                 }
             }
+        }
+    }
+
+    /// Whether a write by the clock's thread would be reported as a race. If a list has the reads, the caller says whether one of them doesn't
+    /// happen before what that thread does now.
+    #[inline]
+    pub(crate) fn refuses_write(self, clock: &ThreadClock<'_>, is_list_unordered: bool) -> bool
+        ensures { (listed : EpochList) → is_list_unordered ≡ list_any (is_unordered (count_by clock.now)) listed → result ≡ reports_at (count_by clock.now) (kept_in self listed) Kind.Write }
+    {
+        if self.writer == TOLD {
+            return false;
+        }
+        if !is_ordered(self.writer, self.write_count, clock) {
+            return true;
+        }
+        if self.reader == SEVERAL {
+            is_list_unordered
+        } else {
+            !is_ordered(self.reader, self.read_count, clock)
         }
     }
 

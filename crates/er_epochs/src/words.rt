@@ -1,9 +1,10 @@
 //! What is kept of each word.
-ghost use Rattle.std.specs.Prelude.{◌≡◌, ◌<◌, ◌^◌, ℕ, ◌==◌, cond, OnOk, OnErr, IfOk};
+ghost use Rattle.std.specs.Prelude.{◌≡◌, ◌+◌, ◌*◌, ◌<◌, ◌^◌, ◌&&◌, ℕ, ◌==◌, cond, OnOk, OnErr, IfOk};
+ghost use Rattle.std.specs.Option.{ForSome, option_map};
 ghost use Rattle.er_model.specs.Words.{is_within};
 ghost use Rattle.er_order.specs.Following.{fresh, kept_by, reports_at};
 ghost use Rattle.er_clocks.specs.Counts.{count_by};
-ghost use Rattle.er_epochs.specs.Words.{kept_among, is_place_in};
+ghost use Rattle.er_epochs.specs.Words.{kept_among, is_place_in, IsLowest};
 
 use crate::block::Block;
 use crate::finding::{BlockHints, block_of, from_in, index_of, place_of, to_in};
@@ -103,28 +104,94 @@ impl OrderWords {
         }
     }
 
-    /// Ends the era of the words of a range. It takes no memory.
-    pub fn reset(&mut self, range: PageRange)
-        ensures { (w : ℕ) → kept_among self.new w ≡ cond (is_within w range) fresh (kept_among self.old w) }
+    /// Ends the era of the words of a range, and returns the lowest of them that was still in use: some access of its era doesn't happen before
+    /// what the clock's thread does now, and no race of that era was reported. It takes no memory.
+    pub fn reset(&mut self, range: PageRange, clock: &ThreadClock<'_>) -> Option<Word>
+        ensures reset { (w : ℕ) → kept_among self.new w ≡ cond (is_within w range) fresh (kept_among self.old w) }
+        ensures in_use { IsLowest (λ w. is_within w range && reports_at (count_by clock.now) (kept_among self.old w) Kind.Write) result }
     {
         let PageRange { lo, hi } = range;
         let first = block_of(lo);
         let last = block_of(hi);
+        let mut found = None;
         for number in first..last + 1 {
-            self.empty(number, from_in(number, lo), to_in(number, hi));
+            let next = self.empty(number, from_in(number, lo), to_in(number, hi), clock);
+            found = found.or(next);
+        }
+        found
+    }
+
+    /// The lowest word of a range that is still in use, as `reset` returns it.
+    pub fn in_use(&self, range: PageRange, clock: &ThreadClock<'_>) -> Option<Word>
+        ensures { IsLowest (λ w. is_within w range && reports_at (count_by clock.now) (kept_among self.now w) Kind.Write) result }
+    {
+        let PageRange { lo, hi } = range;
+        let first = block_of(lo);
+        let last = block_of(hi);
+        let mut found = None;
+        for number in first..last + 1 {
+            let next = self.in_use_in(number, from_in(number, lo), to_in(number, hi), clock);
+            found = found.or(next);
+        }
+        found
+    }
+
+    // The lowest word of a block that is still in use, both ends included.
+    fn in_use_in(
+        &self,
+        number: u64,
+        from: usize,
+        to: usize,
+        clock: &ThreadClock<'_>,
+    ) -> Option<Word>
+        requires to { to < 128 }
+        requires number { number < 2 ^ 39 }
+        ensures { IsLowest (λ w. is_place_in number from to w && reports_at (count_by clock.now) (kept_among self.now w) Kind.Write) result }
+    {
+        match index_of(&self.blocks, self.hints.hint(number), number) {
+            Some(index) => {
+                let block = &self.blocks[index];
+                let found = block.first_in_use(&self.lists, number, from, to, clock);
+                word_in(number, found)
+            }
+            None => None,
         }
     }
 
-    // Ends the era of words of a block, both ends included.
-    fn empty(&mut self, number: u64, from: usize, to: usize)
+    // Ends the era of words of a block, both ends included. Returns the lowest of them that was still in use.
+    fn empty(
+        &mut self,
+        number: u64,
+        from: usize,
+        to: usize,
+        clock: &ThreadClock<'_>,
+    ) -> Option<Word>
         requires to { to < 128 }
-        requires number { number < 2 ^ 46 }
-        ensures { (w : ℕ) → kept_among self.new w ≡ cond (is_place_in number from to w) fresh (kept_among self.old w) }
+        requires number { number < 2 ^ 39 }
+        ensures reset { (w : ℕ) → kept_among self.new w ≡ cond (is_place_in number from to w) fresh (kept_among self.old w) }
+        ensures in_use { IsLowest (λ w. is_place_in number from to w && reports_at (count_by clock.now) (kept_among self.old w) Kind.Write) result }
     {
-        if let Some(index) = index_of(&self.blocks, self.hints.hint(number), number) {
-            let block = &mut self.blocks[index];
-            block.forget_lists(&mut self.lists, number, from, to);
-            block.reset(from, to);
+        match index_of(&self.blocks, self.hints.hint(number), number) {
+            Some(index) => {
+                let block = &mut self.blocks[index];
+                let found = block.first_in_use(&self.lists, number, from, to, clock);
+                block.forget_lists(&mut self.lists, number, from, to);
+                block.reset(from, to);
+                word_in(number, found)
+            }
+            None => None,
         }
+    }
+}
+
+// The word at a place in the block of this number.
+fn word_in(number: u64, place: Option<usize>) -> Option<Word>
+    requires number { number < 2 ^ 39 }
+    requires place { ForSome place (λ place. place < 128) }
+    ensures { result ≡ option_map (λ place. number * 128 + place) place }
+{
+    match place {
+        Some(place) => Some(Word::new(number * 128 + place as u64)),
+        None => None,
     }
 }

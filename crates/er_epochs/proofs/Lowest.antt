@@ -1,0 +1,286 @@
+-- The lowest word that a write would be reported on: found place by place in a block, and block by block in a range.
+use Rattle.std.proofs.Common.{◌≡◌, ◌≢◌, ◌∙◌, ℕ, ◌+◌, ◌*◌, ◌<◌, ◌≤◌, ◌/◌, ◌%◌, ◌&&◌, nat_eq, nat_le, nat_lt, Bool, true, false, cond, Option, Some, None, refl, sym, ap, true≢false, arith}
+use Rattle.std.proofs.lemmas.Bool.Decides.{nat_tests}
+use Rattle.std.specs.Option.{option_map, option_or}
+use borrow.Author.Tests.{eqb-true, eqb-false}
+use Rattle.std.specs.Map.{lookup}
+use Rattle.er_event.specs.declared.addresses.PageRange.{PageRange}
+use Rattle.er_event.specs.declared.steps.Kind.TheVariants.{Write}
+use Rattle.er_model.specs.Words.{is_within}
+use Rattle.er_order.specs.Following.{fresh, reports_at}
+use Rattle.er_epochs.specs.Words.{AllWords, BlockWords, IsLowest, is_place_in, kept_among, kept_beside, word_among, word_at, word_in_block}
+use Rattle.er_epochs.proofs.Blocks.{AreResetTo, absent_block}
+use Rattle.er_epochs.proofs.Places.{in_block, at_place}
+
+-- none of the places from lo on, below this one, passes
+abbrev pub IsNoneBelow : (ℕ → Bool) → ℕ → ℕ → Type 0
+IsNoneBelow test lo place = (i : ℕ) → ((nat_le lo i && nat_lt i place) && test i) ≡ false
+
+pub none_below-start : (test : ℕ → Bool) (lo : ℕ) → IsNoneBelow test lo lo
+none_below-start test lo i = ap (λ b. b && test i) none
+  where
+    none : (nat_le lo i && nat_lt i lo) ≡ false
+    none = grind (arith, nat_tests)
+
+pub none_below-next : (test : ℕ → Bool) (lo place : ℕ) → IsNoneBelow test lo place → test place ≡ false → IsNoneBelow test lo (place + 1)
+none_below-next test lo place none here i = by (nat_eq place i) refl
+  where
+    same : place ≢ i → nat_lt i (place + 1) ≡ nat_lt i place
+    same apart = grind (arith, nat_tests)
+
+    and_false : (b : Bool) → (b && false) ≡ false
+    and_false true = refl
+    and_false false = refl
+
+    by : (is : Bool) → nat_eq place i ≡ is → ((nat_le lo i && nat_lt i (place + 1)) && test i) ≡ false
+    by true e =
+        ap (λ b. (nat_le lo i && nat_lt i (place + 1)) && b) (ap test (sym (eqb-true place i e)) ∙ here)
+        ∙ and_false (nat_le lo i && nat_lt i (place + 1))
+    by false e = ap (λ b. (nat_le lo i && b) && test i) (same (eqb-false place i e)) ∙ none i
+
+-- one that passes is the lowest
+pub lowest_place : (test : ℕ → Bool) (lo hi place : ℕ) → lo ≤ place → place ≤ hi → IsNoneBelow test lo place → test place ≡ true
+    → IsLowest (λ i. (nat_le lo i && nat_le i hi) && test i) (Some place)
+lowest_place test lo hi place low high none here = (ap (λ b. b && test place) within ∙ here, λ k below. ap (λ b. (nat_le lo k && b) && test k) (same k below) ∙ none k)
+  where
+    within : (nat_le lo place && nat_le place hi) ≡ true
+    within = grind (arith, nat_tests)
+
+    same : (k : ℕ) → k < place → nat_le k hi ≡ nat_lt k place
+    same k below = grind (arith, nat_tests)
+
+-- or there is none
+pub no_place : (test : ℕ → Bool) (lo hi place : ℕ) → hi < place → IsNoneBelow test lo place → IsLowest (λ i. (nat_le lo i && nat_le i hi) && test i) None
+no_place test lo hi place past none i = by (nat_le i hi) refl
+  where
+    below : nat_le i hi ≡ true → nat_lt i place ≡ true
+    below e = grind (arith, nat_tests)
+
+    and_false : (b : Bool) → (b && false) ≡ false
+    and_false true = refl
+    and_false false = refl
+
+    by : (b : Bool) → nat_le i hi ≡ b → ((nat_le lo i && b) && test i) ≡ false
+    by true e = ap (λ b. (nat_le lo i && b) && test i) (sym (below e)) ∙ none i
+    by false e = ap (λ b. b && test i) (and_false (nat_le lo i))
+
+-- the lowest place in a block is the lowest word of the block
+pub lowest_word : (number : ℕ) (places words : ℕ → Bool) (place : Option ℕ)
+    → ((i : ℕ) → places i ≡ true → i < 128)
+    → ((w : ℕ) → number ≡ w / 128 → words w ≡ places (w % 128))
+    → ((w : ℕ) → nat_eq number (w / 128) ≡ false → words w ≡ false)
+    → IsLowest places place → IsLowest words (option_map (λ i. number * 128 + i) place)
+lowest_word number places words None short here else none = λ w. by w (nat_eq number (w / 128)) refl
+  where
+    by : (w : ℕ) (b : Bool) → nat_eq number (w / 128) ≡ b → words w ≡ false
+    by w true e = here w (eqb-true number (w / 128) e) ∙ none (w % 128)
+    by w false e = else w e
+lowest_word number places words (Some i) short here else lowest =
+    (here (number * 128 + i) (sym (in_block number i within)) ∙ (ap places (at_place number i within) ∙ lowest.0), below)
+  where
+    within : i < 128
+    within = short i lowest.0
+
+    lower : (w : ℕ) → w < number * 128 + i → number ≡ w / 128 → w % 128 < i
+    lower w under e = omega (arith, under, e)
+
+    below : (w : ℕ) → w < number * 128 + i → words w ≡ false
+    below w under = by (nat_eq number (w / 128)) refl
+      where
+        by : (b : Bool) → nat_eq number (w / 128) ≡ b → words w ≡ false
+        by true e = let at = eqb-true number (w / 128) e in here w at ∙ lowest.1 (w % 128) (lower w under at)
+        by false e = else w e
+
+-- the lowest word of the blocks before this number, or else of the block of this number, is the lowest of both
+module _ (number : ℕ) (before here both : ℕ → Bool)
+    (before_none : (w : ℕ) → number ≤ w / 128 → before w ≡ false)
+    (both_before : (w : ℕ) → w / 128 < number → both w ≡ before w)
+    (both_here : (w : ℕ) → number ≡ w / 128 → both w ≡ here w)
+    (both_none : (w : ℕ) → number < w / 128 → both w ≡ false)
+    (here_else : (w : ℕ) → nat_eq number (w / 128) ≡ false → here w ≡ false) where
+  in_before : (w : ℕ) → before w ≡ true → w / 128 < number
+  in_before w is = by (nat_lt (w / 128) number) refl
+    where
+      by : (b : Bool) → nat_lt (w / 128) number ≡ b → w / 128 < number
+      by true e = grind (arith, nat_tests)
+      by false e = absurd (true≢false (sym is ∙ before_none w (grind (arith, nat_tests))))
+
+  in_here : (w : ℕ) → here w ≡ true → number ≡ w / 128
+  in_here w is = by (nat_eq number (w / 128)) refl
+    where
+      by : (b : Bool) → nat_eq number (w / 128) ≡ b → number ≡ w / 128
+      by true e = eqb-true number (w / 128) e
+      by false e = absurd (true≢false (sym is ∙ here_else w e))
+
+  neither : (w : ℕ) → before w ≡ false → here w ≡ false → both w ≡ false
+  neither w early late = by (nat_lt (w / 128) number) refl
+    where
+      by_here : (b : Bool) → nat_eq number (w / 128) ≡ b → nat_lt (w / 128) number ≡ false → both w ≡ false
+      by_here true e past = both_here w (eqb-true number (w / 128) e) ∙ late
+      by_here false e past = both_none w (grind (arith, nat_tests))
+
+      by : (b : Bool) → nat_lt (w / 128) number ≡ b → both w ≡ false
+      by true e = both_before w (grind (arith, nat_tests)) ∙ early
+      by false e = by_here (nat_eq number (w / 128)) refl e
+
+  lower_block : (k w : ℕ) → k < w → w / 128 < number → k / 128 < number
+  lower_block k w below early = omega (arith, below, early)
+
+  lower_or_same : (k w : ℕ) → k < w → number ≡ w / 128 → k / 128 ≤ number
+  lower_or_same k w below at = omega (arith, below, at)
+
+  pub lowest_of_both : (first second : Option ℕ) → IsLowest before first → IsLowest here second → IsLowest both (option_or first second)
+  lowest_of_both (Some w) second lowest other =
+      let early = in_before w lowest.0 in
+      (both_before w early ∙ lowest.0, λ k below. both_before k (lower_block k w below early) ∙ lowest.1 k below)
+  lowest_of_both None None none other = λ w. neither w (none w) (other w)
+  lowest_of_both None (Some w) none lowest =
+      (both_here w (in_here w lowest.0) ∙ lowest.0, λ k below. neither k (none k) (lowest.1 k below))
+
+-- a block was found
+pub lowest_in_block : (all : AllWords) (number lo hi : ℕ) (was : BlockWords) (clock : ℕ → ℕ) (place : Option ℕ)
+    → Some was ≡ lookup (nat_eq number) all.blocks → hi < 128
+    → IsLowest (λ i. (nat_le lo i && nat_le i hi) && reports_at clock (kept_beside all.lists (number * 128 + i) (word_at was i)) Write) place
+    → IsLowest (λ w. is_place_in number lo hi w && reports_at clock (kept_among all w) Write) (option_map (λ i. number * 128 + i) place)
+unfolding kept_among
+lowest_in_block all number lo hi was clock place found within lowest =
+    lowest_word number _ _ place short here else lowest
+  where
+    short_by : (i : ℕ) (b : Bool) → ((nat_le lo i && nat_le i hi) && b) ≡ true → i < 128
+    short_by i true e = grind (arith, nat_tests)
+    short_by i false e = grind (arith, nat_tests)
+
+    short : (i : ℕ) → ((nat_le lo i && nat_le i hi) && reports_at clock (kept_beside all.lists (number * 128 + i) (word_at was i)) Write) ≡ true → i < 128
+    short i e = short_by i (reports_at clock (kept_beside all.lists (number * 128 + i) (word_at was i)) Write) e
+
+    is_word : (w : ℕ) → number ≡ w / 128 → w ≡ number * 128 + w % 128
+    is_word w at = omega (arith, at)
+
+    here_in : (w : ℕ) → number ≡ w / 128 → nat_eq number (w / 128) ≡ true
+    here_in w at = grind (arith, nat_tests)
+
+    here : (w : ℕ) → number ≡ w / 128
+        → (is_place_in number lo hi w && reports_at clock (kept_beside all.lists w (word_among all.blocks w)) Write)
+        ≡ ((nat_le lo (w % 128) && nat_le (w % 128) hi) && reports_at clock (kept_beside all.lists (number * 128 + w % 128) (word_at was (w % 128))) Write)
+    here w at =
+        ap (λ b. (b && (nat_le lo (w % 128) && nat_le (w % 128) hi)) && reports_at clock (kept_beside all.lists w (word_among all.blocks w)) Write) (here_in w at)
+        ∙ (λ k. (nat_le lo (w % 128) && nat_le (w % 128) hi) && reports_at clock (kept_beside all.lists (is_word w at k) (word_in_block (same_block w at k) (w % 128))) Write)
+      where
+        same_block : (w : ℕ) → number ≡ w / 128 → lookup (nat_eq (w / 128)) all.blocks ≡ Some was
+        same_block w at = ap (λ q. lookup (nat_eq q) all.blocks) (sym at) ∙ sym found
+
+    else : (w : ℕ) → nat_eq number (w / 128) ≡ false → (is_place_in number lo hi w && reports_at clock (kept_beside all.lists w (word_among all.blocks w)) Write) ≡ false
+    else w apart = ap (λ b. (b && (nat_le lo (w % 128) && nat_le (w % 128) hi)) && reports_at clock (kept_beside all.lists w (word_among all.blocks w)) Write) apart
+
+-- or there is none
+pub none_in_absent : (all : AllWords) (number lo hi : ℕ) (clock : ℕ → ℕ) → lookup (nat_eq number) all.blocks ≡ None
+    → (w : ℕ) → (is_place_in number lo hi w && reports_at clock (kept_among all w) Write) ≡ false
+none_in_absent all number lo hi clock absent w = by (is_place_in number lo hi w) refl (absent_block all number lo hi absent w)
+  where
+    by : (b : Bool) → is_place_in number lo hi w ≡ b → kept_among all w ≡ cond (is_place_in number lo hi w) fresh (kept_among all w) → (b && reports_at clock (kept_among all w) Write) ≡ false
+    by true e same = ap (λ kept. reports_at clock kept Write) (same ∙ ap (λ b. cond b fresh (kept_among all w)) e)
+    by false e same = refl
+
+-- the blocks of a range, one after another
+abbrev pub IsLowestBelow : AllWords → PageRange → (ℕ → ℕ) → ℕ → Option ℕ → Type 0
+IsLowestBelow old range clock number found = IsLowest (λ w. (is_within w range && nat_lt (w / 128) number) && reports_at clock (kept_among old w) Write) found
+
+pub lowest_start : (old : AllWords) (range : PageRange) (clock : ℕ → ℕ) (number : ℕ) → number ≡ range.lo / 128 → IsLowestBelow old range clock number None
+lowest_start old range clock number is w = ap (λ b. b && reports_at clock (kept_among old w) Write) none
+  where
+    none : (is_within w range && nat_lt (w / 128) number) ≡ false
+    none = grind (arith, nat_tests)
+
+pub lowest_more : (old now : AllWords) (range : PageRange) (clock : ℕ → ℕ) (number lo hi : ℕ) (first second : Option ℕ)
+    → ((w : ℕ) → number ≡ w / 128 → nat_le lo (w % 128) ≡ nat_le range.lo w)
+    → ((w : ℕ) → number ≡ w / 128 → nat_le (w % 128) hi ≡ nat_le w range.hi)
+    → ((w : ℕ) → number ≡ w / 128 → kept_among now w ≡ kept_among old w)
+    → IsLowestBelow old range clock number first
+    → IsLowest (λ w. is_place_in number lo hi w && reports_at clock (kept_among now w) Write) second
+    → IsLowestBelow old range clock (number + 1) (option_or first second)
+lowest_more old now range clock number lo hi first second low high as_before found more =
+    lowest_of_both number _ _ _ before_none both_before both_here both_none here_else first second found more
+  where
+    by_bound : (w : ℕ) (b c : Bool) → nat_lt (w / 128) number ≡ b → b ≡ c → ((is_within w range && nat_lt (w / 128) number) && reports_at clock (kept_among old w) Write) ≡ ((is_within w range && c) && reports_at clock (kept_among old w) Write)
+    by_bound w b c e is = ap (λ b. (is_within w range && b) && reports_at clock (kept_among old w) Write) (e ∙ is)
+
+    and_none : (w : ℕ) → ((is_within w range && false) && reports_at clock (kept_among old w) Write) ≡ false
+    and_none w = ap (λ b. b && reports_at clock (kept_among old w) Write) (no_more (is_within w range))
+      where
+        no_more : (b : Bool) → (b && false) ≡ false
+        no_more true = refl
+        no_more false = refl
+
+    not_before : (w : ℕ) → number ≤ w / 128 → nat_lt (w / 128) number ≡ false
+    not_before w past = grind (arith, nat_tests)
+
+    before_none : (w : ℕ) → number ≤ w / 128 → ((is_within w range && nat_lt (w / 128) number) && reports_at clock (kept_among old w) Write) ≡ false
+    before_none w past = by_bound w false false (not_before w past) refl ∙ and_none w
+
+    same_bound : (w : ℕ) → w / 128 < number → nat_lt (w / 128) (number + 1) ≡ nat_lt (w / 128) number
+    same_bound w early = grind (arith, nat_tests)
+
+    both_before : (w : ℕ) → w / 128 < number
+        → ((is_within w range && nat_lt (w / 128) (number + 1)) && reports_at clock (kept_among old w) Write) ≡ ((is_within w range && nat_lt (w / 128) number) && reports_at clock (kept_among old w) Write)
+    both_before w early = ap (λ b. (is_within w range && b) && reports_at clock (kept_among old w) Write) (same_bound w early)
+
+    past_bound : (w : ℕ) → number < w / 128 → nat_lt (w / 128) (number + 1) ≡ false
+    past_bound w late = grind (arith, nat_tests)
+
+    both_none : (w : ℕ) → number < w / 128 → ((is_within w range && nat_lt (w / 128) (number + 1)) && reports_at clock (kept_among old w) Write) ≡ false
+    both_none w late = ap (λ b. (is_within w range && b) && reports_at clock (kept_among old w) Write) (past_bound w late) ∙ and_none w
+
+    here_else : (w : ℕ) → nat_eq number (w / 128) ≡ false → (is_place_in number lo hi w && reports_at clock (kept_among now w) Write) ≡ false
+    here_else w apart = ap (λ b. (b && (nat_le lo (w % 128) && nat_le (w % 128) hi)) && reports_at clock (kept_among now w) Write) apart
+
+    at_bound : (w : ℕ) → number ≡ w / 128 → nat_lt (w / 128) (number + 1) ≡ true
+    at_bound w at = grind (arith, nat_tests)
+
+    at_number : (w : ℕ) → number ≡ w / 128 → nat_eq number (w / 128) ≡ true
+    at_number w at = grind (arith, nat_tests)
+
+    and_true : (b : Bool) → (b && true) ≡ b
+    and_true true = refl
+    and_true false = refl
+
+    both_here : (w : ℕ) → number ≡ w / 128
+        → ((is_within w range && nat_lt (w / 128) (number + 1)) && reports_at clock (kept_among old w) Write) ≡ (is_place_in number lo hi w && reports_at clock (kept_among now w) Write)
+    both_here w at =
+        ap (λ b. b && reports_at clock (kept_among old w) Write) (ap (λ b. is_within w range && b) (at_bound w at) ∙ and_true (is_within w range))
+        ∙ (λ k. (sym (low w at) k && sym (high w at) k) && reports_at clock (sym (as_before w at) k) Write)
+        ∙ ap (λ b. (b && (nat_le lo (w % 128) && nat_le (w % 128) hi)) && reports_at clock (kept_among now w) Write) (sym (at_number w at))
+
+-- where the blocks before this one were reset
+pub lowest_next : (old now : AllWords) (range : PageRange) (clock : ℕ → ℕ) (number lo hi : ℕ) (first second : Option ℕ)
+    → ((w : ℕ) → number ≡ w / 128 → nat_le lo (w % 128) ≡ nat_le range.lo w)
+    → ((w : ℕ) → number ≡ w / 128 → nat_le (w % 128) hi ≡ nat_le w range.hi)
+    → AreResetTo old now range number
+    → IsLowestBelow old range clock number first
+    → IsLowest (λ w. is_place_in number lo hi w && reports_at clock (kept_among now w) Write) second
+    → IsLowestBelow old range clock (number + 1) (option_or first second)
+lowest_next old now range clock number lo hi first second low high so_far found more =
+    lowest_more old now range clock number lo hi first second low high as_before found more
+  where
+    not_before : (w : ℕ) → number ≤ w / 128 → nat_lt (w / 128) number ≡ false
+    not_before w past = grind (arith, nat_tests)
+
+    as_before : (w : ℕ) → number ≡ w / 128 → kept_among now w ≡ kept_among old w
+    as_before w at = so_far w ∙ ap (λ b. cond b fresh (kept_among old w)) (ap (λ b. is_within w range && b) (not_before w (omega (arith, at))) ∙ no_more (is_within w range))
+      where
+        no_more : (b : Bool) → (b && false) ≡ false
+        no_more true = refl
+        no_more false = refl
+
+pub lowest_end : (old : AllWords) (range : PageRange) (clock : ℕ → ℕ) (number : ℕ) (found : Option ℕ) → range.hi / 128 + 1 ≤ number
+    → IsLowestBelow old range clock number found → IsLowest (λ w. is_within w range && reports_at clock (kept_among old w) Write) found
+lowest_end old range clock number found past lowest = by found lowest
+  where
+    all : (w : ℕ) → (is_within w range && nat_lt (w / 128) number) ≡ is_within w range
+    all w = grind (arith, nat_tests)
+
+    same : (w : ℕ) → (is_within w range && reports_at clock (kept_among old w) Write) ≡ ((is_within w range && nat_lt (w / 128) number) && reports_at clock (kept_among old w) Write)
+    same w = ap (λ b. b && reports_at clock (kept_among old w) Write) (sym (all w))
+
+    by : (found : Option ℕ) → IsLowestBelow old range clock number found → IsLowest (λ w. is_within w range && reports_at clock (kept_among old w) Write) found
+    by (Some w) lowest = (same w ∙ lowest.0, λ k below. same k ∙ lowest.1 k below)
+    by None none = λ w. same w ∙ none w
