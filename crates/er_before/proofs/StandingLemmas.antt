@@ -1,14 +1,19 @@
 -- What one event makes of a machine, and of the list that it stands for.
-use Rattle.std.proofs.Common.{◌≡◌, ℕ, Bool, true, false, nat_eq, nat_lt, ◌==◌, cond, List, [], ◌∷◌, ◌++◌, length, Option, Some, None, Ok, refl, ap, ap₂, sym, subst, ◌∙◌, arith, Result, Err, IfOk}
+use Rattle.std.proofs.Common.{◌≡◌, ◌<◌, ◌≤◌, ◌&&◌, ℕ, zero, suc, nat_le, Bool, true, false, nat_eq, nat_lt, ◌==◌, cond, List, [], ◌∷◌, ◌++◌, length, Option, Some, None, Ok, refl, ap, ap₂, sym, subst, ◌∙◌, arith, Result, Err, IfOk, ⊎_elim}
 use Rattle.std.proofs.Math.Path.{fun_ext}
 use Rattle.std.specs.Bool.{MatchBool}
-use Rattle.std.proofs.lemmas.Bool.{eqb-true}
+use Rattle.std.proofs.lemmas.Bool.{eqb-true, and_parts, both_ways, leb-true}
+use Rattle.er_event.specs.declared.addresses.PageRange.{PageRange}
 use Rattle.er_event.specs.declared.steps.Event.{Event}
 use Rattle.er_event.specs.declared.steps.Event.TheVariants.{Acquire, Release, Access, Reuse, IgnoreOn, IgnoreOff, Show, Level, Sync}
 use Rattle.er_event.specs.declared.steps.Kind.{Kind}
+use Rattle.er_event.specs.declared.steps.Kind.TheVariants.{Write as writing}
 use Rattle.er_event.proofs.Lists.{length_push, get_last}
 use Rattle.er_event.specs.declared.steps.Reply.TheVariants.{Done, Quiet, Race, Ignored}
-use Rattle.er_model.specs.Words.{Nothing}
+use Rattle.er_model.specs.Search.{least_below}
+use Rattle.er_model.specs.Words.{Nothing, is_within}
+use Rattle.er_model.specs.Explanations.{word_in, word_of}
+use Rattle.er_model.proofs.Search.{below_or_at, least_below-Some}
 use Rattle.er_model.specs.Following.{marked}
 use Rattle.er_model.specs.Holdings.{Holdings, refused_by, changed_by, changed_unless, after_step, holdings_at}
 use Rattle.er_model.specs.Answers.{answer_unless, reading_of}
@@ -16,8 +21,12 @@ use Rattle.er_model.proofs.Prefixes.{holdings-grow, holdings-empty}
 use Rattle.er_event.specs.declared.steps.Step.{Step}
 use Rattle.er_order.specs.Order.{Act, Effect, Local, sync_of, act_unless, acts_of}
 use Rattle.er_order.specs.Clocks.{OfThread, clocks_after, clocks_at, own_count}
-use Rattle.er_order.specs.Races.{order_answer}
-use Rattle.er_order.specs.Following.{Kept, act_by, kept_at, fresh, access_answered}
+use Rattle.er_order.specs.Races.{order_answer, reuse_reply}
+use Rattle.er_order.specs.Reasons.{word_raced, word_raced_by, word_raced_in}
+use Rattle.er_order.proofs.Searches.{least-there}
+use Rattle.er_order.proofs.ReasonLemmas.{word-raced-access, word-raced-reuse}
+use Rattle.er_order.proofs.ReusesGrow.{reuse-grow, in-use-grow}
+use Rattle.er_order.specs.Following.{Kept, act_by, kept_by, kept_at, kept_after, kept_moved, fresh, access_answered, word_reported, reuse_answered}
 use Rattle.er_order.specs.Keeping.{Serves, IsKeptBy, IsKeptMoved, IsKeptAfter}
 use Rattle.er_order.proofs.ClockSteps.{local}
 use Rattle.er_order.proofs.StepLemmas.{act-step, clocks-grow, held-front}
@@ -28,7 +37,7 @@ use Rattle.er_held.specs.Held.{nothing_held}
 use Rattle.er_clock.specs.Clock.{Counts}
 use Rattle.er_clocks.specs.Counts.{count_by}
 use Rattle.er_clocks.specs.Standing.{ClockMaps, counts, Moves, StandsForClocksOf, act_flows}
-use Rattle.er_epochs.specs.Words.{AllWords, kept_among}
+use Rattle.er_epochs.specs.Words.{AllWords, kept_among, IsLowest}
 use Rattle.er_before.specs.Standing.{Ordered, holding, clock_of, kept_of, Stands, Changes, IsSame, HasFullCount, IsFullAfter, answered_by, holds_alone}
 
 -- an accepted event
@@ -156,25 +165,94 @@ access-answer before past t w site kind stands =
     (serves-reports past t (kept_of before w) (kept_at past w (length past)) kind (stands.kept w))
     ∙ sym (answer-grow past step w site kind refl)
 
--- what isn't an access is done, unless it is refused
-other-answer : (before : Ordered) (past : List Step) (t : ℕ) (e : Event) → Stands before past → ((w site : ℕ) (kind : Kind) → e ≡ Access kind w site → ⊥) →
+-- on each word a write would be reported by what is kept exactly if it is by what the list keeps
+raced_is : (before : Ordered) (past : List Step) (t : ℕ) (range : PageRange) → Stands before past →
+    word_reported (clocks_at (acts_of past) (length past) (OfThread t)) (kept_of before) range ≡ word_reported (clocks_at (acts_of past) (length past) (OfThread t)) (λ w. kept_at past w (length past)) range
+raced_is before past t range stands =
+    ap (least_below (suc range.hi)) (fun_ext (λ w. ap (λ (b : Bool). is_within w range && b) (serves-reports past t (kept_of before w) (kept_at past w (length past)) writing (stands.kept w))))
+
+reuse-answer : (before : Ordered) (past : List Step) (t : ℕ) (range : PageRange) → Stands before past →
+    answered_by before (record { thread = t; event = Reuse range }) ≡ order_answer (past ++ record { thread = t; event = Reuse range } ∷ []) (length past)
+reuse-answer before past t range stands =
+    let step : Step = record { thread = t; event = Reuse range } in
+    ap (λ h. reuse_answered h (clock_of before t) (kept_of before) range step) (held_is before past step stands)
+    ∙ ap (λ clock. reuse_answered (holdings_at past t (length past)) clock (kept_of before) range step) (clock_is before past step stands)
+    ∙ ap (λ (raced : Option ℕ). answer_unless (refused_by (holdings_at past t (length past)) (Reuse range)) (cond (nat_lt 0 (holdings_at past t (length past)).depth) Done (reuse_reply raced)))
+    (raced_is before past t range stands)
+    ∙ sym (reuse-grow past step range refl)
+
+-- the word that is in use
+pub in-use-stands : (before : Ordered) (past : List Step) (step : Step) (range : PageRange) → step.event ≡ Reuse range → Stands before past →
+    word_reported (clock_of before step.thread) (kept_of before) range ≡ word_raced (past ++ step ∷ []) (length past)
+in-use-stands before past step range event stands =
+    ap (λ clock. word_reported clock (kept_of before) range) (clock_is before past step stands)
+    ∙ raced_is before past step.thread range stands
+    ∙ sym (in-use-grow past step range event)
+    ∙ sym (word-raced-reuse (past ++ step ∷ []) (length past) step range (get_last past step) event)
+
+pub access-raced : (past : List Step) (step : Step) (w site : ℕ) (kind : Kind) → step.event ≡ Access kind w site → word_raced (past ++ step ∷ []) (length past) ≡ Some w
+access-raced past step w site kind event =
+    word-raced-access (past ++ step ∷ []) (length past) w (ap word_of (get_last past step) ∙ ap word_in event)
+
+pub none-raced : (past : List Step) (step : Step) → ((w site : ℕ) (kind : Kind) → step.event ≡ Access kind w site → ⊥) → ((range : PageRange) → step.event ≡ Reuse range → ⊥) →
+    word_raced (past ++ step ∷ []) (length past) ≡ None
+unfolding word_raced
+none-raced past step never never_reused = ap (word_raced_in (past ++ step ∷ []) (length past)) (get_last past step) ∙ by step.event refl
+  where
+    by : (e : Event) → step.event ≡ e → word_raced_by (past ++ step ∷ []) (length past) e ≡ None
+    by (Access kind w site) is = absurd (never w site kind is)
+    by (Reuse range) is = absurd (never_reused range is)
+    by (Acquire l m) is = refl
+    by (Release l m) is = refl
+    by IgnoreOn is = refl
+    by IgnoreOff is = refl
+    by (Show w) is = refl
+    by (Level n) is = refl
+    by (Sync sync) is = refl
+
+-- the lowest number that passes is what the search finds
+lowest-none : (n : ℕ) (p : ℕ → Bool) → ((k : ℕ) → p k ≡ false) → least_below n p ≡ None
+unfolding least_below
+lowest-none zero p none = refl
+lowest-none (suc n) p none = rw (lowest-none n p none, none n) refl
+
+lowest-one : (n m : ℕ) (p : ℕ → Bool) → p m ≡ true → ((k : ℕ) → k < m → p k ≡ false) → m < n → least_below n p ≡ Some m
+lowest-one n m p passes first below =
+    let there = least-there n m p below passes in
+    there.1 ∙ ap Some (same there.0 (least_below-Some n p there.0 there.1).1 there.2)
+  where
+    same : (i : ℕ) → p i ≡ true → i ≤ m → i ≡ m
+    same i here low = ⊎_elim (λ less. absurd (both_ways (p i) (first i less) here)) (λ equal. equal) (below_or_at i m (omega arith))
+
+pub lowest-is : (n : ℕ) (p : ℕ → Bool) (o : Option ℕ) → IsLowest p o → ((k : ℕ) → p k ≡ true → k < n) → least_below n p ≡ o
+lowest-is n p None none within = lowest-none n p none
+lowest-is n p (Some m) lowest within = lowest-one n m p lowest.0 lowest.1 (within m lowest.0)
+
+pub in-range : (w : ℕ) (range : PageRange) (b : Bool) → (is_within w range && b) ≡ true → w < suc range.hi
+in-range w range b passes =
+    let parts = and_parts (is_within w range) b passes in
+    let high = leb-true w range.hi (and_parts (nat_le range.lo w) (nat_le w range.hi) parts.0).1 in
+    omega arith
+
+-- what isn't an access or a reuse is done, unless it is refused
+other-answer : (before : Ordered) (past : List Step) (t : ℕ) (e : Event) → Stands before past → ((w site : ℕ) (kind : Kind) → e ≡ Access kind w site → ⊥) → ((range : PageRange) → e ≡ Reuse range → ⊥) →
     answer_unless (refused_by (holding before t) e) Done ≡ order_answer (past ++ record { thread = t; event = e } ∷ []) (length past)
-other-answer before past t e stands never =
+other-answer before past t e stands never never_reused =
     let step : Step = record { thread = t; event = e } in
     ap (λ h. answer_unless (refused_by h e) Done) (stands.held t ∙ sym (held-front past (step ∷ []) t (length past) (omega arith)))
-    ∙ sym (answer-other (past ++ step ∷ []) (length past) step (get_last past step) never)
+    ∙ sym (answer-other (past ++ step ∷ []) (length past) step (get_last past step) never never_reused)
 
 pub answer-stands : (before : Ordered) (past : List Step) (t : ℕ) (e : Event) → Stands before past →
     answered_by before (record { thread = t; event = e }) ≡ order_answer (past ++ record { thread = t; event = e } ∷ []) (length past)
 answer-stands before past t (Access kind w site) stands = access-answer before past t w site kind stands
-answer-stands before past t (Acquire l m) stands = other-answer before past t (Acquire l m) stands (λ w site kind same. cc)
-answer-stands before past t (Release l m) stands = other-answer before past t (Release l m) stands (λ w site kind same. cc)
-answer-stands before past t (Reuse range) stands = other-answer before past t (Reuse range) stands (λ w site kind same. cc)
-answer-stands before past t IgnoreOn stands = other-answer before past t IgnoreOn stands (λ w site kind same. cc)
-answer-stands before past t IgnoreOff stands = other-answer before past t IgnoreOff stands (λ w site kind same. cc)
-answer-stands before past t (Level n) stands = other-answer before past t (Level n) stands (λ w site kind same. cc)
-answer-stands before past t (Show v) stands = other-answer before past t (Show v) stands (λ w site kind same. cc)
-answer-stands before past t (Sync sync) stands = other-answer before past t (Sync sync) stands (λ w site kind same. cc)
+answer-stands before past t (Acquire l m) stands = other-answer before past t (Acquire l m) stands (λ w site kind same. cc) (λ range same. cc)
+answer-stands before past t (Release l m) stands = other-answer before past t (Release l m) stands (λ w site kind same. cc) (λ range same. cc)
+answer-stands before past t (Reuse range) stands = reuse-answer before past t range stands
+answer-stands before past t IgnoreOn stands = other-answer before past t IgnoreOn stands (λ w site kind same. cc) (λ range same. cc)
+answer-stands before past t IgnoreOff stands = other-answer before past t IgnoreOff stands (λ w site kind same. cc) (λ range same. cc)
+answer-stands before past t (Level n) stands = other-answer before past t (Level n) stands (λ w site kind same. cc) (λ range same. cc)
+answer-stands before past t (Show v) stands = other-answer before past t (Show v) stands (λ w site kind same. cc) (λ range same. cc)
+answer-stands before past t (Sync sync) stands = other-answer before past t (Sync sync) stands (λ w site kind same. cc) (λ range same. cc)
 
 -- a count that is full before a step is full after the list that the machine stands for
 pub full-after : (before : Ordered) (past : List Step) (step : Step) → Stands before past → HasFullCount before step → IsFullAfter past step

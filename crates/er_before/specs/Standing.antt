@@ -11,7 +11,8 @@ use Rattle.er_held.specs.ThreadLocks.{holding_among}
 use Rattle.er_event.specs.declared.steps.Step.{Step}
 use Rattle.er_order.specs.Clocks.{OfThread, own_count}
 use Rattle.er_order.specs.Order.{acts_of}
-use Rattle.er_order.specs.Following.{Kept, act_by, kept_at, reports_at}
+use Rattle.er_order.specs.Races.{reuse_reply}
+use Rattle.er_order.specs.Following.{Kept, act_by, kept_at, reports_at, word_reported}
 use Rattle.er_order.specs.Keeping.{Serves, IsKeptAfter}
 use Rattle.er_clocks.specs.Standing.{ClockMaps, counts, SameCounts, Moves, StandsForClocksOf, act_flows}
 use Rattle.er_epochs.specs.Words.{AllWords, kept_among}
@@ -71,6 +72,7 @@ pub record IsSame (before after : Ordered) : Type 0 where
 -- the reply to an event that isn't refused, by these
 abbrev pub reply_by : Holdings → (ℕ → ℕ) → (ℕ → Kept) → Event → Reply
 reply_by h clock kept (Access kind w site) = cond (nat_lt 0 h.depth) Ignored (cond (reports_at clock (kept w) kind) Race Quiet)
+reply_by h clock kept (Reuse range) = cond (nat_lt 0 h.depth) Done (reuse_reply (word_reported clock kept range))
 reply_by h clock kept _ = Done
 
 -- and the answer

@@ -1,10 +1,12 @@
 //! The machine: every thread's holdings, the clocks, and what is kept of every word.
-ghost use Rattle.std.specs.Prelude.{◌≡◌, ◌<◌, ℕ, List, ◌++◌, ◌∷◌, [], IfOk, IsErrOf, IsOk, IsTrue, Ok, Err, OnOk, OnErr, Some, None, is_ok, length, true};
+ghost use Rattle.std.specs.Prelude.{◌≡◌, ◌<◌, ℕ, List, ◌++◌, ◌∷◌, [], IfOk, IsErrOf, IsOk, IsTrue, Ok, Err, OnOk, OnErr, Some, None, cond, is_ok, length, true};
 ghost use Rattle.er_model.specs.Holdings.{refused_by, holdings_end};
 ghost use Rattle.er_event.specs.declared.steps.Step.{Step as Steps};
 ghost use Rattle.er_order.specs.Order.{acts_of};
 ghost use Rattle.er_order.specs.Clocks.{OfThread, clocks_at};
-ghost use Rattle.er_order.specs.Races.{order_answer};
+ghost use Rattle.er_order.specs.Races.{order_answer, reuse_reply};
+ghost use Rattle.er_order.specs.Reasons.{word_raced};
+ghost use Rattle.er_order.specs.Following.{word_reported};
 ghost use Rattle.er_clocks.specs.Counts.{count_by};
 
 use crate::holders::Holders;
@@ -104,6 +106,25 @@ impl OrderMachine {
         }
     }
 
+    /// The word on which a step that comes next would be a race: that of an access, or the lowest of a reuse that is still in use.
+    pub fn word_raced(&self, step: &Step) -> Option<Word>
+        ensures { (past : List Steps) → Stands self.now past → result ≡ word_raced (past ++ step.now ∷ []) (length past) }
+    {
+        match step.event {
+            Event::Access(_, word, _) => Some(word),
+            Event::Reuse(range) => self.in_use(step.thread, range),
+            _ => None,
+        }
+    }
+
+    // The lowest word of the range that is in use while the thread gives it back.
+    fn in_use(&self, thread: ThreadId, range: PageRange) -> Option<Word>
+        ensures { result ≡ word_reported (clock_of self.now thread) (kept_of self.now) range }
+    {
+        let clock = self.clocks.clock(thread);
+        self.words.in_use(range, &clock)
+    }
+
     /// What a thread holds after the steps so far.
     pub fn held(&self, thread: ThreadId) -> &Held
         ensures { (past : List Steps) → Stands self.now past → result.now ≡ holdings_end past thread }
@@ -172,10 +193,7 @@ impl OrderMachine {
     {
         match event {
             Event::Access(kind, word, _) => self.access(thread, kind, word),
-            Event::Reuse(range) => {
-                self.reuse(thread, range);
-                Ok(Reply::Done)
-            }
+            Event::Reuse(range) => Ok(self.reuse(thread, range)),
             Event::Show(_) => Ok(Reply::Done),
             Event::Acquire(lock, mode) => done(self.acquire(thread, lock, mode)),
             Event::Release(lock, mode) => done(self.release(thread, lock, mode)),
@@ -205,12 +223,15 @@ impl OrderMachine {
         }
     }
 
-    // The words of the range begin a new era.
-    fn reuse(&mut self, thread: ThreadId, range: PageRange)
-        ensures { Changes self.old (record { thread = thread; event = Event.Reuse range }) self.new }
+    // The words of the range begin a new era. Outside a bracket that is a race if one of them is still in use.
+    fn reuse(&mut self, thread: ThreadId, range: PageRange) -> Reply
+        ensures reply { result ≡ reply_by (holding self.old thread) (clock_of self.old thread) (kept_of self.old) (Event.Reuse range) }
+        ensures changes { Changes self.old (record { thread = thread; event = Event.Reuse range }) self.new }
     {
+        let ignores = self.holders.get(thread).ignoring();
         let clock = self.clocks.clock(thread);
-        let _ = self.words.reset(range, &clock);
+        let in_use = self.words.reset(range, &clock);
+        reply_to_reuse(ignores, in_use)
     }
 
     // If the clocks lack room, the lock is given back.
@@ -286,7 +307,17 @@ impl OrderMachine {
     }
 }
 
-// What isn't an access is done.
+// The reply to a reuse of which this word is still in use.
+fn reply_to_reuse(ignores: bool, in_use: Option<Word>) -> Reply
+    ensures { result ≡ cond ignores Reply.Done (reuse_reply in_use) }
+{
+    match in_use {
+        Some(_) if !ignores => Reply::Race,
+        _ => Reply::Done,
+    }
+}
+
+// What takes or gives up something, or orders threads, is done.
 fn done(outcome: Result<(), NoTick>) -> Result<Reply, NoTick>
     ensures same { is_ok result ≡ is_ok outcome }
     ensures reply { IfOk result (λ reply. reply ≡ Reply.Done) }

@@ -191,14 +191,14 @@ lowest_start old range clock number is w = ap (λ b. b && reports_at clock (kept
     none : (is_within w range && nat_lt (w / 128) number) ≡ false
     none = grind (arith, nat_tests)
 
-pub lowest_next : (old now : AllWords) (range : PageRange) (clock : ℕ → ℕ) (number lo hi : ℕ) (first second : Option ℕ)
+pub lowest_more : (old now : AllWords) (range : PageRange) (clock : ℕ → ℕ) (number lo hi : ℕ) (first second : Option ℕ)
     → ((w : ℕ) → number ≡ w / 128 → nat_le lo (w % 128) ≡ nat_le range.lo w)
     → ((w : ℕ) → number ≡ w / 128 → nat_le (w % 128) hi ≡ nat_le w range.hi)
-    → AreResetTo old now range number
+    → ((w : ℕ) → number ≡ w / 128 → kept_among now w ≡ kept_among old w)
     → IsLowestBelow old range clock number first
     → IsLowest (λ w. is_place_in number lo hi w && reports_at clock (kept_among now w) Write) second
     → IsLowestBelow old range clock (number + 1) (option_or first second)
-lowest_next old now range clock number lo hi first second low high so_far found more =
+lowest_more old now range clock number lo hi first second low high as_before found more =
     lowest_of_both number _ _ _ before_none both_before both_here both_none here_else first second found more
   where
     by_bound : (w : ℕ) (b c : Bool) → nat_lt (w / 128) number ≡ b → b ≡ c → ((is_within w range && nat_lt (w / 128) number) && reports_at clock (kept_among old w) Write) ≡ ((is_within w range && c) && reports_at clock (kept_among old w) Write)
@@ -243,19 +243,33 @@ lowest_next old now range clock number lo hi first second low high so_far found 
     and_true true = refl
     and_true false = refl
 
-    as_before : (w : ℕ) → number ≡ w / 128 → kept_among now w ≡ kept_among old w
-    as_before w at = so_far w ∙ ap (λ b. cond b fresh (kept_among old w)) (ap (λ b. is_within w range && b) (not_before w (omega (arith, at))) ∙ no_more (is_within w range))
-      where
-        no_more : (b : Bool) → (b && false) ≡ false
-        no_more true = refl
-        no_more false = refl
-
     both_here : (w : ℕ) → number ≡ w / 128
         → ((is_within w range && nat_lt (w / 128) (number + 1)) && reports_at clock (kept_among old w) Write) ≡ (is_place_in number lo hi w && reports_at clock (kept_among now w) Write)
     both_here w at =
         ap (λ b. b && reports_at clock (kept_among old w) Write) (ap (λ b. is_within w range && b) (at_bound w at) ∙ and_true (is_within w range))
         ∙ (λ k. (sym (low w at) k && sym (high w at) k) && reports_at clock (sym (as_before w at) k) Write)
         ∙ ap (λ b. (b && (nat_le lo (w % 128) && nat_le (w % 128) hi)) && reports_at clock (kept_among now w) Write) (sym (at_number w at))
+
+-- where the blocks before this one were reset
+pub lowest_next : (old now : AllWords) (range : PageRange) (clock : ℕ → ℕ) (number lo hi : ℕ) (first second : Option ℕ)
+    → ((w : ℕ) → number ≡ w / 128 → nat_le lo (w % 128) ≡ nat_le range.lo w)
+    → ((w : ℕ) → number ≡ w / 128 → nat_le (w % 128) hi ≡ nat_le w range.hi)
+    → AreResetTo old now range number
+    → IsLowestBelow old range clock number first
+    → IsLowest (λ w. is_place_in number lo hi w && reports_at clock (kept_among now w) Write) second
+    → IsLowestBelow old range clock (number + 1) (option_or first second)
+lowest_next old now range clock number lo hi first second low high so_far found more =
+    lowest_more old now range clock number lo hi first second low high as_before found more
+  where
+    not_before : (w : ℕ) → number ≤ w / 128 → nat_lt (w / 128) number ≡ false
+    not_before w past = grind (arith, nat_tests)
+
+    as_before : (w : ℕ) → number ≡ w / 128 → kept_among now w ≡ kept_among old w
+    as_before w at = so_far w ∙ ap (λ b. cond b fresh (kept_among old w)) (ap (λ b. is_within w range && b) (not_before w (omega (arith, at))) ∙ no_more (is_within w range))
+      where
+        no_more : (b : Bool) → (b && false) ≡ false
+        no_more true = refl
+        no_more false = refl
 
 pub lowest_end : (old : AllWords) (range : PageRange) (clock : ℕ → ℕ) (number : ℕ) (found : Option ℕ) → range.hi / 128 + 1 ≤ number
     → IsLowestBelow old range clock number found → IsLowest (λ w. is_within w range && reports_at clock (kept_among old w) Write) found

@@ -123,6 +123,43 @@ impl OrderWords {
         found
     }
 
+    /// The lowest word of a range that is still in use, as `reset` returns it.
+    pub fn in_use(&self, range: PageRange, clock: &ThreadClock<'_>) -> Option<Word>
+        ensures { IsLowest (λ w. is_within w range && reports_at (count_by clock.now) (kept_among self.now w) Kind.Write) result }
+    {
+        let PageRange { lo, hi } = range;
+        let first = block_of(lo);
+        let last = block_of(hi);
+        let mut found = None;
+        for number in first..last + 1 {
+            let next = self.in_use_in(number, from_in(number, lo), to_in(number, hi), clock);
+            found = found.or(next);
+        }
+        found
+    }
+
+    // The lowest word of a block that is still in use, both ends included.
+    fn in_use_in(
+        &self,
+        number: u64,
+        from: usize,
+        to: usize,
+        clock: &ThreadClock<'_>,
+    ) -> Option<Word>
+        requires to { to < 128 }
+        requires number { number < 2 ^ 39 }
+        ensures { IsLowest (λ w. is_place_in number from to w && reports_at (count_by clock.now) (kept_among self.now w) Kind.Write) result }
+    {
+        match index_of(&self.blocks, self.hints.hint(number), number) {
+            Some(index) => {
+                let block = &self.blocks[index];
+                let found = block.first_in_use(&self.lists, number, from, to, clock);
+                word_in(number, found)
+            }
+            None => None,
+        }
+    }
+
     // Ends the era of words of a block, both ends included. Returns the lowest of them that was still in use.
     fn empty(
         &mut self,

@@ -1,6 +1,7 @@
 -- What follows a list of steps follows the longer list after one more step.
 use Rattle.std.proofs.Common.{◌≡◌, ℕ, ◌<◌, Bool, true, false, not, cond, nat_lt, List, [], ◌∷◌, ◌++◌, length, Ok, refl, ap, ap₂, sym, ◌∙◌, arith}
 use Rattle.std.proofs.Math.Path.{fun_ext}
+use Rattle.er_event.specs.declared.addresses.PageRange.{PageRange}
 use Rattle.er_event.specs.declared.steps.Event.{Event}
 use Rattle.er_event.specs.declared.steps.Event.TheVariants.{Acquire, Release, Access, Reuse, IgnoreOn, IgnoreOff, Show, Level, Sync}
 use Rattle.er_event.specs.declared.steps.Kind.{Kind}
@@ -15,6 +16,7 @@ use Rattle.er_order.specs.Clocks.{OfThread, clocks_at}
 use Rattle.er_order.specs.Races.{order_answer}
 use Rattle.er_order.specs.Following.{kept_at, reports_at}
 use Rattle.er_order.proofs.StepLemmas.{held-front, clocks-front}
+use Rattle.er_order.proofs.ReusesGrow.{clocks-reuse}
 use Rattle.er_order.proofs.Growing.{answer-grow, clocks-access}
 use Rattle.er_clock.specs.Clock.{Counts}
 use Rattle.er_clocks.specs.Counts.{count_by}
@@ -42,6 +44,14 @@ module _ (past : List Step) (s : Step) where
       fun_ext (λ u.
       is.counts u ∙ ap (λ n. clocks_at (acts_of longer) n (OfThread s.thread) u) (length_push past s)
       ∙ clocks-access past s w site kind event (OfThread s.thread) u)
+
+  -- and so is that after a reuse
+  pub clock-unmoved : (clock : ℕ × Counts) (range : PageRange) → s.event ≡ Reuse range → IsClockAfter longer s.thread clock →
+      count_by clock ≡ clocks_at (acts_of past) (length past) (OfThread s.thread)
+  clock-unmoved clock range event is =
+      fun_ext (λ u.
+      is.counts u ∙ ap (λ n. clocks_at (acts_of longer) n (OfThread s.thread) u) (length_push past s)
+      ∙ clocks-reuse past s range event (OfThread s.thread) u)
 
   -- an access counts unless its thread ignores
   counts-unless : (w site : ℕ) (kind : Kind) → s.event ≡ Access kind w site → is_counted (order_answer longer (length past)) ≡ not (nat_lt 0 held.depth)

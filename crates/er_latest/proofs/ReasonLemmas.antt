@@ -6,7 +6,9 @@ use Rattle.std.specs.Option.{option_map, option_to_list}
 use Rattle.er_event.specs.Lockset.{has}
 use Rattle.er_event.specs.declared.steps.Event.{Event}
 use Rattle.er_event.specs.declared.steps.Event.TheVariants.{Acquire, Release, Access, Reuse, IgnoreOn, IgnoreOff, Show, Level, Sync}
+use Rattle.er_event.specs.declared.addresses.PageRange.{PageRange}
 use Rattle.er_event.specs.declared.steps.Kind.{Kind}
+use Rattle.er_event.specs.declared.steps.Kind.TheVariants.{Write as writing}
 use Rattle.er_event.specs.declared.steps.Reply.TheVariants.{Race}
 use Rattle.er_event.specs.declared.steps.Step.{Step}
 use Rattle.er_event.proofs.Lists.{get_last}
@@ -18,21 +20,22 @@ use Rattle.er_model.specs.Following.{locks_for, marked}
 use Rattle.er_order.specs.Order.{Acts, acts_of, happens_before}
 use Rattle.er_order.specs.Clocks.{OfThread, clocks_at}
 use Rattle.er_order.specs.Races.{Order, order_answer, last_write, latest_reads, past_write}
-use Rattle.er_order.specs.Reasons.{unordered_with, rivals}
+use Rattle.er_order.specs.Reasons.{unordered_with, word_raced, rivals, users}
 use Rattle.er_order.proofs.RaceLemmas.{latest-in}
 use Rattle.er_order.proofs.Searches.{greatest-Some}
 use Rattle.er_order.proofs.StepLemmas.{agree-steps, clocks-front}
 use Rattle.er_order.proofs.Following.{mark-step}
-use Rattle.er_order.proofs.ReasonLemmas.{race-reported, race-finds-it, reported-first}
+use Rattle.er_order.proofs.ReasonLemmas.{race-cases, race-reported, race-unordered, race-finds-it, reported-first, with-use}
+use Rattle.er_order.proofs.Reuses.{reuse-acts, reuse-finds-it}
 use Rattle.er_order.proofs.Rivals.{has-append, listed}
 use Rattle.er_clock.specs.Clock.{Counts}
 use Rattle.er_clocks.specs.Counts.{count_by}
-use Rattle.er_latest.specs.Inner.Steps.{is_apart, rivals_of, tag_found}
+use Rattle.er_latest.specs.Inner.Steps.{is_apart, rivals_of, tag_found, use_found}
 use Rattle.er_latest.specs.declared.word.Tagged.{Tagged}
 use Rattle.er_latest.specs.Latest.{Latest, access_at, latest}
 use Rattle.er_latest.specs.Standing.{latest_among, Follows, IsClockAfter}
 use Rattle.er_latest.proofs.StepLemmas.{apart-known, latest-front}
-use Rattle.er_latest.proofs.FollowLemmas.{clock-before}
+use Rattle.er_latest.proofs.FollowLemmas.{clock-before, clock-unmoved}
 
 -- a rival stands earlier and is an access of the word
 module _ (order : Order) (r : Reading) (w k j : ℕ) where
@@ -51,6 +54,12 @@ module _ (order : Order) (r : Reading) (w k j : ℕ) where
   write-in is =
       let found = greatest-Some k j (λ i. counted_from r w (era r w k) i && writes (r i)) is in
       (found.0, (and_parts (nat_le (era r w k) j) (counts (r j) w) (and_parts (counted_from r w (era r w k) j) (writes (r j)) found.1).0).1)
+
+  user-in : has (users order r w k) j ≡ true → (j < k) × (counts (r j) w ≡ true)
+  unfolding users
+  user-in member =
+      ⊎_elim (λ read. read-in read) (λ write. write-in (listed (last_write r w k) j write))
+      (has-append (latest_reads order r w k) (option_to_list (last_write r w k)) j member)
 
   rival-in : has (rivals order r w k) j ≡ true → (j < k) × (counts (r j) w ≡ true)
   unfolding rivals
@@ -90,6 +99,10 @@ module _ {A : Type 0} (acts : Acts) (r : Reading) (tags : ℕ → A) where
       rivals_by (is_writing kind) (last_write r w k) (latest_reads (happens_before acts) r w k)
       ∙ ap (λ b. map named (cond b (latest_reads (happens_before acts) r w k) [] ++ option_to_list (last_write r w k))) (sym wrote)
 
+  users-named : (w k : ℕ) → rivals_of (latest acts r tags w k) writing ≡ map named (users (happens_before acts) r w k)
+  unfolding latest users
+  users-named w k = rivals_by true (last_write r w k) (latest_reads (happens_before acts) r w k)
+
   tag_named : (o : Option ℕ) → option_map (λ access. access.tag) (option_map named o) ≡ option_map tags o
   tag_named None = refl
   tag_named (Some j) = refl
@@ -124,10 +137,7 @@ module _ {A : Type 0} (past : List Step) (s : Step) (tags : ℕ → A) (words : 
 
         counted : counts (reading_of longer at) w ≡ true
         counted =
-            let told = race-reported longer at race in
-            let both : Some told.0 ≡ Some w = sym told.1 ∙ word in
-            let same : told.0 ≡ w = cc in
-            rw (← same) (reported-first (happens_before (acts_of longer)) (reading_of longer) told.0 at told.2).0
+            (reported-first (happens_before (acts_of longer)) (reading_of longer) w at (race-reported longer at w word race)).0
 
         marked_at : reading_of longer at ≡ marked (holdings_at longer s.thread at) s.thread (Access kind w site)
         marked_at = mark-step longer at s (get_last past s) ∙ ap (marked (holdings_at longer s.thread at) s.thread) event
@@ -148,7 +158,32 @@ module _ {A : Type 0} (past : List Step) (s : Step) (tags : ℕ → A) (words : 
             (agree-steps longer at w counted ∙ rw parts.1 refl)
             ∙ ap (λ (c : ℕ → ℕ). is_apart c (access_at (acts_of longer) (reading_of longer) tags j)) (sym clock_is)
 
-    -- a step that isn't an access is no race
+    pub use-found : (range : PageRange) → s.event ≡ Reuse range → IsClockAfter longer s.thread clock → (o : Option ℕ) → o ≡ word_raced longer at →
+        use_found (count_by clock) (latest_among words) o ≡ option_map tags (unordered_with longer at)
+    use-found range event is None none =
+        let there = race-unordered longer at race in
+        let word = with-use longer at there.0 there.1 in
+        let clash = none ∙ word.1 in
+        cc
+    use-found range event is (Some w) raced =
+        ap (λ kept. tag_found (count_by clock) kept writing) (follows w ∙ sym (latest-front past (s ∷ []) tags tags w at (omega arith) (λ k low. refl)))
+        ∙ ap (λ accesses. option_map (λ access. access.tag) (find (is_apart (count_by clock)) accesses)) (users-named (acts_of longer) (reading_of longer) tags w at)
+        ∙ ap (option_map (λ access. access.tag)) (find-mapped (λ j. not (happens_before (acts_of longer) j at)) (is_apart (count_by clock)) (access_at (acts_of longer) (reading_of longer) tags) (users (happens_before (acts_of longer)) (reading_of longer) w at) known)
+        ∙ tag_named (acts_of longer) (reading_of longer) tags (find (λ j. not (happens_before (acts_of longer) j at)) (users (happens_before (acts_of longer)) (reading_of longer) w at))
+        ∙ ap (option_map tags) (sym (reuse-finds-it longer at s (get_last past s) range event w (sym raced)))
+      where
+        clock_is : count_by clock ≡ clocks_at (acts_of longer) at (OfThread s.thread)
+        clock_is = clock-unmoved past s clock range event is ∙ rw (clocks-front past (s ∷ []) at (omega arith)) refl
+
+        known : (j : ℕ) → has (users (happens_before (acts_of longer)) (reading_of longer) w at) j ≡ true →
+            not (happens_before (acts_of longer) j at) ≡ is_apart (count_by clock) (access_at (acts_of longer) (reading_of longer) tags j)
+        known j member =
+            let found = user-in (happens_before (acts_of longer)) (reading_of longer) w at j member in
+            apart-known (acts_of longer) (reading_of longer) (agree-steps longer) tags w j at s.thread found.0 found.1
+            (reuse-acts longer at s (get_last past s) range event)
+            ∙ ap (λ (c : ℕ → ℕ). is_apart c (access_at (acts_of longer) (reading_of longer) tags j)) (sym clock_is)
+
+    -- a step that is neither an access nor a reuse is no race
     accesses : (e : Event) (w : ℕ) → word_in e ≡ Some w → (site : ℕ) × (kind : Kind) × (e ≡ Access kind w site)
     accesses (Access kind v site) w is = let same : v ≡ w = cc in (site, kind, ap (λ x. Access kind x site) same)
     accesses (Acquire l m) w is = cc
@@ -160,8 +195,12 @@ module _ {A : Type 0} (past : List Step) (s : Step) (tags : ℕ → A) (words : 
     accesses (Level n) w is = cc
     accesses (Sync sync) w is = cc
 
-    pub race-accesses : (w : ℕ) × (site : ℕ) × (kind : Kind) × (s.event ≡ Access kind w site)
-    race-accesses =
-        let told = race-reported longer at race in
-        let found = accesses s.event told.0 (ap word_of (sym (get_last past s)) ∙ told.1) in
-        (told.0, found.0, found.1, found.2)
+    pub no-other : ((w site : ℕ) (kind : Kind) → s.event ≡ Access kind w site → ⊥) → ((range : PageRange) → s.event ≡ Reuse range → ⊥) → ⊥
+    no-other never never_reused =
+        ⊎_elim
+        (λ told. let found = accesses s.event told.0 (ap word_of (sym (get_last past s)) ∙ told.1) in never told.0 found.0 found.1 found.2)
+        (λ reused.
+        let both : Some reused.0 ≡ Some s = sym reused.3 ∙ get_last past s in
+        let same : reused.0 ≡ s = cc in
+        never_reused reused.1 (ap (λ (step : Step). step.event) (sym same) ∙ reused.4))
+        (race-cases longer at race)

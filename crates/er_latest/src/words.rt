@@ -4,9 +4,9 @@ ghost use Rattle.std.specs.Option.{option_map};
 ghost use Rattle.er_event.specs.declared.steps.Step.{Step as Steps};
 ghost use Rattle.er_model.specs.Words.{is_within};
 ghost use Rattle.er_order.specs.Races.{order_answer};
-ghost use Rattle.er_order.specs.Reasons.{unordered_with};
+ghost use Rattle.er_order.specs.Reasons.{unordered_with, word_raced};
 ghost use Rattle.er_clocks.specs.Counts.{count_by};
-ghost use Rattle.er_latest.specs.Inner.Steps.{latest_by, latest_moved, marked_if, tag_found};
+ghost use Rattle.er_latest.specs.Inner.Steps.{latest_by, latest_moved, marked_if, tag_found, use_found};
 ghost use Rattle.er_latest.specs.Latest.{tagged, untouched};
 ghost use Rattle.er_latest.specs.Standing.{latest_among, Follows, IsClockAfter, is_counted};
 
@@ -69,17 +69,28 @@ impl<A: Copy> LatestWords<A> {
         self.take(step.event, is_counted(answer), clock, tag)
     }
 
-    /// The tag of the access that a step is unordered with, if the step is answered with a race. The clock is that of the step's thread
-    /// after it.
-    pub fn find(&self, step: &Step, clock: &ThreadClock<'_>) -> Option<A>
+    /// The tag of the access that a step is unordered with, if the step is answered with a race on this word. The clock is that of the
+    /// step's thread after it.
+    pub fn find(&self, step: &Step, raced: Option<Word>, clock: &ThreadClock<'_>) -> Option<A>
         ensures reason { (past : List Steps) (tags : ℕ → A) → Follows tags self.now past
             → order_answer (past ++ step.now ∷ []) (length past) ≡ Ok Reply.Race
-            → IsClockAfter (past ++ step.now ∷ []) step.now.thread clock.now
+            → raced ≡ word_raced (past ++ step.now ∷ []) (length past) → IsClockAfter (past ++ step.now ∷ []) step.now.thread clock.now
             → result ≡ option_map tags (unordered_with (past ++ step.now ∷ []) (length past)) }
     {
         match step.event {
             Event::Access(kind, word, _) => self.find_on(word, clock, kind),
+            Event::Reuse(_) => self.find_use(raced, clock),
             _ => None,
+        }
+    }
+
+    // The tag of the last access of a word that is in use.
+    fn find_use(&self, word: Option<Word>, clock: &ThreadClock<'_>) -> Option<A>
+        ensures { result ≡ use_found (count_by clock.now) (latest_among self.now) word }
+    {
+        match word {
+            Some(word) => self.find_on(word, clock, Kind::Write),
+            None => None,
         }
     }
 

@@ -302,21 +302,21 @@ module _ (steps : List Step) (k : ℕ) (s : Step) (is : slice_get steps k ≡ So
       (ap (answer_unless (refused_by (holdings_at steps s.thread k) s.event))
       (ap (order_reply steps k s.thread) event ∙ replied_event w site kind (mark-step ∙ ap (λ e. marked (holdings_at steps s.thread k) s.thread e) event))))
 
-  other_event : (t : ℕ) (e : Event) → ((w site : ℕ) (kind : Kind) → e ≡ Access kind w site → ⊥) → order_reply steps k t e ≡ Done
+  other_event : (t : ℕ) (e : Event) → ((w site : ℕ) (kind : Kind) → e ≡ Access kind w site → ⊥) → ((range : PageRange) → e ≡ Reuse range → ⊥) → order_reply steps k t e ≡ Done
   unfolding order_reply
-  other_event t (Access kind w site) never = absurd (never w site kind refl)
-  other_event t (Acquire l m) never = refl
-  other_event t (Release l m) never = refl
-  other_event t (Reuse range) never = refl
-  other_event t IgnoreOn never = refl
-  other_event t IgnoreOff never = refl
-  other_event t (Show w) never = refl
-  other_event t (Level n) never = refl
-  other_event t (Sync sync) never = refl
+  other_event t (Access kind w site) never never_reused = absurd (never w site kind refl)
+  other_event t (Acquire l m) never never_reused = refl
+  other_event t (Release l m) never never_reused = refl
+  other_event t (Reuse range) never never_reused = absurd (never_reused range refl)
+  other_event t IgnoreOn never never_reused = refl
+  other_event t IgnoreOff never never_reused = refl
+  other_event t (Show w) never never_reused = refl
+  other_event t (Level n) never never_reused = refl
+  other_event t (Sync sync) never never_reused = refl
 
-  pub answer-other : ((w site : ℕ) (kind : Kind) → s.event ≡ Access kind w site → ⊥) →
+  pub answer-other : ((w site : ℕ) (kind : Kind) → s.event ≡ Access kind w site → ⊥) → ((range : PageRange) → s.event ≡ Reuse range → ⊥) →
       order_answer steps k ≡ answer_unless (refused_by (holdings_at steps s.thread k) s.event) Done
   unfolding order_answer holdings
-  answer-other never =
+  answer-other never never_reused =
       rw is (rw (refusal_at steps k s.thread s.event)
-      (ap (answer_unless (refused_by (holdings_at steps s.thread k) s.event)) (other_event s.thread s.event never)))
+      (ap (answer_unless (refused_by (holdings_at steps s.thread k) s.event)) (other_event s.thread s.event never never_reused)))

@@ -16,3 +16,5 @@ pub mod ClockSteps
 pub mod Rivals
 pub mod ReasonLemmas
 pub mod ReasonsGrow
+pub mod Reuses
+pub mod ReusesGrow

@@ -1,22 +1,25 @@
 -- A reported race is unordered with the access that the search finds: another thread's access of the same word.
-use Rattle.std.proofs.Common.{◌≡◌, ℕ, ◌<◌, ◌≤◌, Bool, true, false, ◌&&◌, ◌||◌, ◌==◌, not, cond, nat_le, suc, List, slice_get, Option, Some, None, Ok, refl, sym, ◌∙◌}
+use Rattle.std.proofs.Common.{◌≡◌, ℕ, ◌<◌, ◌≤◌, Bool, true, false, ◌&&◌, ◌||◌, ◌==◌, not, cond, nat_le, is_some, suc, List, slice_get, Option, Some, None, Ok, refl, ap, sym, ◌∙◌, ⊎_elim, inl, inr, ◌⊎◌}
 use Rattle.std.proofs.lemmas.Bool.{eq-eqb, eqb-true, or_left, and_parts, and_from, both_ways, not-true, not_from_false}
 use Rattle.std.specs.List.{find}
+use Rattle.er_event.specs.declared.addresses.PageRange.{PageRange}
 use Rattle.er_event.specs.declared.refusals.Refusal.{Refusal}
 use Rattle.er_event.specs.declared.steps.Event.{Event}
 use Rattle.er_event.specs.declared.steps.Event.TheVariants.{Acquire, Release, Access, Reuse, IgnoreOn, IgnoreOff, Show, Level, Sync}
 use Rattle.er_event.specs.declared.steps.Kind.{Kind}
 use Rattle.er_event.specs.declared.steps.Reply.{Reply}
-use Rattle.er_event.specs.declared.steps.Reply.TheVariants.{Quiet, Race, Ignored}
+use Rattle.er_event.specs.declared.steps.Reply.TheVariants.{Done, Quiet, Race, Ignored}
 use Rattle.er_event.specs.declared.steps.Step.{Step}
 use Rattle.er_model.specs.Search.{every_below}
-use Rattle.er_model.specs.Words.{Counted, Nothing, Reading, counts, thread_of, writes, era, counted_from}
+use Rattle.er_model.specs.Words.{Counted, Nothing, Reading, counts, thread_of, writes, era, counted_from, is_within}
 use Rattle.er_model.specs.Threads.{refusal, accepted, is_ignoring}
 use Rattle.er_model.specs.Answers.{answer_unless, covering, mark, reading_of, reply}
 use Rattle.er_model.specs.Explanations.{word_in, word_of}
-use Rattle.er_order.specs.Order.{acts_of, happens_before, leads}
-use Rattle.er_order.specs.Races.{Order, conflicts, had_race, is_race, is_reported, order_answer, order_answer_to, order_reply}
-use Rattle.er_order.specs.Reasons.{last_unordered, unordered_on, unordered_with, rivals}
+use Rattle.er_model.proofs.Search.{least_below-Some}
+use Rattle.er_model.proofs.Words.{era-kept}
+use Rattle.er_order.specs.Order.{Local, acts_of, happens_before, leads}
+use Rattle.er_order.specs.Races.{Order, conflicts, had_race, is_race, is_reported, last_use, is_in_use, word_in_use, reuse_reply, order_answer, order_answer_to, order_reply}
+use Rattle.er_order.specs.Reasons.{last_unordered, word_raced_by, word_raced_in, word_raced, use_of, unordered_by, unordered_in, unordered_with, rivals}
 use Rattle.er_order.proofs.Order.{happens_before-leads, happens_before-chain}
 use Rattle.er_order.proofs.Searches.{greatest-Some, greatest-last}
 use Rattle.er_order.proofs.StepLemmas.{agree-steps}
@@ -24,42 +27,70 @@ use Rattle.er_order.proofs.RaceLemmas.{greatest-there, not-reused, race-found}
 use Rattle.er_order.proofs.Following.{reported-had}
 use Rattle.er_order.proofs.Rivals.{reason-finds}
 
--- which step is answered with a race
+-- which access is answered with a race
 abbrev pub IsReportedAt : List Step → ℕ → Type 0
 IsReportedAt steps k = (w : ℕ) × (word_of (slice_get steps k) ≡ Some w) × (is_reported (happens_before (acts_of steps)) (reading_of steps) w k ≡ true)
 
+-- and which reuse
+abbrev pub IsReusedAt : List Step → ℕ → Type 0
+IsReusedAt steps k =
+    (s : Step) × (range : PageRange) × (w : ℕ) × (slice_get steps k ≡ Some s) × (s.event ≡ Reuse range) ×
+    (word_in_use (happens_before (acts_of steps)) (reading_of steps) k range ≡ Some w)
+
 module _ (steps : List Step) (k : ℕ) where
-  race_reply : (t : ℕ) (e : Event) → order_reply steps k t e ≡ Race →
-      (w : ℕ) × (word_in e ≡ Some w) × (is_reported (happens_before (acts_of steps)) (reading_of steps) w k ≡ true)
+  access_reply : (t w site : ℕ) (kind : Kind) → order_reply steps k t (Access kind w site) ≡ Race → is_reported (happens_before (acts_of steps)) (reading_of steps) w k ≡ true
   unfolding order_reply
-  race_reply t (Access kind w site) race = (w, refl, by (is_ignoring (accepted steps k) t) (is_reported (happens_before (acts_of steps)) (reading_of steps) w k) race)
+  access_reply t w site kind race = by (is_ignoring (accepted steps k) t) (is_reported (happens_before (acts_of steps)) (reading_of steps) w k) race
     where
       by : (ignores told : Bool) → cond ignores Ignored (cond told Race Quiet) ≡ Race → told ≡ true
       by true told same = cc
       by false true same = refl
       by false false same = cc
-  race_reply t (Acquire l m) race = cc
-  race_reply t (Release l m) race = cc
-  race_reply t (Reuse range) race = cc
-  race_reply t IgnoreOn race = cc
-  race_reply t IgnoreOff race = cc
-  race_reply t (Show w) race = cc
-  race_reply t (Level n) race = cc
-  race_reply t (Sync sync) race = cc
+
+  reused_by : (ignores : Bool) (o : Option ℕ) → cond ignores Done (reuse_reply o) ≡ Race → (w : ℕ) × (o ≡ Some w)
+  reused_by true o same = cc
+  reused_by false None same = cc
+  reused_by false (Some w) same = (w, refl)
+
+  reuse_found : (t : ℕ) (range : PageRange) → order_reply steps k t (Reuse range) ≡ Race → (w : ℕ) × (word_in_use (happens_before (acts_of steps)) (reading_of steps) k range ≡ Some w)
+  unfolding order_reply
+  reuse_found t range race = reused_by (is_ignoring (accepted steps k) t) (word_in_use (happens_before (acts_of steps)) (reading_of steps) k range) race
+
+  race_reply : (s : Step) (e : Event) → slice_get steps k ≡ Some s → s.event ≡ e → order_reply steps k s.thread e ≡ Race → IsReportedAt steps k ⊎ IsReusedAt steps k
+  unfolding order_reply
+  race_reply s (Access kind w site) is event race = inl (w, ap word_of is ∙ ap word_in event, access_reply s.thread w site kind race)
+  race_reply s (Reuse range) is event race = let found = reuse_found s.thread range race in inr (s, range, found.0, is, event, found.1)
+  race_reply s (Acquire l m) is event race = cc
+  race_reply s (Release l m) is event race = cc
+  race_reply s IgnoreOn is event race = cc
+  race_reply s IgnoreOff is event race = cc
+  race_reply s (Show w) is event race = cc
+  race_reply s (Level n) is event race = cc
+  race_reply s (Sync sync) is event race = cc
 
   accepted_reply : (o : Option Refusal) (reply : Reply) → answer_unless o reply ≡ Ok Race → reply ≡ Race
   accepted_reply None reply same = cc
   accepted_reply (Some why) reply same = cc
 
-  race_at : (o : Option Step) → order_answer_to steps k o ≡ Ok Race →
-      (w : ℕ) × (word_of o ≡ Some w) × (is_reported (happens_before (acts_of steps)) (reading_of steps) w k ≡ true)
-  race_at None race = cc
-  race_at (Some s) race =
-      race_reply s.thread s.event (accepted_reply (refusal (accepted steps k) s.thread s.event) (order_reply steps k s.thread s.event) race)
+  race_at : (o : Option Step) → slice_get steps k ≡ o → order_answer_to steps k o ≡ Ok Race → IsReportedAt steps k ⊎ IsReusedAt steps k
+  race_at None is race = cc
+  race_at (Some s) is race =
+      race_reply s s.event is refl (accepted_reply (refusal (accepted steps k) s.thread s.event) (order_reply steps k s.thread s.event) race)
 
-  pub race-reported : order_answer steps k ≡ Ok Race → IsReportedAt steps k
+  -- a race is an access or a reuse
+  pub race-cases : order_answer steps k ≡ Ok Race → IsReportedAt steps k ⊎ IsReusedAt steps k
   unfolding order_answer
-  race-reported race = race_at (slice_get steps k) race
+  race-cases race = race_at (slice_get steps k) refl race
+
+  reuse_word : (w : ℕ) → IsReusedAt steps k → word_of (slice_get steps k) ≡ Some w → ⊥
+  reuse_word w told word = let clash = sym (ap word_of told.3 ∙ ap word_in told.4) ∙ word in cc
+
+  pub race-reported : (w : ℕ) → word_of (slice_get steps k) ≡ Some w → order_answer steps k ≡ Ok Race → is_reported (happens_before (acts_of steps)) (reading_of steps) w k ≡ true
+  race-reported w word race =
+      ⊎_elim
+      (λ told. let both : Some told.0 ≡ Some w = sym told.1 ∙ word in let same : told.0 ≡ w = cc in rw (← same) told.2)
+      (λ reused. absurd (reuse_word w reused word))
+      (race-cases race)
 
 -- what the search finds, by its parts
 module _ (order : Order) (r : Reading) (w k : ℕ) where
@@ -112,15 +143,7 @@ module _ (order : Order) (r : Reading) (w k : ℕ) where
       last_unordered order r w k ≡ find (λ j. not (order j k)) (rivals order r w k)
   reported-finds chain told = let first = reported-first told in reason-finds order r w chain k first.0 first.1
 
--- a thread's own steps are in order
 module _ (steps : List Step) (w : ℕ) where
-  own_leads : (j k : ℕ) → counts (reading_of steps j) w ≡ true → counts (reading_of steps k) w ≡ true → thread_of (reading_of steps j) ≡ thread_of (reading_of steps k) →
-      j < k → happens_before (acts_of steps) j k ≡ true
-  own_leads j k at_j at_k same below =
-      happens_before-leads (acts_of steps) j k below
-      (rw (agree-steps steps j w at_j, agree-steps steps k w at_k)
-      (unfold leads in or_left (thread_of (reading_of steps j) == thread_of (reading_of steps k)) false (eq-eqb (thread_of (reading_of steps j)) (thread_of (reading_of steps k)) same)))
-
   -- a counted position is an access of the word
   counted_word : (past : List Step) (t word : ℕ) (kind : Kind) (b : Bool) → is_ignoring past t ≡ b → counts (cond b Nothing (Counted t kind word (covering past t kind))) w ≡ true → Some word ≡ Some w
   unfolding counts
@@ -144,59 +167,184 @@ module _ (steps : List Step) (w : ℕ) where
   counted_at k None is counted = let never : false ≡ true = rw is at counted in cc
   counted_at k (Some s) is counted = counted_event (accepted steps k) s.thread s.event (rw is at counted)
 
--- what the access at position k is unordered with
+-- what the step at position k is unordered with
 module _ (steps : List Step) (k : ℕ) where
   abbrev hb : Order
   hb = happens_before (acts_of steps)
 
+  by_event : (w : ℕ) (e : Event) → word_in e ≡ Some w → unordered_by steps k e ≡ last_unordered hb (reading_of steps) w k
+  by_event w (Access kind v site) is = let same : v ≡ w = cc in rw same refl
+  by_event w (Acquire l m) is = cc
+  by_event w (Release l m) is = cc
+  by_event w (Reuse range) is = cc
+  by_event w IgnoreOn is = cc
+  by_event w IgnoreOff is = cc
+  by_event w (Show v) is = cc
+  by_event w (Level n) is = cc
+  by_event w (Sync sync) is = cc
+
+  by_step : (w : ℕ) (o : Option Step) → word_of o ≡ Some w → unordered_in steps k o ≡ last_unordered hb (reading_of steps) w k
+  by_step w None is = cc
+  by_step w (Some s) is = by_event w s.event is
+
   unordered_at : (w : ℕ) → word_of (slice_get steps k) ≡ Some w → unordered_with steps k ≡ last_unordered hb (reading_of steps) w k
   unfolding unordered_with
-  unordered_at w is = rw is refl
+  unordered_at w is = by_step w (slice_get steps k) is
+
+  module _ (s : Step) (range : PageRange) (w : ℕ) (is : slice_get steps k ≡ Some s) (event : s.event ≡ Reuse range)
+      (used : word_in_use hb (reading_of steps) k range ≡ Some w) where
+    pub use_at : unordered_with steps k ≡ last_use hb (reading_of steps) w k
+    unfolding unordered_with
+    use_at = ap (unordered_in steps k) is ∙ ap (unordered_by steps k) event ∙ ap (use_of steps k) used
+
+    pub used-parts : (is_within w range ≡ true) × (is_in_use hb (reading_of steps) w k ≡ true)
+    unfolding word_in_use
+    used-parts =
+        and_parts (is_within w range) (is_in_use hb (reading_of steps) w k)
+        (least_below-Some (suc range.hi) (λ v. is_within v range && is_in_use hb (reading_of steps) v k) w used).1
+
+    some_there : (o : Option ℕ) → is_some o ≡ true → (j : ℕ) × (o ≡ Some j)
+    some_there None there = cc
+    some_there (Some j) there = (j, refl)
+
+    used_there : (j : ℕ) × (last_use hb (reading_of steps) w k ≡ Some j)
+    unfolding is_in_use
+    used_there =
+        some_there (last_use hb (reading_of steps) w k)
+        (and_parts (is_some (last_use hb (reading_of steps) w k)) (not (had_race hb (reading_of steps) w k)) used-parts.1).0
 
   pub race-unordered : order_answer steps k ≡ Ok Race → (j : ℕ) × (unordered_with steps k ≡ Some j)
   race-unordered race =
-      let told = race-reported steps k race in
-      let there = reported-there hb (reading_of steps) told.0 k told.2 in
-      (there.0, unordered_at told.0 told.1 ∙ there.1)
+      ⊎_elim
+      (λ told. let there = reported-there hb (reading_of steps) told.0 k told.2 in (there.0, unordered_at told.0 told.1 ∙ there.1))
+      (λ reused.
+      let there = used_there reused.0 reused.1 reused.2 reused.3 reused.4 reused.5 in
+      (there.0, use_at reused.0 reused.1 reused.2 reused.3 reused.4 reused.5 ∙ there.1))
+      (race-cases steps k race)
 
   pub race-finds-it : (w : ℕ) → order_answer steps k ≡ Ok Race → word_of (slice_get steps k) ≡ Some w →
       unordered_with steps k ≡ find (λ j. not (hb j k)) (rivals hb (reading_of steps) w k)
   race-finds-it w race word =
-      let told = race-reported steps k race in
-      let both : Some told.0 ≡ Some w = sym told.1 ∙ word in
-      let same : told.0 ≡ w = cc in
-      unordered_at w word ∙ reported-finds hb (reading_of steps) w k (happens_before-chain (acts_of steps)) (rw (← same) told.2)
+      unordered_at w word ∙ reported-finds hb (reading_of steps) w k (happens_before-chain (acts_of steps)) (race-reported steps k w word race)
 
+  -- the word and the access that was found
   abbrev IsUnordered : ℕ → Type 0
   IsUnordered j = (w : ℕ) × (word_of (slice_get steps k) ≡ Some w) × (last_unordered hb (reading_of steps) w k ≡ Some j)
 
-  by_word : (j : ℕ) (o : Option ℕ) → word_of (slice_get steps k) ≡ o → unordered_on steps k o ≡ Some j → IsUnordered j
-  by_word j None none is = cc
-  by_word j (Some w) word is = (w, word, is)
+  abbrev IsUsed : ℕ → Type 0
+  IsUsed j =
+      (s : Step) × (range : PageRange) × (w : ℕ) × (slice_get steps k ≡ Some s) × (s.event ≡ Reuse range) ×
+      (word_in_use hb (reading_of steps) k range ≡ Some w) × (last_use hb (reading_of steps) w k ≡ Some j)
+
+  used_by : (j : ℕ) (o : Option ℕ) → use_of steps k o ≡ Some j → (w : ℕ) × (o ≡ Some w) × (last_use hb (reading_of steps) w k ≡ Some j)
+  used_by j None is = cc
+  used_by j (Some w) is = (w, refl, is)
+
+  cases_event : (j : ℕ) (s : Step) (e : Event) → slice_get steps k ≡ Some s → s.event ≡ e → unordered_by steps k e ≡ Some j → IsUnordered j ⊎ IsUsed j
+  cases_event j s (Access kind w site) here event is = inl (w, ap word_of here ∙ ap word_in event, is)
+  cases_event j s (Reuse range) here event is =
+      let found = used_by j (word_in_use hb (reading_of steps) k range) is in
+      inr (s, range, found.0, here, event, found.1, found.2)
+  cases_event j s (Acquire l m) here event is = cc
+  cases_event j s (Release l m) here event is = cc
+  cases_event j s IgnoreOn here event is = cc
+  cases_event j s IgnoreOff here event is = cc
+  cases_event j s (Show w) here event is = cc
+  cases_event j s (Level n) here event is = cc
+  cases_event j s (Sync sync) here event is = cc
+
+  cases_step : (j : ℕ) (o : Option Step) → slice_get steps k ≡ o → unordered_in steps k o ≡ Some j → IsUnordered j ⊎ IsUsed j
+  cases_step j None here is = cc
+  cases_step j (Some s) here is = cases_event j s s.event here refl is
+
+  unordered-cases : (j : ℕ) → unordered_with steps k ≡ Some j → IsUnordered j ⊎ IsUsed j
+  unfolding unordered_with
+  unordered-cases j is = cases_step j (slice_get steps k) refl is
+
+  -- the word of the step
+  raced_event : (w : ℕ) (e : Event) → word_in e ≡ Some w → word_raced_by steps k e ≡ Some w
+  raced_event w (Access kind v site) is = is
+  raced_event w (Acquire l m) is = cc
+  raced_event w (Release l m) is = cc
+  raced_event w (Reuse range) is = cc
+  raced_event w IgnoreOn is = cc
+  raced_event w IgnoreOff is = cc
+  raced_event w (Show v) is = cc
+  raced_event w (Level n) is = cc
+  raced_event w (Sync sync) is = cc
+
+  raced_step : (w : ℕ) (o : Option Step) → word_of o ≡ Some w → word_raced_in steps k o ≡ Some w
+  raced_step w None is = cc
+  raced_step w (Some s) is = raced_event w s.event is
+
+  pub word-raced-access : (w : ℕ) → word_of (slice_get steps k) ≡ Some w → word_raced steps k ≡ Some w
+  unfolding word_raced
+  word-raced-access w is = raced_step w (slice_get steps k) is
+
+  pub word-raced-reuse : (s : Step) (range : PageRange) → slice_get steps k ≡ Some s → s.event ≡ Reuse range → word_raced steps k ≡ word_in_use hb (reading_of steps) k range
+  unfolding word_raced
+  word-raced-reuse s range is event = ap (word_raced_in steps k) is ∙ ap (word_raced_by steps k) event
+
+  -- what the search for a use finds, by its parts
+  use_parts : (w j : ℕ) → last_use hb (reading_of steps) w k ≡ Some j →
+      (j < k) × (counted_from (reading_of steps) w (era (reading_of steps) w k) j ≡ true) × (hb j k ≡ false)
+  unfolding last_use
+  use_parts w j is =
+      let found = greatest-Some k j (λ i. counted_from (reading_of steps) w (era (reading_of steps) w k) i && not (hb i k)) is in
+      let parts = and_parts (counted_from (reading_of steps) w (era (reading_of steps) w k) j) (not (hb j k)) found.1 in
+      (found.0, parts.0, not-true (hb j k) parts.1)
+
+  -- both searches find an access of the era
+  era_parts : (w j : ℕ) → last_unordered hb (reading_of steps) w k ≡ Some j →
+      (j < k) × (counted_from (reading_of steps) w (era (reading_of steps) w k) j ≡ true) × (hb j k ≡ false)
+  unfolding conflicts
+  era_parts w j is =
+      let parts = unordered-parts hb (reading_of steps) w k j is in
+      let counted = (conflict-counts hb (reading_of steps) w k j parts.1).1 in
+      let from = (and_parts (counted_from (reading_of steps) w (era (reading_of steps) w (suc k)) j) (counts (reading_of steps k) w && (writes (reading_of steps j) || writes (reading_of steps k))) parts.1).0 in
+      (parts.0, rw (era-kept (reading_of steps) w k (not-reused (reading_of steps k) w counted)) at from, parts.2)
 
   module _ (j : ℕ) (is : unordered_with steps k ≡ Some j) where
-    its : IsUnordered j
-    unfolding unordered_with
-    its = by_word j (word_of (slice_get steps k)) refl is
+    found : (w : ℕ) × (word_raced steps k ≡ Some w) × (j < k) × (counted_from (reading_of steps) w (era (reading_of steps) w k) j ≡ true) × (hb j k ≡ false)
+    found =
+        ⊎_elim
+        (λ (u : IsUnordered j). let parts = era_parts u.0 j u.2 in (u.0, word-raced-access u.0 u.1, parts.0, parts.1, parts.2))
+        (λ (u : IsUsed j). let parts = use_parts u.2 j u.6 in (u.2, word-raced-reuse u.0 u.1 u.3 u.4 ∙ u.5, parts.0, parts.1, parts.2))
+        (unordered-cases j is)
 
-    parts : (j < k) × (conflicts (reading_of steps) its.0 j k ≡ true) × (hb j k ≡ false)
-    parts = unordered-parts hb (reading_of steps) its.0 k j its.2
+    counted_there : counts (reading_of steps j) found.0 ≡ true
+    counted_there = (and_parts (nat_le (era (reading_of steps) found.0 k) j) (counts (reading_of steps j) found.0) found.3).1
 
-    counted : (counts (reading_of steps j) its.0 ≡ true) × (counts (reading_of steps k) its.0 ≡ true)
-    counted = conflict-counts hb (reading_of steps) its.0 k j parts.1
-
-    pub with-conflict : (w : ℕ) × (word_of (slice_get steps k) ≡ Some w) × (conflicts (reading_of steps) w j k ≡ true) × (hb j k ≡ false)
-    with-conflict = (its.0, its.1, parts.1, parts.2)
+    pub with-use : (w : ℕ) × (word_raced steps k ≡ Some w) × (counted_from (reading_of steps) w (era (reading_of steps) w k) j ≡ true) × (hb j k ≡ false)
+    with-use = (found.0, found.1, found.3, found.4)
 
     pub with-earlier : j < k
-    with-earlier = parts.0
+    with-earlier = found.2
 
-    pub with-word : word_of (slice_get steps j) ≡ word_of (slice_get steps k)
-    with-word = counted_at steps its.0 j (slice_get steps j) refl counted.0 ∙ sym its.1
+    pub with-word : (w : ℕ) → word_raced steps k ≡ Some w → word_of (slice_get steps j) ≡ Some w
+    with-word w word =
+        let both : Some found.0 ≡ Some w = sym found.1 ∙ word in
+        counted_at steps found.0 j (slice_get steps j) refl counted_there ∙ both
 
-    pub with-threads : thread_of (reading_of steps j) ≡ thread_of (reading_of steps k) → ⊥
-    with-threads same = both_ways (hb j k) parts.2 (own_leads steps its.0 j k counted.0 counted.1 same parts.0)
+    pub with-conflict : (w : ℕ) → word_of (slice_get steps k) ≡ Some w → conflicts (reading_of steps) w j k ≡ true
+    with-conflict w word = (unordered-parts hb (reading_of steps) w k j (sym (unordered_at w word) ∙ is)).1
 
     pub with-last : (i w : ℕ) → word_of (slice_get steps k) ≡ Some w → i < k → conflicts (reading_of steps) w i k ≡ true → hb i k ≡ false → i ≤ j
     with-last i w word below conflict apart =
         unordered-last hb (reading_of steps) w k i j (sym (unordered_at w word) ∙ is) below conflict apart
+
+    pub with-last-use : (i w : ℕ) (s : Step) (range : PageRange) → slice_get steps k ≡ Some s → s.event ≡ Reuse range → word_raced steps k ≡ Some w → i < k →
+        counted_from (reading_of steps) w (era (reading_of steps) w k) i ≡ true → hb i k ≡ false → i ≤ j
+    unfolding last_use
+    with-last-use i w s range here event word below counted apart =
+        greatest-last k i j (λ i. counted_from (reading_of steps) w (era (reading_of steps) w k) i && not (hb i k))
+        (sym (use_at s range w here event (sym (word-raced-reuse s range here event) ∙ word)) ∙ is) below
+        (and_from (counted_from (reading_of steps) w (era (reading_of steps) w k) i) (not (hb i k)) counted (not_from_false (hb i k) apart))
+
+    -- a thread's own steps are in order, so its accepted step is unordered with other threads' alone
+    pub with-threads : (t : ℕ) → acts_of steps k ≡ Some (record { thread = t; sync = Local }) → thread_of (reading_of steps j) ≡ t → ⊥
+    with-threads t acted same =
+        both_ways (hb j k) found.4
+        (happens_before-leads (acts_of steps) j k found.2
+        (rw (agree-steps steps j found.0 counted_there, acted)
+        (unfold leads in or_left (thread_of (reading_of steps j) == t) false (eq-eqb (thread_of (reading_of steps j)) t same))))

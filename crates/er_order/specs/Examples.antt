@@ -1,5 +1,7 @@
 -- Short lists of steps, to see what happens-before answers.
-use Rattle.std.specs.Prelude.{ℕ, List, [], ◌∷◌}
+use Rattle.std.specs.Prelude.{ℕ, refl, List, [], ◌∷◌}
+use Rattle.std.proofs.Common.{lit≤}
+use Rattle.er_event.specs.declared.addresses.PageRange.{PageRange}
 use Rattle.er_event.specs.declared.steps.Event.{Event}
 use Rattle.er_event.specs.declared.steps.Event.TheVariants.{Acquire, Release, Access, Reuse, Level, IgnoreOn, IgnoreOff, Sync}
 use Rattle.er_event.specs.declared.steps.Kind.TheVariants.{Read as reading, Write as writing}
@@ -103,9 +105,37 @@ double_checked = takes 1 7 ∷ writes_word 1 ∷ writes_at 1 1025 ∷ gives 1 7 
 unfoldable pub double_checked_in_order : List Step
 double_checked_in_order = takes 1 7 ∷ writes_word 1 ∷ does 1 (Sync (Signal 5)) ∷ gives 1 7 ∷ does 2 (Sync (Await 5)) ∷ reads_word 2 ∷ []
 
--- a reuse between two accesses; then a race, reported once
+-- a reuse by a second thread, which nothing orders after the first one's write; in the new era a race, reported once
 unfoldable pub reuse_between : List Step
 reuse_between = writes_word 1 ∷ does 2 (Reuse one_word) ∷ writes_word 2 ∷ writes_word 1 ∷ writes_word 2 ∷ []
+
+-- thread 2 is joined before its word is given back
+unfoldable pub reuse_joined : List Step
+reuse_joined = does 1 (Sync (Start 2)) ∷ writes_word 2 ∷ does 1 (Sync (Join 2)) ∷ does 1 (Reuse one_word) ∷ writes_word 1 ∷ []
+
+-- and it isn't
+unfoldable pub reuse_too_early : List Step
+reuse_too_early = does 1 (Sync (Start 2)) ∷ reads_word 2 ∷ does 1 (Reuse one_word) ∷ does 1 (Sync (Join 2)) ∷ does 1 (Reuse one_word) ∷ []
+
+-- a reuse under the lock that the access was made under
+unfoldable pub reuse_locked : List Step
+reuse_locked = takes 1 7 ∷ writes_word 1 ∷ gives 1 7 ∷ takes 2 7 ∷ does 2 (Reuse one_word) ∷ gives 2 7 ∷ []
+
+-- a reuse of an era that had a race, and another one of no access
+unfoldable pub reuse_after_race : List Step
+reuse_after_race = writes_word 1 ∷ writes_word 2 ∷ does 3 (Reuse one_word) ∷ does 2 (Reuse one_word) ∷ []
+
+-- a reuse in a bracket
+unfoldable pub reuse_in_bracket : List Step
+reuse_in_bracket = writes_word 1 ∷ does 2 IgnoreOn ∷ does 2 (Reuse one_word) ∷ does 2 IgnoreOff ∷ writes_word 2 ∷ []
+
+-- three words
+abbrev pub three_words : PageRange
+three_words = record { lo = 1024; hi = 1026; ordered = lit≤ tt; one_page = refl }
+
+-- of the three words, the first is the thread's own and the others are in use
+unfoldable pub reuse_of_three : List Step
+reuse_of_three = writes_word 1 ∷ writes_at 2 1026 ∷ reads_at 2 1025 ∷ reads_at 3 1025 ∷ does 1 (Reuse three_words) ∷ writes_at 2 1026 ∷ []
 
 -- a release that is refused
 unfoldable pub refused_release : List Step

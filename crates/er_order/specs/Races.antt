@@ -1,12 +1,14 @@
--- The race by happens-before: two accesses of a word, one of them a write, of which neither happens before the other.
-use Rattle.std.specs.Prelude.{ℕ, zero, suc, not, Bool, false, ◌&&◌, ◌||◌, cond, List, [], ◌∷◌, ◌++◌, filter, length, slice_get, Option, Some, None, Result, Ok}
+-- The race by happens-before: two accesses of a word, one of them a write, of which neither happens before the other; or an access of a word
+-- and a reuse of it.
+use Rattle.std.specs.Prelude.{ℕ, zero, suc, not, Bool, false, ◌&&◌, ◌||◌, cond, List, [], ◌∷◌, ◌++◌, filter, is_some, length, slice_get, Option, Some, None, Result, Ok}
 use Rattle.er_event.specs.declared.steps.Event.{Event}
-use Rattle.er_event.specs.declared.steps.Event.TheVariants.{Access}
+use Rattle.er_event.specs.declared.steps.Event.TheVariants.{Access, Reuse}
+use Rattle.er_event.specs.declared.addresses.PageRange.{PageRange}
 use Rattle.er_event.specs.declared.refusals.Refusal.{Refusal}
 use Rattle.er_event.specs.declared.steps.Reply.{Reply}
 use Rattle.er_event.specs.declared.steps.Reply.TheVariants.{Done, Quiet, Race, Ignored}
-use Rattle.er_model.specs.Search.{some_below, every_below, greatest_below}
-use Rattle.er_model.specs.Words.{Reading, counts, writes, era, counted_from}
+use Rattle.er_model.specs.Search.{some_below, every_below, least_below, greatest_below}
+use Rattle.er_model.specs.Words.{Reading, counts, writes, era, counted_from, is_within}
 use Rattle.er_model.specs.Threads.{is_ignoring, refusal, accepted}
 use Rattle.er_model.specs.Answers.{answer_unless, reading_of}
 use Rattle.er_event.specs.declared.steps.Step.{Step}
@@ -32,9 +34,27 @@ had_race order r w n = some_below n (λ j. counted_from r w (era r w n) j && is_
 unfoldable pub is_reported : Order → Reading → ℕ → ℕ → Bool
 is_reported order r w k = is_race order r w k && every_below k (λ j. not (counted_from r w (era r w (suc k)) j && is_race order r w j))
 
+-- the last counted access of the word's era that doesn't come in order before position k
+unfoldable pub last_use : Order → Reading → ℕ → ℕ → Option ℕ
+last_use order r w k = greatest_below k (λ j. counted_from r w (era r w k) j && not (order j k))
+
+-- there is one, and no access of the era was a race
+unfoldable pub is_in_use : Order → Reading → ℕ → ℕ → Bool
+is_in_use order r w k = is_some (last_use order r w k) && not (had_race order r w k)
+
+-- the lowest word of the range of which that holds
+unfoldable pub word_in_use : Order → Reading → ℕ → PageRange → Option ℕ
+word_in_use order r k range = least_below (suc range.hi) (λ w. is_within w range && is_in_use order r w k)
+
+-- the reply to a reuse of which this word is in use
+abbrev pub reuse_reply : Option ℕ → Reply
+reuse_reply None = Done
+reuse_reply (Some w) = Race
+
 -- the reply to an event at position k, where it isn't refused; a show is done, since a word's state is the lockset rule's
 unfoldable pub order_reply : List Step → ℕ → ℕ → Event → Reply
 order_reply steps k t (Access kind w site) = cond (is_ignoring (accepted steps k) t) Ignored (cond (is_reported (happens_before (acts_of steps)) (reading_of steps) w k) Race Quiet)
+order_reply steps k t (Reuse range) = cond (is_ignoring (accepted steps k) t) Done (reuse_reply (word_in_use (happens_before (acts_of steps)) (reading_of steps) k range))
 order_reply steps k t event = Done
 
 -- the answer to what stands at a position

@@ -1,27 +1,56 @@
--- Why an access is a race by happens-before: the last earlier access that it is unordered with.
+-- Why an access or a reuse is a race by happens-before: the last earlier access that it is unordered with.
 use Rattle.std.specs.Prelude.{ℕ, not, ◌&&◌, cond, List, [], ◌++◌, slice_get, Option, Some, None}
 use Rattle.std.specs.Option.{option_to_list}
+use Rattle.er_event.specs.declared.steps.Event.{Event}
+use Rattle.er_event.specs.declared.steps.Event.TheVariants.{Access, Reuse}
 use Rattle.er_event.specs.declared.steps.Step.{Step}
 use Rattle.er_model.specs.Search.{greatest_below}
 use Rattle.er_model.specs.Words.{Reading, writes}
-use Rattle.er_model.specs.Explanations.{word_of}
 use Rattle.er_model.specs.Answers.{reading_of}
 use Rattle.er_order.specs.Order.{acts_of, happens_before}
-use Rattle.er_order.specs.Races.{Order, conflicts, last_write, latest_reads}
+use Rattle.er_order.specs.Races.{Order, conflicts, last_use, word_in_use, last_write, latest_reads}
 
 -- the last earlier access that conflicts with position k and doesn't come before it in order
 unfoldable pub last_unordered : Order → Reading → ℕ → ℕ → Option ℕ
 last_unordered order r w k = greatest_below k (λ j. conflicts r w j k && not (order j k))
 
--- of an access of this word
-abbrev pub unordered_on : List Step → ℕ → Option ℕ → Option ℕ
-unordered_on steps k None = None
-unordered_on steps k (Some w) = last_unordered (happens_before (acts_of steps)) (reading_of steps) w k
+-- the word that an event at position k is a race on: an access's, or the lowest of a reuse that is in use
+abbrev pub word_raced_by : List Step → ℕ → Event → Option ℕ
+word_raced_by steps k (Access kind w site) = Some w
+word_raced_by steps k (Reuse range) = word_in_use (happens_before (acts_of steps)) (reading_of steps) k range
+word_raced_by steps k event = None
 
--- the access that the access at position k is unordered with: the last one, if there are several
+abbrev pub word_raced_in : List Step → ℕ → Option Step → Option ℕ
+word_raced_in steps k None = None
+word_raced_in steps k (Some step) = word_raced_by steps k step.event
+
+-- the same of the step at position k
+unfoldable pub word_raced : List Step → ℕ → Option ℕ
+word_raced steps k = word_raced_in steps k (slice_get steps k)
+
+-- the last access of a word that is in use
+abbrev pub use_of : List Step → ℕ → Option ℕ → Option ℕ
+use_of steps k None = None
+use_of steps k (Some w) = last_use (happens_before (acts_of steps)) (reading_of steps) w k
+
+-- the access that an event at position k is unordered with: the last one, if there are several
+abbrev pub unordered_by : List Step → ℕ → Event → Option ℕ
+unordered_by steps k (Access kind w site) = last_unordered (happens_before (acts_of steps)) (reading_of steps) w k
+unordered_by steps k (Reuse range) = use_of steps k (word_in_use (happens_before (acts_of steps)) (reading_of steps) k range)
+unordered_by steps k event = None
+
+abbrev pub unordered_in : List Step → ℕ → Option Step → Option ℕ
+unordered_in steps k None = None
+unordered_in steps k (Some step) = unordered_by steps k step.event
+
+-- the same of the step at position k
 unfoldable pub unordered_with : List Step → ℕ → Option ℕ
-unordered_with steps k = unordered_on steps k (word_of (slice_get steps k))
+unordered_with steps k = unordered_in steps k (slice_get steps k)
 
 -- of the era's last write and the latest reads since, those that conflict with position k, the last one first
 unfoldable pub rivals : Order → Reading → ℕ → ℕ → List ℕ
 rivals order r w k = cond (writes (r k)) (latest_reads order r w k) [] ++ option_to_list (last_write r w k)
+
+-- and those of which a reuse at position k is unordered with one, if it is with any
+unfoldable pub users : Order → Reading → ℕ → ℕ → List ℕ
+users order r w k = latest_reads order r w k ++ option_to_list (last_write r w k)

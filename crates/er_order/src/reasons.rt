@@ -1,35 +1,47 @@
-//! The laws of what an unordered access is unordered with: each function does nothing, and its contract is proved of the definitions.
+//! The laws of what an unordered access or reuse is unordered with: each function does nothing, and its contract is proved of the definitions.
 ghost use Rattle.std.specs.Prelude.{◌≡◌, ◌<◌, ◌≤◌, ◌++◌, length, not, slice_get, Option, Ok, ℕ, List, false, IsTrue};
 ghost use Rattle.std.specs.List.{find};
 ghost use Rattle.er_model.specs.Answers.{reading_of};
 ghost use Rattle.er_model.specs.Explanations.{word_of};
-ghost use Rattle.er_model.specs.Words.{Reading, counts, thread_of};
+ghost use Rattle.er_model.specs.Words.{Reading, counts, thread_of, era, counted_from, is_within};
+ghost use Rattle.er_event.specs.declared.steps.Event.TheVariants.{Reuse};
 ghost use Rattle.er_event.specs.declared.steps.Step.{Step};
-ghost use Rattle.er_order.specs.Order.{acts_of, happens_before};
+ghost use Rattle.er_order.specs.Order.{Effect, acts_of, happens_before};
 ghost use Rattle.er_order.specs.Races.{Order, conflicts, had_race, order_answer};
-ghost use Rattle.er_order.specs.Reasons.{last_unordered, unordered_with, rivals};
+ghost use Rattle.er_order.specs.Reasons.{last_unordered, word_raced, unordered_with, rivals, users};
 
-use er_event::Reply;
+use er_event::{PageRange, Reply};
 
-/// An access that is answered with a race is unordered with an earlier one. That one is a counted access of the same word in the same
-/// era, by another thread, and one of the two is a write. It doesn't come before the race in order, and it is the last such access.
-/// Steps that come later change nothing of this.
+/// What is answered with a race is unordered with an earlier access. That one is a counted access of the race's word in the era that the
+/// race is in or ends, by another thread. It doesn't come before the race in order, and it is the last such access. An access and the one
+/// that it is unordered with are of one word, and one of the two is a write; a reuse has the word in its range, of which no race was
+/// reported in the era. Steps that come later change nothing of this.
 pub fn a_race_is_unordered_with_an_access()
     ensures race { (steps : List Step) (k : ℕ) → order_answer steps k ≡ Ok Reply.Race → (j : ℕ) × (unordered_with steps k ≡ Option.Some j) }
     ensures unordered { (steps : List Step) (j k : ℕ) → unordered_with steps k ≡ Option.Some j
-        → (w : ℕ) × (word_of (slice_get steps k) ≡ Option.Some w) × IsTrue (conflicts (reading_of steps) w j k) × (happens_before (acts_of steps) j k ≡ false) }
+        → (w : ℕ) × (word_raced steps k ≡ Option.Some w) × IsTrue (counted_from (reading_of steps) w (era (reading_of steps) w k) j)
+        × (happens_before (acts_of steps) j k ≡ false) }
+    ensures conflict { (steps : List Step) (j k w : ℕ) → unordered_with steps k ≡ Option.Some j → word_of (slice_get steps k) ≡ Option.Some w
+        → IsTrue (conflicts (reading_of steps) w j k) }
+    ensures reuse { (steps : List Step) (k w : ℕ) (step : Step) (range : PageRange) → slice_get steps k ≡ Option.Some step
+        → step.event ≡ Reuse range → word_raced steps k ≡ Option.Some w
+        → IsTrue (is_within w range) × (had_race (happens_before (acts_of steps)) (reading_of steps) w k ≡ false) }
     ensures earlier { (steps : List Step) (j k : ℕ) → unordered_with steps k ≡ Option.Some j → j < k }
-    ensures word { (steps : List Step) (j k : ℕ) → unordered_with steps k ≡ Option.Some j
-        → word_of (slice_get steps j) ≡ word_of (slice_get steps k) }
-    ensures threads { (steps : List Step) (j k : ℕ) → unordered_with steps k ≡ Option.Some j
-        → thread_of (reading_of steps j) ≡ thread_of (reading_of steps k) → ⊥ }
+    ensures access { (steps : List Step) (k w : ℕ) → word_of (slice_get steps k) ≡ Option.Some w → word_raced steps k ≡ Option.Some w }
+    ensures word { (steps : List Step) (j k w : ℕ) → unordered_with steps k ≡ Option.Some j → word_raced steps k ≡ Option.Some w
+        → word_of (slice_get steps j) ≡ Option.Some w }
+    ensures threads { (steps : List Step) (j k t : ℕ) → unordered_with steps k ≡ Option.Some j
+        → acts_of steps k ≡ Option.Some (record { thread = t; sync = Effect.Local }) → thread_of (reading_of steps j) ≡ t → ⊥ }
     ensures last { (steps : List Step) (i j k w : ℕ) → unordered_with steps k ≡ Option.Some j → word_of (slice_get steps k) ≡ Option.Some w
         → i < k → IsTrue (conflicts (reading_of steps) w i k) → happens_before (acts_of steps) i k ≡ false → i ≤ j }
+    ensures last_use { (steps : List Step) (i j k w : ℕ) (step : Step) (range : PageRange) → unordered_with steps k ≡ Option.Some j
+        → slice_get steps k ≡ Option.Some step → step.event ≡ Reuse range → word_raced steps k ≡ Option.Some w → i < k
+        → IsTrue (counted_from (reading_of steps) w (era (reading_of steps) w k) i) → happens_before (acts_of steps) i k ≡ false → i ≤ j }
     ensures stays { (steps more : List Step) (k : ℕ) → k < length steps → unordered_with (steps ++ more) k ≡ unordered_with steps k }
 {}
 
 /// While an era had no race, the access that one more is unordered with is found among its last write and the latest reads since. So it
-/// is at the race that is reported.
+/// is at the race that is reported, and at a reuse.
 pub fn a_reason_is_found()
     ensures found { (order : Order) (r : Reading) (w k : ℕ)
         → ((i j k : ℕ) → IsTrue (order i j) → IsTrue (order j k) → IsTrue (order i k)) → IsTrue (counts (r k) w) → had_race order r w k ≡ false
@@ -37,4 +49,7 @@ pub fn a_reason_is_found()
     ensures reported { (steps : List Step) (k w : ℕ) → order_answer steps k ≡ Ok Reply.Race → word_of (slice_get steps k) ≡ Option.Some w
         → unordered_with steps k
         ≡ find (λ j. not (happens_before (acts_of steps) j k)) (rivals (happens_before (acts_of steps)) (reading_of steps) w k) }
+    ensures reuse { (steps : List Step) (k w : ℕ) (step : Step) (range : PageRange) → slice_get steps k ≡ Option.Some step
+        → step.event ≡ Reuse range → word_raced steps k ≡ Option.Some w → unordered_with steps k
+        ≡ find (λ j. not (happens_before (acts_of steps) j k)) (users (happens_before (acts_of steps)) (reading_of steps) w k) }
 {}

@@ -18,7 +18,7 @@ use Rattle.er_event.specs.declared.steps.WordState.TheVariants.{Virgin, Exclusiv
 use Rattle.er_trace.specs.Trace.{Recording}
 use Rattle.er_journal.specs.declared.answers.Stopped.{Stopped}
 use Rattle.er_report.specs.Report.{Summary, report_of}
-use Rattle.er_report.specs.Lines.{LineView, RaceView, RefusedView, ShownView}
+use Rattle.er_report.specs.Lines.{LineView, RaceView, ReusedView, RefusedView, ShownView}
 use Rattle.er_report.specs.declared.report.Because.{Because}
 use Rattle.er_report.specs.declared.report.Label.{Label}
 use Rattle.er_report.specs.declared.report.Label.TheVariants as label
@@ -113,11 +113,20 @@ reason_text names because =
     codes "  " ++ label_text names because.label ++ codes ": line " ++ decimal because.line ++ codes ", "
     ++ name_at names.threads because.thread ++ codes " " ++ kind_text because.kind ++ 10 ∷ []
 
+-- how many bytes the words from lo to hi have
+abbrev pub size_text : ℕ → ℕ → List ℕ
+size_text lo hi = decimal ((hi - lo + 1) * 4)
+
+-- who gave them back, by the address of the first byte
+abbrev pub reuse_text : NameTable → ℕ → ℕ → ℕ → List ℕ
+reuse_text names thread lo hi = name_at names.threads thread ++ codes " reuse " ++ address_text lo ++ codes " " ++ size_text lo hi
+
 -- what a line says of its step
 abbrev pub own_text : NameTable → LineView → List ℕ
 own_text names (RaceView number thread kind word site held explained) =
     place_text number ++ codes "race: " ++ name_at names.threads thread ++ codes " " ++ kind_text kind
     ++ codes " " ++ address_text word ++ codes " at " ++ site_text names site ++ codes ", holds " ++ locks_text names held ++ 10 ∷ []
+own_text names (ReusedView number thread range held explained) = place_text number ++ codes "race: " ++ reuse_text names thread range.lo range.hi ++ 10 ∷ []
 own_text names (RefusedView number step refusal) =
     place_text number ++ codes "refused: " ++ name_at names.threads step.thread ++ codes " "
     ++ event_text names step.event ++ codes ": " ++ text_of refusal ++ 10 ∷ []
@@ -127,6 +136,7 @@ own_text names (ShownView number word state) =
 -- and why it is a race
 abbrev pub reasons_text : NameTable → LineView → List ℕ
 reasons_text names (RaceView number thread kind word site held explained) = flat_map (reason_text names) explained
+reasons_text names (ReusedView number thread range held explained) = flat_map (reason_text names) explained
 reasons_text names (RefusedView number step refusal) = []
 reasons_text names (ShownView number word state) = []
 

@@ -1,14 +1,16 @@
 //! The lines of a report.
-ghost use Rattle.std.specs.Prelude.{◌≡◌, ◌<◌, ◌≤◌, [], ◌∷◌, ◌++◌, length, All, codes, decimal, flat_map, OnOk};
+ghost use Rattle.std.specs.Prelude.{◌≡◌, ◌<◌, ◌≤◌, ◌+◌, ◌-◌, ◌*◌, [], ◌∷◌, ◌++◌, length, All, codes, decimal, flat_map, OnOk};
 ghost use Rattle.er_event.specs.Refusal.{text_of};
 ghost use Rattle.er_report.specs.Lines.{line_view};
 ghost use Rattle.er_report.specs.Names.{HasLabelName, HasLockNames, HasEventNames, HasNames, HasReasonNames, HasStateNames};
 ghost use Rattle.er_report.specs.Report.{told};
-ghost use Rattle.er_print.specs.Printed.{name_at, site_text, locks_text, kind_text, address_text, event_text, state_text, label_text, place_text, reason_text, own_text, line_text, stop_text, count_text, counts_text, lost_text, totals_text};
+ghost use Rattle.er_print.specs.Printed.{name_at, site_text, locks_text, kind_text, address_text, event_text, state_text, label_text, place_text, reason_text, reuse_text, size_text, own_text, line_text, stop_text, count_text, counts_text, lost_text, totals_text};
 
 use crate::naming::{put_event, put_lock, put_locks, put_site, put_state, put_thread};
 use crate::numbers::{put_address, put_number};
-use er_event::{Kind, Lockset, NoRoom, Refusal, Site, Step, ThreadId, Word, WordState};
+use er_event::{
+    Kind, Lockset, NoRoom, PageRange, Refusal, Site, Step, ThreadId, Word, WordState,
+};
 use er_report::{Because, Label, Line, Report};
 use er_trace::Names;
 use std::alloc::AllocError;
@@ -21,6 +23,7 @@ pub fn put_line(out: &mut Vec<u8>, names: &Names, line: &Line) -> Result<(), All
     put_own_line(out, names, line)?;
     match line {
         Line::Race { explained, .. } => put_reasons(out, names, explained),
+        Line::Reused { explained, .. } => put_reasons(out, names, explained),
         _ => Ok(()),
     }
 }
@@ -59,6 +62,18 @@ fn put_own_line(out: &mut Vec<u8>, names: &Names, line: &Line) -> Result<(), All
             put_race(out, names, *thread, *kind, *word)?;
             put_where(out, names, *site, held)
         }
+        Line::Reused {
+            line,
+            thread,
+            range,
+            held: _,
+            explained: _,
+        } => {
+            put_place(out, *line)?;
+            out.extend_from_slice(b"race: ")?;
+            put_reuse(out, names, *thread, range)?;
+            out.extend_from_slice(b"\n")
+        }
         Line::Refused {
             line,
             step,
@@ -72,6 +87,31 @@ fn put_own_line(out: &mut Vec<u8>, names: &Names, line: &Line) -> Result<(), All
             put_shown(out, names, *word, state)
         }
     }
+}
+
+/// Puts who gave back which bytes.
+pub fn put_reuse(
+    out: &mut Vec<u8>,
+    names: &Names,
+    thread: ThreadId,
+    range: &PageRange,
+) -> Result<(), AllocError>
+    requires { thread < length names.now.threads }
+    ensures { OnOk result (out.new.items ≡ out.old.items ++ reuse_text names.now thread range.now.lo range.now.hi) }
+{
+    put_thread(out, names, thread)?;
+    out.extend_from_slice(b" reuse ")?;
+    put_address(out, range.lo)?;
+    out.extend_from_slice(b" ")?;
+    put_size(out, range)
+}
+
+/// Puts how many bytes the words of a range have.
+pub fn put_size(out: &mut Vec<u8>, range: &PageRange) -> Result<(), AllocError>
+    ensures { OnOk result (out.new.items ≡ out.old.items ++ size_text range.now.lo range.now.hi) }
+{
+    let words = range.hi.number() - range.lo.number() + 1;
+    put_number(out, words * Word::BYTES)
 }
 
 // Puts the access of a race.

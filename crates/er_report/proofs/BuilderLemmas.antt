@@ -34,7 +34,7 @@ use Rattle.er_report.proofs.CountLemmas.{no_counts, same_counts, counts_more, on
 use Rattle.er_rules.specs.Rules.{Target}
 use Rattle.er_trace.specs.Names.{NameTable}
 use Rattle.er_event.specs.declared.steps.Event.{Event}
-use Rattle.er_event.specs.declared.steps.Event.TheVariants.{Access}
+use Rattle.er_event.specs.declared.steps.Event.TheVariants.{Access, Reuse}
 use Rattle.er_event.specs.declared.steps.Reply.TheVariants.{Race, Done, Quiet, Ignored, State}
 use Rattle.std.specs.List.{range_with_len}
 
@@ -90,6 +90,7 @@ report-start a r rules =
 same_reply : (number : ℕ) (a b : List ℕ) (t : ℕ) (event : Event) (reply : Reply) → is_race (Ok reply) ≡ false
     → reply_line number a [] t event reply ≡ reply_line number b [] t event reply
 same_reply number a b t (Access kind word site) Race none = cc
+same_reply number a b t (Reuse range) Race none = cc
 same_reply number a b t event reply none = refl
 
 same_line : (number : ℕ) (locks known : List ℕ) (step : Step) (given : Result Reply Refusal) → (IsTrue (is_race given) → locks ≡ known)

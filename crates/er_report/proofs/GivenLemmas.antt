@@ -10,12 +10,11 @@ use Rattle.er_event.specs.declared.steps.Reply.TheVariants.{Race, Done, Quiet, I
 use Rattle.er_event.specs.declared.steps.Step.{Step}
 use Rattle.er_trace.specs.Trace.{Recording}
 use Rattle.er_explain.specs.Racing.{is_race, places_below}
-use Rattle.er_model.specs.Explanations.{word_in, word_of}
 use Rattle.er_model.specs.Threads.{accepted, held}
 use Rattle.er_report.specs.Builder.{Built, IsBuiltBy, report_below_by}
 use Rattle.er_report.specs.Inner.Explained.{line_told, told_left, with_told}
 use Rattle.er_report.specs.Lines.{LineView}
-use Rattle.er_report.specs.Report.{Answering, AreAccesses, Summary, answer_line, reply_line, line_at, lines_by, is_printed_by, matching_rule_by, no_reasons, report_by, answered_steps}
+use Rattle.er_report.specs.Report.{Answering, RacesHaveLines, Summary, answer_line, reply_line, line_at, lines_by, is_printed_by, matching_rule_by, may_race, may_race_at, no_reasons, report_by, answered_steps}
 use Rattle.er_report.specs.declared.report.Because.{Because}
 use Rattle.er_report.proofs.BuilderLemmas.{built-lines}
 use Rattle.er_rules.specs.Rules.{Target}
@@ -66,23 +65,24 @@ quiet-gains : (number : ℕ) (locks : List ℕ) (reasons : List Because) (t : �
     → Gains [] (reply_line number locks [] t event reply) (reply_line number locks reasons t event reply)
 unfolding with_told left_told
 quiet-gains number locks reasons t (Access kind w site) Race none = absurd (cc)
+quiet-gains number locks reasons t (Reuse range) Race none = absurd (cc)
 quiet-gains number locks reasons t (Show w) (State state) none = record { lines = λ more. refl; left = λ more. refl }
 quiet-gains number locks reasons t event reply none = record { lines = λ more. refl; left = λ more. refl }
 
-race-gains : (number : ℕ) (locks : List ℕ) (reasons : List Because) (t : ℕ) (event : Event) → (word_in event ≡ None → ⊥)
+race-gains : (number : ℕ) (locks : List ℕ) (reasons : List Because) (t : ℕ) (event : Event) → (may_race event ≡ false → ⊥)
     → Gains (reasons ∷ []) (reply_line number locks [] t event Race) (reply_line number locks reasons t event Race)
 unfolding with_told left_told
 race-gains number locks reasons t (Access kind w site) accesses = record { lines = λ more. refl; left = λ more. refl }
 race-gains number locks reasons t (Acquire l m) accesses = absurd (accesses refl)
 race-gains number locks reasons t (Release l m) accesses = absurd (accesses refl)
-race-gains number locks reasons t (Reuse range) accesses = absurd (accesses refl)
+race-gains number locks reasons t (Reuse range) accesses = record { lines = λ more. refl; left = λ more. refl }
 race-gains number locks reasons t IgnoreOn accesses = absurd (accesses refl)
 race-gains number locks reasons t IgnoreOff accesses = absurd (accesses refl)
 race-gains number locks reasons t (Show w) accesses = absurd (accesses refl)
 race-gains number locks reasons t (Level n) accesses = absurd (accesses refl)
 race-gains number locks reasons t (Sync sync) accesses = absurd (accesses refl)
 
-answer-gains : (number : ℕ) (locks : List ℕ) (reasons : List Because) (step : Step) (given : Result Reply Refusal) → (given ≡ Ok Race → word_in step.event ≡ None → ⊥)
+answer-gains : (number : ℕ) (locks : List ℕ) (reasons : List Because) (step : Step) (given : Result Reply Refusal) → (given ≡ Ok Race → may_race step.event ≡ false → ⊥)
     → Gains (cond (is_race given) (reasons ∷ []) []) (answer_line number locks [] step given) (answer_line number locks reasons step given)
 unfolding with_told left_told
 answer-gains number locks reasons step (Ok Race) accesses = race-gains number locks reasons step.thread step.event (accesses refl)
@@ -101,16 +101,16 @@ nothing-gains reasons (Ok Ignored) none = gains-nil
 nothing-gains reasons (Ok (State state)) none = gains-nil
 nothing-gains reasons (Err why) none = gains-nil
 
-module _ (a : Answering) (why : ℕ → List Because) (r : Recording) (accesses : AreAccesses a r.steps) where
+module _ (a : Answering) (why : ℕ → List Because) (r : Recording) (accesses : RacesHaveLines a r.steps) where
   line-gains-by : (k : ℕ) (o : Option Step) → slice_get r.steps k ≡ o → Gains (cond (is_race (a k)) (why k ∷ []) []) (line_at a no_reasons r k) (line_at a why r k)
   unfolding line_at
   line-gains-by k None none =
-      let unraced : a k ≡ Ok Race → ⊥ = λ race. accesses k race (ap word_of none) in
+      let unraced : a k ≡ Ok Race → ⊥ = λ race. accesses k race (ap may_race_at none) in
       rw none (nothing-gains (why k) (a k) unraced)
   line-gains-by k (Some step) here =
       rw here
       (answer-gains (slice_index r.lines k) (held (accepted r.steps k) step.thread) (why k) step (a k)
-      (λ race other. accesses k race (ap word_of here ∙ other)))
+      (λ race other. accesses k race (ap may_race_at here ∙ other)))
 
   line-gains : (k : ℕ) → Gains (cond (is_race (a k)) (why k ∷ []) []) (line_at a no_reasons r k) (line_at a why r k)
   line-gains k = line-gains-by k (slice_get r.steps k) refl

@@ -77,6 +77,7 @@ answer_within rules names event (Ok Race) j taken = no_other event taken
   where
     no_other : (e : Event) → event_matching_rule rules names e ≡ Some j → j < length rules
     no_other (Access kind w site) taken = (position-Some _ rules j (AtWords None) taken).0
+    no_other (Reuse range) taken = (position-Some _ rules j (AtWords None) taken).0
     no_other e taken = absurd (cc)
 answer_within rules names event (Ok Done) j taken = absurd (cc)
 answer_within rules names event (Ok Quiet) j taken = absurd (cc)

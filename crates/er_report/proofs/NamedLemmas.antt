@@ -34,7 +34,7 @@ use Rattle.er_model.proofs.Prefixes.{holdings-empty, state-start}
 use Rattle.er_report.specs.Names.{HasLockName, HasLockNames, HasStateNames, HasEventNames, HasSiteName, HasLabelName, HasReasonNames, HasViewNames, HaveStateNames}
 use Rattle.er_report.specs.Report.{Answering, reply_line, answer_line, line_of, line_at, lines_by, matching_rule_by, reasons_if}
 use Rattle.er_rules.specs.Rules.{Target}
-use Rattle.er_report.specs.Lines.{RaceView, RefusedView, ShownView}
+use Rattle.er_report.specs.Lines.{RaceView, ReusedView, RefusedView, ShownView}
 use Rattle.er_report.specs.Reasons.{access_reason, step_reason, reason_at, reasons_of, reasons_by}
 use Rattle.er_report.specs.declared.report.Because.{Because}
 use Rattle.er_report.specs.declared.report.Label.{Label}
@@ -155,6 +155,8 @@ module _ (names : NameTable) where
       → All (HasViewNames names) (reply_line number locks reasons t e reply)
   named_reply number locks reasons t (Access kind w site) Race own new all because shown =
       All-cons (HasViewNames names) (RaceView number t kind w site locks reasons) [] (own, new, all, because) (All-nil (HasViewNames names))
+  named_reply number locks reasons t (Reuse range) Race own new all because shown =
+      All-cons (HasViewNames names) (ReusedView number t range locks reasons) [] (own, all, because) (All-nil (HasViewNames names))
   named_reply number locks reasons t (Show w) (State state) own new all because shown =
       All-cons (HasViewNames names) (ShownView number w state) [] (shown state refl) (All-nil (HasViewNames names))
   named_reply number locks reasons t e reply own new all because shown = All-nil (HasViewNames names)

@@ -44,6 +44,7 @@ plain-refused (Err why) plain = cc
 
 plain-reply : (number : ℕ) (locks : List ℕ) (t : ℕ) (event : Event) (reply : Reply) → is_plain (Ok reply) ≡ true → reply_line number locks [] t event reply ≡ []
 plain-reply number locks t (Access kind word site) Race plain = cc
+plain-reply number locks t (Reuse range) Race plain = cc
 plain-reply number locks t (Show word) (State state) plain = cc
 plain-reply number locks t event reply plain = refl
 

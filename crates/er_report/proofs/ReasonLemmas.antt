@@ -67,6 +67,7 @@ quiet-gains : (r : Recording) (number : ℕ) (locks : List ℕ) (t : ℕ) (event
     → Gains r [] (reply_line number locks [] t event reply) (reply_line number locks [] t event reply)
 unfolding with_reasons left_by
 quiet-gains r number locks t (Access kind w site) Race none = absurd (cc)
+quiet-gains r number locks t (Reuse range) Race none = absurd (cc)
 quiet-gains r number locks t (Show w) (State state) none = record { lines = λ more. refl; left = λ more. refl }
 quiet-gains r number locks t event reply none = record { lines = λ more. refl; left = λ more. refl }
 

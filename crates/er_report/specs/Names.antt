@@ -7,7 +7,7 @@ use Rattle.er_event.specs.declared.steps.Event.TheVariants.{Acquire, Release, Ac
 use Rattle.er_event.specs.declared.steps.Reply.TheVariants.{State}
 use Rattle.er_event.specs.declared.steps.WordState.{WordState}
 use Rattle.er_event.specs.declared.steps.WordState.TheVariants.{Virgin, Exclusive, Shared, SharedModified}
-use Rattle.er_report.specs.Lines.{LineView, RaceView, RefusedView, ShownView, line_view}
+use Rattle.er_report.specs.Lines.{LineView, RaceView, ReusedView, RefusedView, ShownView, line_view}
 use Rattle.er_report.specs.Report.{Answering}
 use Rattle.er_report.specs.declared.report.Because.{Because}
 use Rattle.er_report.specs.declared.report.Label.{Label}
@@ -73,6 +73,8 @@ HasReasonNames names because = (because.thread < length names.threads) × HasLab
 abbrev pub HasViewNames : NameTable → LineView → Type 0
 HasViewNames names (RaceView number thread kind word site held explained) =
     (thread < length names.threads) × (site ≤ length names.sites) × HasLockNames names held × All (HasReasonNames names) explained
+HasViewNames names (ReusedView number thread range held explained) =
+    (thread < length names.threads) × HasLockNames names held × All (HasReasonNames names) explained
 HasViewNames names (RefusedView number step refusal) = (step.thread < length names.threads) × HasEventNames names step.event
 HasViewNames names (ShownView number word state) = HasStateNames names state
 

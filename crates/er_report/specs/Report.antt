@@ -6,22 +6,21 @@ use Rattle.er_trace.specs.Names.{NameTable}
 use Rattle.er_event.specs.declared.refusals.NoRoom.{NoRoom}
 use Rattle.er_event.specs.declared.refusals.Refusal.{Refusal}
 use Rattle.er_event.specs.declared.steps.Event.{Event}
-use Rattle.er_event.specs.declared.steps.Event.TheVariants.{Access, Show}
+use Rattle.er_event.specs.declared.steps.Event.TheVariants.{Access, Reuse, Show}
 use Rattle.er_event.specs.declared.steps.Reply.{Reply}
 use Rattle.er_event.specs.declared.steps.Reply.TheVariants.{Race, State}
 use Rattle.er_event.specs.declared.steps.Step.{Step}
 use Rattle.er_trace.specs.Trace.{Recording}
 use Rattle.er_explain.specs.Racing.{is_race}
 use Rattle.er_model.specs.Answers.{answer}
-use Rattle.er_model.specs.Explanations.{word_of}
 use Rattle.er_model.specs.Threads.{accepted, held}
 use Rattle.er_journal.specs.declared.answers.Stopped.{Stopped}
 pub use Rattle.er_journal.specs.Stops.{answered_steps}
-use Rattle.er_report.specs.Lines.{LineView, RaceView, RefusedView, ShownView, line_view}
+use Rattle.er_report.specs.Lines.{LineView, RaceView, ReusedView, RefusedView, ShownView, line_view}
 use Rattle.er_report.specs.Reasons.{reasons_at}
 use Rattle.er_report.specs.declared.report.Because.{Because}
 use Rattle.er_report.specs.declared.report.Report.{Report}
-use Rattle.er_rules.specs.Rules.{Target, matching_rule}
+use Rattle.er_rules.specs.Rules.{Target, matching_rule, matching_reuse_rule}
 
 -- a report, as contracts compare it
 pub record Summary : Type 0 where
@@ -51,6 +50,7 @@ told r =
 -- the line of a race or of a show, and none of another reply; these are the locks that the thread holds, and why it is a race
 abbrev pub reply_line : ℕ → List ℕ → List Because → ℕ → Event → Reply → List LineView
 reply_line number locks reasons thread (Access kind word site) Race = RaceView number thread kind word site locks reasons ∷ []
+reply_line number locks reasons thread (Reuse range) Race = ReusedView number thread range locks reasons ∷ []
 reply_line number locks reasons thread (Show word) (State state) = ShownView number word state ∷ []
 reply_line number locks reasons thread event reply = []
 
@@ -82,9 +82,10 @@ abbrev pub site_name : NameTable → ℕ → Option (List ℕ)
 site_name names zero = None
 site_name names (suc n) = slice_get names.sites n
 
--- the first rule that takes races of the event, which only an access has
+-- the first rule that takes races of the event, which only an access and a reuse have
 abbrev pub event_matching_rule : List Target → NameTable → Event → Option ℕ
 event_matching_rule rules names (Access kind word site) = matching_rule rules (site_name names site) word
+event_matching_rule rules names (Reuse range) = matching_reuse_rule rules range.lo range.hi
 event_matching_rule rules names event = None
 
 -- the rule that takes an event of this answer, which must be a race
@@ -147,9 +148,20 @@ report_by answers reasons r rules stop =
       lost = None;
     }
 
--- each race is the answer to an access
-abbrev pub AreAccesses : Answering → List Step → Type 0
-AreAccesses answers steps = (k : ℕ) → answers k ≡ Ok Race → word_of (slice_get steps k) ≡ None → ⊥
+-- the event is an access or a reuse, whose race has a line
+abbrev pub may_race : Event → Bool
+may_race (Access kind w site) = true
+may_race (Reuse range) = true
+may_race event = false
+
+-- past the list's end there is none
+abbrev pub may_race_at : Option Step → Bool
+may_race_at None = false
+may_race_at (Some step) = may_race step.event
+
+-- each race is the answer to such an event
+abbrev pub RacesHaveLines : Answering → List Step → Type 0
+RacesHaveLines answers steps = (k : ℕ) → answers k ≡ Ok Race → may_race_at (slice_get steps k) ≡ false → ⊥
 
 -- none for any race
 abbrev pub no_reasons : ℕ → List Because

@@ -11,7 +11,7 @@ ghost use Rattle.er_report.specs.Kept.{Follows};
 ghost use Rattle.er_report.specs.Lines.{line_view};
 ghost use Rattle.er_report.specs.Names.{HasNames, HasReasonNames, HasSiteName, HaveStateNames};
 ghost use Rattle.er_report.specs.declared.report.Because.{Because as Reason};
-ghost use Rattle.er_report.specs.Report.{Answering, AreAccesses, told, answer_line, answered_steps, no_reasons, report_by, report_of, stop_line};
+ghost use Rattle.er_report.specs.Report.{Answering, RacesHaveLines, told, answer_line, answered_steps, no_reasons, report_by, report_of, stop_line};
 ghost use Rattle.er_rules.specs.Rules.{Target, targets_of};
 
 use crate::explainer::Explainer;
@@ -247,10 +247,11 @@ impl<'r> ReportBuilder<'r> {
         report
     }
 
-    /// The report with these reasons, one list for each race that has a line, in their order. An access is the only step that is a race.
+    /// The report with these reasons, one list for each race that has a line, in their order. An access and a reuse are the only steps that
+    /// are races.
     pub fn finish_with(self, reasons: Vec<Vec<Because>>) -> Report
-        ensures report_by { (a : Answering) (why : ℕ → List Reason) (r : Recording) → AreAccesses a r.steps → IsBuiltBy a self.entry r (length (answered_steps r.steps None)) → map (λ told. told.items) reasons.items ≡ map why self.entry.races → told result ≡ report_by a why r self.entry.rules None }
-        ensures named_by { (a : Answering) (why : ℕ → List Reason) (r : Recording) (n : ℕ) → AreAccesses a r.steps → IsBuiltBy a self.entry r n → map (λ told. told.items) reasons.items ≡ map why self.entry.races
+        ensures report_by { (a : Answering) (why : ℕ → List Reason) (r : Recording) → RacesHaveLines a r.steps → IsBuiltBy a self.entry r (length (answered_steps r.steps None)) → map (λ told. told.items) reasons.items ≡ map why self.entry.races → told result ≡ report_by a why r self.entry.rules None }
+        ensures named_by { (a : Answering) (why : ℕ → List Reason) (r : Recording) (n : ℕ) → RacesHaveLines a r.steps → IsBuiltBy a self.entry r n → map (λ told. told.items) reasons.items ≡ map why self.entry.races
             → All (IsNamed r.names) r.steps → HaveStateNames r.names a → ((k : ℕ) → All (HasReasonNames r.names) (why k)) → All (HasNames r.names) result.lines.items }
     {
         let ReportBuilder {
@@ -388,6 +389,13 @@ fn line_of(
             kind,
             word,
             site,
+            held: held.copy()?,
+            explained: Vec::new(alloc),
+        }),
+        (Answer::Race, Event::Reuse(range)) => Some(Line::Reused {
+            line: number,
+            thread: step.thread,
+            range,
             held: held.copy()?,
             explained: Vec::new(alloc),
         }),

@@ -1,7 +1,7 @@
 //! The lines of races get their reasons.
-ghost use Rattle.std.specs.Prelude.{◌≡◌, map};
+ghost use Rattle.std.specs.Prelude.{◌≡◌, drop, map};
 ghost use Rattle.std.specs.Vec.Iter.{into_iter_items};
-ghost use Rattle.er_report.specs.Inner.Explained.{line_told, lines_kept, told_left, with_told};
+ghost use Rattle.er_report.specs.Inner.Explained.{line_told, lines_kept, next_told, told_left, with_told};
 ghost use Rattle.er_report.specs.Lines.{line_view};
 
 use crate::explainer::Explainer;
@@ -39,9 +39,19 @@ fn explain_line(to_come: &mut IntoIter<Vec<Because>>, line: &mut Line)
     ensures line { line_view line.new ≡ line_told (map (λ reasons. reasons.items) (into_iter_items to_come.old)) (line_view line.old) }
     ensures left { map (λ reasons. reasons.items) (into_iter_items to_come.new) ≡ told_left (map (λ reasons. reasons.items) (into_iter_items to_come.old)) (line_view line.old) }
 {
-    if let Line::Race { explained, .. } = line {
-        if let Some(reasons) = to_come.next() {
-            *explained = reasons;
-        }
+    match line {
+        Line::Race { explained, .. } => take_next(to_come, explained),
+        Line::Reused { explained, .. } => take_next(to_come, explained),
+        _ => {}
+    }
+}
+
+// Takes the next reasons, where some are left.
+fn take_next(to_come: &mut IntoIter<Vec<Because>>, explained: &mut Vec<Because>)
+    ensures given { explained.new.items ≡ next_told (map (λ reasons. reasons.items) (into_iter_items to_come.old)) explained.old.items }
+    ensures left { map (λ reasons. reasons.items) (into_iter_items to_come.new) ≡ drop 1 (map (λ reasons. reasons.items) (into_iter_items to_come.old)) }
+{
+    if let Some(reasons) = to_come.next() {
+        *explained = reasons;
     }
 }

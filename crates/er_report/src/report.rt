@@ -1,5 +1,7 @@
 //! A report, as plain data.
-use er_event::{Kind, LockId, Lockset, NoRoom, Refusal, Site, Step, ThreadId, Word, WordState};
+use er_event::{
+    Kind, LockId, Lockset, NoRoom, PageRange, Refusal, Site, Step, ThreadId, Word, WordState,
+};
 
 /// One line of a report. Each names the line of the text that its step came from.
 #[derive(Debug, PartialEq, Eq, Drop)]
@@ -20,6 +22,19 @@ pub enum Line {
         held: Lockset,
         /// The accesses that make it a race: the first, the joining, a write, and one for each lock of the joining. Empty in a
         /// report without explanations.
+        explained: Vec<Because>,
+    },
+    /// A reuse that was answered with a race: its memory was given back while another thread still used it.
+    Reused {
+        /// The line of the text, from 1.
+        line: u64,
+        /// Who gave the memory back.
+        thread: ThreadId,
+        /// The words that were given back.
+        range: PageRange,
+        /// The locks that the thread held then, in any mode.
+        held: Lockset,
+        /// The access that it is unordered with. Empty in a report without explanations.
         explained: Vec<Because>,
     },
     /// A step that was refused.

@@ -25,6 +25,7 @@ pub(crate) fn first_rule(
         (Answer::Race, Event::Access(_, word, site)) => {
             suppressions.matching_rule(name_of(names, site), word)
         }
+        (Answer::Race, Event::Reuse(range)) => suppressions.matching_reuse(range),
         _ => None,
     }
 }

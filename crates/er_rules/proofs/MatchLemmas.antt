@@ -1,5 +1,5 @@
 -- The first rule that takes a race, while rules are added one by one.
-use Rattle.std.proofs.Common.{◌≡◌, ◌∙◌, ◌≤◌, ◌+◌, ℕ, Bool, true, false, cond, nat_eq, nat_lt, List, [], ◌∷◌, ◌++◌, map, length, position, Option, Some, None, refl, sym, ap, arith}
+use Rattle.std.proofs.Common.{◌≡◌, ◌∙◌, ◌≤◌, ◌+◌, ℕ, Bool, true, false, not, cond, nat_eq, nat_lt, List, [], ◌∷◌, ◌++◌, map, length, position, Option, Some, None, refl, sym, ap, ap₂, arith}
 use Rattle.std.specs.List.{position_or_len}
 use Rattle.std.specs.Option.{option_or}
 use Rattle.std.proofs.lemmas.List.{length_push, map_push, length-map}
@@ -31,3 +31,10 @@ pub matching_rule-push : (rules : List Rule) (rule : Rule) (site : Option (List 
 matching_rule-push rules rule site word =
     ap (λ ts. matching_rule ts site word) (map_push target_of rules rule) ∙ (position-push (λ target. takes target site word) (map target_of rules) (target_of rule)
     ∙ ap (λ n. option_or (matching_rule (map target_of rules) site word) (cond (takes (target_of rule) site word) (Some n) None)) (length-map rules target_of))
+
+position_or_len-map : {X Y : Type 0} (p : Y → Bool) (f : X → Y) (xs : List X) → position_or_len p (map f xs) ≡ position_or_len (λ x. p (f x)) xs
+position_or_len-map p f [] = refl
+position_or_len-map p f (x ∷ xs) = ap (λ n. cond (not (p (f x))) (1 + n) 0) (position_or_len-map p f xs)
+
+pub position-map : {X Y : Type 0} (p : Y → Bool) (f : X → Y) (xs : List X) → position p (map f xs) ≡ position (λ x. p (f x)) xs
+position-map p f xs = ap₂ (λ i n. cond (nat_lt i n) (Some i) None) (position_or_len-map p f xs) (length-map xs f)

@@ -34,6 +34,15 @@ abbrev pub takes : Target → Option (List ℕ) → ℕ → Bool
 takes (AtSite name) site word = same_site name site
 takes (AtWords words) site word = is_among words word
 
--- the place of the first rule that does
+-- whether a rule takes a race of a reuse of the words from lo to hi, which has no site: its words have them all
+abbrev pub takes_reuse : Target → ℕ → ℕ → Bool
+takes_reuse (AtSite name) lo hi = false
+takes_reuse (AtWords words) lo hi = is_among words lo && is_among words hi
+
+-- the place of the first rule that takes a race of an access
 abbrev pub matching_rule : List Target → Option (List ℕ) → ℕ → Option ℕ
 matching_rule targets site word = position (λ target. takes target site word) targets
+
+-- the place of the first rule that takes a race of a reuse
+abbrev pub matching_reuse_rule : List Target → ℕ → ℕ → Option ℕ
+matching_reuse_rule targets lo hi = position (λ target. takes_reuse target lo hi) targets

@@ -1,11 +1,11 @@
 //! Rules, and which of them takes a race.
-ghost use Rattle.std.specs.Prelude.{◌≡◌, ◌<◌, ◌++◌, ◌↔◌, ℕ, List, Option, map, IsTrue, ◌∷◌, [], option_copied, option_map, length, string_bytes, IfSome, OnOk, OnErr};
+ghost use Rattle.std.specs.Prelude.{◌≡◌, ◌<◌, ◌++◌, ◌↔◌, ℕ, List, Option, map, IsTrue, ◌∷◌, [], option_copied, option_map, length, position, string_bytes, IfSome, OnOk, OnErr};
 ghost use Rattle.std.proofs.Props.{props};
-ghost use Rattle.er_rules.specs.Targets.{takes, matching_rule, target_of, same_site};
+ghost use Rattle.er_rules.specs.Targets.{takes, takes_reuse, matching_rule, matching_reuse_rule, target_of, same_site};
 ghost use Rattle.er_rules.specs.Inner.Rules.{rule_in};
 
 use crate::index::RuleIndex;
-use er_event::Word;
+use er_event::{PageRange, Word};
 use std::alloc::{AllocError, Global};
 
 /// The words from the first to the last, both included.
@@ -33,6 +33,18 @@ impl Rule {
             Rule::Site(name) => is_at(name, site),
             Rule::Words(Some(words)) => words.first <= word && word <= words.last,
             Rule::Words(None) => false,
+        }
+    }
+
+    /// Whether it takes a race of a reuse of the words from `lo` to `hi`: its own words have them all.
+    pub fn takes_reuse(&self, lo: Word, hi: Word) -> bool
+        ensures takes { result ≡ takes_reuse (target_of self.now) lo hi }
+    {
+        match self {
+            Rule::Words(Some(words)) => {
+                words.first <= lo && lo <= words.last && words.first <= hi && hi <= words.last
+            }
+            _ => false,
         }
     }
 }
@@ -105,4 +117,21 @@ impl Suppressions {
     {
         self.index.rule_of(site, word)
     }
+
+    /// The place of the first rule, from 0, that takes a race of a reuse of these words. It asks each rule.
+    pub fn matching_reuse(&self, range: PageRange) -> Option<usize>
+        ensures matching_rule { result ≡ matching_reuse_rule (targets_of self.now) range.lo range.hi }
+        ensures within { IfSome result (λ rule. rule < length (targets_of self.now)) }
+    {
+        let PageRange { lo, hi } = range;
+        let rules = self.rules.as_slice();
+        first_taking(rules, lo, hi)
+    }
+}
+
+// The place of the first of the rules that takes a race of a reuse of the words from `lo` to `hi`.
+fn first_taking(rules: &[Rule], lo: Word, hi: Word) -> Option<usize>
+    ensures { result ≡ position (λ rule. takes_reuse (target_of rule) lo hi) rules.now }
+{
+    rules.iter().position(|rule| rule.takes_reuse(lo, hi))
 }

@@ -1,5 +1,5 @@
 -- What one step makes of what is kept, and what is found there.
-use Rattle.std.specs.Prelude.{ℕ, ◌==◌, Bool, cond, [], ◌∷◌, ◌++◌, filter, List, Option, Some}
+use Rattle.std.specs.Prelude.{ℕ, ◌==◌, Bool, cond, [], ◌∷◌, ◌++◌, filter, List, Option, Some, None}
 use Rattle.std.specs.List.{find}
 use Rattle.std.specs.Option.{option_map, option_to_list}
 use Rattle.er_event.specs.declared.steps.Event.{Event}
@@ -34,6 +34,11 @@ rivals_of kept kind = cond (is_writing kind) kept.reads [] ++ option_to_list kep
 -- the tag of the last one that the clock doesn't cover
 abbrev pub tag_found : {A : Type 0} → (ℕ → ℕ) → Latest A → Kind → Option A
 tag_found clock kept kind = option_map (λ access. access.tag) (find (is_apart clock) (rivals_of kept kind))
+
+-- the same for a reuse that finds this word in use
+abbrev pub use_found : {A : Type 0} → (ℕ → ℕ) → (ℕ → Latest A) → Option ℕ → Option A
+use_found clock kept None = None
+use_found clock kept (Some w) = tag_found clock (kept w) writing
 
 -- what an event of thread t is to the words, if it counts; no lock matters
 abbrev pub marked_if : Bool → ℕ → Event → Mark

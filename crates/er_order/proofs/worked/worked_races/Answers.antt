@@ -5,8 +5,8 @@ use Rattle.er_event.specs.Lockset.{with_lock, locks_from}
 use Rattle.er_model.specs.Threads.{acquires, releases, acquired, level_from, level_of, holds, named, acquired_locks, acquired_to_write, held, write_held, depth, refusal, accepted}
 use Rattle.er_model.specs.Answers.{mark, reading_of, reply, answer, answers_below}
 use Rattle.er_order.specs.Order.{leads, reached, happens_before, acts_of}
-use Rattle.er_order.specs.Races.{conflicts, is_race, is_reported, order_reply, order_answer, order_answers_below}
-use Rattle.er_order.specs.Examples.{awaited_early, bracket, chain, double_checked, double_checked_in_order, joined_late, levels, locked_later, no_lock, one_reader_joined, only_read, queue, read_and_write_locks, read_locks, readers_joined, refused_release, reuse_between, rounds, semaphore, too_early, two_holders}
+use Rattle.er_order.specs.Races.{conflicts, is_race, had_race, is_reported, last_use, is_in_use, word_in_use, order_reply, order_answer, order_answers_below}
+use Rattle.er_order.specs.Examples.{awaited_early, bracket, chain, double_checked, double_checked_in_order, joined_late, levels, locked_later, no_lock, one_reader_joined, only_read, queue, read_and_write_locks, read_locks, readers_joined, refused_release, reuse_between, reuse_joined, reuse_too_early, reuse_locked, reuse_after_race, reuse_in_bracket, reuse_of_three, rounds, semaphore, too_early, two_holders}
 use Rattle.er_order.proofs.worked.worked_races.Goals as goal
 
 pub returns-clause-queue : goal.returns-clause-queue
@@ -82,7 +82,7 @@ unfolding double_checked_in_order conflicts is_race is_reported order_reply orde
 returns-clause-double_checked_in_order c = refl
 
 pub returns-clause-reuse_between : goal.returns-clause-reuse_between
-unfolding reuse_between conflicts is_race is_reported order_reply order_answer order_answers_below leads reached happens_before acts_of reuses counts thread_of writes cover_of era acquires releases acquired level_from level_of holds with_lock named acquired_locks acquired_to_write locks_from held write_held depth refusal accepted mark reading_of reply some_below every_below greatest_below
+unfolding reuse_between conflicts is_race is_reported order_reply order_answer order_answers_below leads reached happens_before acts_of reuses counts thread_of writes cover_of era acquires releases acquired level_from level_of holds with_lock named acquired_locks acquired_to_write locks_from held write_held depth refusal accepted mark reading_of reply some_below every_below greatest_below last_use is_in_use word_in_use had_race least_below
 returns-clause-reuse_between c = refl
 
 pub returns-clause-refused_release : goal.returns-clause-refused_release
@@ -100,3 +100,31 @@ returns-clause-levels c = refl
 pub returns-clause-bracket : goal.returns-clause-bracket
 unfolding bracket conflicts is_race is_reported order_reply order_answer order_answers_below leads reached happens_before acts_of reuses counts thread_of writes cover_of era acquires releases acquired level_from level_of holds with_lock named acquired_locks acquired_to_write locks_from held write_held depth refusal accepted mark reading_of reply some_below every_below greatest_below
 returns-clause-bracket c = refl
+
+pub returns-clause-reuse_joined : goal.returns-clause-reuse_joined
+unfolding reuse_joined conflicts is_race is_reported order_reply order_answer order_answers_below leads reached happens_before acts_of reuses counts thread_of writes cover_of era acquires releases acquired level_from level_of holds with_lock named acquired_locks acquired_to_write locks_from held write_held depth refusal accepted mark reading_of reply some_below every_below greatest_below last_use is_in_use word_in_use had_race least_below
+returns-clause-reuse_joined c = refl
+
+pub returns-clause-reuse_too_early : goal.returns-clause-reuse_too_early
+unfolding reuse_too_early conflicts is_race is_reported order_reply order_answer order_answers_below leads reached happens_before acts_of reuses counts thread_of writes cover_of era acquires releases acquired level_from level_of holds with_lock named acquired_locks acquired_to_write locks_from held write_held depth refusal accepted mark reading_of reply some_below every_below greatest_below last_use is_in_use word_in_use had_race least_below
+returns-clause-reuse_too_early c = refl
+
+pub returns-clause-reuse_locked : goal.returns-clause-reuse_locked
+unfolding reuse_locked conflicts is_race is_reported order_reply order_answer order_answers_below leads reached happens_before acts_of reuses counts thread_of writes cover_of era acquires releases acquired level_from level_of holds with_lock named acquired_locks acquired_to_write locks_from held write_held depth refusal accepted mark reading_of reply some_below every_below greatest_below last_use is_in_use word_in_use had_race least_below
+returns-clause-reuse_locked c = refl
+
+pub returns-clause-reuse_after_race : goal.returns-clause-reuse_after_race
+unfolding reuse_after_race conflicts is_race is_reported order_reply order_answer order_answers_below leads reached happens_before acts_of reuses counts thread_of writes cover_of era acquires releases acquired level_from level_of holds with_lock named acquired_locks acquired_to_write locks_from held write_held depth refusal accepted mark reading_of reply some_below every_below greatest_below last_use is_in_use word_in_use had_race least_below
+returns-clause-reuse_after_race c = refl
+
+pub returns-clause-reuse_in_bracket : goal.returns-clause-reuse_in_bracket
+unfolding reuse_in_bracket conflicts is_race is_reported order_reply order_answer order_answers_below leads reached happens_before acts_of reuses counts thread_of writes cover_of era acquires releases acquired level_from level_of holds with_lock named acquired_locks acquired_to_write locks_from held write_held depth refusal accepted mark reading_of reply some_below every_below greatest_below last_use is_in_use word_in_use had_race least_below
+returns-clause-reuse_in_bracket c = refl
+
+pub returns-clause-reuse_of_three : goal.returns-clause-reuse_of_three
+unfolding reuse_of_three conflicts is_race is_reported order_reply order_answer order_answers_below leads reached happens_before acts_of reuses counts thread_of writes cover_of era acquires releases acquired level_from level_of holds with_lock named acquired_locks acquired_to_write locks_from held write_held depth refusal accepted mark reading_of reply some_below every_below greatest_below last_use is_in_use word_in_use had_race least_below
+returns-clause-reuse_of_three c = refl
+
+pub returns-clause-reuse_between_by_locks : goal.returns-clause-reuse_between_by_locks
+unfolding reuse_between first join candidates written racy reported state answer answers_below least_below reuses counts thread_of writes cover_of era acquires releases acquired level_from level_of holds with_lock named acquired_locks acquired_to_write locks_from held write_held depth refusal accepted mark reading_of reply some_below every_below greatest_below
+returns-clause-reuse_between_by_locks c = refl
