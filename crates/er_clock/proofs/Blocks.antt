@@ -58,6 +58,14 @@ joined_parts f g h r s t first rest u = parts (u / 128) (u % 128)
     parts zero o = ap (λ xs. get_or xs o 0) first ∙ get-merged f g o
     parts (suc b) o = rest b o
 
+-- the other clock has as great a count of each thread
+pub joined_covered : (f g h : List ℕ) (r s t : Counts) → h ≡ merged f g → ((u : ℕ) → count_in (f ∷ r) u ≤ count_in (g ∷ s) u) → t ≡ s → Joins (f ∷ r) (g ∷ s) (h ∷ t)
+joined_covered f g h r s t first covered same u = parts (u / 128) (u % 128) (covered u)
+  where
+    parts : (b o : ℕ) → count_at (f ∷ r) b o ≤ count_at (g ∷ s) b o → count_at (h ∷ t) b o ≡ max (count_at (f ∷ r) b o) (count_at (g ∷ s) b o)
+    parts zero o less = ap (λ xs. get_or xs o 0) first ∙ get-merged f g o
+    parts (suc b) o less = let here : count_at t b o ≡ count_at s b o = ap (λ (counts : Counts). count_at counts b o) same in omega (arith, here, less)
+
 -- the other clock has no blocks
 pub joined_none : (r s : Counts) → length s ≡ 0 → JoinedBlocks r s r
 joined_none r s none b o =
@@ -206,6 +214,15 @@ all_joined p r s t len one two below b o = by (nat_le p b) refl
         let z = none t (omega (arith, high, len)) in
         omega (arith, x, y, z)
     by false before = below b o (Rattle.std.proofs.lemmas.Bool.leb-false p b before)
+
+-- one block more of a copy
+pub place_of_copy : (r : Counts) (p : ℕ) (was y : List ℕ) → p < length r → was ≡ get_or r p was → y ≡ was → (o : ℕ) → get_or y o 0 ≡ max (count_at r p o) (count_at [] p o)
+place_of_copy r p was y within read is o =
+    let same : get_or y o 0 ≡ count_at r p o = ap (λ xs. get_or xs o 0) (is ∙ read ∙ default_to r p was [] within) in
+    omega (arith, same)
+
+pub copied_alone : (p : ℕ) (r t : Counts) → length t ≡ p → length r ≤ p → ((b o : ℕ) → b < p → count_at t b o ≡ max (count_at r b o) (count_at [] b o)) → SameBlocks r t
+copied_alone p r t len all below b o = let joined = all_joined p r [] t len all (omega arith) below b o in omega (arith, joined)
 
 -- what follows from a fact about what a call returns
 pub if_ok : {T E : Type 0} (r : Result T E) (P Q : T → Type 0) → IfOk r P → ((v : T) → P v → Q v) → IfOk r Q

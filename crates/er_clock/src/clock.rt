@@ -128,6 +128,18 @@ impl Clock {
         Ok(())
     }
 
+    /// The same if the other clock covers this one: then it takes the other's blocks as they are.
+    pub fn catch_up(&mut self, other: &Clock) -> Result<(), AllocError>
+        requires { (u : ℕ) → count_in self.old u ≤ count_in other.now u }
+        ensures ok { OnOk result (Joins self.old other.now self.new) }
+        ensures err { OnErr result (Stays self.old self.new) }
+    {
+        let rest = other.rest.again()?;
+        self.first.join(&other.first)?;
+        self.rest = rest;
+        Ok(())
+    }
+
     /// Adds one to the thread's count. `CountFull`: the count is 2^32 - 1. After an error the clock is as it was.
     pub fn tick(&mut self, thread: ThreadId) -> Result<(), NoTick>
         ensures ok { OnOk result (Ticks thread self.old self.new) }

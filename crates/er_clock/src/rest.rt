@@ -1,5 +1,5 @@
 //! The blocks of a clock past its first one.
-ghost use Rattle.std.specs.Prelude.{◌≡◌, ◌<◌, ◌-◌, ◌+◌, ◌^◌, ◌==◌, ◌&&◌, ℕ, [], max, cond, length, get_or, IsTrue, OnOk, IfOk};
+ghost use Rattle.std.specs.Prelude.{◌≡◌, ◌<◌, ◌≤◌, ◌-◌, ◌+◌, ◌^◌, ◌==◌, ◌&&◌, ℕ, [], max, cond, length, get_or, IsTrue, OnOk, IfOk};
 ghost use Rattle.er_clock.specs.Clock.{count_at};
 ghost use Rattle.er_clock.specs.Inner.Blocks.{SameBlocks, JoinedBlocks};
 
@@ -111,10 +111,9 @@ impl Rest {
         ensures same { IfOk result (λ all. SameBlocks self.now all.items) }
         ensures room { IfOk result (λ all. place < length all.items) }
     {
-        let none = Vec::new(self.alloc);
         let mut all = match &self.list {
-            Some(list) => joined_blocks(self.alloc, &list.as_ref().blocks, &none)?,
-            None => none,
+            Some(list) => copied_blocks(self.alloc, &list.as_ref().blocks, place + 1)?,
+            None => Vec::with_capacity(self.alloc, place + 1)?,
         };
         reach(self.alloc, &mut all, place)?;
         Ok(all)
@@ -178,6 +177,23 @@ fn reach(alloc: Global, blocks: &mut Vec<Shared>, place: usize) -> Result<(), Al
         blocks.push(shared)?;
     }
     Ok(())
+}
+
+// The blocks in a list of their own, with room for so many.
+fn copied_blocks(
+    alloc: Global,
+    blocks: &Vec<Shared>,
+    room: usize,
+) -> Result<Vec<Shared>, AllocError>
+    requires { room ≤ 2 ^ 30 }
+    ensures { IfOk result (λ all. SameBlocks blocks.now.items all.items) }
+{
+    let mut all = Vec::with_capacity(alloc, room.max(blocks.len()))?;
+    for place in 0..blocks.len() {
+        let shared = blocks[place].again()?;
+        all.push(shared)?;
+    }
+    Ok(all)
 }
 
 // The greater count at each place of each block.

@@ -1,4 +1,4 @@
-use Rattle.std.proofs.Common.{◌≡◌, ◌∙◌, ◌/◌, ◌%◌, ◌-◌, suc, refl, arith}
+use Rattle.std.proofs.Common.{◌≡◌, ◌/◌, ◌%◌, ◌-◌, suc, refl, arith}
 use Rattle.er_event.proofs.Results.{on_ok}
 use Rattle.er_clock.proofs.Blocks.{ticked_first, ticked_rest}
 use Rattle.er_clock.proofs.clock.Clock.raise.Goals as goal

@@ -1,4 +1,4 @@
-use Rattle.std.proofs.Common.{◌≡◌, ◌∙◌, ap}
+use Rattle.std.proofs.Common.{◌∙◌, ap}
 use Rattle.er_order.specs.ClockLists.{ticked}
 use Rattle.er_clock.specs.Clock.{Counts, count_at}
 use Rattle.er_clock.proofs.Blocks.{if_ok, ticked_block}
