@@ -58,6 +58,14 @@ joined_parts f g h r s t first rest u = parts (u / 128) (u % 128)
     parts zero o = ap (λ xs. get_or xs o 0) first ∙ get-merged f g o
     parts (suc b) o = rest b o
 
+-- the other clock has as great a count of each thread
+pub joined_covered : (f g h : List ℕ) (r s t : Counts) → h ≡ merged f g → ((u : ℕ) → count_in (f ∷ r) u ≤ count_in (g ∷ s) u) → t ≡ s → Joins (f ∷ r) (g ∷ s) (h ∷ t)
+joined_covered f g h r s t first covered same u = parts (u / 128) (u % 128) (covered u)
+  where
+    parts : (b o : ℕ) → count_at (f ∷ r) b o ≤ count_at (g ∷ s) b o → count_at (h ∷ t) b o ≡ max (count_at (f ∷ r) b o) (count_at (g ∷ s) b o)
+    parts zero o less = ap (λ xs. get_or xs o 0) first ∙ get-merged f g o
+    parts (suc b) o less = let here : count_at t b o ≡ count_at s b o = ap (λ (counts : Counts). count_at counts b o) same in omega (arith, here, less)
+
 -- the other clock has no blocks
 pub joined_none : (r s : Counts) → length s ≡ 0 → JoinedBlocks r s r
 joined_none r s none b o =
@@ -117,9 +125,10 @@ set_there (x ∷ xs) zero (suc b) y d apart = refl
 set_there (x ∷ xs) (suc i) zero y d apart = refl
 set_there (x ∷ xs) (suc i) (suc b) y d apart = set_there xs i b y d (λ same. apart (omega (arith, same)))
 
-pub ticked_rest : (n p o : ℕ) (f was y : List ℕ) (r s : Counts) → suc p ≡ n / 128 → o ≡ n % 128 → SameBlocks r s → p < length s → was ≡ get_or s p was → y ≡ ticked o was →
-    Ticks n (f ∷ r) (f ∷ set s p y)
-ticked_rest n p o f was y r s block place same within read is = ticked_parts n (f ∷ r) (f ∷ set s p y) parts
+-- a tick in one block of a copy
+pub ticked_block : (p o : ℕ) (was y : List ℕ) (r s : Counts) → SameBlocks r s → p < length s → was ≡ get_or s p was → y ≡ ticked o was →
+    (b i : ℕ) → count_at (set s p y) b i ≡ count_at r b i + cond (p == b && o == i) 1 0
+ticked_block p o was y r s same within read is b i = rest (p == b) refl
   where
     plus_zero : (x : ℕ) → x ≡ x + 0
     plus_zero x = omega arith
@@ -127,18 +136,25 @@ ticked_rest n p o f was y r s block place same within read is = ticked_parts n (
     there : was ≡ get_or s p []
     there = read ∙ default_to s p was [] within
 
-    rest : (b i : ℕ) (at : Bool) → (p == b) ≡ at → count_at (set s p y) b i ≡ count_at r b i + cond (at && o == i) 1 0
-    rest b i true here =
+    rest : (at : Bool) → (p == b) ≡ at → count_at (set s p y) b i ≡ count_at r b i + cond (at && o == i) 1 0
+    rest true here =
         let at : p ≡ b = eqb-true p b here in
         rw (← at) (ap (λ xs. get_or xs i 0) (set_here s p y [] within ∙ is) ∙ get-ticked o i was ∙ ap (λ k. k + cond (o == i) 1 0) (ap (λ xs. get_or xs i 0) there ∙ same p i))
-    rest b i false apart = ap (λ xs. get_or xs i 0) (set_there s p b y [] (eqb-false p b apart)) ∙ same b i ∙ plus_zero (count_at r b i)
+    rest false apart = ap (λ xs. get_or xs i 0) (set_there s p b y [] (eqb-false p b apart)) ∙ same b i ∙ plus_zero (count_at r b i)
 
-    parts : (b i : ℕ) → count_at (f ∷ set s p y) b i ≡ count_at (f ∷ r) b i + cond (n / 128 == b && n % 128 == i) 1 0
+pub ticked_rest : (n p o : ℕ) (f : List ℕ) (r t : Counts) → suc p ≡ n / 128 → o ≡ n % 128 →
+    ((b i : ℕ) → count_at t b i ≡ count_at r b i + cond (p == b && o == i) 1 0) → Ticks n (f ∷ r) (f ∷ t)
+ticked_rest n p o f r t block place rest = ticked_parts n (f ∷ r) (f ∷ t) parts
+  where
+    plus_zero : (x : ℕ) → x ≡ x + 0
+    plus_zero x = omega arith
+
+    parts : (b i : ℕ) → count_at (f ∷ t) b i ≡ count_at (f ∷ r) b i + cond (n / 128 == b && n % 128 == i) 1 0
     parts zero i = plus_zero (get_or f i 0) ∙ ap (λ d. get_or f i 0 + cond (d && n % 128 == i) 1 0) before
       where
         before : false ≡ (n / 128 == 0)
         before = grind (arith, nat_tests)
-    parts (suc b) i = rw (← block, ← place) (rest b i (p == b) refl ∙ ap (λ d. count_at r b i + cond (d && o == i) 1 0) (next p b))
+    parts (suc b) i = rw (← block, ← place) (rest b i ∙ ap (λ d. count_at r b i + cond (d && o == i) 1 0) (next p b))
       where
         next : (p b : ℕ) → (p == b) ≡ (suc p == suc b)
         next p b = grind (arith, nat_tests)
@@ -198,6 +214,15 @@ all_joined p r s t len one two below b o = by (nat_le p b) refl
         let z = none t (omega (arith, high, len)) in
         omega (arith, x, y, z)
     by false before = below b o (Rattle.std.proofs.lemmas.Bool.leb-false p b before)
+
+-- one block more of a copy
+pub place_of_copy : (r : Counts) (p : ℕ) (was y : List ℕ) → p < length r → was ≡ get_or r p was → y ≡ was → (o : ℕ) → get_or y o 0 ≡ max (count_at r p o) (count_at [] p o)
+place_of_copy r p was y within read is o =
+    let same : get_or y o 0 ≡ count_at r p o = ap (λ xs. get_or xs o 0) (is ∙ read ∙ default_to r p was [] within) in
+    omega (arith, same)
+
+pub copied_alone : (p : ℕ) (r t : Counts) → length t ≡ p → length r ≤ p → ((b o : ℕ) → b < p → count_at t b o ≡ max (count_at r b o) (count_at [] b o)) → SameBlocks r t
+copied_alone p r t len all below b o = let joined = all_joined p r [] t len all (omega arith) below b o in omega (arith, joined)
 
 -- what follows from a fact about what a call returns
 pub if_ok : {T E : Type 0} (r : Result T E) (P Q : T → Type 0) → IfOk r P → ((v : T) → P v → Q v) → IfOk r Q

@@ -1,10 +1,10 @@
 //! One clock.
 ghost use Rattle.std.specs.Prelude.{◌≡◌, ◌↔◌, ◌≤◌, ◌<◌, ◌-◌, ◌^◌, ℕ, max, length, get_or, IsTrue, OnOk, OnErr, IfOk, IsErrOf};
 ghost use Rattle.er_order.specs.Clocks.{covers};
-ghost use Rattle.er_clock.specs.Clock.{count_at, count_in, IsZero, Stays, Joins, Ticks};
-ghost use Rattle.er_clock.specs.Inner.Blocks.{SameBlocks, JoinedBlocks};
+ghost use Rattle.er_clock.specs.Clock.{count_in, IsZero, Stays, Joins, Ticks};
 
-use crate::block::{Block, Shared};
+use crate::block::Block;
+use crate::rest::Rest;
 use er_event::ThreadId;
 use std::alloc::{AllocError, Global};
 use std::error::Error;
@@ -23,12 +23,12 @@ pub struct Epoch {
     pub count: u32,
 }
 
-/// Of each thread a count. Contracts see the count of each thread. The first ones lie in the clock; the others lie in blocks, which clocks share
-/// until one of them changes, so a clock takes little memory of its own for what it has in common with others.
+/// Of each thread a count. Contracts see the count of each thread. The first ones lie in the clock; the others lie in blocks. Clocks share a block,
+/// and the whole list of them, until one of them changes, so a clock takes little memory of its own for what it has in common with others.
 #[derive(Drop)]
 pub struct Clock {
     first: Block,
-    rest: Vec<Shared>,
+    rest: Rest,
     alloc: Global,
 }
 
@@ -38,7 +38,7 @@ impl Model for Clock {
 
     ghost Value = { Counts };
 
-    ghost view = { λ c. c.first ∷ c.rest.items };
+    ghost view = { λ c. c.first ∷ c.rest };
 }
 
 /// Why a clock doesn't tick. It is then as it was.
@@ -68,7 +68,7 @@ impl Clock {
     {
         Clock {
             first: Block::new(alloc),
-            rest: Vec::new(alloc),
+            rest: Rest::new(alloc),
             alloc,
         }
     }
@@ -92,10 +92,7 @@ impl Clock {
         if number < BLOCK {
             return self.first.count(number);
         }
-        match self.rest.get(number / BLOCK - 1) {
-            Some(shared) => shared.block().count(number % BLOCK),
-            None => 0,
-        }
+        self.rest.count(number / BLOCK - 1, number % BLOCK)
     }
 
     /// The epoch of the thread whose own clock this is.
@@ -125,7 +122,19 @@ impl Clock {
         if other.rest.is_empty() {
             return self.first.join(&other.first);
         }
-        let rest = joined_blocks(self.alloc, &self.rest, &other.rest)?;
+        let rest = self.rest.joined(&other.rest)?;
+        self.first.join(&other.first)?;
+        self.rest = rest;
+        Ok(())
+    }
+
+    /// The same if the other clock covers this one: then it takes the other's blocks as they are.
+    pub fn catch_up(&mut self, other: &Clock) -> Result<(), AllocError>
+        requires { (u : ℕ) → count_in self.old u ≤ count_in other.now u }
+        ensures ok { OnOk result (Joins self.old other.now self.new) }
+        ensures err { OnErr result (Stays self.old self.new) }
+    {
+        let rest = other.rest.again()?;
         self.first.join(&other.first)?;
         self.rest = rest;
         Ok(())
@@ -156,12 +165,8 @@ impl Clock {
         if number < BLOCK {
             return self.first.tick(number);
         }
-        let place = number / BLOCK - 1;
-        reach(self.alloc, &mut self.rest, place)?;
-        let mut block = self.rest[place].block().copy()?;
-        block.tick(number % BLOCK)?;
-        let shared = Shared::new(self.alloc, block)?;
-        self.rest[place] = shared;
+        let rest = self.rest.ticked(number / BLOCK - 1, number % BLOCK)?;
+        self.rest = rest;
         Ok(())
     }
 
@@ -170,60 +175,6 @@ impl Clock {
         ensures { IsZero self.new }
     {
         self.first.clear();
-        self.rest.clear();
+        self.rest = Rest::new(self.alloc);
     }
-}
-
-// Makes a place for the block of this number.
-fn reach(alloc: Global, blocks: &mut Vec<Shared>, place: usize) -> Result<(), AllocError>
-    requires { place < 2 ^ 30 }
-    ensures same { SameBlocks blocks.old.items blocks.new.items }
-    ensures room { OnOk result (place < length blocks.new.items) }
-{
-    if place < blocks.len() {
-        return Ok(());
-    }
-    let empty = Shared::new(alloc, Block::new(alloc))?;
-    for _at in blocks.len()..place + 1 {
-        let shared = empty.again()?;
-        blocks.push(shared)?;
-    }
-    Ok(())
-}
-
-// The greater count at each place of each block.
-fn joined_blocks(
-    alloc: Global,
-    blocks: &Vec<Shared>,
-    others: &Vec<Shared>,
-) -> Result<Vec<Shared>, AllocError>
-    ensures { IfOk result (λ all. JoinedBlocks blocks.now.items others.now.items all.items) }
-{
-    let mut all = Vec::new(alloc);
-    for place in 0..blocks.len().max(others.len()) {
-        let shared = joined_block(alloc, blocks, others, place)?;
-        all.push(shared)?;
-    }
-    Ok(all)
-}
-
-// The same of one block.
-fn joined_block(
-    alloc: Global,
-    blocks: &Vec<Shared>,
-    others: &Vec<Shared>,
-    place: usize,
-) -> Result<Shared, AllocError>
-    ensures { IfOk result (λ shared. (u : ℕ) → get_or shared u 0 ≡ max (count_at blocks.now.items place u) (count_at others.now.items place u)) }
-{
-    if blocks.len() <= place {
-        if others.len() <= place {
-            return Shared::new(alloc, Block::new(alloc));
-        }
-        return others[place].again();
-    }
-    if others.len() <= place {
-        return blocks[place].again();
-    }
-    blocks[place].joined(&others[place])
 }

@@ -15,4 +15,5 @@ pub use table::ClockTable;
 mod block;
 mod clock;
 mod hints;
+mod rest;
 mod table;

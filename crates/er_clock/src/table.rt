@@ -1,6 +1,6 @@
 //! Clocks by number.
-ghost use Rattle.std.specs.Prelude.{◌≡◌, ◌↔◌, ◌≤◌, ◌<◌, ◌^◌, ◌-◌, ◌+◌, ◌==◌, ℕ, nat_eq, max, cond, OnOk, OnErr, IsErrOf};
-ghost use Rattle.er_clock.specs.Clock.{count_in};
+ghost use Rattle.std.specs.Prelude.{◌≡◌, ◌↔◌, ◌≤◌, ◌<◌, ◌^◌, ◌-◌, ◌+◌, ◌==◌, ℕ, nat_eq, max, cond, IsTrue, OnOk, OnErr, IsErrOf};
+ghost use Rattle.er_clock.specs.Clock.{count_in, Joins, Stays};
 ghost use Rattle.er_clock.specs.Table.{known_by};
 
 use crate::clock::{Clock, NoTick};
@@ -57,8 +57,9 @@ impl ClockTable {
     }
 
     /// Takes of each thread the greater count into the clock of this number. `AllocError`: memory was refused, and all clocks are as
-    /// they were.
-    pub fn join(&mut self, number: u32, other: &Clock) -> Result<(), AllocError>
+    /// they were. `is_covered` may say that the other clock has as great a count of each thread: then no block is compared.
+    pub fn join(&mut self, number: u32, other: &Clock, is_covered: bool) -> Result<(), AllocError>
+        requires { IsTrue is_covered → (u : ℕ) → known_by self.old number u ≤ count_in other.now u }
         ensures ok { OnOk result ((n u : ℕ) → known_by self.new n u ≡ cond (number == n) (max (known_by self.old n u) (count_in other.now u)) (known_by self.old n u)) }
         ensures err { OnErr result ((n u : ℕ) → known_by self.new n u ≡ known_by self.old n u) }
     {
@@ -66,7 +67,7 @@ impl ClockTable {
             Some(index) => {
                 self.places.note(number, index);
                 let clock = &mut self.clocks[index];
-                clock.join(other)
+                take(clock, other, is_covered)
             }
             None => {
                 let mut clock = Clock::new(self.alloc);
@@ -120,5 +121,18 @@ impl ClockTable {
             Some(index) => mem::swap(&mut self.clocks[index], other),
             None => {}
         }
+    }
+}
+
+// Takes of each thread the greater count.
+fn take(clock: &mut Clock, other: &Clock, is_covered: bool) -> Result<(), AllocError>
+    requires { IsTrue is_covered → (u : ℕ) → count_in clock.old u ≤ count_in other.now u }
+    ensures ok { OnOk result (Joins clock.old other.now clock.new) }
+    ensures err { OnErr result (Stays clock.old clock.new) }
+{
+    if is_covered {
+        clock.catch_up(other)
+    } else {
+        clock.join(other)
     }
 }

@@ -1,14 +1,14 @@
 -- What one act makes of the counts.
-use Rattle.std.proofs.Common.{◌≡◌, ◌≤◌, ◌^◌, ℕ, ◌+◌, max, Bool, true, false, ◌&&◌, ◌||◌, cond, ◌==◌, List, [], ◌∷◌, ◌++◌, length, Option, Some, None, refl, ap, ap₂, sym, ◌∙◌, arith}
+use Rattle.std.proofs.Common.{◌≡◌, ℕ, ◌+◌, max, Bool, true, false, ◌&&◌, ◌||◌, cond, ◌==◌, List, [], ◌∷◌, ◌++◌, length, Option, Some, None, refl, ap, ap₂, sym, ◌∙◌, arith}
 use Rattle.std.proofs.Math.Path.{fun_ext}
-use Rattle.std.proofs.lemmas.Bool.{eq-eqb, eqb-true}
+use Rattle.std.proofs.lemmas.Bool.{eq-eqb}
 use Rattle.std.specs.Option.{is_none}
 use Rattle.er_event.specs.declared.steps.Mode.TheVariants.{Read, Write}
 use Rattle.er_event.specs.declared.refusals.Refusal.{Refusal}
 use Rattle.er_event.proofs.Lists.{length_push}
 use Rattle.er_model.specs.Holdings.{refused_by, holdings_at}
 use Rattle.er_event.specs.declared.steps.Step.{Step}
-use Rattle.er_order.specs.Order.{Act, Effect, Released, Signalled, Joined, act_unless, acts_of, joins}
+use Rattle.er_order.specs.Order.{Act, Effect, Released, Signalled, Joined, act_unless, acts_of}
 use Rattle.er_order.specs.Clocks.{Keeper, OfThread, OfReleases, OfObject, is_own, publishes, flows, clocks_after, clocks_at}
 use Rattle.er_order.specs.Following.{act_by}
 use Rattle.er_order.proofs.ClockSteps.{and_none, and_all, released, signalled}

@@ -6,6 +6,7 @@ ghost use Rattle.er_order.specs.Order.{Effect, sync_of, effect_of};
 ghost use Rattle.er_order.specs.Clocks.{OfThread};
 ghost use Rattle.er_clocks.specs.Counts.{count_by};
 
+use crate::takers::Takers;
 use crate::threads::{ThreadClock, ThreadClocks};
 use er_clock::{ClockTable, NoTick};
 use er_event::{Event, LockId, Mode, Step, Sync, ThreadId};
@@ -19,6 +20,8 @@ pub struct Clocks {
     written: ClockTable,
     read: ClockTable,
     objects: ClockTable,
+    // Who took the clock of a lock's releases in write mode: that thread knows all that the clock has.
+    takers: Takers,
 }
 
 impl Model for Clocks {
@@ -27,6 +30,10 @@ impl Model for Clocks {
     ghost Value = { ClockMaps };
 
     ghost view = { λ c. record { threads = c.threads; written = c.written; read = c.read; objects = c.objects } };
+
+    ghost use Rattle.er_clocks.specs.Taken.{KnowTheirs};
+
+    ghost invariant = { λ c. KnowTheirs c.threads c.written c.takers };
 }
 
 impl Clocks {
@@ -41,6 +48,7 @@ impl Clocks {
             written: ClockTable::new(alloc),
             read: ClockTable::new(alloc),
             objects: ClockTable::new(alloc),
+            takers: Takers::new(alloc),
         }
     }
 
@@ -119,7 +127,9 @@ impl Clocks {
             Mode::Read => self.threads.take(thread, written),
             Mode::Write => {
                 let read = self.read.get(lock.number());
-                self.threads.take_both(thread, written, read)
+                self.threads.take_both(thread, written, read)?;
+                self.takers.note(lock.number(), thread.number());
+                Ok(())
             }
         }
     }
@@ -131,8 +141,15 @@ impl Clocks {
         ensures full { IsErrOf result NoTick.CountFull → counts self.old (OfThread thread) thread ≡ 2 ^ 32 - 1 }
     {
         match mode {
-            Mode::Read => self.threads.give(thread, &mut self.read, lock.number()),
-            Mode::Write => self.threads.give(thread, &mut self.written, lock.number()),
+            Mode::Read => self
+                .threads
+                .give(thread, &mut self.read, lock.number(), false),
+            Mode::Write => {
+                let is_covered = self.takers.has(lock.number(), thread.number());
+                self.takers.forget(lock.number());
+                self.threads
+                    .give(thread, &mut self.written, lock.number(), is_covered)
+            }
         }
     }
 
@@ -161,7 +178,7 @@ impl Clocks {
         ensures full { IsErrOf result NoTick.CountFull → counts self.old (OfThread thread) thread ≡ 2 ^ 32 - 1 }
     {
         self.threads
-            .give(thread, &mut self.objects, object.number())
+            .give(thread, &mut self.objects, object.number(), false)
     }
 
     // The signals before happen before what comes now.

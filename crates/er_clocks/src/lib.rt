@@ -17,4 +17,5 @@ pub use clocks::Clocks;
 pub use threads::ThreadClock;
 
 mod clocks;
+mod takers;
 mod threads;

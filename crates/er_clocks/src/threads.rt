@@ -1,5 +1,5 @@
 //! The clocks of the threads, where each thread's own count begins at 1.
-ghost use Rattle.std.specs.Prelude.{◌≡◌, ◌↔◌, ◌≤◌, ◌<◌, ◌+◌, ◌-◌, ◌^◌, ◌&&◌, ◌==◌, ℕ, cond, max, OnOk, OnErr, IsErrOf};
+ghost use Rattle.std.specs.Prelude.{◌≡◌, ◌↔◌, ◌≤◌, ◌<◌, ◌+◌, ◌-◌, ◌^◌, ◌&&◌, ◌==◌, ℕ, cond, max, IsTrue, OnOk, OnErr, IsErrOf};
 ghost use Rattle.er_order.specs.Clocks.{covers};
 ghost use Rattle.er_clock.specs.Clock.{count_in};
 ghost use Rattle.er_clock.specs.Table.{known_by};
@@ -153,13 +153,15 @@ impl ThreadClocks {
     }
 
     /// Puts what a thread knows into the clock of this number, and then its own count rises. `CountFull`: its own count is the greatest. An
-    /// error changes no count.
+    /// error changes no count. `is_covered` may say that the thread knows all that the clock has: then no counts are compared.
     pub(crate) fn give(
         &mut self,
         thread: ThreadId,
         clocks: &mut ClockTable,
         number: u32,
+        is_covered: bool,
     ) -> Result<(), NoTick>
+        requires { IsTrue is_covered → (u : ℕ) → known_by clocks.old number u ≤ known_to self.old thread u }
         ensures ok { OnOk result ((t u : ℕ) → known_to self.new t u ≡ known_to self.old t u + cond (t == thread && thread == u) 1 0) }
         ensures given { OnOk result ((n u : ℕ) → known_by clocks.new n u ≡ cond (number == n) (max (known_by clocks.old n u) (known_to self.old thread u)) (known_by clocks.old n u)) }
         ensures err { OnErr result ((t u : ℕ) → known_to self.new t u ≡ known_to self.old t u) }
@@ -170,7 +172,7 @@ impl ThreadClocks {
             Ok(()) => {}
             Err(why) => return Err(why),
         }
-        match clocks.join(number, self.table.get(thread.number())) {
+        match clocks.join(number, self.table.get(thread.number()), is_covered) {
             Ok(()) => {}
             Err(_) => return Err(NoTick::OutOfMemory),
         }
@@ -184,7 +186,7 @@ fn join(table: &mut ClockTable, thread: ThreadId, found: &Clock) -> Result<(), A
     ensures ok { OnOk result ((t u : ℕ) → known_by table.new t u ≡ cond (t == thread) (max (known_by table.old t u) (count_in found.now u)) (known_by table.old t u)) }
     ensures err { OnErr result ((t u : ℕ) → known_by table.new t u ≡ known_by table.old t u) }
 {
-    table.join(thread.number(), found)
+    table.join(thread.number(), found, false)
 }
 
 // Makes the thread ready to hand on what it knows, with no change of what it knows, and `next` its clock with its own count risen.

@@ -22,14 +22,13 @@ returns-in-Read-clause-ok c =
     found : (u : ℕ) → count_in c.get-written.result.now u ≡ known_by c.self.inside.written c.args.lock u
     found u = c.get-written.ensures u ∙ ap (λ number. known_by c.self.inside.written number u) c.number.ensures
 
-pub returns-in-Write-clause-ok : goal.returns-in-Write-clause-ok
-returns-in-Write-clause-ok c =
+pub returns-in_ok-take_both-in-Write-clause-ok : goal.returns-in_ok-take_both-in-Write-clause-ok
+returns-in_ok-take_both-in-Write-clause-ok c =
     rw (← c.self.view_is, c.in-Write.is)
-    (on_ok c.take_both.result _ _ c.take_both.ensures.ok (λ new.
-    takes-found (the_view c.self.inside) c.take_both.new.self c.args.thread (Acquired c.args.lock Write)
+    (takes-found (the_view c.self.inside) c.take_both.new.self c.args.thread (Acquired c.args.lock Write)
     (λ u. max (known_by c.self.inside.written c.args.lock u) (known_by c.self.inside.read c.args.lock u))
     (λ k u. acquired (counts (the_view c.self.inside)) c.args.thread u c.args.lock Write k)
-    (λ n u. new n u ∙ ap₂ (λ f g. cond (n == c.args.thread) (max (known_to c.self.inside.threads n u) (max f g)) (known_to c.self.inside.threads n u)) (written u) (read u))))
+    (λ n u. c.in_ok-take_both-in-Write.ensures.ok n u ∙ ap₂ (λ f g. cond (n == c.args.thread) (max (known_to c.self.inside.threads n u) (max f g)) (known_to c.self.inside.threads n u)) (written u) (read u)))
   where
     written : (u : ℕ) → count_in c.get-written.result.now u ≡ known_by c.self.inside.written c.args.lock u
     written u = c.get-written.ensures u ∙ ap (λ number. known_by c.self.inside.written number u) c.number.ensures

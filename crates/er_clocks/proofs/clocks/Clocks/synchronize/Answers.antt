@@ -1,5 +1,5 @@
 use Rattle.std.proofs.Common.{refl}
-use Rattle.er_order.specs.Order.{Started, Signalled, Awaited}
+use Rattle.er_order.specs.Order.{Started, Signalled}
 use Rattle.er_clocks.proofs.Standing.{flows-own, flows-joined}
 use Rattle.er_clocks.proofs.clocks.Clocks.synchronize.Goals as goal
 

@@ -1,6 +1,6 @@
 use Rattle.std.proofs.Common.{◌≡◌, Some, refl, ap, sym, ◌∙◌, ⊎_elim}
-use Rattle.er_order.specs.Order.{Acquired, Released, Local, sync_of}
-use Rattle.er_order.specs.Clocks.{flows, clocks_after}
+use Rattle.er_order.specs.Order.{Released, Local, sync_of}
+use Rattle.er_order.specs.Clocks.{clocks_after}
 use Rattle.er_order.proofs.ClockSteps.{local}
 use Rattle.er_clocks.specs.Standing.{counts}
 use Rattle.er_clocks.proofs.Standing.{flows-own}

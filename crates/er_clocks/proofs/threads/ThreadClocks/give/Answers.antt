@@ -1,19 +1,23 @@
-use Rattle.std.proofs.Common.{◌≡◌, ◌+◌, ◌&&◌, ◌==◌, ℕ, cond, max, ap, refl, ◌∙◌}
+use Rattle.std.proofs.Common.{◌≡◌, ◌+◌, ◌&&◌, ◌==◌, ℕ, cond, max, ap, refl, ◌∙◌, arith}
 use Rattle.er_clock.specs.Clock.{count_in}
 use Rattle.er_clock.specs.Table.{known_by}
 use Rattle.er_clocks.specs.Counts.{ClockMap, known_to}
 use Rattle.er_clocks.proofs.Counts.{ready-known, risen, ticked-to}
 use Rattle.er_clocks.proofs.threads.ThreadClocks.give.Goals as goal
+use Rattle.er_clocks.proofs.threads.ThreadClocks.give.Goals.{After-get}
 
 pub swap-requires : goal.swap-requires
 swap-requires c = (c.args.thread, rw c.number-2.ensures.value c.in-Ok.ensures.begun)
 
 -- what the thread gives is what it knows
-given : (c : goal.After-swap) (u : ℕ) → count_in c.get.result.now u ≡ known_to c.args.self.now c.args.thread u
+given : (c : After-get) (u : ℕ) → count_in c.get.result.now u ≡ known_to c.args.self.now c.args.thread u
 given c u =
     c.get.ensures u ∙ ap (λ number. known_by c.prepare.new.table number u) c.number.ensures.value
     ∙ ready-known c.prepare.new.table c.args.thread c.in-Ok.ensures.begun u ∙ c.prepare.ensures.same c.args.thread u
     ∙ ap (λ (clocks : ClockMap). known_to clocks c.args.thread u) c.self.view_is
+
+pub join-requires : goal.join-requires
+join-requires c covered u = let same = given c u in let less = c.requires covered u in omega (arith, same, less)
 
 pub returns-clause-ok : goal.returns-clause-ok
 returns-clause-ok c t u =
@@ -24,4 +28,4 @@ returns-clause-ok c t u =
 pub returns-clause-given : goal.returns-clause-given
 returns-clause-given c n u =
     c.in-Ok-join.ensures.ok n u
-    ∙ ap (λ k. cond (c.args.number == n) (max (known_by c.args.clocks.now n u) k) (known_by c.args.clocks.now n u)) (given c u)
+    ∙ ap (λ k. cond (c.args.number == n) (max (known_by c.args.clocks.now n u) k) (known_by c.args.clocks.now n u)) (given (goal.at.returns-clause-given c).After-get u)

@@ -1,6 +1,6 @@
 use Rattle.std.proofs.Common.{◌∙◌, ◌+◌, length, ap, arith}
 use Rattle.er_clock.proofs.Blocks.{pushed_length, one_more_joined, all_joined}
-use Rattle.er_clock.proofs.clock.joined_blocks.Goals as goal
+use Rattle.er_clock.proofs.rest.joined_blocks.Goals as goal
 
 pub loop-place-init : goal.loop-place-init
 loop-place-init c = (omega arith, λ b o low. absurd (omega (arith, low)))
