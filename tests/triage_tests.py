@@ -31,6 +31,9 @@ PROGRAM = program("eraser")
 RANDOM_TRACES = 300
 # More than 16 bits number.
 MANY = 65_600
+# Sites that look like something else where they are written and read again: comments, rules, a name without its end. Each has a race.
+ODD_SITES = ("#a.c:1", "#", "##", "site", "words", "--", "-1", "0x1000", "words,0x1000,4", "a.c:1,", "!", "~", "'\"`", "\\n", "%20", "<b>", "{}", "/usr/include/#", "/usr/lib/~", "x" * 128, "/usr/include/" + "y" * 115)
+ODD_NAMES = "".join(f"t{k} write 0x{k}000 {site}\nt{k}: write 0x{k}000 {site}\n" for k, site in enumerate(ODD_SITES))
 RACE = re.compile(r"line (\d+): race: (\S+) (read|write) (0x[0-9a-f]{12}) at (\S+), holds .*")
 HEAD = "# Known races, written by eraser replay --write-rules\n"
 
@@ -69,6 +72,7 @@ def totals(report):
 def texts():
     """Names, traces and rules, of which none has a fault, with options."""
     yield "sites in headers of the system", HEADERS, b"", []
+    yield "sites that look like something else", f"eraser trace 3\n{ODD_NAMES}end\n".encode(), b"", []
     for trace in sorted((TOP / "examples").glob("*.trace")):
         rules, options = trace.with_suffix(".rules"), trace.with_suffix(".options")
         given = options.read_text().split() if options.exists() else []

@@ -43,7 +43,7 @@ module _ {X : Type 0} (p : X → Bool) where
       by false e = omega (arith, found xs some)
 
 -- a race is taken by its own rule
-own : (site : Option (List ℕ)) (word : ℕ) → takes (race_target site word) site word ≡ true
+pub own : (site : Option (List ℕ)) (word : ℕ) → takes (race_target site word) site word ≡ true
 own None word = grind (arith, nat_tests)
 own (Some name) word = grind (arith, bytes_eq-Decides)
 

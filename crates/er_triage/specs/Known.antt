@@ -1,6 +1,6 @@
 -- Rules that take the races of a report.
-use Rattle.std.specs.Prelude.{ℕ, ◌<◌, ◌≤◌, cond, is_some, IsSome, List, [], ◌∷◌, ◌++◌, length, Option, Some, None}
-use Rattle.std.specs.List.{fold}
+use Rattle.std.specs.Prelude.{◌≡◌, ℕ, ◌<◌, ◌≤◌, ◌==◌, Bool, false, cond, is_some, IsSome, IsSomeAnd, List, [], ◌∷◌, ◌++◌, count_by, length, map, slice_get, Option, Some, None}
+use Rattle.std.specs.List.{find, fold}
 use Rattle.er_report.specs.Report.{site_name}
 use Rattle.er_report.specs.declared.report.Line.{Line}
 use Rattle.er_report.specs.declared.report.Line.TheVariants.{Race, Refused, Shown}
@@ -33,6 +33,34 @@ abbrev pub IsTaken : NameTable → List Target → Line → Type 0
 IsTaken names rules (Race number thread kind word site held explained) = IsSome (matching_rule rules (site_name names site) word)
 IsTaken names rules (Refused number step refusal) = Unit {0}
 IsTaken names rules (Shown number word state) = Unit {0}
+
+-- the rule was found, and in this place
+abbrev pub is_place : ℕ → Option ℕ → Bool
+is_place place None = false
+is_place place (Some other) = place == other
+
+-- the line is a race that the rule in this place takes, and none before it
+abbrev pub is_taken_by : NameTable → List Target → ℕ → Line → Bool
+is_taken_by names rules place (Race number thread kind word site held explained) = is_place place (matching_rule rules (site_name names site) word)
+is_taken_by names rules place (Refused number step refusal) = false
+is_taken_by names rules place (Shown number word state) = false
+
+-- this is the race of the line
+abbrev pub IsRaceOf : KnownRace → Line → Type 0
+IsRaceOf race (Race number thread kind word site held explained) =
+    (race.line ≡ number) × (race.thread ≡ thread) × (race.kind ≡ kind) × (race.word ≡ word) × (race.site ≡ site)
+IsRaceOf race (Refused number step refusal) = ⊥
+IsRaceOf race (Shown number word state) = ⊥
+
+-- it counts the races that the rule in this place takes, and is the first of them
+pub record IsCountAt (names : NameTable) (rules : List Target) (lines : List Line) (place : ℕ) (race : KnownRace) : Type 0 where
+  pub races : race.races ≡ count_by (is_taken_by names rules place) lines
+  pub first : IsSomeAnd (find (is_taken_by names rules place) lines) (IsRaceOf race)
+
+-- each does of its own rule
+abbrev pub AreCounts : NameTable → List Line → List KnownRace → Type 0
+AreCounts names lines known =
+    (place : ℕ) (race : KnownRace) → slice_get known place ≡ Some race → IsCountAt names (map (known_target names) known) lines place race
 
 -- the thread and the site of the race have names
 abbrev pub IsNamed : NameTable → KnownRace → Type 0

@@ -6,7 +6,7 @@ use Rattle.er_report.specs.Report.{site_name}
 use Rattle.er_rules.specs.Rules.{Target, AtSite, AtWords}
 use Rattle.er_sites.specs.System.{is_system_name}
 use Rattle.er_trace.specs.Names.{NameTable}
-use Rattle.er_triage.specs.Known.{known_target, rules_of}
+use Rattle.er_triage.specs.Known.{known_target, rules_of, AreCounts}
 use Rattle.er_triage.specs.declared.known.KnownRace.{KnownRace}
 
 -- a rule as a suppression text has it; the size is in bytes
@@ -44,10 +44,11 @@ known_text names race = taken_text names race ++ hidden_text (site_name names ra
 abbrev pub known_races_text : NameTable → List KnownRace → List ℕ
 known_races_text names known = codes "# Known races, written by eraser replay --write-rules\n" ++ flat_map (known_text names) known
 
--- the text is that of rules for the races of these lines
+-- the text is that of rules for the races of these lines, each with the races that it takes
 pub record IsKnownText (names : NameTable) (lines : List Line) (text : List ℕ) : Type 0 where
   pub known : List KnownRace
   pub rules : map (known_target names) known ≡ rules_of names lines
+  pub counted : AreCounts names lines known
   pub says : text ≡ known_races_text names known
 
 -- the line of a rule that took no race

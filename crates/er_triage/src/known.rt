@@ -1,9 +1,10 @@
 //! A rule for each race that no rule before it takes.
-ghost use Rattle.std.specs.Prelude.{◌≡◌, ◌<◌, All, length, map, option_copied, IfOk, OnOk};
+ghost use Rattle.std.specs.Prelude.{◌≡◌, ◌<◌, All, length, map, option_copied, slice_get, IfOk, OnOk};
 ghost use Rattle.er_report.specs.Names.{HasNames};
 ghost use Rattle.er_rules.specs.Rules.{target_of, targets_of};
 ghost use Rattle.er_trace.specs.Names.{NameTable};
-ghost use Rattle.er_triage.specs.Known.{race_target, known_target, rules_of, with_rule, IsNamed, IsTaken};
+ghost use Rattle.er_triage.specs.Known.{race_target, known_target, rules_of, with_rule, AreCounts, IsNamed, IsTaken};
+ghost use Rattle.er_triage.specs.Inner.Counting.{with_line, with_one_more};
 
 use er_event::{Kind, Site, ThreadId, Word};
 use er_report::Line;
@@ -38,6 +39,7 @@ pub fn known_races(
     requires { All (HasNames names.now) lines.now }
     ensures rules { IfOk result (λ known. map (known_target names.now) known.items ≡ rules_of names.now lines.now) }
     ensures taken { IfOk result (λ known. All (IsTaken names.now (map (known_target names.now) known.items)) lines.now) }
+    ensures counted { IfOk result (λ known. AreCounts names.now lines.now known.items) }
     ensures named { IfOk result (λ known. All (IsNamed names.now) known.items) }
 {
     let mut rules = Suppressions::new(alloc);
@@ -60,6 +62,7 @@ fn add_line(
     requires known { map (known_target names.now) known.old.items ≡ targets_of rules.old }
     ensures known { OnOk result (map (known_target names.now) known.new.items ≡ targets_of rules.new) }
     ensures rules { OnOk result (targets_of rules.new ≡ with_rule names.now (targets_of rules.old) line.now) }
+    ensures counted { OnOk result (known.new.items ≡ with_line names.now known.old.items line.now) }
     ensures named { All (IsNamed names.now) known.old.items → OnOk result (All (IsNamed names.now) known.new.items) }
 {
     let Line::Race {
@@ -97,6 +100,7 @@ fn add_line(
 // One race more in this place.
 fn count_race(known: &mut Vec<KnownRace>, place: usize)
     requires { place < length known.old.items }
+    ensures counted { known.new.items ≡ with_one_more known.old.items place (slice_get known.old.items place) }
     ensures rules { (names : NameTable) → map (known_target names) known.new.items ≡ map (known_target names) known.old.items }
     ensures named { (names : NameTable) → All (IsNamed names) known.old.items → All (IsNamed names) known.new.items }
 {

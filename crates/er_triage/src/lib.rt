@@ -6,7 +6,9 @@
 //! several files together.
 //!
 //! What it promises, by the names of clauses: each race of the report is taken by one of the rules (`taken`), and there is no rule but
-//! those that such races ask for (`rules`). The texts are defined in `specs/Texts`, and the first races in `specs/First`.
+//! those that such races ask for (`rules`). A rule's comment tells how many races it takes, and the first of them (`counted`). The rules that
+//! are written are those that are read again (`written_rules_are_read_back`). The texts are defined in `specs/Texts`, and the first races in
+//! `specs/First`.
 //!
 //! ```
 //! let known = known_races(alloc, &report.lines, trace.names())?;
@@ -19,11 +21,13 @@
 pub use first::keep_first_races;
 pub use joined::append_rules;
 pub use known::{KnownRace, known_races};
+pub use laws::{names_of_a_trace_are_sound, written_rules_are_read_back};
 pub use texts::{known_races_text, left_out_text, put_rule, unused_rules_text};
 pub use wishes::{Triaged, Wishes, triage};
 
 mod first;
 mod joined;
 mod known;
+mod laws;
 mod texts;
 mod wishes;

@@ -1,13 +1,12 @@
 //! The texts of rules, each built whole in memory.
-ghost use Rattle.std.specs.Prelude.{◌≡◌, ◌<◌, ◌++◌, All, length, option_copied, slice_get, IfOk, OnOk};
-ghost use Rattle.er_print.specs.Printed.{kind_text, name_at};
+ghost use Rattle.std.specs.Prelude.{◌≡◌, ◌++◌, All, option_copied, slice_get, IfOk, OnOk};
 ghost use Rattle.er_rules.specs.Rules.{AtSite, AtWords, target_of, targets_of};
 ghost use Rattle.er_triage.specs.Known.{race_target, IsNamed};
 ghost use Rattle.er_triage.specs.Texts.{access_text, comment_text, count_text, hidden_text, known_text, known_races_text, left_out_text, taken_text, target_text, unused_from, unused_line};
 
 use crate::known::KnownRace;
-use er_event::{Kind, ThreadId, Word};
-use er_print::{put_address, put_number};
+use er_event::Word;
+use er_print::{put_address, put_kind, put_number, put_thread};
 use er_rules::{Rule, Suppressions, WordSpan};
 use er_sites::{is_system_name, name_of};
 use er_trace::Names;
@@ -126,22 +125,6 @@ fn put_access(out: &mut Vec<u8>, names: &Names, race: &KnownRace) -> Result<(), 
     put_kind(out, race.kind)?;
     out.extend_from_slice(b" ")?;
     put_address(out, race.word)
-}
-
-fn put_thread(out: &mut Vec<u8>, names: &Names, thread: ThreadId) -> Result<(), AllocError>
-    requires { thread < length names.now.threads }
-    ensures { OnOk result (out.new.items ≡ out.old.items ++ name_at names.now.threads thread) }
-{
-    out.extend_from_slice(names.thread_name(thread).as_bytes())
-}
-
-fn put_kind(out: &mut Vec<u8>, kind: Kind) -> Result<(), AllocError>
-    ensures { OnOk result (out.new.items ≡ out.old.items ++ kind_text kind) }
-{
-    out.extend_from_slice(match kind {
-        Kind::Read => b"read".as_slice(),
-        Kind::Write => b"write".as_slice(),
-    })
 }
 
 // Puts the rule of a race at the site of this name, or of the word at the missing one.

@@ -1,0 +1,353 @@
+-- The lines that are written of known races are read as their rules: one line is a comment or a rule, and the lines of a text are read one by one.
+use Rattle.std.proofs.Common.{◌≡◌, ◌<◌, ◌≤◌, ◌+◌, ◌-◌, ◌*◌, ◌/◌, ◌%◌, ◌^◌, ◌∙◌, ◌&&◌, ℕ, zero, suc, Bool, true, false, cond, not, nat_lt, nat_le, List, [], ◌∷◌, ◌++◌, length, map, flat_map, filter, slice_get, get_or, Option, Some, None, All, codes, decimal, append_assoc, refl, sym, ap, subst, arith}
+use Rattle.std.specs.Char.{digit_char, digit_value, is_digit}
+use Rattle.std.specs.List.{AllByRecursion, list_all}
+use Rattle.std.specs.Str.Parse.{digits_value}
+use Rattle.std.proofs.Math.Nat.{pow-suc}
+use Rattle.std.proofs.lemmas.Bool.{and_parts}
+use Rattle.std.proofs.lemmas.Bool.Decides.{nat_tests}
+use Rattle.std.proofs.lemmas.Fmt.{decimal_by_steps, decimal_digit, length-decimal-le}
+use Rattle.std.proofs.lemmas.Int.Digits.{digits_value_push}
+use Rattle.std.proofs.lemmas.List.{length-append}
+use Rattle.std.proofs.lemmas.List.Elements.{All-cons}
+use Rattle.std.proofs.lemmas.List.Folds.{list_all-append}
+use Rattle.std.proofs.lemmas.List.Splits.{slice_split_at, slice_split_none}
+use Rattle.std.proofs.lemmas.Option.{get_or_from_slice_get, slice_get_within}
+use Rattle.std.proofs.lemmas.List.Sums.{AllPass-from_list_all, list_all-from_AllPass}
+use Rattle.er_event.specs.Span.{Span}
+use Rattle.er_event.specs.declared.steps.Kind.{Kind}
+use Rattle.er_event.specs.declared.steps.Kind.TheVariants.{Read, Write}
+use Rattle.er_print.specs.Printed.{address_text, hex_digits, kind_text, name_at}
+use Rattle.er_report.specs.Report.{site_name}
+use Rattle.er_rules.specs.Rules.{Target, AtSite, AtWords}
+use Rattle.er_text.specs.Events.{run_of}
+use Rattle.er_text.specs.FirstFault.{IsPlain}
+use Rattle.er_text.specs.Lines.{Line, Placed, placed_from, lines_of, is_end, is_gap, is_ascii, is_comment, has_bytes, has_content, onto_line, says_something, word_at, words, width}
+use Rattle.er_text.specs.Naming.{is_name, is_name_byte, is_site_name, is_site_byte}
+use Rattle.er_text.specs.Number.{number_of}
+use Rattle.er_text.specs.Rules.{AllRule, IsRule, IsRules}
+use Rattle.er_trace.specs.Names.{NameTable}
+use Rattle.er_sites.specs.System.{is_system_name}
+use Rattle.er_triage.specs.Known.{race_target, known_target}
+use Rattle.er_triage.specs.Sound.{NamesSite, AreSound, IsSound}
+use Rattle.er_triage.specs.Texts.{access_text, comment_text, count_text, hidden_text, known_races_text, known_text, target_text}
+use Rattle.er_triage.specs.declared.known.KnownRace.{KnownRace}
+
+-- a byte from a space to `~`
+abbrev is_printed : ℕ → Bool
+is_printed byte = nat_le 32 byte && nat_le byte 126
+
+-- at most so many of them
+record IsPiece (most : ℕ) (bytes : List ℕ) : Type 0 where
+  few : length bytes ≤ most
+  printed : list_all is_printed bytes ≡ true
+
+both : (m n : ℕ) (a b : List ℕ) → IsPiece m a → IsPiece n b → IsPiece (m + n) (a ++ b)
+both m n a b first second =
+    let one : length a ≤ m = first.few in
+    let two : length b ≤ n = second.few in
+    record {
+      few = omega (arith, length-append a b);
+      printed = list_all-append is_printed a b ∙ ap (λ (t : Bool). t && list_all is_printed b) first.printed ∙ second.printed;
+    }
+
+-- the test of bytes that pass another
+weaker : (p q : ℕ → Bool) (bytes : List ℕ) → ((b : ℕ) → p b ≡ true → q b ≡ true) → list_all p bytes ≡ true → list_all q bytes ≡ true
+weaker p q bytes less all = list_all-from_AllPass q bytes (λ i d h. less (get_or bytes i d) (AllPass-from_list_all p bytes all i d h))
+
+digit_printed : (b : ℕ) → is_digit b 16 ≡ true → is_printed b ≡ true
+digit_printed b e = grind (arith, nat_tests, e)
+
+name_printed : (b : ℕ) → is_name_byte b ≡ true → is_printed b ≡ true
+name_printed b e = grind (arith, nat_tests, e)
+
+site_printed : (b : ℕ) → is_site_byte b ≡ true → is_printed b ≡ true
+site_printed b e = grind (arith, nat_tests, e)
+
+printed_ascii : (b : ℕ) → is_printed b ≡ true → is_ascii b ≡ true
+printed_ascii b e = grind (arith, nat_tests, e)
+
+printed_inside : (b : ℕ) → is_printed b ≡ true → is_end b ≡ false
+printed_inside b e = grind (arith, nat_tests, e)
+
+-- numbers
+one_digit : (n : ℕ) → n < 10 → list_all is_printed ((48 + n) ∷ []) ≡ true
+one_digit n small = let e : is_printed (48 + n) ≡ true = grind (arith, nat_tests) in rw e refl
+
+digits_more : (n : ℕ) (ds : List ℕ) → list_all is_printed ds ≡ true → list_all is_printed (ds ++ (48 + n % 10) ∷ []) ≡ true
+digits_more n ds all =
+    let last : list_all is_printed ((48 + n % 10) ∷ []) ≡ true = one_digit (n % 10) (omega arith) in
+    list_all-append is_printed ds ((48 + n % 10) ∷ []) ∙ ap (λ (t : Bool). t && list_all is_printed ((48 + n % 10) ∷ [])) all ∙ last
+
+number_piece : (n : ℕ) → n < 2 ^ 64 → IsPiece 20 (decimal n)
+number_piece n small = record {
+  few = length-decimal-le 20 n (omega arith) (omega arith) small;
+  printed = decimal_by_steps (λ k ds. list_all is_printed ds ≡ true) one_digit (λ k ds large all. digits_more k ds all) n small;
+}
+
+digit_again : (d : ℕ) → d < 16 → digit_value (digit_char d) ≡ d
+digit_again d small = grind (arith, nat_tests)
+
+record IsHex (count n : ℕ) : Type 0 where
+  size : length (hex_digits count n) ≡ count
+  digits : list_all (λ d. is_digit d 16) (hex_digits count n) ≡ true
+  value : digits_value 16 (hex_digits count n) ≡ n
+
+hex_is : (count n : ℕ) → n < 16 ^ count → IsHex count n
+unfolding hex_digits
+hex_is zero n small = record { size = refl; digits = refl; value = omega arith }
+hex_is (suc k) n small =
+    let whole : 16 ^ suc k ≡ 16 ^ k * 16 = pow-suc 16 k in
+    let front : IsHex k (n / 16) = hex_is k (n / 16) (omega (arith, small, whole)) in
+    let last : digit_value (digit_char (n % 16)) ≡ n % 16 = digit_again (n % 16) (omega arith) in
+    let test : is_digit (digit_char (n % 16)) 16 ≡ true = let low : digit_value (digit_char (n % 16)) < 16 = omega (arith, last) in grind (arith, nat_tests, low) in
+    record {
+      size = omega (arith, front.size, length-append (hex_digits k (n / 16)) (digit_char (n % 16) ∷ []));
+      digits = list_all-append (λ d. is_digit d 16) (hex_digits k (n / 16)) (digit_char (n % 16) ∷ []) ∙ ap (λ (t : Bool). t && list_all (λ d. is_digit d 16) (digit_char (n % 16) ∷ [])) front.digits ∙ (rw test refl);
+      value = digits_value_push 16 (hex_digits k (n / 16)) (digit_char (n % 16)) ∙ omega (arith, front.value, last);
+    }
+
+some_bytes : (bytes : List ℕ) (n : ℕ) → length bytes ≡ suc n → has_bytes bytes ≡ true
+some_bytes [] n size = absurd (omega arith)
+some_bytes (x ∷ xs) n size = refl
+
+address_hex : (word : ℕ) → word < 2 ^ 46 → IsHex 12 (4 * word)
+address_hex word small = hex_is 12 (4 * word) (let most : 16 ^ 12 ≡ 2 ^ 48 = refl in omega (arith, small, most))
+
+address_number : (word : ℕ) → word < 2 ^ 46 → number_of (address_text word) ≡ Some (4 * word)
+address_number word small =
+    let hex : IsHex 12 (4 * word) = address_hex word small in
+    let some : has_bytes (hex_digits 12 (4 * word)) ≡ true = some_bytes (hex_digits 12 (4 * word)) 11 hex.size in
+    let low : nat_lt (digits_value 16 (hex_digits 12 (4 * word))) (2 ^ 64) ≡ true = let v : digits_value 16 (hex_digits 12 (4 * word)) < 2 ^ 64 = omega (arith, hex.value, small) in grind (arith, nat_tests, v) in
+    rw (some, hex.digits, low) (ap Some hex.value)
+
+address_piece : (word : ℕ) → word < 2 ^ 46 → IsPiece 14 (address_text word)
+address_piece word small =
+    let hex : IsHex 12 (4 * word) = address_hex word small in
+    let digits : list_all is_printed (hex_digits 12 (4 * word)) ≡ true = weaker (λ d. is_digit d 16) is_printed (hex_digits 12 (4 * word)) digit_printed hex.digits in
+    record { few = omega (arith, hex.size); printed = digits }
+
+-- one line
+no_end : (bytes rest : List ℕ) → list_all is_printed bytes ≡ true → lines_of (bytes ++ 10 ∷ rest) ≡ record { bytes = bytes; ended = true } ∷ lines_of rest
+no_end [] rest all = refl
+no_end (x ∷ xs) rest all =
+    let parts = and_parts (is_printed x) (list_all is_printed xs) all in
+    let inside : is_end x ≡ false = printed_inside x parts.0 in
+    rw inside (ap (onto_line x) (no_end xs rest parts.1))
+
+-- lines that are read as these rules, wherever they stand
+abbrev AreRead : List Line → List Target → Type 0
+AreRead lines targets = (n s : ℕ) → AllByRecursion IsPlain (placed_from n s lines) × AllRule (filter has_content (placed_from n s lines)) targets
+
+abbrev ended_line : List ℕ → Line
+ended_line bytes = record { bytes = bytes; ended = true }
+
+never : (b : Bool) → (b && false) ≡ false
+never true = refl
+never false = refl
+
+-- a comment is no rule
+comment_read : (bytes : List ℕ) (lines : List Line) (targets : List Target) → IsPiece 1024 bytes → is_comment bytes ≡ true → AreRead lines targets → AreRead (ended_line bytes ∷ lines) targets
+comment_read bytes lines targets piece comment rest n s =
+    let more : AllByRecursion IsPlain (placed_from (n + 1) (s + width (ended_line bytes)) lines) × AllRule (filter has_content (placed_from (n + 1) (s + width (ended_line bytes)) lines)) targets =
+    rest (n + 1) (s + width (ended_line bytes)) in
+    let p : Placed = record { number = n; start = s; line = ended_line bytes } in
+    let ps : List Placed = placed_from (n + 1) (s + width (ended_line bytes)) lines in
+    let silent : says_something bytes ≡ false = ap (λ (c : Bool). has_bytes (word_at 0 (words bytes)) && not c) comment ∙ never (has_bytes (word_at 0 (words bytes))) in (
+      ((piece.few, weaker is_printed is_ascii bytes printed_ascii piece.printed), more.0),
+      subst (λ (b : Bool). AllRule (cond b (p ∷ filter has_content ps) (filter has_content ps)) targets) (sym silent) more.1,
+    )
+
+-- and the line of a rule is that rule
+rule_read : (bytes : List ℕ) (target : Target) (lines : List Line) (targets : List Target) → IsPiece 1024 bytes → says_something bytes ≡ true → IsRule (words bytes) target
+    → AreRead lines targets → AreRead (ended_line bytes ∷ lines) (target ∷ targets)
+rule_read bytes target lines targets piece speaks says rest n s =
+    let more : AllByRecursion IsPlain (placed_from (n + 1) (s + width (ended_line bytes)) lines) × AllRule (filter has_content (placed_from (n + 1) (s + width (ended_line bytes)) lines)) targets =
+    rest (n + 1) (s + width (ended_line bytes)) in
+    let p : Placed = record { number = n; start = s; line = ended_line bytes } in
+    let ps : List Placed = placed_from (n + 1) (s + width (ended_line bytes)) lines in (
+      ((piece.few, weaker is_printed is_ascii bytes printed_ascii piece.printed), more.0),
+      subst (λ (b : Bool). AllRule (cond b (p ∷ filter has_content ps) (filter has_content ps)) (target ∷ targets)) (sym speaks) (says, more.1),
+    )
+
+-- the same of texts
+comment_in : (bytes rest : List ℕ) (targets : List Target) → IsPiece 1024 bytes → is_comment bytes ≡ true → AreRead (lines_of rest) targets → AreRead (lines_of (bytes ++ 10 ∷ rest)) targets
+comment_in bytes rest targets piece comment more =
+    subst (λ (lines : List Line). AreRead lines targets) (sym (no_end bytes rest piece.printed)) (comment_read bytes (lines_of rest) targets piece comment more)
+
+rule_in : (bytes rest : List ℕ) (target : Target) (targets : List Target) → IsPiece 1024 bytes → says_something bytes ≡ true → IsRule (words bytes) target
+    → AreRead (lines_of rest) targets → AreRead (lines_of (bytes ++ 10 ∷ rest)) (target ∷ targets)
+rule_in bytes rest target targets piece speaks says more =
+    subst (λ (lines : List Line). AreRead lines (target ∷ targets)) (sym (no_end bytes rest piece.printed)) (rule_read bytes target (lines_of rest) targets piece speaks says more)
+
+-- the rule of a site
+record SiteParts (name : List ℕ) : Type 0 where
+  some : has_bytes name ≡ true
+  few : length name ≤ 128
+  printed : list_all is_site_byte name ≡ true
+
+site_parts : (name : List ℕ) → is_site_name name ≡ true → SiteParts name
+site_parts name is =
+    let p = and_parts (has_bytes name && nat_le (length name) 128) (list_all is_site_byte name) is in
+    let q = and_parts (has_bytes name) (nat_le (length name) 128) p.0 in
+    record { some = q.0; few = let short : nat_le (length name) 128 ≡ true = q.1 in grind (arith, nat_tests, short); printed = p.1 }
+
+site_gap : (b : ℕ) → is_site_byte b ≡ true → is_gap b ≡ false
+site_gap b e = grind (arith, nat_tests, e)
+
+site_words : (name : List ℕ) → SiteParts name → words (codes "site " ++ name) ≡ codes "site" ∷ name ∷ []
+site_words name parts =
+    let some : has_bytes name ≡ true = parts.some in
+    let gapless : All (λ b. is_gap b ≡ false) name = λ i d h. site_gap (get_or name i d) (AllPass-from_list_all is_site_byte name parts.printed i d h) in
+    ap (λ (ws : List (List ℕ)). codes "site" ∷ filter has_bytes ws) (slice_split_none is_gap name gapless) ∙ (rw some refl)
+
+site_piece : (name : List ℕ) → SiteParts name → IsPiece 128 name
+site_piece name parts = record { few = parts.few; printed = weaker is_site_byte is_printed name site_printed parts.printed }
+
+site_target : (name : List ℕ) → NamesSite name → IsRule (words (codes "site " ++ name)) (AtSite (Some name))
+site_target name is = (name, site_words name (site_parts name is.0), (is.0, sym (ap (λ (b : Bool). cond b None (Some name)) is.1)))
+
+-- the rule of a word
+run_bytes : (word : ℕ) → target_text (AtWords (Some (record { first = word; last = word }))) ≡ codes "words " ++ (address_text word ++ 32 ∷ codes "4")
+run_bytes word =
+    let one : 4 * (word + 1 - word) ≡ 4 = omega arith in
+    let four : decimal (4 * (word + 1 - word)) ≡ codes "4" = ap decimal one ∙ decimal_digit 4 (omega arith) in
+    ap (λ (size : List ℕ). codes "words " ++ address_text word ++ codes " " ++ size) four ∙ simp append_assoc
+
+address_gap : (b : ℕ) → is_digit b 16 ≡ true → is_gap b ≡ false
+address_gap b e = grind (arith, nat_tests, e)
+
+run_words : (word : ℕ) → word < 2 ^ 46 → words (codes "words " ++ (address_text word ++ 32 ∷ codes "4")) ≡ codes "words" ∷ address_text word ∷ codes "4" ∷ []
+run_words word small =
+    let hex : IsHex 12 (4 * word) = address_hex word small in
+    let all : All (λ d. is_digit d 16 ≡ true) (hex_digits 12 (4 * word)) = AllPass-from_list_all (λ d. is_digit d 16) (hex_digits 12 (4 * word)) hex.digits in
+    let digits : All (λ b. is_gap b ≡ false) (hex_digits 12 (4 * word)) = λ i d h. address_gap (get_or (hex_digits 12 (4 * word)) i d) (all i d h) in
+    let gapless : All (λ b. is_gap b ≡ false) (address_text word) = All-cons (λ b. is_gap b ≡ false) 48 (120 ∷ hex_digits 12 (4 * word)) refl (All-cons (λ b. is_gap b ≡ false) 120 (hex_digits 12 (4 * word)) refl digits) in
+    ap (λ (ws : List (List ℕ)). codes "words" ∷ filter has_bytes ws) (slice_split_at is_gap (address_text word) 32 (codes "4") gapless refl)
+
+abbrev words_from : ℕ → ℕ → Option Span
+words_from first last = Some (record { first = first; last = last })
+
+run_of_word : (word : ℕ) → words_from word word ≡ run_of (4 * word) 4
+run_of_word word =
+    let low : word ≡ 4 * word / 4 = omega arith in
+    let high : word ≡ (4 * word + 4 - 1) / 4 = omega arith in
+    ap (λ (first : ℕ). words_from first word) low ∙ ap (λ (last : ℕ). words_from (4 * word / 4) last) high
+
+run_target : (word : ℕ) → word < 2 ^ 46 → IsRule (words (codes "words " ++ (address_text word ++ 32 ∷ codes "4"))) (AtWords (Some (record { first = word; last = word })))
+run_target word small = (address_text word, codes "4", 4 * word, 4, run_words word small, address_number word small, refl, omega (arith, small), omega (arith, small), run_of_word word)
+
+abbrev IsSoundSite : Option (List ℕ) → Type 0
+IsSoundSite None = Unit {0}
+IsSoundSite (Some name) = NamesSite name
+
+literal : (bytes : List ℕ) (n : ℕ) → nat_le (length bytes) n ≡ true → list_all is_printed bytes ≡ true → IsPiece n bytes
+literal bytes n few printed = record { few = grind (arith, nat_tests, few); printed = printed }
+
+wider : (m n : ℕ) (bytes : List ℕ) → m ≤ n → IsPiece m bytes → IsPiece n bytes
+wider m n bytes less piece = let few : length bytes ≤ m = piece.few in record { few = omega arith; printed = piece.printed }
+
+target_read : (site : Option (List ℕ)) (word : ℕ) (rest : List ℕ) (targets : List Target) → IsSoundSite site → word < 2 ^ 46 → AreRead (lines_of rest) targets
+    → AreRead (lines_of (target_text (race_target site word) ++ 10 ∷ rest)) (race_target site word ∷ targets)
+target_read None word rest targets sound small more =
+    let bytes : List ℕ = codes "words " ++ (address_text word ++ 32 ∷ codes "4") in
+    let behind : IsPiece 2 (codes " 4") = literal (codes " 4") 2 refl refl in
+    let piece : IsPiece 22 bytes = both 6 16 (codes "words ") (address_text word ++ codes " 4") (literal (codes "words ") 6 refl refl) (both 14 2 (address_text word) (codes " 4") (address_piece word small) behind) in
+    let speaks : says_something bytes ≡ true = ap (λ (ws : List (List ℕ)). has_bytes (word_at 0 ws) && true) (run_words word small) in
+    subst (λ (b : List ℕ). AreRead (lines_of (b ++ 10 ∷ rest)) (AtWords (Some (record { first = word; last = word })) ∷ targets)) (sym (run_bytes word))
+    (rule_in bytes rest (AtWords (Some (record { first = word; last = word }))) targets (wider 22 1024 bytes (omega arith) piece) speaks (run_target word small) more)
+target_read (Some name) word rest targets sound small more =
+    let bytes : List ℕ = codes "site " ++ name in
+    let parts : SiteParts name = site_parts name sound.0 in
+    let piece : IsPiece 133 bytes = both 5 128 (codes "site ") name (literal (codes "site ") 5 refl refl) (site_piece name parts) in
+    let speaks : says_something bytes ≡ true = ap (λ (ws : List (List ℕ)). has_bytes (word_at 0 ws) && true) (site_words name parts) in
+    rule_in bytes rest (AtSite (Some name)) targets (wider 133 1024 bytes (omega arith) piece) speaks (site_target name sound) more
+
+hidden_in : (name rest : List ℕ) (targets : List Target) → NamesSite name → AreRead (lines_of rest) targets → AreRead (lines_of (comment_text name ++ rest)) targets
+unfolding comment_text
+hidden_in name rest targets sound more =
+    let end : List ℕ = codes " is a line of a system header: this rule hides the races of every part of the program that uses it" in
+    let bytes : List ℕ = codes "# " ++ name ++ end in
+    let piece : IsPiece 330 bytes = both 130 200 (codes "# " ++ name) end (both 2 128 (codes "# ") name (literal (codes "# ") 2 refl refl) (site_piece name (site_parts name sound.0))) (literal end 200 refl refl) in
+    let split : comment_text name ++ rest ≡ bytes ++ 10 ∷ rest = append_assoc (codes "# " ++ name) (end ++ 10 ∷ []) rest ∙ sym (append_assoc (codes "# " ++ name) end (10 ∷ rest)) in
+    subst (λ (text : List ℕ). AreRead (lines_of text) targets) (sym split) (comment_in bytes rest targets (wider 330 1024 bytes (omega arith) piece) refl more)
+
+hidden_read : (site : Option (List ℕ)) (rest : List ℕ) (targets : List Target) → IsSoundSite site → AreRead (lines_of rest) targets → AreRead (lines_of (hidden_text site ++ rest)) targets
+hidden_read None rest targets sound more = more
+hidden_read (Some name) rest targets sound more = by (is_system_name name)
+  where
+    by : (b : Bool) → AreRead (lines_of (cond b (comment_text name) [] ++ rest)) targets
+    by false = more
+    by true = hidden_in name rest targets sound more
+
+-- what a rule takes
+name_piece : (names : NameTable) (thread : ℕ) → AreSound names → thread < length names.threads → IsPiece 128 (name_at names.threads thread)
+name_piece names thread sound within =
+    let name : List ℕ = name_at names.threads thread in
+    let is : is_name name ≡ true = sound.threads thread [] within in
+    let p = and_parts (has_bytes name && nat_le (length name) 128) (list_all is_name_byte name) is in
+    let q = and_parts (has_bytes name) (nat_le (length name) 128) p.0 in
+    record { few = let short : nat_le (length name) 128 ≡ true = q.1 in grind (arith, nat_tests, short); printed = weaker is_name_byte is_printed name name_printed p.1 }
+
+kind_piece : (kind : Kind) → IsPiece 5 (kind_text kind)
+kind_piece Read = literal (codes "read") 5 refl refl
+kind_piece Write = literal (codes "write") 5 refl refl
+
+access_piece : (names : NameTable) (race : KnownRace) → AreSound names → IsSound names race → IsPiece 149 (access_text names race)
+access_piece names race sound is =
+    let name : List ℕ = name_at names.threads race.thread in
+    let space : IsPiece 1 (codes " ") = literal (codes " ") 1 refl refl in
+    both 135 14 (name ++ codes " " ++ kind_text race.kind ++ codes " ") (address_text race.word)
+    (both 134 1 (name ++ codes " " ++ kind_text race.kind) (codes " ") (both 129 5 (name ++ codes " ") (kind_text race.kind)
+    (both 128 1 name (codes " ") (name_piece names race.thread sound is.named.0) space) (kind_piece race.kind)) space) (address_piece race.word is.word)
+
+count_piece : (names : NameTable) (race : KnownRace) → IsSound names race → IsPiece 62 (count_text race)
+count_piece names race is =
+    both 42 20 (codes "# races " ++ decimal race.races ++ codes ", first: line ") (decimal race.line)
+    (both 28 14 (codes "# races " ++ decimal race.races) (codes ", first: line ")
+    (both 8 20 (codes "# races ") (decimal race.races) (literal (codes "# races ") 8 refl refl) (number_piece race.races is.races))
+    (literal (codes ", first: line ") 14 refl refl)) (number_piece race.line is.line)
+
+taken_piece : (names : NameTable) (race : KnownRace) → AreSound names → IsSound names race → IsPiece 213 (count_text race ++ codes ", " ++ access_text names race)
+taken_piece names race sound is =
+    both 64 149 (count_text race ++ codes ", ") (access_text names race)
+    (both 62 2 (count_text race) (codes ", ") (count_piece names race is) (literal (codes ", ") 2 refl refl)) (access_piece names race sound is)
+
+-- the site of a race is the missing one, or has a name that names a site
+site_sound : (names : NameTable) (n : ℕ) → AreSound names → IsSoundSite (site_name names n)
+site_sound names zero sound = tt
+site_sound names (suc k) sound = by (slice_get names.sites k) refl
+  where
+    by : (o : Option (List ℕ)) → slice_get names.sites k ≡ o → IsSoundSite o
+    by None e = tt
+    by (Some name) e = subst NamesSite (get_or_from_slice_get names.sites k name name e) (sound.sites k name (slice_get_within names.sites k name e))
+
+split_known : (taken hidden target rest : List ℕ) → (taken ++ 10 ∷ [] ++ hidden ++ target ++ 10 ∷ []) ++ rest ≡ taken ++ 10 ∷ (hidden ++ (target ++ 10 ∷ rest))
+split_known taken hidden target rest = simp append_assoc
+
+race_read : (names : NameTable) (race : KnownRace) (rest : List ℕ) (targets : List Target) → AreSound names → IsSound names race → AreRead (lines_of rest) targets
+    → AreRead (lines_of (known_text names race ++ rest)) (known_target names race ∷ targets)
+race_read names race rest targets sound is more =
+    let site : Option (List ℕ) = site_name names race.site in
+    let taken : List ℕ = count_text race ++ codes ", " ++ access_text names race in
+    let target : List ℕ = target_text (known_target names race) in
+    let known : IsSoundSite site = site_sound names race.site sound in
+    subst (λ (text : List ℕ). AreRead (lines_of text) (known_target names race ∷ targets)) (sym (split_known taken (hidden_text site) target rest))
+    (comment_in taken (hidden_text site ++ (target ++ 10 ∷ rest)) (known_target names race ∷ targets) (wider 213 1024 taken (omega arith) (taken_piece names race sound is)) refl
+    (hidden_read site (target ++ 10 ∷ rest) (known_target names race ∷ targets) known (target_read site race.word rest targets known is.word more)))
+
+all_read : (names : NameTable) (known : List KnownRace) → AreSound names → All (IsSound names) known → AreRead (lines_of (flat_map (known_text names) known)) (map (known_target names) known)
+all_read names [] sound all = λ n s. (tt, tt)
+all_read names (race ∷ known) sound all =
+    race_read names race (flat_map (known_text names) known) (map (known_target names) known) sound (all 0 race (omega arith))
+    (all_read names known sound (λ k d h. all (suc k) d (omega arith)))
+
+pub read_back : (names : NameTable) (known : List KnownRace) (limit : ℕ) → AreSound names → All (IsSound names) known → length (known_races_text names known) ≤ limit
+    → IsRules (known_races_text names known) limit (map (known_target names) known)
+read_back names known limit sound all short =
+    let first : List ℕ = codes "# Known races, written by eraser replay --write-rules" in
+    let read : AreRead (lines_of (first ++ 10 ∷ flat_map (known_text names) known)) (map (known_target names) known) =
+    comment_in first (flat_map (known_text names) known) (map (known_target names) known) (literal first 1024 refl refl) refl (all_read names known sound all) in
+    let placed_all : AllByRecursion IsPlain (placed_from 1 0 (lines_of (known_races_text names known))) × AllRule (filter has_content (placed_from 1 0 (lines_of (known_races_text names known)))) (map (known_target names) known) =
+    read 1 0 in
+    record { short = short; plain = placed_all.0; rules = placed_all.1 }

@@ -1,0 +1,2 @@
+-- What the code's parts keep true of one another. No public clause cites it.
+pub mod Counting

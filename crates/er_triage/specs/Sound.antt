@@ -1,0 +1,23 @@
+-- Names as a trace may write them, and races of which a text can be written that is read again.
+use Rattle.std.specs.Prelude.{◌≡◌, ℕ, ◌^◌, ◌<◌, true, false, List, All, codes}
+use Rattle.std.specs.Str.{bytes_eq}
+use Rattle.er_text.specs.Naming.{is_name, is_site_name}
+use Rattle.er_trace.specs.Names.{NameTable}
+use Rattle.er_triage.specs.Known.{IsNamed}
+use Rattle.er_triage.specs.declared.known.KnownRace.{KnownRace}
+
+-- the word names a site, and is not the dash of the missing one
+abbrev pub NamesSite : List ℕ → Type 0
+NamesSite name = (is_site_name name ≡ true) × (bytes_eq name (codes "-") ≡ false)
+
+-- the names of threads and of sites are such as a trace writes
+pub record AreSound (names : NameTable) : Type 0 where
+  pub threads : All (λ name. is_name name ≡ true) names.threads
+  pub sites : All NamesSite names.sites
+
+-- the race has names, and its numbers are those of a word of memory and of 64 bits
+pub record IsSound (names : NameTable) (race : KnownRace) : Type 0 where
+  pub named : IsNamed names race
+  pub line : race.line < 2 ^ 64
+  pub races : race.races < 2 ^ 64
+  pub word : race.word < 2 ^ 46
