@@ -22,6 +22,7 @@
 struct attachment {
     struct ring *ring;
     bool orders; /* what orders threads is recorded as well */
+    _Atomic bool has_fences; /* some file of the program asks for fences */
 };
 extern struct attachment *attached;
 
@@ -33,6 +34,7 @@ extern struct attachment *attached;
 struct self {
     uint32_t number;  /* 0 before its first event */
     uint32_t reads_ignored, writes_ignored;
+    bool has_released; /* by a fence */
     uint64_t head_seen;
     uint64_t pending; /* the ticket that this thread has drawn and not yet published, stored as its complement */
     void *pending_frame;
@@ -55,6 +57,12 @@ static inline bool is_recording(void)
 static inline bool is_ordering(void)
 {
     return attached->orders;
+}
+
+/* A load that doesn't acquire means something to a fence alone, so it is recorded only in a program that has fences. */
+static inline bool is_fencing(void)
+{
+    return atomic_load_explicit(&attached->has_fences, memory_order_relaxed);
 }
 
 /* `pending` is kept as a complement so that a thread's zeroed storage says that nothing is pending. */

@@ -5,6 +5,7 @@
 #include <string.h>
 
 #include "barriers.h"
+#include "fences.h"
 #include "locks.h"
 #include "objects.h"
 #include "pages.h"
@@ -139,6 +140,7 @@ static void end_join(const struct slot *slot)
     if (number_of(slot->first) == joined)
         drop_self(joined);
     trace_other_thread(slot->thread, "join", joined);
+    fences_end(slot->thread, joined);
 }
 
 /* ---- Signals and awaits ---- */
@@ -243,6 +245,9 @@ static void take_rare(const struct slot *slot)
     case EVENT_OBJECT_BEGIN: objects_forget(slot->first, 1); break;
     case EVENT_OBJECT_END: end_object(slot->first); break;
     case EVENT_BARRIER: barriers_begin(slot->first, slot->second); break;
+    case EVENT_FENCE: fences_pass(slot->thread, slot->size); break;
+    case EVENT_STORED: fences_store(slot->thread, slot->first); break;
+    case EVENT_LOADED: fences_load(slot->thread, slot->first); break;
     default: break;
     }
 }
