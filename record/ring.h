@@ -57,6 +57,7 @@ enum event_kind {
     EVENT_BARRIER,    /* first: barrier whose life begins, second: how many threads it lets go at a time, 0 if others may come to it */
     EVENT_FENCE,      /* size: FENCE_ACQUIRES, FENCE_RELEASES or both */
     EVENT_STORED,     /* first: atomic, stored by an operation that doesn't release, in a thread that has released by a fence */
+    EVENT_LET_GO,     /* first: object that a holder lets go, size: enum object_kind: it signals and awaits it, if anybody has signalled it before */
     EVENT_LOADED,     /* first: atomic, loaded by an operation that doesn't acquire, in a program that has fences */
 };
 
@@ -66,8 +67,8 @@ enum lock_kind { LOCK_MUTEX, LOCK_RWLOCK, LOCK_SPIN, LOCK_USER };
 #define LOCK_FAILED 4
 
 /* What threads signal and await. */
-enum object_kind { OBJECT_ATOMIC, OBJECT_SEMAPHORE, OBJECT_BARRIER, OBJECT_CONDITION, OBJECT_ONCE, OBJECT_USER, OBJECT_FENCE };
-#define OBJECT_KINDS 7
+enum object_kind { OBJECT_ATOMIC, OBJECT_SEMAPHORE, OBJECT_BARRIER, OBJECT_CONDITION, OBJECT_ONCE, OBJECT_USER, OBJECT_FENCE, OBJECT_EXCEPTION };
+#define OBJECT_KINDS 8
 
 #define FENCE_ACQUIRES 1
 #define FENCE_RELEASES 2

@@ -52,6 +52,7 @@ OBJECTS = {
     "semaphore": (["full", "spare"], [], []),
     "shared": ([], [], []),
     "threads": ([], [], []),
+    "thrown": (["exception-1", "exception-18"], [], ["exception-19"]),
 }
 STARTS = {"threads": 24, "detached": 28}
 # A trace of fewer bytes is read a second time whole, which is slow.

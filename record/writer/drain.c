@@ -245,6 +245,7 @@ static void take_rare(const struct slot *slot)
     case EVENT_OBJECT_BEGIN: objects_forget(slot->first, 1); break;
     case EVENT_OBJECT_END: end_object(slot->first); break;
     case EVENT_BARRIER: barriers_begin(slot->first, slot->second); break;
+    case EVENT_LET_GO: objects_let_go(slot->thread, slot->first, (enum object_kind)(slot->size % OBJECT_KINDS)); break;
     case EVENT_FENCE: fences_pass(slot->thread, slot->size); break;
     case EVENT_STORED: fences_store(slot->thread, slot->first); break;
     case EVENT_LOADED: fences_load(slot->thread, slot->first); break;
