@@ -38,6 +38,7 @@ enum event_kind {
     EVENT_LOCK_BEGIN, /* first: lock that begins a new life */
     EVENT_LOCK_END,   /* first: lock whose life ends, second: program counter */
     EVENT_REUSE,      /* first: address, second: bytes that are put to a new use */
+    EVENT_FREE,       /* first: address, size: bytes that a call gives back, second: program counter of the call */
     EVENT_IGNORE_ON,
     EVENT_IGNORE_OFF,
     EVENT_THREAD,     /* first: the thread's pthread_t */

@@ -163,6 +163,15 @@ static inline void emit_reuse(const volatile void *address, uint64_t size)
         emit(EVENT_REUSE, 0, (uintptr_t)address, size);
 }
 
+/* A block that a call gives back. */
+static inline void emit_free(const volatile void *block, size_t size, uint64_t site)
+{
+    if (size <= UINT32_MAX)
+        emit(EVENT_FREE, (uint32_t)size, (uintptr_t)block, site);
+    else
+        emit_reuse(block, size);
+}
+
 /* A signal is recorded before what it stands for happens, an await after it. So the await of whoever saw what another thread did comes
  * after that thread's signal. */
 static inline void emit_signal(enum object_kind kind, const volatile void *object)

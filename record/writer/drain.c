@@ -270,7 +270,8 @@ static void take(const struct slot *slot)
         break;
     case EVENT_SIGNAL: signal_object(slot, (enum object_kind)(slot->size % OBJECT_KINDS)); break;
     case EVENT_AWAIT: await_object(slot, (enum object_kind)(slot->size % OBJECT_KINDS)); break;
-    case EVENT_REUSE: pages_reuse(trace_thread(slot->thread), slot->first, slot->second); break;
+    case EVENT_REUSE: pages_reuse(slot->thread, slot->first, slot->second, 0); break;
+    case EVENT_FREE: pages_reuse(slot->thread, slot->first, slot->size, slot->second); break;
     default: take_rare(slot); break;
     }
 }
