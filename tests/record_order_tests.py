@@ -56,6 +56,8 @@ OBJECTS = {
     "thrown": (["exception-1", "exception-18"], [], ["exception-19"]),
 }
 STARTS = {"threads": 24, "detached": 28}
+# Words of a page.
+PAGE = 1024
 # A trace of fewer bytes is read a second time whole, which is slow.
 SHORT = 60_000
 # Programs of tests/record that end otherwise than by themselves, or need something else beside them.
@@ -161,15 +163,17 @@ class Era:
 
 @dataclasses.dataclass
 class Early:
-    """A reuse that another thread's accesses don't come before: their sites, and whether a word of it has had no race."""
+    """The words of a page that are put to a new use, with accesses of other threads that don't come before: their sites, and whether one of these
+    words has had no race."""
 
-    line: int
+    step: order_reference.Step
+    words: range
     sites: set
     is_reported: bool
 
 
 def early_reuses(text):
-    """The reuses that are not ordered after all accesses of their words. In brackets nothing counts."""
+    """The reuses that are not ordered after all accesses of their words, page by page. In brackets nothing counts."""
     clocks, pages, brackets = Clocks(), collections.defaultdict(dict), collections.Counter()
     for step in order_reference.read(text.encode()):
         clocks.step(step)
@@ -177,14 +181,13 @@ def early_reuses(text):
         brackets[step.thread] += {"ignore-on": 1, "ignore-off": -1}.get(step.verb, 0)
         if step.verb in ("read", "write") and not brackets[step.thread]:
             word = step.words[0]
-            pages[word // 1024].setdefault(word, Era()).access(step, clock)
-        elif step.verb == "reuse":
-            eras = []
-            for page in range(step.words.start // 1024, (step.words.stop - 1) // 1024 + 1):
-                eras += [pages[page].pop(word) for word in [word for word in pages.get(page, ()) if word in step.words]]
+            pages[word // PAGE].setdefault(word, Era()).access(step, clock)
+        for page in range(step.words.start // PAGE, (step.words.stop - 1) // PAGE + 1) if step.verb == "reuse" else ():
+            eras = [pages[page].pop(word) for word in [word for word in pages.get(page, ()) if word in step.words]]
             late = [era for era in eras if era.apart(clock)]
             if late and not brackets[step.thread]:
-                yield Early(step.line, set().union(*(era.apart(clock) for era in late)), not all(era.is_racy for era in late))
+                words = range(max(PAGE * page, step.words.start), min(PAGE * (page + 1), step.words.stop))
+                yield Early(step, words, set().union(*(era.apart(clock) for era in late)), not all(era.is_racy for era in late))
 
 
 def early_sites(text):
@@ -215,7 +218,7 @@ def objects_fault(name, steps):
 
 def program_fault(source, text):
     steps = order_reference.read(text.encode())
-    sites = {race.marked.step.site for race in order_reference.races(order_reference.mark(steps))}
+    sites = {race.marked.step.site for race in order_reference.races(order_reference.mark(steps)) if race.marked.step.verb != "reuse"}
     if sites != marked(source, "UNORDERED"):
         return f"unordered at {sorted(sites)}, not {sorted(marked(source, 'UNORDERED'))}"
     if early_sites(text) != marked(source, "EARLY"):
@@ -245,15 +248,14 @@ def knows_reuses():
 
 
 def reuse_fault(source, text):
-    """Each reuse that is too early has a line, with the range as the trace has it, and the reason for it is an access with a mark."""
+    """Each reuse that is too early has a line for each page that is in use, and the reason for it is an access with a mark."""
     report = analysis_tests.run(["--analysis", "happens-before", "--explain", "-"], text.encode())[0].decode()
-    lines, found = text.splitlines(), {}
-    for line, thread, address, size, reason in re.findall(r"^line (\d+): unordered: (\S+) reuse (0x[0-9a-f]+) (\d+)\b.*\n  unordered with: line (\d+), ", report, re.M):
-        found[int(line)] = thread, int(address, 16), int(size)
+    lines, found = text.splitlines(), []
+    for line, thread, address, size, reason in re.findall(r"^line (\d+): unordered: (\S+) reuse (0x[0-9a-f]+) (\d+)\n  unordered with: line (\d+), ", report, re.M):
+        found.append((int(line), thread, int(address, 16), int(size)))
         if lines[int(reason) - 1].split()[-1] not in marked(source, "EARLY"):
             return f"line {line} for the reason {lines[int(reason) - 1]!r}"
-    wanted = {early.line: lines[early.line - 1].split() for early in early_reuses(text) if early.is_reported}
-    wanted = {line: (thread, int(address, 16), int(size)) for line, (thread, _, address, size) in wanted.items()}
+    wanted = [(early.step.line, early.step.thread, 4 * early.words.start, 4 * len(early.words)) for early in early_reuses(text) if early.is_reported]
     return f"reuses {found}, not {wanted}" if found != wanted or report.count(" reuse ") != len(wanted) else None
 
 
