@@ -9,7 +9,7 @@
 #include <stdatomic.h>
 #include <stdint.h>
 
-#define RING_MAGIC 0x33676e6972617265u /* "eraring3" in memory */
+#define RING_MAGIC 0x34676e6972617265u /* "eraring4" in memory */
 #define RING_BITS 18
 #define RING_SLOTS (1u << RING_BITS)
 #define RING_MASK (RING_SLOTS - 1)
@@ -38,6 +38,7 @@ enum event_kind {
     EVENT_LOCK_BEGIN, /* first: lock that begins a new life */
     EVENT_LOCK_END,   /* first: lock whose life ends, second: program counter */
     EVENT_REUSE,      /* first: address, second: bytes that are put to a new use */
+    EVENT_FREE,       /* first: address, size: bytes that a call gives back, second: program counter of the call */
     EVENT_IGNORE_ON,
     EVENT_IGNORE_OFF,
     EVENT_THREAD,     /* first: the thread's pthread_t */
@@ -55,6 +56,10 @@ enum event_kind {
     EVENT_OBJECT_BEGIN, /* first: object whose life begins */
     EVENT_OBJECT_END, /* first: object whose life ends */
     EVENT_BARRIER,    /* first: barrier whose life begins, second: how many threads it lets go at a time, 0 if others may come to it */
+    EVENT_FENCE,      /* size: FENCE_ACQUIRES, FENCE_RELEASES or both */
+    EVENT_STORED,     /* first: atomic, stored by an operation that doesn't release, in a thread that has released by a fence */
+    EVENT_LET_GO,     /* first: object that a holder lets go, size: enum object_kind: it signals and awaits it, if anybody has signalled it before */
+    EVENT_LOADED,     /* first: atomic, loaded by an operation that doesn't acquire, in a program that has fences */
 };
 
 enum lock_kind { LOCK_MUTEX, LOCK_RWLOCK, LOCK_SPIN, LOCK_USER };
@@ -63,8 +68,11 @@ enum lock_kind { LOCK_MUTEX, LOCK_RWLOCK, LOCK_SPIN, LOCK_USER };
 #define LOCK_FAILED 4
 
 /* What threads signal and await. */
-enum object_kind { OBJECT_ATOMIC, OBJECT_SEMAPHORE, OBJECT_BARRIER, OBJECT_CONDITION, OBJECT_ONCE, OBJECT_USER };
-#define OBJECT_KINDS 6
+enum object_kind { OBJECT_ATOMIC, OBJECT_SEMAPHORE, OBJECT_BARRIER, OBJECT_CONDITION, OBJECT_ONCE, OBJECT_USER, OBJECT_FENCE, OBJECT_EXCEPTION, OBJECT_PIPE };
+#define OBJECT_KINDS 9
+
+#define FENCE_ACQUIRES 1
+#define FENCE_RELEASES 2
 
 struct slot {
     _Atomic uint32_t published; /* ring_round() of its ticket once the rest is filled */

@@ -10,6 +10,8 @@ happens-before, in every schedule. The sites at which tests/order_reference.py f
 
 import collections
 import concurrent.futures
+import dataclasses
+import functools
 import os
 import pathlib
 import re
@@ -36,14 +38,26 @@ OBJECTS = {
     "condition": (["changed"], [], []),
     "detached": (["ended"], [], []),
     "early": ([], [], []),
+    "early_objects": ([], [], []),
     "ended": (["woken", "round_trip"], ["changed", "changed:2", "fresh", "fresh:2", "reused"], ["full"]),
-    "message": (["flag_8", "flag_16", "flag_32", "flag_64"], ["half_flag"], ["loose_flag", "fenced_flag"]),
+    "fences": (
+        ["both_flag", "sent_flag", "taken_flag", "full_flag", "added_flag", "swapped_flag", "between_flag", "later_flag", "first_flag", "second_flag", "fence-1"],
+        [],
+        ["failed_flag"],
+    ),
+    "given": (["given"], [], []),
+    "message": (["flag_8", "flag_16", "flag_32", "flag_64", "fenced_flag"], [], []),
     "once": (["pthread_flag", "call_flag", "thrown_flag", "_ZGVZL8get_madevE4only"], [], []),
+    "owned": (["head", "slot"], [], []),
+    "piped": (["pipe-2", "pipe-3", "pipe-4", "pipe-5"], ["pipe-6"], ["pipe-7"]),
     "semaphore": (["full", "spare"], [], []),
     "shared": ([], [], []),
     "threads": ([], [], []),
+    "thrown": (["exception-1", "exception-18"], [], ["exception-19"]),
 }
 STARTS = {"threads": 24, "detached": 28}
+# Words of a page.
+PAGE = 1024
 # A trace of fewer bytes is read a second time whole, which is slow.
 SHORT = 60_000
 # Programs of tests/record that end otherwise than by themselves, or need something else beside them.
@@ -129,21 +143,56 @@ class Clocks:
         self.objects["end", thread] = self.threads[thread]
 
 
-def early_sites(text):
-    """The sites of accesses after which a reuse of their word by another thread is not ordered. In brackets nothing counts."""
-    clocks, pages, found, brackets = Clocks(), collections.defaultdict(dict), set(), collections.Counter()
+class Era:
+    """A word since its last reuse: each thread's last access and last write, and whether two of its accesses were a race."""
+
+    def __init__(self):
+        self.accesses, self.writes, self.is_racy = {}, {}, False
+
+    def access(self, step, clock):
+        earlier = self.accesses.values() if step.verb == "write" else self.writes.values()
+        self.is_racy |= any(count > clock[thread] for thread, count, _ in earlier)
+        self.accesses[step.thread] = step.thread, clock[step.thread], step.site
+        if step.verb == "write":
+            self.writes[step.thread] = self.accesses[step.thread]
+
+    def apart(self, clock):
+        """The sites of accesses that don't come before a step of this clock."""
+        return {site for thread, count, site in self.accesses.values() if count > clock[thread]}
+
+
+@dataclasses.dataclass
+class Early:
+    """The words of a page that are put to a new use, with accesses of other threads that don't come before: their sites, and whether one of these
+    words has had no race."""
+
+    step: order_reference.Step
+    words: range
+    sites: set
+    is_reported: bool
+
+
+def early_reuses(text):
+    """The reuses that are not ordered after all accesses of their words, page by page. In brackets nothing counts."""
+    clocks, pages, brackets = Clocks(), collections.defaultdict(dict), collections.Counter()
     for step in order_reference.read(text.encode()):
         clocks.step(step)
+        clock = clocks.threads[step.thread]
         brackets[step.thread] += {"ignore-on": 1, "ignore-off": -1}.get(step.verb, 0)
         if step.verb in ("read", "write") and not brackets[step.thread]:
             word = step.words[0]
-            pages[word // 1024].setdefault(word, {})[step.thread] = (clocks.threads[step.thread][step.thread], step.site)
-        elif step.verb == "reuse":
-            for page in range(step.words.start // 1024, (step.words.stop - 1) // 1024 + 1):
-                for word in [word for word in pages.get(page, ()) if word in step.words]:
-                    accesses = pages[page].pop(word).items()
-                    found |= {site for thread, (count, site) in accesses if count > clocks.threads[step.thread][thread] and not brackets[step.thread]}
-    return found
+            pages[word // PAGE].setdefault(word, Era()).access(step, clock)
+        for page in range(step.words.start // PAGE, (step.words.stop - 1) // PAGE + 1) if step.verb == "reuse" else ():
+            eras = [pages[page].pop(word) for word in [word for word in pages.get(page, ()) if word in step.words]]
+            late = [era for era in eras if era.apart(clock)]
+            if late and not brackets[step.thread]:
+                words = range(max(PAGE * page, step.words.start), min(PAGE * (page + 1), step.words.stop))
+                yield Early(step, words, set().union(*(era.apart(clock) for era in late)), not all(era.is_racy for era in late))
+
+
+def early_sites(text):
+    """The sites of accesses after which a reuse of their word by another thread is not ordered."""
+    return set().union(*(early.sites for early in early_reuses(text)))
 
 
 # ---- What must be true of a program's ----
@@ -169,9 +218,8 @@ def objects_fault(name, steps):
 
 def program_fault(source, text):
     steps = order_reference.read(text.encode())
-    sites = {race.marked.step.site for race in order_reference.races(order_reference.mark(steps))}
-    # A program that knows of reuses may report these places too.
-    if sites - marked(source, "EARLY") != marked(source, "UNORDERED"):
+    sites = {race.marked.step.site for race in order_reference.races(order_reference.mark(steps)) if race.marked.step.verb != "reuse"}
+    if sites != marked(source, "UNORDERED"):
         return f"unordered at {sorted(sites)}, not {sorted(marked(source, 'UNORDERED'))}"
     if early_sites(text) != marked(source, "EARLY"):
         return f"given to a new use before it was ordered: {sorted(early_sites(text))}, not {sorted(marked(source, 'EARLY'))}"
@@ -192,15 +240,34 @@ def record_trace(folder, nth, program, *options):
     return done, text
 
 
+@functools.cache
+def knows_reuses():
+    """Whether the program that is there reports memory that is given back too early."""
+    trace = b"eraser trace 3\nt1 start t2\nt2 write 0x1000\nt1 reuse 0x1000 4\nend\n"
+    return b"unordered: t1 reuse " in analysis_tests.run(["--analysis", "happens-before", "-"], trace)[0]
+
+
+def reuse_fault(source, text):
+    """Each reuse that is too early has a line for each page that is in use, and the reason for it is an access with a mark."""
+    report = analysis_tests.run(["--analysis", "happens-before", "--explain", "-"], text.encode())[0].decode()
+    lines, found = text.splitlines(), []
+    for line, thread, address, size, reason in re.findall(r"^line (\d+): unordered: (\S+) reuse (0x[0-9a-f]+) (\d+)\n  unordered with: line (\d+), ", report, re.M):
+        found.append((int(line), thread, int(address, 16), int(size)))
+        if lines[int(reason) - 1].split()[-1] not in marked(source, "EARLY"):
+            return f"line {line} for the reason {lines[int(reason) - 1]!r}"
+    wanted = [(early.step.line, early.step.thread, 4 * early.words.start, 4 * len(early.words)) for early in early_reuses(text) if early.is_reported]
+    return f"reuses {found}, not {wanted}" if found != wanted or report.count(" reuse ") != len(wanted) else None
+
+
 def analysis_fault(source, text):
     """The program reports the lines that are marked, and of a short trace each byte is as it should be."""
     found = analysis_tests.run(["--analysis", "happens-before", "-"], text.encode())
     sites = set(re.findall(r": unordered: .* at (\S+), holds", found[0].decode()))
-    if found[1] or sites - marked(source, "EARLY") != marked(source, "UNORDERED"):
+    if found[1] or sites != marked(source, "UNORDERED"):
         return f"reported at {sorted(sites)}, {found[1]}"
     if len(text) < SHORT and found != analysis_tests.expected(text.encode(), None, "happens-before"):
         return f"reported {found}"
-    return None
+    return reuse_fault(source, text) if knows_reuses() else None
 
 
 def run_often(folder, findings, program, source):

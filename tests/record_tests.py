@@ -436,9 +436,9 @@ def several_programs(folder, findings, made):
 def misuse(folder, findings):
     """What tests/record/misuse does wrong with locks is said on standard error and in the trace, and the steps are refused. Of right.c nothing is said."""
     for source in sorted((SOURCES / "misuse").glob("*.c")):
-        wanted = [(source.name, number, *match) for number, line in enumerate(source.read_text().splitlines(), 1) for match in re.findall(r"MISUSE (\w+) (\w+) (\w+)", line)]
+        wanted = [(source.name, number, *match) for number, line in enumerate(source.read_text().splitlines(), 1) for match in re.findall(r"MISUSE (\w+) (\S+) (\w+)", line)]
         wanted = {rf"t\d {verb} {lock} at {name}:{number}, which {'t.' if holder == 'another' else holder} holds" for name, number, verb, lock, holder in wanted}
-        refused = sum("destroys" not in line for line in wanted)
+        refused = sum(" destroys " not in line and " frees " not in line for line in wanted)
         for compiler, level in (("gcc", "-O0"), ("clang", "-O0"), ("gcc", "-O2"), ("clang", "-O2")):
             program, built = build(folder, source, compiler, level)
             for more in ([], ["--order"]):
@@ -449,7 +449,7 @@ def misuse(folder, findings):
                 comments = [line.removeprefix("# ") for line in text.splitlines() if line.startswith("# ") and " holds" in line]
                 fits = said == comments and len(said) == len(wanted) and all(any(re.fullmatch(one, line) for line in said) for one in wanted)
                 lines = re.findall(r"^line \d+: refused: (t\d) (\w+) (\w+): ", found.stderr, re.M)
-                held = sorted((line.split()[0], line.split()[2]) for line in said if "destroys" not in line)
+                held = sorted((line.split()[0], line.split()[2]) for line in said if line.split()[1] not in ("destroys", "frees"))
                 is_refused = sorted((thread, lock) for thread, _, lock in lines) == held and f", refused {refused}\n" in found.stderr
                 is_whole = text.endswith("none lost\nend\n") and found.returncode == built.returncode == 0 and built.stderr == ""
                 findings.check(f"misuse of locks, {program.name} {more}", fits and is_refused and is_whole, f"{built.stderr} {found} {comments}, not {wanted}")

@@ -118,14 +118,15 @@ static struct names read_names(const struct dl_phdr_info *file, const ElfW(Dyn) 
     return names;
 }
 
-static bool asks_for_tsan(const struct dl_phdr_info *file)
+/* Whether a file asks for a name that begins so. */
+static bool asks_for(const struct dl_phdr_info *file, const char *begin)
 {
     struct names names = {NULL, NULL, 0};
     for (int i = 0; i < file->dlpi_phnum; i++)
         if (file->dlpi_phdr[i].p_type == PT_DYNAMIC)
             names = read_names(file, (const ElfW(Dyn) *)(file->dlpi_addr + file->dlpi_phdr[i].p_vaddr));
     for (uint32_t i = 1; names.symbols && names.texts && i < names.asked; i++)
-        if (names.symbols[i].st_shndx == SHN_UNDEF && strncmp(names.texts + names.symbols[i].st_name, "__tsan_", 7) == 0)
+        if (names.symbols[i].st_shndx == SHN_UNDEF && strncmp(names.texts + names.symbols[i].st_name, begin, strlen(begin)) == 0)
             return true;
     return false;
 }
@@ -154,8 +155,10 @@ static int look_at(struct dl_phdr_info *file, size_t size, void *is_changed)
     *(bool *)is_changed = true;
     known_loads = file->dlpi_adds;
     known_unloads = file->dlpi_subs;
-    if (asks_for_tsan(file))
+    if (asks_for(file, "__tsan_"))
         add_code(file);
+    if (is_ordering() && asks_for(file, "__tsan_atomic_thread_fence"))
+        atomic_store(&attached->has_fences, true);
     return 0;
 }
 

@@ -1,5 +1,6 @@
 /* Atomic operations: always carried out in the strongest order. They don't race, and no access is recorded. If what orders threads is
- * recorded, one that releases by the program's own memory order signals its address, and one that acquires awaits it. */
+ * recorded, one that releases by the program's own memory order signals its address, and one that acquires awaits it. The others are
+ * recorded where they may mean something to a fence. */
 #include "emit.h"
 
 #define ORDER __ATOMIC_SEQ_CST
@@ -29,29 +30,48 @@ static __attribute__((noinline)) void await_address(const volatile void *at)
     emit_await(OBJECT_ATOMIC, at);
 }
 
+static __attribute__((noinline)) void note_store(const volatile void *at)
+{
+    emit(EVENT_STORED, 0, (uintptr_t)at, 0);
+}
+
+static __attribute__((noinline)) void note_load(const volatile void *at)
+{
+    emit(EVENT_LOADED, 0, (uintptr_t)at, 0);
+}
+
 /* Before an operation that stores. */
 static inline void before_store(const volatile void *at, int order)
 {
-    if (UNLIKELY(is_ordering()) && is_release(order))
+    if (LIKELY(!is_ordering()))
+        return;
+    if (is_release(order))
         signal_address(at);
+    else if (self.has_released)
+        note_store(at);
 }
 
 /* After an operation that loads. */
 static inline void after_load(const volatile void *at, int order)
 {
-    if (UNLIKELY(is_ordering()) && is_acquire(order))
+    if (LIKELY(!is_ordering()))
+        return;
+    if (is_acquire(order))
         await_address(at);
+    else if (is_fencing())
+        note_load(at);
 }
 
-/* An operation that stores only if it succeeds has its place among the events before it is known whether it is a signal. */
-static inline __attribute__((always_inline)) bool draw_signal(struct draft *draft, int order)
+/* An operation that stores only if it succeeds has its place among the events before it is known whether it is one of them. */
+static inline __attribute__((always_inline)) bool draw_store(struct draft *draft, int order)
 {
-    return UNLIKELY(is_ordering()) && is_release(order) && emit_draw(draft);
+    return UNLIKELY(is_ordering()) && (is_release(order) || self.has_released) && emit_draw(draft);
 }
 
-static inline __attribute__((always_inline)) void publish_signal(const struct draft *draft, bool is_done, const volatile void *at)
+static inline __attribute__((always_inline)) void publish_store(const struct draft *draft, bool is_done, const volatile void *at, int order)
 {
-    emit_publish(draft, is_done ? EVENT_SIGNAL : EVENT_VOID, OBJECT_ATOMIC, (uintptr_t)at, 0);
+    enum event_kind kind = is_release(order) ? EVENT_SIGNAL : EVENT_STORED;
+    emit_publish(draft, is_done ? kind : EVENT_VOID, OBJECT_ATOMIC, (uintptr_t)at, 0);
 }
 
 #define LOAD_AND_STORE(type, bits)                                                                                           \
@@ -79,10 +99,10 @@ static inline __attribute__((always_inline)) void publish_signal(const struct dr
 /* `is_done` is what the operation gives: a compare and exchange that fails is a load. */
 #define COMPARE_BY(at, order, failed, is_done, operation)                                                                    \
     struct draft draft;                                                                                                      \
-    bool is_drawn = draw_signal(&draft, order);                                                                              \
+    bool is_drawn = draw_store(&draft, order);                                                                               \
     operation;                                                                                                               \
     if (is_drawn)                                                                                                            \
-        publish_signal(&draft, is_done, at);                                                                                 \
+        publish_store(&draft, is_done, at, order);                                                                           \
     after_load(at, is_done ? order : failed);
 
 #define COMPARE(type, bits, name)                                                                                            \
@@ -179,10 +199,14 @@ COMPARE_WIDE(strong)
 COMPARE_WIDE(weak)
 #endif
 
-/* A fence is carried out, and recorded as nothing: it orders threads only by the atomic operations around it. */
+/* What a fence acquires was loaded before it, and what it releases is stored behind it. So its event may be on either side of it. */
 HOOK void __tsan_atomic_thread_fence(int order)
 {
-    (void)order;
+    uint32_t does = (is_acquire(order) ? FENCE_ACQUIRES : 0) | (is_release(order) ? FENCE_RELEASES : 0);
+    if (UNLIKELY(is_ordering()) && does) {
+        self.has_released |= does & FENCE_RELEASES;
+        emit(EVENT_FENCE, does, 0, 0);
+    }
     __atomic_thread_fence(ORDER);
 }
 

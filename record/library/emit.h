@@ -22,6 +22,7 @@
 struct attachment {
     struct ring *ring;
     bool orders; /* what orders threads is recorded as well */
+    _Atomic bool has_fences; /* some file of the program asks for fences */
 };
 extern struct attachment *attached;
 
@@ -33,6 +34,7 @@ extern struct attachment *attached;
 struct self {
     uint32_t number;  /* 0 before its first event */
     uint32_t reads_ignored, writes_ignored;
+    bool has_released; /* by a fence */
     uint64_t head_seen;
     uint64_t pending; /* the ticket that this thread has drawn and not yet published, stored as its complement */
     void *pending_frame;
@@ -55,6 +57,12 @@ static inline bool is_recording(void)
 static inline bool is_ordering(void)
 {
     return attached->orders;
+}
+
+/* A load that doesn't acquire means something to a fence alone, so it is recorded only in a program that has fences. */
+static inline bool is_fencing(void)
+{
+    return atomic_load_explicit(&attached->has_fences, memory_order_relaxed);
 }
 
 /* `pending` is kept as a complement so that a thread's zeroed storage says that nothing is pending. */
@@ -153,6 +161,15 @@ static inline void emit_reuse(const volatile void *address, uint64_t size)
 {
     if (size)
         emit(EVENT_REUSE, 0, (uintptr_t)address, size);
+}
+
+/* A block that a call gives back. */
+static inline void emit_free(const volatile void *block, size_t size, uint64_t site)
+{
+    if (size <= UINT32_MAX)
+        emit(EVENT_FREE, (uint32_t)size, (uintptr_t)block, site);
+    else
+        emit_reuse(block, size);
 }
 
 /* A signal is recorded before what it stands for happens, an await after it. So the await of whoever saw what another thread did comes

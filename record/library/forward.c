@@ -27,3 +27,7 @@ FORWARD(int, posix_spawnp, (pid_t *restrict child, const char *restrict path, co
 FORWARD(double, lgamma, (double value), (value))
 FORWARD(float, lgammaf, (float value), (value))
 FORWARD(long double, lgammal, (long double value), (value))
+
+/* The C library has no `atexit` that other files can call: each links its own. A program that found ThreadSanitizer's has none. */
+int __cxa_atexit(void (*body)(void *), void *argument, void *file);
+HOOK int atexit(void (*body)(void)) { return __cxa_atexit((void (*)(void *))(uintptr_t)body, NULL, NULL); }

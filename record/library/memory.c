@@ -27,7 +27,7 @@ HOOK void free(void *block)
 {
     free_function *real = find_free();
     if (block && is_recording())
-        emit_reuse(block, malloc_usable_size(block));
+        emit_free(block, malloc_usable_size(block), CALLER);
     real(block);
 }
 
@@ -54,7 +54,7 @@ HOOK void *realloc(void *block, size_t size)
         return REAL(realloc)(block, size);
     size_t had = malloc_usable_size(block);
     if (size == 0) {
-        emit_reuse(block, had);
+        emit_free(block, had, CALLER);
         return REAL(realloc)(block, 0);
     }
     if (size <= had)
@@ -62,7 +62,8 @@ HOOK void *realloc(void *block, size_t size)
     void *now = malloc(size);
     if (now) {
         memcpy(now, block, had);
-        free(block);
+        emit_free(block, had, CALLER);
+        find_free()(block);
     }
     return now;
 }

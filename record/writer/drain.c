@@ -5,6 +5,7 @@
 #include <string.h>
 
 #include "barriers.h"
+#include "fences.h"
 #include "locks.h"
 #include "objects.h"
 #include "pages.h"
@@ -139,6 +140,7 @@ static void end_join(const struct slot *slot)
     if (number_of(slot->first) == joined)
         drop_self(joined);
     trace_other_thread(slot->thread, "join", joined);
+    fences_end(slot->thread, joined);
 }
 
 /* ---- Signals and awaits ---- */
@@ -243,6 +245,10 @@ static void take_rare(const struct slot *slot)
     case EVENT_OBJECT_BEGIN: objects_forget(slot->first, 1); break;
     case EVENT_OBJECT_END: end_object(slot->first); break;
     case EVENT_BARRIER: barriers_begin(slot->first, slot->second); break;
+    case EVENT_LET_GO: objects_let_go(slot->thread, slot->first, (enum object_kind)(slot->size % OBJECT_KINDS)); break;
+    case EVENT_FENCE: fences_pass(slot->thread, slot->size); break;
+    case EVENT_STORED: fences_store(slot->thread, slot->first); break;
+    case EVENT_LOADED: fences_load(slot->thread, slot->first); break;
     default: break;
     }
 }
@@ -264,7 +270,8 @@ static void take(const struct slot *slot)
         break;
     case EVENT_SIGNAL: signal_object(slot, (enum object_kind)(slot->size % OBJECT_KINDS)); break;
     case EVENT_AWAIT: await_object(slot, (enum object_kind)(slot->size % OBJECT_KINDS)); break;
-    case EVENT_REUSE: pages_reuse(trace_thread(slot->thread), slot->first, slot->second); break;
+    case EVENT_REUSE: pages_reuse(slot->thread, slot->first, slot->second, 0); break;
+    case EVENT_FREE: pages_reuse(slot->thread, slot->first, slot->size, slot->second); break;
     default: take_rare(slot); break;
     }
 }

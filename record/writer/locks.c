@@ -24,6 +24,7 @@ struct holder {
 struct lock {
     struct lock *next;
     uint64_t address;
+    enum lock_kind kind;
     char *name;
     struct holder *holders;
     uint32_t holder_count, holder_room;
@@ -57,7 +58,7 @@ static struct lock *get_lock(uint64_t address, enum lock_kind kind)
     static unsigned counts[4];
     lock = get_memory(NULL, sizeof *lock);
     struct lock **bucket = bucket_of(address);
-    *lock = (struct lock){*bucket, address, make_name(address, kinds[kind], &counts[kind]), NULL, 0, 0};
+    *lock = (struct lock){*bucket, address, kind, make_name(address, kinds[kind], &counts[kind]), NULL, 0, 0};
     *bucket = lock;
     pages_mark_lock(address);
     return lock;
@@ -282,24 +283,36 @@ void locks_begin(uint64_t address)
 }
 
 /* A trace has no step for it. */
+static void say_end(uint32_t thread, const char *verb, const struct lock *lock, uint64_t at)
+{
+    char name[16], holds[32];
+    if (!lock->holder_count || !at || !is_certain())
+        return;
+    bool is_own = lock->holders[0].thread == thread;
+    snprintf(holds, sizeof holds, "%s holds", is_own ? "it" : holder_name(lock, name));
+    say_misuse(thread, verb, lock, at, holds);
+}
+
 void locks_end(uint32_t thread, uint64_t address, uint64_t at)
 {
-    struct lock *lock = *place_of(address);
-    char name[16], holds[32];
-    if (lock && lock->holder_count && at && is_certain()) {
-        bool is_own = lock->holders[0].thread == thread;
-        snprintf(holds, sizeof holds, "%s holds", is_own ? "it" : holder_name(lock, name));
-        say_misuse(thread, "destroys", lock, at, holds);
-    }
+    const struct lock *lock = *place_of(address);
+    if (lock)
+        say_end(thread, "destroys", lock, at);
     locks_begin(address);
 }
 
-void locks_forget(uint64_t address, uint64_t bytes)
+/* A lock of the program's own may have been released in a way that it didn't say. */
+void locks_forget(uint64_t address, uint64_t bytes, uint32_t thread, uint64_t at)
 {
     for (uint64_t line = address & ~UINT64_C(63); line < address + bytes; line += 64)
-        for (struct lock **place = bucket_of(line); *place;)
-            if ((*place)->address >= address && (*place)->address < address + bytes)
-                remove_lock(place);
-            else
-                place = &(*place)->next;
+        for (struct lock **place = bucket_of(line); *place;) {
+            struct lock *lock = *place;
+            if (lock->address < address || lock->address >= address + bytes) {
+                place = &lock->next;
+                continue;
+            }
+            if (lock->kind != LOCK_USER)
+                say_end(thread, "frees", lock, at);
+            remove_lock(place);
+        }
 }

@@ -47,7 +47,7 @@ static struct object *find_object(uint64_t address)
 
 static struct object *add_object(uint64_t address, enum object_kind kind)
 {
-    static const char *const kinds[OBJECT_KINDS] = {"atomic", "semaphore", "barrier", "condition", "once", "object"};
+    static const char *const kinds[OBJECT_KINDS] = {"atomic", "semaphore", "barrier", "condition", "once", "object", "fence", "exception", "pipe"};
     static unsigned counts[OBJECT_KINDS];
     struct object *object = get_memory(NULL, sizeof *object);
     struct object **bucket = bucket_of(address);
@@ -137,14 +137,28 @@ void objects_signal(uint32_t number, uint64_t address, enum object_kind kind)
         make_aware(object, number);
 }
 
+bool objects_have_news(uint32_t number, uint64_t address)
+{
+    const struct object *object = find_object(address);
+    return object && !is_aware(object, number);
+}
+
 /* An await of a thread that knows all signals orders nothing: one that looks at a flag again and again, for example. */
 void objects_await(uint32_t number, uint64_t address)
 {
-    struct object *object = find_object(address);
-    if (!object || is_aware(object, number))
+    if (!objects_have_news(number, address))
         return;
+    struct object *object = find_object(address);
     trace_lock(trace_thread(number), "await", object->name);
     make_aware(object, number);
+}
+
+void objects_let_go(uint32_t number, uint64_t address, enum object_kind kind)
+{
+    if (!find_object(address))
+        return;
+    objects_signal(number, address, kind);
+    objects_await(number, address);
 }
 
 /* ---- The end of an object ---- */

@@ -25,8 +25,9 @@ uint64_t trace_events, trace_lost;
 static char buffer[BUFFER_BYTES + 64];
 static size_t used;
 static uint64_t written;
-static struct thread *threads;
-static uint32_t thread_room, thread_count;
+/* The program's threads, and those that stand for their fences, by the bits that tell them apart. */
+static struct threads { struct thread *all; uint32_t room; } tables[4];
+static uint32_t thread_count;
 
 void *get_memory(void *old, size_t bytes)
 {
@@ -178,16 +179,34 @@ static inline void end_line(char *at)
 
 /* ---- Lines ---- */
 
+static struct threads *table_of(uint32_t number)
+{
+    return &tables[number / PASSES_ON];
+}
+
+bool trace_has_thread(uint32_t number)
+{
+    const struct threads *table = table_of(number);
+    return number % PASSES_ON < table->room && table->all[number % PASSES_ON].bytes;
+}
+
+static struct thread *place_of(uint32_t number)
+{
+    struct threads *table = table_of(number);
+    uint32_t at = number % PASSES_ON;
+    if (at >= table->room) {
+        uint32_t room = at < 1024 ? 2048 : 2 * at;
+        table->all = get_memory(table->all, room * sizeof *table->all);
+        memset(table->all + table->room, 0, (room - table->room) * sizeof *table->all);
+        table->room = room;
+    }
+    return &table->all[at];
+}
+
 /* Threads are named by their first event. */
 struct thread *trace_thread(uint32_t number)
 {
-    if (number >= thread_room) {
-        uint32_t room = number < 1024 ? 2048 : 2 * number;
-        threads = get_memory(threads, room * sizeof *threads);
-        memset(threads + thread_room, 0, (room - thread_room) * sizeof *threads);
-        thread_room = room;
-    }
-    struct thread *thread = &threads[number];
+    struct thread *thread = place_of(number);
     if (!thread->bytes) {
         thread->text[0] = 't';
         char *end = put_number(thread->text + 1, ++thread_count);
@@ -246,7 +265,7 @@ void trace_lock(struct thread *thread, const char *verb, const char *lock)
 /* A thread starts or joins another one. */
 void trace_other_thread(uint32_t number, const char *verb, uint32_t other)
 {
-    char name[sizeof threads->text];
+    char name[sizeof tables->all->text];
     trace_thread(number);
     const struct thread *named = trace_thread(other);
     memcpy(name, named->text, named->bytes - 1u);

@@ -40,7 +40,13 @@ void trace_flush(void);
 /* True if text can still be written somewhere. */
 bool trace_is_open(void);
 
+/* Beside the program's threads a trace may have some that stand for the fences of a thread. Each has its number and one of these bits. */
+#define PASSES_ON (UINT32_C(1) << 30)
+#define HAS_SEEN (UINT32_C(1) << 31)
+
 struct thread *trace_thread(uint32_t number);
+/* True if it has a line, or a line that names it. */
+bool trace_has_thread(uint32_t number);
 void trace_access(struct thread *thread, bool is_write, uint64_t address, uint64_t bytes, uint64_t site);
 void trace_reuse(struct thread *thread, uint64_t address, uint64_t bytes);
 void trace_lock(struct thread *thread, const char *verb, const char *lock);

@@ -40,7 +40,7 @@ static void receive(void)
     words[3]++;
 }
 
-/* A fence and a relaxed operation are one order for C, and none for the recorder. */
+/* A fence and a relaxed operation are one order for C. */
 #if defined(__GNUC__) && !defined(__clang__)
 #pragma GCC diagnostic ignored "-Wtsan"
 #endif
@@ -55,7 +55,7 @@ static void receive_by_fence(void)
 {
     RECEIVE(fenced_flag, __ATOMIC_RELAXED);
     __atomic_thread_fence(__ATOMIC_ACQUIRE);
-    fenced++; /* UNORDERED */
+    fenced++;
 }
 
 static void run(int number)
