@@ -1,6 +1,6 @@
 -- From the parts of a replay in another form to the whole.
 use Rattle.std.proofs.Common.{◌≡◌, ℕ, Bool, List, [], Option, Some, None, Result, Ok, Err, IfSome, IfOk, IfErr, IsFalse, refl, subst}
-use Rattle.er_formats.specs.Forms.{HasPlacesOf, IsForm, IsReplayedWith, IsFailedWith, MayHavePlaces}
+use Rattle.er_formats.specs.Forms.{FailsAgain, HasPlacesOf, IsForm, IsReplayedWith, IsFailedWith, MayHavePlaces}
 use Rattle.er_formats.specs.Inner.Writes.{WritesForm, WritesFound, WritesPlaced, told_of}
 use Rattle.er_formats.specs.declared.forms.Form.{Form}
 use Rattle.er_formats.specs.declared.forms.ReplayedTwice.{ReplayedTwice}
@@ -24,7 +24,9 @@ use Rattle.er_sarif.specs.Document.{sarif_text}
 use Rattle.er_sites.specs.Text.{sites_text}
 use Rattle.er_sites.specs.Written.{WritesSites}
 use Rattle.er_text.specs.Ending.{lost_told}
+use Rattle.er_text.specs.Trace.{HasFailedBy}
 use Rattle.er_text.specs.declared.faults.ReadFault.{ReadFault}
+use Rattle.er_text.specs.declared.faults.ReadFault.TheVariants as fault
 use Rattle.er_trace.specs.Names.{NameTable}
 
 -- the text for people is a form
@@ -150,3 +152,14 @@ module _ (second : Option (List ℕ)) (limit : ℕ) (form : Form) (old new : Opt
       → IfOk result (λ found. IsFalse (is_stopped found.verdict))
   unstopped-twice (Ok found) none written = unstopped form old new names written.0 rules report (Ok (record { verdict = found.verdict; ending = found.ending })) none written.1.1
   unstopped-twice (Err why) none written = tt
+
+-- why there is no place says whether the second reader failed
+pub fails-again : (failed : Bool) (written : Result Replayed RunFault) (unplaced : Option ReadFault) → FailsAgain failed unplaced
+    → IfOk (told_of written unplaced) (λ told. FailsAgain failed told.unplaced)
+fails-again failed (Ok replayed) unplaced fails = fails
+fails-again failed (Err why) unplaced fails = tt
+
+pub no-place-by : (X : Type 0) (failed : Bool) (why : ReadFault) → HasFailedBy {X = X} failed (Err why) → FailsAgain failed (Some why)
+no-place-by X failed (fault.Text f) has = has
+no-place-by X failed fault.Memory has = has
+no-place-by X failed fault.Read has = has

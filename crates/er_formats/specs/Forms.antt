@@ -1,5 +1,5 @@
 -- What a replay comes to whose report is written in another form.
-use Rattle.std.specs.Prelude.{◌≡◌, ℕ, Bool, List, [], take, Option, Some, None, IfSome, Result}
+use Rattle.std.specs.Prelude.{◌≡◌, ℕ, Bool, true, false, List, [], take, Option, Some, None, IfSome, Result}
 use Rattle.std.specs.Io.KnownBytes.{Appends}
 use Rattle.er_formats.specs.declared.forms.Form.{Form}
 use Rattle.er_formats.specs.declared.forms.Form.TheVariants.{BySite, Json, Sarif, Html}
@@ -20,6 +20,7 @@ use Rattle.er_sites.specs.Text.{sites_text}
 use Rattle.er_sites.specs.declared.row.SiteRow.{SiteRow}
 use Rattle.er_text.specs.Trace.{IsTrace}
 use Rattle.er_text.specs.declared.faults.ReadFault.{ReadFault}
+use Rattle.er_text.specs.declared.faults.ReadFault.TheVariants as fault
 use Rattle.er_trace.specs.Names.{NameTable}
 use Rattle.er_trace.specs.Trace.{Recording}
 
@@ -39,6 +40,13 @@ HasNoPlace report table = (line : ℕ) → place_at table line ≡ None
 abbrev pub HasPlacesOf : Option (List ℕ) → ℕ → Option ReadFault → Report → PlaceTable → Type 0
 HasPlacesOf second limit None report table = IfSome second (λ text. ArePlaces (is_asked report.lines.items) text limit table)
 HasPlacesOf second limit (Some why) report table = HasNoPlace report table × IsFaultOf second limit why
+
+-- the second reader has failed exactly if that is why there is no place
+abbrev pub FailsAgain : Bool → Option ReadFault → Type 0
+FailsAgain failed None = failed ≡ false
+FailsAgain failed (Some (fault.Text f)) = failed ≡ false
+FailsAgain failed (Some fault.Memory) = failed ≡ false
+FailsAgain failed (Some fault.Read) = failed ≡ true
 
 abbrev pub MayHavePlaces : Option (List ℕ) → ℕ → Report → PlaceTable → Type 0
 MayHavePlaces second limit report table = (unplaced : Option ReadFault) × HasPlacesOf second limit unplaced report table

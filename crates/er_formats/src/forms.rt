@@ -2,7 +2,7 @@
 ghost use Rattle.std.specs.Prelude.{◌≡◌, ◌+◌, ◌≤◌, ◌<◌, ◌^◌, All, false, Err, IfSome, IfOk, IfErr, OnOk, IsTrue, IsFalse};
 ghost use Rattle.er_damage.specs.Damaged.{IsDamageOf, no_damage};
 ghost use Rattle.er_device.specs.Device.{inner_of, has_failed, taken_of};
-ghost use Rattle.er_formats.specs.Forms.{HasPlacesOf, IsForm, IsFailedAs, IsFailedWith, IsReplayedAs, IsReplayedWith, MayHavePlaces};
+ghost use Rattle.er_formats.specs.Forms.{FailsAgain, HasPlacesOf, IsForm, IsFailedAs, IsFailedWith, IsReplayedAs, IsReplayedWith, MayHavePlaces};
 ghost use Rattle.er_formats.specs.Inner.Writes.{WritesForm, WritesFound, WritesPlaced, WritesUnplaced, told_of};
 ghost use Rattle.er_print.specs.Written.{FailsWriting};
 ghost use Rattle.er_report.specs.Names.{HasNames};
@@ -123,6 +123,8 @@ where
     ensures nothing { IfErr result (λ why. WritesNothing (W.contents (inner_of writer.old)) (W.contents (inner_of writer.new)) why) }
     ensures failed { FailsBy (has_failed reader.new) (has_failed writer.new) result }
     ensures taken { taken_of reader.new ≤ taken_of reader.old + options.now.byte_limit + bytes_past_limit }
+    ensures again { IfOk result (λ told. FailsAgain (has_failed again.new) told.unplaced) }
+    ensures taken_again { taken_of again.new ≤ taken_of again.old + options.now.byte_limit + bytes_past_limit }
     ensures whole { 1 < options.now.workers → IfOk result (λ told. IsFalse (is_stopped told.verdict)) }
 {
     match replay_report(rt, rt.alloc(), reader, suppressions, options, watcher) {
@@ -161,6 +163,8 @@ fn write_placed<A: Read, W: Write>(
     requires limit { byte_limit ≤ 2 ^ 62 }
     ensures found { WritesPlaced (A.remaining (inner_of again.old)) byte_limit form (W.contents (inner_of writer.old)) (W.contents (inner_of writer.new)) found.now.trace.names (targets_of suppressions.now) found.now.report result }
     ensures ending { IfOk result (λ told. told.ending ≡ found.now.ending) }
+    ensures again { IfOk result (λ told. FailsAgain (has_failed again.new) told.unplaced) }
+    ensures taken_again { taken_of again.new ≤ taken_of again.old + byte_limit + bytes_past_limit }
     ensures failed { FailsBy false (has_failed writer.new) result }
 {
     match places_of_reasons(alloc, again, byte_limit, keys, &found.report.lines) {

@@ -1,11 +1,13 @@
 //! A second look at a trace text, batch by batch.
-ghost use Rattle.std.specs.Prelude.{◌≡◌, ◌<◌, ◌≤◌, ◌^◌, ◌++◌, ℕ, List, Option, All, false, true, length, IfSome, IfOk, IfErr, OnOk};
-ghost use Rattle.er_device.specs.Device.{inner_of, has_failed};
+ghost use Rattle.std.specs.Prelude.{◌≡◌, ◌<◌, ◌≤◌, ◌+◌, ◌^◌, ◌++◌, ℕ, List, Option, All, false, true, length, IfSome, IfOk, IfErr, OnOk};
+ghost use Rattle.er_device.specs.Device.{inner_of, has_failed, taken_of};
 ghost use Rattle.er_event.specs.declared.steps.Step.{Step};
 ghost use Rattle.er_places.specs.Inner.Following.{AreNamed, HasCome, HasEnded, StandsFor};
 ghost use Rattle.er_places.specs.Places.{ArePlaces, IsFaultOf};
 ghost use Rattle.er_places.specs.Wanted.{is_asked, is_wanted};
+ghost use Rattle.er_text.specs.Lines.{bytes_past_limit};
 ghost use Rattle.er_text.specs.Trace.{HasFailedBy};
+ghost use Rattle.er_text.specs.Inner.Lending.{taken_by};
 ghost use Rattle.er_trace.specs.Trace.{IsNamed};
 
 use crate::follower::Follower;
@@ -33,6 +35,7 @@ impl Finder {
         requires { byte_limit ≤ 2 ^ 62 }
         ensures come { IfOk result (λ finder. (wanted : List ℕ) (told : Option (List ℕ)) → HasCome (is_wanted wanted) told told finder.lines finder.trace finder.follower) }
         ensures limit { IfOk result (λ finder. finder.lines.place.limit ≡ byte_limit) }
+        ensures taken { IfOk result (λ finder. taken_by finder.lines.place ≡ 0) }
     {
         let lines = TraceReader::new(alloc, byte_limit)?;
         Ok(Finder {
@@ -56,6 +59,8 @@ impl Finder {
         ensures more { IfOk result (λ more. more ≡ true → self.old.lines.place.start < self.new.lines.place.start) }
         ensures within { self.new.lines.place.start ≤ self.new.lines.place.limit }
         ensures failed { HasFailedBy (has_failed reader.new) result }
+        ensures taken { taken_of reader.new + taken_by self.old.lines.place ≤ taken_of reader.old + taken_by self.new.lines.place }
+        ensures most { taken_by self.new.lines.place ≤ self.new.lines.place.limit + bytes_past_limit }
     {
         let batch = self.lines.next_batch(reader, &mut self.trace, BATCH_LINES)?;
         follow_batch(&mut self.follower, wanted, &self.trace)?;
@@ -79,6 +84,7 @@ impl Finder {
         ensures fault { (told : Option (List ℕ)) → HasCome (is_wanted wanted.now) told (D.remaining (inner_of reader.old)) self.old.lines self.old.trace self.old.follower
             → IfErr result (λ why. IsFaultOf told self.old.lines.place.limit why) }
         ensures failed { HasFailedBy (has_failed reader.new) result }
+        ensures taken { taken_of reader.new + taken_by self.old.lines.place ≤ taken_of reader.old + self.old.lines.place.limit + bytes_past_limit }
     {
         while self.turn(reader, wanted)? {}
         Ok(())
@@ -126,6 +132,7 @@ pub fn find_places<D: Read>(
     ensures found { IfOk result (λ places. IfSome (D.remaining (inner_of reader.old)) (λ text. ArePlaces (is_wanted wanted.now) text byte_limit places)) }
     ensures fault { IfErr result (λ why. IsFaultOf (D.remaining (inner_of reader.old)) byte_limit why) }
     ensures failed { HasFailedBy (has_failed reader.new) result }
+    ensures taken { taken_of reader.new ≤ taken_of reader.old + byte_limit + bytes_past_limit }
 {
     let mut finder = Finder::new(alloc, byte_limit, keys)?;
     match finder.run(reader, wanted) {
@@ -150,6 +157,7 @@ pub fn places_of_reasons<D: Read>(
     ensures found { IfOk result (λ places. IfSome (D.remaining (inner_of reader.old)) (λ text. ArePlaces (is_asked lines.now) text byte_limit places)) }
     ensures fault { IfErr result (λ why. IsFaultOf (D.remaining (inner_of reader.old)) byte_limit why) }
     ensures failed { HasFailedBy (has_failed reader.new) result }
+    ensures taken { taken_of reader.new ≤ taken_of reader.old + byte_limit + bytes_past_limit }
 {
     let wanted = asked_lines(alloc, keys, lines)?;
     if wanted.is_empty() {
