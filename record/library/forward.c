@@ -2,6 +2,7 @@
  * the latter asks for no version, and would get the oldest one, which behaves differently. So each is forwarded to the newest. */
 #include "emit.h"
 
+#include <dlfcn.h>
 #include <glob.h>
 #include <math.h>
 #include <pthread.h>
@@ -28,6 +29,15 @@ FORWARD(double, lgamma, (double value), (value))
 FORWARD(float, lgammaf, (float value), (value))
 FORWARD(long double, lgammal, (long double value), (value))
 
-/* The C library has no `atexit` that other files can call: each links its own. A program that found ThreadSanitizer's has none. */
+/* The C library has no `atexit` that other files can call: each links its own. A program that found ThreadSanitizer's has none. A function of a
+ * file that is no longer there is left out. */
 int __cxa_atexit(void (*body)(void *), void *argument, void *file);
-HOOK int atexit(void (*body)(void)) { return __cxa_atexit((void (*)(void *))(uintptr_t)body, NULL, NULL); }
+
+static void run_at_exit(void *body)
+{
+    Dl_info found;
+    if (dladdr(body, &found))
+        ((void (*)(void))(uintptr_t)body)();
+}
+
+HOOK int atexit(void (*body)(void)) { return __cxa_atexit(run_at_exit, (void *)(uintptr_t)body, NULL); }
