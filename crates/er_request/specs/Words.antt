@@ -1,7 +1,10 @@
 -- What the words of a command line ask for.
-use Rattle.std.specs.Prelude.{Bool, false, List, ℕ, codes, String, string_bytes}
+use Rattle.std.specs.Prelude.{ℕ, ◌≡◌, ◌&&◌, Bool, false, List, [], ◌∷◌, None, codes, String, string_bytes}
 use Rattle.std.specs.List.{list_any}
 use Rattle.std.specs.Str.{bytes_eq}
+use Rattle.er_request.specs.declared.request.Analysis.TheVariants.{Lockset}
+use Rattle.er_request.specs.declared.request.Format.TheVariants.{Text}
+use Rattle.er_request.specs.declared.request.Replay.{Replay as Replaying}
 use Rattle.er_request.specs.declared.request.Request.{Request}
 use Rattle.er_request.specs.declared.request.Request.TheVariants.{Replay, Explain, Demo}
 
@@ -38,3 +41,33 @@ abbrev pub asks_hints : Request → Bool
 asks_hints (Replay replay) = replay.hints
 asks_hints (Explain explain) = false
 asks_hints (Demo demo) = false
+
+-- behind the program's name stand `replay` and `-` alone
+abbrev pub replays_input : {A : Type 0} → List (String A) → Bool
+replays_input (program ∷ command ∷ trace ∷ []) = bytes_eq (string_bytes command) (codes "replay") && bytes_eq (string_bytes trace) (codes "-")
+replays_input words = false
+
+-- a trace of at most so many bytes is replayed, if no other limit is given: 256 MiB
+abbrev pub usual_limit : ℕ
+usual_limit = 268435456
+
+-- the standard input by locks, its report as text, and nothing more
+pub record IsUsual (replay : Replaying) : Type 0 where
+  pub input : replay.trace.now ≡ codes "-"
+  pub limit : replay.byte_limit ≡ usual_limit
+  pub analysis : replay.analysis ≡ Lockset
+  pub format : replay.format ≡ Text
+  pub suppressions : replay.suppressions.items ≡ []
+  pub write_rules : replay.write_rules ≡ None
+  pub unused_rules : replay.unused_rules ≡ false
+  pub max_races : replay.max_races ≡ None
+  pub explain : replay.explain ≡ false
+  pub strict : replay.strict ≡ false
+  pub until_fault : replay.until_fault ≡ false
+  pub progress : replay.progress ≡ false
+
+-- it is such a replay, and hints are not asked for
+abbrev pub asks_usual : Request → Type 0
+asks_usual (Replay replay) = IsUsual replay × (replay.hints ≡ false)
+asks_usual (Explain explain) = ⊥
+asks_usual (Demo demo) = ⊥

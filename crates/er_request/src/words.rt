@@ -1,20 +1,60 @@
 //! What the words of a command line ask for.
-ghost use Rattle.std.specs.Prelude.{◌≡◌, true, IfOk};
-ghost use Rattle.er_request.specs.Words.{asks_hints, asks_progress, asks_until_fault, names, names_hints, names_progress, names_until_fault};
+ghost use Rattle.std.specs.Prelude.{◌≡◌, false, true, IfOk, IsOk};
+ghost use Rattle.er_request.specs.Words.{IsUsual, asks_hints, asks_progress, asks_until_fault, asks_usual, names, names_hints, names_progress, names_until_fault, replays_input, usual_limit};
 
-use crate::request::{self, Request};
+use crate::request::{self, Analysis, Format, Replay, Request};
 use clap::Error;
 use std::alloc::Global;
 
 /// Reads a command line, of which the first word is the program's name. Steps before a fault are asked for only if a word asks for them,
-/// and so are how far a replay has come, and what helps people.
+/// and so are how far a replay has come, and what helps people. `replay -` is read here, and what it asks for is proved. All other words are
+/// left to the parser.
 pub fn read_request<'a>(alloc: Global, words: &'a [String]) -> Result<Request<'a>, Error>
     ensures until_fault { IfOk result (λ request. asks_until_fault request ≡ true → names_until_fault words.now ≡ true) }
     ensures progress { IfOk result (λ request. asks_progress request ≡ true → names_progress words.now ≡ true) }
     ensures hints { IfOk result (λ request. asks_hints request ≡ true → names_hints words.now ≡ true) }
+    ensures usual { replays_input words.now ≡ true → IsOk result }
+    ensures asks { replays_input words.now ≡ true → IfOk result asks_usual }
 {
+    if replays_input(words) {
+        return Ok(Request::Replay(usual_replay(alloc)));
+    }
     let request = request::read_request(alloc, words)?;
     Ok(if_named(request, words))
+}
+
+fn replays_input(words: &[String]) -> bool
+    ensures { result ≡ replays_input words.now }
+{
+    match words {
+        [_, command, trace] => command.as_str() == "replay" && trace.as_str() == "-",
+        _ => false,
+    }
+}
+
+// A replay of the standard input with no option. The parser gives each field the same value if no word names it.
+fn usual_replay<'a>(alloc: Global) -> Replay<'a>
+    ensures usual { IsUsual result }
+    ensures hints { result.hints ≡ false }
+{
+    Replay {
+        suppressions: Vec::new(alloc),
+        write_rules: None,
+        unused_rules: false,
+        max_races: None,
+        trace: "-",
+        analysis: Analysis::Lockset,
+        format: Format::Text,
+        source: None,
+        explain: false,
+        strict: false,
+        until_fault: false,
+        progress: false,
+        hints: false,
+        shards: 8,
+        workers: 1,
+        byte_limit: 268_435_456,
+    }
 }
 
 // Whether one of the words is this option. The parser decides whether it is that option, and no name of a file.

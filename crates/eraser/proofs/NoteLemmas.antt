@@ -5,7 +5,7 @@ use Rattle.er_exit.specs.Notes.{HasAdded, notes_text}
 use Rattle.er_exit.specs.Writes.{WritesBytes}
 use Rattle.er_text.specs.declared.endings.Ending.{Ending}
 use Rattle.er_triage.specs.Notes.{AreNotes}
-use Rattle.eraser.specs.Notes.{AddsNotes, GetsNotes, notes_on}
+use Rattle.eraser.specs.Notes.{AddsNotes, AddsNotesOn, GetsNotes, notes_on}
 use Rattle.eraser.specs.declared.sorting.Ended.{Ended}
 
 pub nothing : (text : List ℕ) → text ≡ [] → AreNotes text
@@ -15,9 +15,9 @@ pub silent : {E : Type 0} (r : Result Ended E) → IfOk r (λ ended. ended.notes
 silent (Ok ended) empty = nothing ended.notes.items empty
 silent (Err why) empty = tt
 
-pub noted : (hints : Bool) (asked written : List ℕ) (ending : Ending) (unordered : ℕ) (old new : Option (List ℕ)) (failed : Bool) → HasAdded asked written (notes_on hints ending unordered) → WritesBytes old new written failed → AddsNotes hints asked old new failed
-noted hints asked written ending unordered old new failed (inl all) wrote = (ending, unordered, inl (subst (λ bytes. WritesBytes old new bytes failed) all wrote))
-noted hints asked written ending unordered old new failed (inr none) wrote = (ending, unordered, inr (subst (λ bytes. WritesBytes old new bytes failed) none wrote))
+pub noted : (hints : Bool) (asked written : List ℕ) (ending : Ending) (unordered : ℕ) (old new : Option (List ℕ)) (failed : Bool) → HasAdded asked written (notes_on hints ending unordered) → WritesBytes old new written failed → AddsNotesOn hints ending unordered asked old new failed
+noted hints asked written ending unordered old new failed (inl all) wrote = inl (subst (λ bytes. WritesBytes old new bytes failed) all wrote)
+noted hints asked written ending unordered old new failed (inr none) wrote = inr (subst (λ bytes. WritesBytes old new bytes failed) none wrote)
 
 -- nothing was written
 kept : (old new : Option (List ℕ)) → Keeps old new → Appends old new []

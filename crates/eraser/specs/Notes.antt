@@ -14,10 +14,13 @@ abbrev pub notes_on : Bool → Ending → ℕ → TextNotes
 notes_on hints ending unordered =
     record { no_end = ending.is_open; no_line_feed = ending.is_cut && hints; unordered = cond (ending.is_text_3 || hints) unordered 0 }
 
--- nothing was written but these notes and those on a text, or a beginning of them if a write failed; for want of memory those on the text may be missing
+-- nothing was written but these notes and those on a text that ends so, or a beginning of them if a write failed; for want of memory those on the text may be missing
+abbrev pub AddsNotesOn : Bool → Ending → ℕ → List ℕ → Option (List ℕ) → Option (List ℕ) → Bool → Type 0
+AddsNotesOn hints ending unordered asked old new failed = WritesBytes old new (asked ++ notes_text (notes_on hints ending unordered)) failed ⊎ WritesBytes old new asked failed
+
+-- the same of some text
 abbrev pub AddsNotes : Bool → List ℕ → Option (List ℕ) → Option (List ℕ) → Bool → Type 0
-AddsNotes hints asked old new failed = (ending : Ending) × (unordered : ℕ)
-    × (WritesBytes old new (asked ++ notes_text (notes_on hints ending unordered)) failed ⊎ WritesBytes old new asked failed)
+AddsNotes hints asked old new failed = (ending : Ending) × (unordered : ℕ) × AddsNotesOn hints ending unordered asked old new failed
 
 -- nothing was written but notes that were asked for and those on a text
 abbrev pub GetsNotes : Bool → Option (List ℕ) → Option (List ℕ) → Bool → Type 0

@@ -1,17 +1,17 @@
 //! One command line, run over a reader and its writers.
-ghost use Rattle.std.specs.Prelude.{◌≡◌, ◌≢◌, ◌≤◌, ◌||◌, [], false, None, codes, IfOk, IfErr, IfSome};
+ghost use Rattle.std.specs.Prelude.{◌≡◌, ◌≢◌, ◌≤◌, ◌||◌, [], false, true, None, codes, IfOk, IfErr, IfSome};
 ghost use Rattle.std.specs.Io.KnownBytes.{Keeps};
 ghost use Rattle.er_device.specs.Device.{inner_of, has_failed};
 ghost use Rattle.er_rules.specs.Rules.{targets_of};
 ghost use Rattle.er_exit.specs.Writes.{LeavesOutput};
 ghost use Rattle.er_request.specs.declared.request.Format.TheVariants.{Text};
-ghost use Rattle.er_request.specs.Words.{asks_hints, asks_progress, asks_until_fault, names_hints, names_progress, names_until_fault};
+ghost use Rattle.er_request.specs.Words.{IsUsual, asks_hints, asks_progress, asks_until_fault, asks_usual, names_hints, names_progress, names_until_fault, replays_input};
 ghost use Rattle.er_run.specs.Replays.{IsReplayed};
 ghost use Rattle.er_text.specs.Ending.{IsEndingOf};
 ghost use Rattle.er_triage.specs.Notes.{AreNotes};
-ghost use Rattle.eraser.specs.Notes.{GetsNotes, GetsTextNotes, IsSilent};
+ghost use Rattle.eraser.specs.Notes.{AddsNotesOn, GetsNotes, GetsTextNotes, IsSilent};
 ghost use Rattle.er_unordered.specs.declared.replay.Analysis.{Analysis as Order};
-ghost use Rattle.eraser.specs.Replays.{EndsAs, EndsBy, IsPlain, IsPlainBy, ReplaysTo, order_of};
+ghost use Rattle.eraser.specs.Replays.{ComesTo, EndsAs, EndsBy, EndsUsually, IsPlain, IsPlainBy, IsUsualFault, ReplaysTo, order_of};
 
 use crate::advice::trace_path;
 use crate::again::replay_form;
@@ -67,6 +67,9 @@ where
     // With a result nothing goes to the errors but the notes that were asked for and those on the text, and with wrong arguments or a
     // faulty text nothing to the output, unless a word asks for the steps before the fault. `progress` is a device of its own: `quiet`
     // says nothing of it.
+    // `replay -` writes the report of what the input gives as the definitions have it, with 1 exactly if it has a race; or the line of its first fault.
+    ensures usual { replays_input words.now ≡ true → IfSome (I.remaining (inner_of input.old)) (λ text. ComesTo on_terminal text (O.contents (inner_of output.old)) (O.contents (inner_of output.new)) (E.contents (inner_of errors.old)) (E.contents (inner_of errors.new)) (has_failed errors.new) result) }
+
     ensures quiet { result ≤ 1 → GetsNotes (names_hints words.now || on_terminal) (E.contents (inner_of errors.old)) (E.contents (inner_of errors.new)) (has_failed errors.new) }
     ensures refused { names_until_fault words.now ≡ false → result ≡ 2 → Keeps (O.contents (inner_of output.old)) (O.contents (inner_of output.new)) }
 
@@ -102,6 +105,7 @@ where
     requires output { has_failed output.old ≡ false }
     requires errors { has_failed errors.old ≡ false }
     ensures status { result ≤ 4 }
+    ensures usual { asks_usual request.entry → IfSome (I.remaining (inner_of input.old)) (λ text. ComesTo on_terminal text (O.contents (inner_of output.old)) (O.contents (inner_of output.new)) (E.contents (inner_of errors.old)) (E.contents (inner_of errors.new)) (has_failed errors.new) result) }
     ensures quiet { result ≤ 1 → GetsNotes (asks_hints request.entry || on_terminal) (E.contents (inner_of errors.old)) (E.contents (inner_of errors.new)) (has_failed errors.new) }
     ensures silent { result ≤ 1 → IsSilent request.entry (asks_hints request.entry || on_terminal) (E.contents (inner_of errors.old)) (E.contents (inner_of errors.new)) (has_failed errors.new) }
     ensures refused { asks_until_fault request.entry ≡ false → result ≡ 2 → Keeps (O.contents (inner_of output.old)) (O.contents (inner_of output.new)) }
@@ -126,6 +130,7 @@ fn with_hints(mut replay: Replay<'_>, on_terminal: bool) -> Replay<'_>
     ensures most { result.max_races ≡ replay.entry.max_races }
     ensures until { result.until_fault ≡ replay.entry.until_fault }
     ensures progress { result.progress ≡ replay.entry.progress }
+    ensures usual { IsUsual replay.entry → IsUsual result }
 {
     replay.hints = replay.hints || on_terminal;
     replay
@@ -151,6 +156,7 @@ where
     requires output { has_failed output.old ≡ false }
     requires errors { has_failed errors.old ≡ false }
     ensures status { result ≤ 4 }
+    ensures usual { IsUsual replay.now → IfSome (I.remaining (inner_of input.old)) (λ text. ComesTo replay.now.hints text (O.contents (inner_of output.old)) (O.contents (inner_of output.new)) (E.contents (inner_of errors.old)) (E.contents (inner_of errors.new)) (has_failed errors.new) result) }
     ensures quiet { result ≤ 1 → GetsNotes replay.now.hints (E.contents (inner_of errors.old)) (E.contents (inner_of errors.new)) (has_failed errors.new) }
     ensures silent { replay.now.unused_rules ≡ false → replay.now.max_races ≡ None → result ≤ 1 → GetsTextNotes replay.now.hints (E.contents (inner_of errors.old)) (E.contents (inner_of errors.new)) (has_failed errors.new) }
     ensures refused { replay.now.until_fault ≡ false → result ≡ 2 → Keeps (O.contents (inner_of output.old)) (O.contents (inner_of output.new)) }
@@ -183,6 +189,7 @@ where
     requires input { has_failed input.old ≡ false }
     requires output { has_failed output.old ≡ false }
     ensures status { IfOk result (λ ended. (ended.status ≤ 4) × (ended.status ≢ 2)) }
+    ensures usual { IsUsual replay.now → IfSome (I.remaining (inner_of input.old)) (λ text. EndsUsually text (O.contents (inner_of output.old)) (O.contents (inner_of output.new)) result) }
     ensures notes { IfOk result (λ ended. AreNotes ended.notes.items) }
     ensures silent { replay.now.unused_rules ≡ false → replay.now.max_races ≡ None → IfOk result (λ ended. ended.notes.items ≡ []) }
     ensures nothing { replay.now.until_fault ≡ false → IfErr result (λ cut. LeavesOutput (O.contents (inner_of output.old)) (O.contents (inner_of output.new)) cut.fault) }
@@ -250,7 +257,7 @@ fn note<E: Write>(alloc: Global, ended: Ended, hints: bool, errors: &mut Device<
     requires notes { AreNotes ended.notes.items }
     ensures status { result ≡ ended.status }
     ensures notes { GetsNotes hints (E.contents (inner_of errors.old)) (E.contents (inner_of errors.new)) (has_failed errors.new) }
-    ensures silent { ended.notes.items ≡ [] → GetsTextNotes hints (E.contents (inner_of errors.old)) (E.contents (inner_of errors.new)) (has_failed errors.new) }
+    ensures silent { ended.notes.items ≡ [] → AddsNotesOn hints ended.ending ended.unordered [] (E.contents (inner_of errors.old)) (E.contents (inner_of errors.new)) (has_failed errors.new) }
 {
     let status = ended.status;
     let notes = notes_of(alloc, ended, hints);
@@ -295,6 +302,7 @@ where
     requires input { has_failed input.old ≡ false }
     requires output { has_failed output.old ≡ false }
     ensures status { IfOk result (λ ended. (ended.status ≤ 4) × (ended.status ≢ 2)) }
+    ensures usual { IsUsual replay.now → IfSome (I.remaining (inner_of input.old)) (λ text. EndsUsually text (O.contents (inner_of output.old)) (O.contents (inner_of output.new)) result) }
     ensures notes { IfOk result (λ ended. AreNotes ended.notes.items) }
     ensures silent { replay.now.unused_rules ≡ false → replay.now.max_races ≡ None → IfOk result (λ ended. ended.notes.items ≡ []) }
     ensures report { IsPlain replay.now → replay.now.suppressions.items ≡ [] → replay.now.trace.now ≡ codes "-" → IfOk result (λ ended. IfSome (I.remaining (inner_of input.old)) (λ text. ReplaysTo text replay.now.byte_limit replay.now.explain (O.contents (inner_of output.old)) (O.contents (inner_of output.new)) ended.status)) }
@@ -338,6 +346,7 @@ where
     ensures report_by { (analysis : Order) → IsPlainBy analysis replay.now → IfOk result (λ ended. IfSome (D.remaining (inner_of source.old)) (λ text. EndsBy analysis text options.now.byte_limit (targets_of suppressions.now) options.now.explain (O.contents (inner_of output.old)) (O.contents (inner_of output.new)) ended.status)) }
     ensures text { IfOk result (λ ended. IfSome (D.remaining (inner_of source.old)) (λ text. IsEndingOf text ended.ending)) }
     ensures locks { order_of replay.now.analysis ≡ None → IfOk result (λ ended. ended.unordered ≡ 0) }
+    ensures fault { IsPlain replay.now → options.now.strict ≡ false → IfErr result (λ why. IfSome (D.remaining (inner_of source.old)) (λ text. IsUsualFault text options.now.byte_limit why)) }
     ensures nothing { IfErr result (LeavesOutput (O.contents (inner_of output.old)) (O.contents (inner_of output.new))) }
 {
     if let Some(analysis) = order_of(replay.analysis) {
@@ -392,6 +401,7 @@ where
     requires output { has_failed output.old ≡ false }
     ensures report { replay.now.format ≡ Text → IfOk result (λ replayed. IfSome (D.remaining (inner_of source.old)) (λ text. IsReplayed text options.now.byte_limit (targets_of suppressions.now) options.now.explain (O.contents (inner_of output.old)) (O.contents (inner_of output.new)) replayed.verdict)) }
     ensures ending { IfOk result (λ replayed. IfSome (D.remaining (inner_of source.old)) (λ text. IsEndingOf text replayed.ending)) }
+    ensures fault { replay.now.format ≡ Text → options.now.strict ≡ false → IfErr result (λ why. IfSome (D.remaining (inner_of source.old)) (λ text. IsUsualFault text options.now.byte_limit why)) }
     ensures nothing { IfErr result (LeavesOutput (O.contents (inner_of output.old)) (O.contents (inner_of output.new))) }
 {
     let replayed = match form_of(replay.format) {

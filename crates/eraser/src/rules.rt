@@ -1,5 +1,5 @@
 //! Files of rules: those that are read, and the one that is written.
-ghost use Rattle.std.specs.Prelude.{◌≡◌, ◌≤◌, ◌^◌, [], length, IfOk, IfErr};
+ghost use Rattle.std.specs.Prelude.{◌≡◌, ◌≤◌, ◌^◌, [], length, IfOk, IfErr, IsOk};
 ghost use Rattle.er_exit.specs.declared.faults.Fault.TheVariants.{WriteRules};
 ghost use Rattle.er_rules.specs.Rules.{targets_of};
 
@@ -22,7 +22,8 @@ pub(crate) fn suppressions_of<R>(
 where
     R: Files + AllocGlobal,
     requires { byte_limit ≤ 2 ^ 62 }
-    ensures { paths.now ≡ [] → IfOk result (λ rules. targets_of rules ≡ []) }
+    ensures none { paths.now ≡ [] → IfOk result (λ rules. targets_of rules ≡ []) }
+    ensures some { paths.now ≡ [] → IsOk result }
 {
     if paths.is_empty() {
         return Ok(Suppressions::new(rt.alloc()));

@@ -5,12 +5,13 @@
 ghost use Rattle.std.specs.Prelude.{◌≡◌, ◌≢◌, ◌≤◌, [], false, None, codes, IfOk, IfErr, IfSome};
 ghost use Rattle.er_device.specs.Device.{inner_of, has_failed};
 ghost use Rattle.er_exit.specs.Statuses.{fault_status};
-ghost use Rattle.er_exit.specs.Writes.{LeavesOutput};
+ghost use Rattle.er_exit.specs.Lines.{fault_line};
+ghost use Rattle.er_exit.specs.Writes.{GetsLine, LeavesOutput};
 ghost use Rattle.er_rules.specs.Rules.{targets_of};
 ghost use Rattle.er_text.specs.Ending.{IsEndingOf};
 ghost use Rattle.er_triage.specs.Notes.{AreNotes};
 ghost use Rattle.er_unordered.specs.declared.replay.Analysis.{Analysis as Order};
-ghost use Rattle.eraser.specs.Replays.{EndsAs, EndsBy, IsPlain, IsPlainBy, order_of};
+ghost use Rattle.eraser.specs.Replays.{EndsAs, EndsBy, IsPlain, IsPlainBy, IsUsualFault, order_of};
 
 use crate::advice::report_replay_fault;
 use crate::command::replay_from;
@@ -60,6 +61,7 @@ where
     requires { has_failed errors.old ≡ false }
     ensures status { result ≡ fault_status cut.now.fault }
     ensures range { (2 ≤ result) × (result ≤ 4) }
+    ensures line { cut.now.notes.items ≡ [] → cut.now.damage ≡ None → replay.now.hints ≡ false → GetsLine (E.contents (inner_of errors.old)) (E.contents (inner_of errors.new)) (fault_line cut.now.fault) (has_failed errors.new) }
 {
     put(errors, &cut.notes);
     if let Some(damage) = cut.damage
@@ -75,7 +77,8 @@ where
 
 /// A replay that comes to no report for this reason.
 pub(crate) fn cut_by(alloc: Global, fault: Fault) -> Cut
-    ensures { result.fault ≡ fault }
+    ensures fault { result.fault ≡ fault }
+    ensures alone { (result.notes.items ≡ []) × (result.damage ≡ None) }
 {
     Cut {
         notes: Vec::new(alloc),
@@ -108,6 +111,8 @@ where
     ensures report_by { (analysis : Order) → IsPlainBy analysis replay.now → replay.now.trace.now ≡ codes "-" → IfOk result (λ ended. IfSome (I.remaining (inner_of input.old)) (λ text. EndsBy analysis text options.now.byte_limit (targets_of suppressions.now) options.now.explain (O.contents (inner_of output.old)) (O.contents (inner_of output.new)) ended.status)) }
     ensures text { replay.now.trace.now ≡ codes "-" → IfOk result (λ ended. IfSome (I.remaining (inner_of input.old)) (λ text. IsEndingOf text ended.ending)) }
     ensures locks { order_of replay.now.analysis ≡ None → IfOk result (λ ended. ended.unordered ≡ 0) }
+    ensures fault { IsPlain replay.now → replay.now.trace.now ≡ codes "-" → replay.now.until_fault ≡ false → options.now.strict ≡ false → IfErr result (λ cut. IfSome (I.remaining (inner_of input.old)) (λ text. IsUsualFault text options.now.byte_limit cut.fault)) }
+    ensures alone { replay.now.until_fault ≡ false → IfErr result (λ cut. (cut.notes.items ≡ []) × (cut.damage ≡ None)) }
     ensures nothing { replay.now.until_fault ≡ false → IfErr result (λ cut. LeavesOutput (O.contents (inner_of output.old)) (O.contents (inner_of output.new)) cut.fault) }
 {
     if replay.trace == "-" {
@@ -178,6 +183,8 @@ where
     ensures report_by { (analysis : Order) → IsPlainBy analysis replay.now → IfOk result (λ ended. IfSome (D.remaining (inner_of source.old)) (λ text. EndsBy analysis text options.now.byte_limit (targets_of suppressions.now) options.now.explain (O.contents (inner_of output.old)) (O.contents (inner_of output.new)) ended.status)) }
     ensures text { IfOk result (λ ended. IfSome (D.remaining (inner_of source.old)) (λ text. IsEndingOf text ended.ending)) }
     ensures locks { order_of replay.now.analysis ≡ None → IfOk result (λ ended. ended.unordered ≡ 0) }
+    ensures fault { IsPlain replay.now → replay.now.until_fault ≡ false → options.now.strict ≡ false → IfErr result (λ cut. IfSome (D.remaining (inner_of source.old)) (λ text. IsUsualFault text options.now.byte_limit cut.fault)) }
+    ensures alone { replay.now.until_fault ≡ false → IfErr result (λ cut. (cut.notes.items ≡ []) × (cut.damage ≡ None)) }
     ensures nothing { replay.now.until_fault ≡ false → IfErr result (λ cut. LeavesOutput (O.contents (inner_of output.old)) (O.contents (inner_of output.new)) cut.fault) }
 {
     if !replay.until_fault {
