@@ -11,7 +11,7 @@ use std::rc::Rc;
 /// Blocks of counts, by place. Clocks share the whole list until one of them changes.
 #[derive(Drop)]
 pub(crate) struct Rest {
-    list: Option<Rc<Blocks>>,
+    list: Option<Rc<Vec<Shared>>>,
     alloc: Global,
 }
 
@@ -22,21 +22,7 @@ impl Model for Rest {
 
     ghost Value = { Counts };
 
-    ghost view = { λ r. option_map_or (λ list. list.value) r.list [] };
-}
-
-// A list of blocks, which never changes.
-#[derive(Drop)]
-struct Blocks {
-    blocks: Vec<Shared>,
-}
-
-impl Model for Blocks {
-    ghost use Rattle.er_clock.specs.Clock.{Counts};
-
-    ghost Value = { Counts };
-
-    ghost view = { λ b. b.blocks.items };
+    ghost view = { λ r. option_map_or (λ list. list.value.items) r.list [] };
 }
 
 impl Rest {
@@ -59,7 +45,7 @@ impl Rest {
         ensures value { result ≡ count_at self.now block place }
     {
         match &self.list {
-            Some(list) => count_among(&list.as_ref().blocks, block, place),
+            Some(list) => count_among(list.as_ref(), block, place),
             None => 0,
         }
     }
@@ -84,10 +70,14 @@ impl Rest {
     pub(crate) fn joined(&self, other: &Rest) -> Result<Rest, AllocError>
         ensures { IfOk result (λ all. JoinedBlocks self.now other.now all) }
     {
-        match &self.list {
-            Some(list) => list.as_ref().joined(self.alloc, other),
-            None => other.again(),
-        }
+        let Some(list) = &self.list else {
+            return other.again();
+        };
+        let Some(others) = &other.list else {
+            return self.again();
+        };
+        let blocks = joined_blocks(self.alloc, list.as_ref(), others.as_ref())?;
+        listed(self.alloc, blocks)
     }
 
     /// One more at this place of a block.
@@ -112,7 +102,7 @@ impl Rest {
         ensures room { IfOk result (λ all. place < length all.items) }
     {
         let mut all = match &self.list {
-            Some(list) => copied_blocks(self.alloc, &list.as_ref().blocks, place + 1)?,
+            Some(list) => copied_blocks(self.alloc, list.as_ref(), place + 1)?,
             None => Vec::with_capacity(self.alloc, place + 1)?,
         };
         reach(self.alloc, &mut all, place)?;
@@ -120,30 +110,11 @@ impl Rest {
     }
 }
 
-impl Blocks {
-    // The greater count at each place of each block.
-    fn joined(&self, alloc: Global, other: &Rest) -> Result<Rest, AllocError>
-        ensures { IfOk result (λ all. JoinedBlocks self.now other.now all) }
-    {
-        match &other.list {
-            Some(list) => {
-                let blocks = joined_blocks(alloc, &self.blocks, &list.as_ref().blocks)?;
-                listed(alloc, blocks)
-            }
-            None => {
-                let none = Vec::new(alloc);
-                let blocks = joined_blocks(alloc, &self.blocks, &none)?;
-                listed(alloc, blocks)
-            }
-        }
-    }
-}
-
 // The blocks, to be shared.
 fn listed(alloc: Global, blocks: Vec<Shared>) -> Result<Rest, AllocError>
     ensures { IfOk result (λ rest. rest ≡ blocks.items) }
 {
-    match Rc::new(alloc, Blocks { blocks }) {
+    match Rc::new(alloc, blocks) {
         Ok(list) => Ok(Rest {
             list: Some(list),
             alloc,

@@ -4,7 +4,7 @@ use Rattle.std.proofs.lemmas.Bool.{eqb-true, eqb-false, and_parts}
 use Rattle.std.proofs.lemmas.List.{get_or-set_same, get_or-set_other}
 use Rattle.er_clock.specs.Table.{known_by}
 use Rattle.er_clocks.specs.Counts.{ClockMap, known_to}
-use Rattle.er_clocks.specs.Taken.{HasTaken, KnowTheirs}
+use Rattle.er_clocks.specs.Inner.Taken.{HasTaken, KnowTheirs}
 use Rattle.er_clocks.specs.declared.takers.Taken.{Taken}
 
 abbrev Slots : Type 0

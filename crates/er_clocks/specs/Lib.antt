@@ -1,3 +1,3 @@
 pub mod Counts
 pub mod Standing
-pub mod Taken
+pub mod Inner

@@ -31,7 +31,7 @@ impl Model for Clocks {
 
     ghost view = { λ c. record { threads = c.threads; written = c.written; read = c.read; objects = c.objects } };
 
-    ghost use Rattle.er_clocks.specs.Taken.{KnowTheirs};
+    ghost use Rattle.er_clocks.specs.Inner.Taken.{KnowTheirs};
 
     ghost invariant = { λ c. KnowTheirs c.threads c.written c.takers };
 }

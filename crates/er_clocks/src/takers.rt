@@ -1,6 +1,6 @@
 //! Which thread took a lock's clock last.
 ghost use Rattle.std.specs.Prelude.{◌≡◌, ◌⊎◌, ℕ, IsTrue};
-ghost use Rattle.er_clocks.specs.Taken.{HasTaken};
+ghost use Rattle.er_clocks.specs.Inner.Taken.{HasTaken};
 
 use std::alloc::Global;
 use std::marker::Model;
