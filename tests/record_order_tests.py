@@ -40,6 +40,7 @@ OBJECTS = {
     "early": ([], [], []),
     "early_objects": ([], [], []),
     "ended": (["woken", "round_trip"], ["changed", "changed:2", "fresh", "fresh:2", "reused"], ["full"]),
+    "fenced_queue": ([], [], []),
     "fences": (
         ["both_flag", "sent_flag", "taken_flag", "full_flag", "added_flag", "swapped_flag", "between_flag", "later_flag", "first_flag", "second_flag", "fence-1"],
         [],

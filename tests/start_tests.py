@@ -407,7 +407,7 @@ def packages_tests(record, tree):
 def parts_tests(record, folder):
     """Without a compiler, a part that wants one is named, and another one runs."""
     env = {**os.environ, "PATH": few_commands(folder), "ERASER_TOLD": "1"}
-    found = subprocess.run([sys.executable, TOP / "tests/run", "pieces", "documents", "the recorder"], capture_output=True, text=True, env=env, timeout=120)
+    found = subprocess.run([sys.executable, TOP / "tests/run", "pieces", "documents", "the recorder"], capture_output=True, text=True, env=env, timeout=1200)
     *_, first, second, last = found.stdout.splitlines() or [""] * 3
     named = ["not run: pieces (no C compiler)", "not run: the recorder (no gcc, g++ or clang, or no headers of libdw)"]
     record("tests/run names what it can't run", [first, second] == named and re.fullmatch(r"[1-9]\d* passed, \d+ failed", last) and found.stderr == "test: documents\n", f"{found}")
