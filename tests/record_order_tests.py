@@ -169,7 +169,7 @@ def objects_fault(name, steps):
 
 def program_fault(source, text):
     steps = order_reference.read(text.encode())
-    sites = {race.marked.step.site for race in order_reference.races(order_reference.mark(steps))}
+    sites = {race.marked.step.site for race in order_reference.races(order_reference.mark(steps)) if race.marked.step.verb != "reuse"}
     # A program that knows of reuses may report these places too.
     if sites - marked(source, "EARLY") != marked(source, "UNORDERED"):
         return f"unordered at {sorted(sites)}, not {sorted(marked(source, 'UNORDERED'))}"
