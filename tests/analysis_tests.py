@@ -70,9 +70,25 @@ class Noting(reference.Replay):
         super().access(line, thread, verb, operands)
 
 
-def taker_of(rules, step):
-    """The first rule that takes the access, counted from 0."""
-    return next((k for k, rule in enumerate(rules) if reference.takes(rule, step.site.encode(), step.words.start)), None)
+def takes_race(rule, race):
+    """Whether a rule takes a race: that of a reuse if it is one of words, and has them all."""
+    step = race.marked.step
+    if step.verb != "reuse":
+        return reference.takes(rule, step.site.encode(), step.words.start)
+    return not isinstance(rule, bytes) and rule[0] <= race.words[0] and race.words[-1] <= rule[1]
+
+
+def taker_of(rules, race):
+    """The first rule that takes the race, counted from 0."""
+    return next((k for k, rule in enumerate(rules) if takes_race(rule, race)), None)
+
+
+def told_of(race, holds):
+    """The line of a race."""
+    step, address = race.marked.step, f"0x{race.words.start * 4:012x}"
+    if step.verb == "reuse":
+        return f"line {step.line}: unordered: {step.thread} reuse {address} {4 * len(race.words)}"
+    return f"line {step.line}: unordered: {step.thread} {step.verb} {address} at {step.site}, holds {holds[step.line]}"
 
 
 def unordered_report(text, rules, explain=False):
@@ -84,16 +100,14 @@ def unordered_report(text, rules, explain=False):
     taken, races = [0] * len(rules), 0
     marked = order_reference.mark(order_reference.read(text))
     for race in order_reference.races(marked):
-        step, taker = race.marked.step, taker_of(rules, race.marked.step)
+        taker = taker_of(rules, race)
         if taker is not None:
             taken[taker] += 1
             continue
         races += 1
-        address = f"0x{step.words.start * 4:012x}"
-        told = f"line {step.line}: unordered: {step.thread} {step.verb} {address} at {step.site}, holds {noting.holds[step.line]}"
         other = marked[race.earlier].step
-        lines.append((step.line, told + f"\n  unordered with: line {other.line}, {other.thread} {other.verb}" * explain))
-    found = [line for _, line in sorted(lines)]
+        lines.append((race.marked.step.line, told_of(race, noting.holds) + f"\n  unordered with: line {other.line}, {other.thread} {other.verb}" * explain))
+    found = [line for _, line in sorted(lines, key=lambda pair: pair[0])]
     found += [f"suppression {number}: {count}" for number, count in enumerate(taken, 1)]
     found.append(f"steps {noting.steps}, unordered {races}, suppressed {sum(taken)}, refused {noting.refused}{reference.lost_part(text)}")
     return "".join(line + "\n" for line in found), 1 if races else 0
@@ -198,6 +212,8 @@ def by_sites(record):
     record("both by site: each part has sites in some text, and none in another", len(kinds) == 4, f"{kinds}")
     found = run([*BOTH, "--by-site", "-"], TWO_HEADINGS)
     record("both by site: the worked text", found == (TWO_HEADINGS_BY_SITE, b"", 1), f"{found}")
+    found = run_file(None, GIVEN_BACK, *BOTH, "--by-site")
+    record("both by site: memory that is given back while it is read", found == (GIVEN_BACK_BY_SITE, b"", 1), f"{found}")
     place = b"  nothing orders this before it: t1 wrote it (line 2)\n    at count.c:3, holding no lock\n"
     for name, text in (("alone", ORDER_ALONE), ("beside races by locks", ORDER_BESIDE)):
         found = run_file(None, text, *BOTH, "--by-site")
@@ -241,6 +257,30 @@ t2 write 0x2000 count.c:7
 t2 await q
 t2 write 0x1000 flag.c:9
 end
+"""
+
+
+# A block is given back while its reader still runs.
+GIVEN_BACK = b"""eraser trace 3
+main write 0x1000 job.c:7
+main start worker
+worker read 0x1000 job.c:20
+main reuse 0x1000 64
+main join worker
+end
+"""
+
+
+GIVEN_BACK_BY_SITE = b"""races in this run
+0x000000001000:
+  main gave back 64 bytes (line 5)
+  nothing orders this before it: worker read it (line 4)
+    at job.c:20, holding no lock
+
+no common lock: no further site
+
+steps 5, races 0, suppressed 0, refused 0
+steps 5, unordered 1, suppressed 0, refused 0
 """
 
 

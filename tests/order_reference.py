@@ -1,13 +1,16 @@
 #!/usr/bin/env python3
 """Happens-before, read a second time: by chains of steps, without clocks. Slow, plain and unproved, written for checking alone.
 
-order_reference.py FILE           prints the accesses that race by happens-before, in the order of the trace
+order_reference.py FILE           prints the accesses and reuses that race by happens-before, in the order of the trace
 order_reference.py --sites FILE   prints how many words race at each site
 
 It reads traces of the texts 1 to 3, and shares no code with the program nor with tests/reference.py.
 
 An access races if an earlier counted access of its word, since the word's last reuse, conflicts with it and doesn't come before it in
 order. Two accesses conflict if they are of two threads and one at least is a write. An era of a word is reported once, at its first race.
+
+A reuse races too, outside ignore brackets: if some access of one of its words, since that word's last reuse, doesn't come before it in order,
+and that era was not reported. It is asked page by page, and each page has one race at most.
 """
 
 import collections
@@ -15,6 +18,7 @@ import dataclasses
 import re
 import sys
 
+PAGE = 1024
 NAME = re.compile(r"[A-Za-z0-9_.:/-]{1,128}")
 WIDE_SITE = re.compile(r"[!-~]{1,128}")
 NUMBER = re.compile(r"[0-9]+|0x[0-9a-fA-F]+")
@@ -180,6 +184,7 @@ class Marked:
     step: Step
     is_refused: bool
     is_counted: bool  # an access outside brackets
+    is_asked: bool  # a reuse outside brackets
     held: tuple
 
 
@@ -189,7 +194,8 @@ def mark(steps):
         holder = holders[step.thread]
         is_refused = holder.refuses(step)
         is_counted = step.verb in ("read", "write") and holder.brackets == 0
-        found.append(Marked(step, is_refused, is_counted, tuple(holder.locks)))
+        is_asked = step.verb == "reuse" and holder.brackets == 0
+        found.append(Marked(step, is_refused, is_counted, is_asked, tuple(holder.locks)))
         if not is_refused:
             holder.take(step)
     return found
@@ -272,6 +278,7 @@ class Race:
     marked: Marked
     place: int
     earlier: int  # the place of the last access before it that conflicts with it and does not come before it in order
+    words: range  # of an access its word, of a reuse those of a page
 
 
 class Era:
@@ -281,11 +288,25 @@ class Era:
         self.writes, self.accesses, self.is_reported = 0, 0, False
 
 
+def pages_of(words):
+    """The parts of a run of words, one for each page."""
+    return [range(max(start, words.start), min(start + PAGE, words.stop)) for start in range(words.start // PAGE * PAGE, words.stop, PAGE)]
+
+
+def races_of_reuse(item, place, eras, before):
+    """For each page of a reuse the lowest word that is in use, if there is one."""
+    for words in pages_of(item.step.words):
+        used = [word for word in sorted(eras) if word in words and not eras[word].is_reported and eras[word].accesses & ~before]
+        if used:
+            yield Race(item, place, (eras[used[0]].accesses & ~before).bit_length() - 1, words)
+
+
 def races(marked):
-    """The accesses that are reported, in the order of the trace."""
+    """The accesses and reuses that are reported, in the order of the trace."""
     eras, found = collections.defaultdict(Era), []
     for place, (item, before) in enumerate(zip(marked, order_by_sets(marked))):
         if item.step.verb == "reuse":
+            found += races_of_reuse(item, place, eras, before) if item.is_asked else []
             for word in [word for word in eras if word in item.step.words]:
                 del eras[word]
         if not item.is_counted:
@@ -294,7 +315,7 @@ def races(marked):
         apart = (era.accesses if is_write else era.writes) & ~before
         if apart and not era.is_reported:
             era.is_reported = True
-            found.append(Race(item, place, apart.bit_length() - 1))
+            found.append(Race(item, place, apart.bit_length() - 1, item.step.words))
         era.accesses |= 1 << place
         era.writes |= is_write << place
     return found
@@ -314,8 +335,21 @@ def races_by_chains(marked):
         step = marked[place].step
         return any((step.verb == "write" or marked[k].step.verb == "write") and k not in order[place] for k in era_of(marked, step.words.start, place))
 
-    counted = [place for place, item in enumerate(marked) if item.is_counted]
-    return [k for k in counted if is_race(k) and not any(is_race(j) for j in era_of(marked, marked[k].step.words.start, k))]
+    def is_reported(place):
+        return is_race(place) and not any(is_race(k) for k in era_of(marked, marked[place].step.words.start, place))
+
+    def is_in_use(word, place):
+        era = era_of(marked, word, place)
+        return any(k not in order[place] for k in era) and not any(is_race(k) for k in era)
+
+    found = []
+    for place, item in enumerate(marked):
+        if item.is_counted and is_reported(place):
+            found.append(place)
+        if item.is_asked:
+            words = {other.step.words.start for other in marked if other.is_counted}
+            found += [place for page in pages_of(item.step.words) if any(word in page and is_in_use(word, place) for word in words)]
+    return found
 
 
 def answers(marked):
@@ -327,7 +361,7 @@ def answers(marked):
             return "refused"
         if item.step.verb in ("read", "write"):
             return "race" if place in racy else "quiet" if item.is_counted else "ignored"
-        return "done"
+        return "race" if place in racy else "done"
 
     return [answer(place, item) for place, item in enumerate(marked)]
 
@@ -337,6 +371,8 @@ def answers(marked):
 
 def line_of(race):
     step, held = race.marked.step, " ".join(race.marked.held) or "none"
+    if step.verb == "reuse":
+        return f"line {step.line}: unordered: {step.thread} reuse 0x{race.words.start * 4:012x} {len(race.words) * 4}"
     return f"line {step.line}: unordered: {step.thread} {step.verb} 0x{step.words.start * 4:012x} at {step.site}, holds {held}"
 
 

@@ -58,6 +58,7 @@ steps 11, races 3, suppressed 0, refused 0
 MANY = (1 << 17) + 2
 
 RACE = re.compile(r"line (\d+): (?:race|unordered): (\S+) (read|write) (0x[0-9a-f]{12}) at (\S+), holds (.*)")
+REUSE = re.compile(r"line (\d+): unordered: (\S+) reuse (0x[0-9a-f]{12}) (\d+)")
 REASON = re.compile(r"  (.+): line (\d+), (\S+) (read|write)")
 REFUSED = re.compile(r"line (\d+): refused: .*: ([^:]+)")
 DID = {"read": "read", "write": "wrote"}
@@ -159,6 +160,13 @@ def story(race, places):
         yield f"  {who} held {lock_name(lock)}" + (", but only to read" if is_weak else "")
     if not held:
         yield f"  {who} held no lock"
+    yield from reason_lines(line, reasons, places)
+    if reasons and reasons[0][0] != "unordered with":
+        yield "  So no lock protected all accesses from the second thread's first one on"
+
+
+def reason_lines(line, reasons, places):
+    """The reasons of a race on this line, each with its place if that is known."""
     for label, at, other, did in reasons:
         one, deed = short(other, 24), f"{DID[did]} it"
         if label == "first":
@@ -173,25 +181,33 @@ def story(race, places):
             yield f"  {lock_name(label.removesuffix(' not covering'))} did not protect it when {one} {deed} (line {at})"
         if at != line and at in places:
             yield from place_lines(places[at])
-    if reasons and reasons[0][0] != "unordered with":
-        yield "  So no lock protected all accesses from the second thread's first one on"
+
+
+def reuse_story(reuse, places):
+    """An unordered reuse in sentences."""
+    line, thread, address, size, reasons = reuse
+    return [f"{address}:", f"  {short(thread, 24)} gave back {size} bytes (line {line})", *reason_lines(line, reasons, places), ""]
 
 
 def read_report(report):
-    """The races of an explained report, the line of its first refusal, and the lines that it ends with."""
-    races, refused, rest = [], [], []
+    """The races of an explained report, its reuses, the line of its first refusal, and the lines that it ends with."""
+    races, reuses, refused, rest, reasons = [], [], [], [], []
     for line in report.splitlines():
-        race, reason, refusal = RACE.fullmatch(line), REASON.fullmatch(line), REFUSED.fullmatch(line)
+        race, reuse, reason, refusal = (form.fullmatch(line) for form in (RACE, REUSE, REASON, REFUSED))
         if race:
             held = [] if race[6] == "none" else race[6].split(" ")
-            races.append((race[1], race[2], race[3], race[4], race[5], held, []))
+            reasons = []
+            races.append((race[1], race[2], race[3], race[4], race[5], held, reasons))
+        elif reuse:
+            reasons = []
+            reuses.append((*reuse.groups(), reasons))
         elif reason:
-            races[-1][-1].append((reason[1], reason[2], reason[3], reason[4]))
+            reasons.append((reason[1], reason[2], reason[3], reason[4]))
         elif refusal:
             refused = refused or [f"first refused: line {refusal[1]}: {refusal[2]}"]
         elif not re.match(r"line \d+: state ", line):
             rest.append(line)
-    return races, refused, rest
+    return races, reuses, refused, rest
 
 
 def rows_of(races, numbers):
@@ -223,16 +239,18 @@ def part(heading, nothing, rows, places):
 
 def by_site(report, numbers, places):
     """The text for people, from the lines of an explained report and where accesses stood as far as that is known."""
-    races, refused, rest = read_report(report)
+    races, _, refused, rest = read_report(report)
     return "".join(line + "\n" for line in [*table(rows_of(races, numbers), places), *refused, *rest])
 
 
 def by_site_of_both(lockset, unordered, numbers, places):
     """The same of a trace that was analysed both ways: the sites of unordered accesses, and the other sites of races by locks."""
-    (races, refused, rest), (others, _, more) = read_report(lockset), read_report(unordered)
+    (races, _, refused, rest), (others, reuses, _, more) = read_report(lockset), read_report(unordered)
     by_locks, by_order = rows_of(races, numbers), rows_of(others, numbers)
     apart = [row for row in by_locks if row[0] not in dict(by_order)]
-    lines = [*part("races in this run", "none", by_order, places), *part("no common lock", "no further site", apart, places)]
+    in_run = ["races in this run"] if reuses and not by_order else part("races in this run", "none", by_order, places)
+    stories = [line for reuse in reuses for line in reuse_story(reuse, places)]
+    lines = [*in_run, *stories, *part("no common lock", "no further site", apart, places)]
     return "".join(line + "\n" for line in [*lines, *refused, *rest, *more])
 
 

@@ -66,7 +66,7 @@ impl Wanted {
     }
 
     /// Adds the lines of some races and those that their reasons name: of each site and kind the first race of a report, which is the one
-    /// that people are shown. `AllocError`: memory was refused.
+    /// that people are shown. Of a reuse it adds the lines that its reasons name. `AllocError`: memory was refused.
     pub fn add_reasons(&mut self, alloc: Global, lines: &[Line]) -> Result<(), AllocError>
         ensures { OnOk result ((line : ℕ) → is_wanted self.new line ≡ (is_wanted self.old line || is_asked lines.now line)) }
     {
@@ -82,21 +82,23 @@ impl Wanted {
         ensures sites { OnOk result ((s : ℕ) (k : Kind) → has_site sites.new s k ≡ (has_site sites.old s k || is_race_at s k line.now)) }
         ensures lines { OnOk result ((number : ℕ) → is_wanted self.new number ≡ (is_wanted self.old number || asks_unless (has_site sites.old) number line.now)) }
     {
-        let Line::Race {
-            line,
-            site,
-            kind,
-            explained,
-            ..
-        } = line
-        else {
-            return Ok(());
-        };
-        if sites.add(*site, *kind)? {
-            self.lines.insert(*line)?;
-            return self.add_lines(explained);
+        match line {
+            Line::Race {
+                line,
+                site,
+                kind,
+                explained,
+                ..
+            } => {
+                if sites.add(*site, *kind)? {
+                    self.lines.insert(*line)?;
+                    return self.add_lines(explained);
+                }
+                Ok(())
+            }
+            Line::Reused { explained, .. } => self.add_lines(explained),
+            _ => Ok(()),
         }
-        Ok(())
     }
 
     // Adds the lines that these reasons name.

@@ -20,8 +20,8 @@
 
 pub use fault::WriteFault;
 pub use lines::{
-    put_line, put_lost, put_place, put_reasons, put_reuse, put_rule_counts, put_size,
-    put_stop, put_totals,
+    put_line, put_lost, put_place, put_reasons, put_reuse, put_rule_counts, put_size, put_stop,
+    put_totals,
 };
 pub use naming::{
     order_verb, put_event, put_kind, put_lock, put_locks, put_site, put_state, put_thread,

@@ -8,9 +8,7 @@ ghost use Rattle.er_print.specs.Printed.{name_at, site_text, locks_text, kind_te
 
 use crate::naming::{put_event, put_lock, put_locks, put_site, put_state, put_thread};
 use crate::numbers::{put_address, put_number};
-use er_event::{
-    Kind, Lockset, NoRoom, PageRange, Refusal, Site, Step, ThreadId, Word, WordState,
-};
+use er_event::{Kind, Lockset, NoRoom, PageRange, Refusal, Site, Step, ThreadId, Word, WordState};
 use er_report::{Because, Label, Line, Report};
 use er_trace::Names;
 use std::alloc::AllocError;

@@ -18,6 +18,7 @@ use Rattle.er_report.proofs.GrowthLemmas.{goes-on-by}
 use Rattle.er_explain.proofs.RaceLemmas.{race-is}
 use Rattle.er_model.specs.Holdings.{holdings_end}
 use Rattle.er_order.specs.Races.{order_answer}
+use Rattle.er_order.specs.Reasons.{word_raced}
 use Rattle.er_report.specs.Builder.{ArePlainBy, Built, IsBuiltBy, IsStepBy, GoesOn, is_plain, report_below_by}
 use Rattle.er_batch.proofs.BatchLemmas.{all-named}
 use Rattle.er_text.specs.Batches.{joined, HasRead}
@@ -28,7 +29,7 @@ use Rattle.er_text.specs.Named.{KeepsNames}
 use Rattle.er_trace.specs.Names.{NameTable, no_names}
 use Rattle.er_trace.specs.Trace.{Recording, IsNamed, no_steps}
 use Rattle.er_batch.proofs.StepLemmas.{past-next}
-use Rattle.er_unordered.proofs.AnswerLemmas.{locks-here, order-front, order-here, race-accesses}
+use Rattle.er_unordered.proofs.AnswerLemmas.{locks-here, order-front, order-here, race-may, word-here}
 use Rattle.er_unordered.proofs.ReasonLemmas.{kept-there}
 use Rattle.er_unordered.specs.Inner.Passes.{HasAnswered, HasCome, HasComeTo, HasExplained, HasExplainedTo, IsReasoned, OrderBuilt, recorded}
 use Rattle.er_unordered.specs.Inner.Reasons.{HasReasons, Reasoned}
@@ -128,8 +129,12 @@ module _ (machine next : Ordered) (builder : Built) (r : Recording) (n : ℕ) (s
         named = named;
         answered = known;
         locked = λ race. locked (take n r.steps ++ step ∷ []) (goes_on (take n r.steps) come.stands)
-            ∙ locks-here r.steps n step here (race-accesses machine step.thread step.event (sym answered ∙ race-is given race)) step.thread;
+            ∙ locks-here r.steps n step here (race-may machine step.thread step.event (sym answered ∙ race-is given race)) step.thread;
       }
+
+  -- the word on which it would be a race is that of the definitions
+  pub raced-here : (raced : Option ℕ) → ((past : List Step) → Stands machine past → raced ≡ word_raced (past ++ step ∷ []) (length past)) → raced ≡ word_raced r.steps n
+  raced-here raced word = word (take n r.steps) come.stands ∙ word-here r.steps n step here
 
   -- the answer is that of the definitions
   pub known-here : given ≡ order_answer r.steps n

@@ -1,5 +1,5 @@
 -- What is kept for reasons goes on by one step, and stays if more steps and names come behind it.
-use Rattle.std.proofs.Common.{◌≡◌, ◌<◌, ◌+◌, ◌∙◌, ℕ, zero, suc, add-one, Bool, true, false, cond, is_none, List, [], ◌∷◌, ◌++◌, length, map, take, slice_get, slice_index, Option, Some, None, Result, Ok, refl, sym, ap, ap₂, subst, arith}
+use Rattle.std.proofs.Common.{◌≡◌, ◌<◌, ◌+◌, ◌∙◌, ℕ, zero, suc, add-one, Bool, true, false, cond, is_none, List, [], ◌∷◌, ◌++◌, length, map, take, slice_get, slice_index, Option, Some, None, Result, Ok, refl, sym, ap, ap₂, subst, arith, ⊎_elim}
 use Rattle.std.specs.List.{All}
 use Rattle.std.specs.Option.{option_map, option_to_list}
 use Rattle.std.proofs.lemmas.Bool.{and_parts}
@@ -20,30 +20,46 @@ use Rattle.er_latest.proofs.StepLemmas.{latest-front}
 use Rattle.er_latest.specs.Latest.{Latest}
 use Rattle.er_latest.specs.Standing.{Follows, IsClockAfter, is_counted}
 use Rattle.er_model.specs.Explanations.{word_in, word_of}
-use Rattle.er_order.proofs.ReasonLemmas.{race-reported, with-conflict, with-earlier, with-word}
+use Rattle.er_order.proofs.ReasonLemmas.{race-cases, with-use, with-earlier, with-word}
 use Rattle.er_order.proofs.ReasonsGrow.{unordered-stays}
 use Rattle.er_order.specs.Races.{order_answer}
-use Rattle.er_order.specs.Reasons.{unordered_with}
+use Rattle.er_order.specs.Reasons.{unordered_with, word_raced}
 use Rattle.er_report.proofs.NamedLemmas.{named_step}
 use Rattle.er_report.specs.Builder.{GoesOn}
 use Rattle.er_report.specs.Names.{HasReasonNames}
 use Rattle.er_report.specs.Reasons.{access_reason, step_reason}
-use Rattle.er_report.specs.Report.{AreAccesses, is_printed_by, matching_rule_by}
+use Rattle.er_report.specs.Report.{RacesHaveLines, is_printed_by, matching_rule_by, may_race, may_race_at}
 use Rattle.er_report.specs.declared.report.Because.{Because}
 use Rattle.er_report.specs.declared.report.Label.TheVariants as label
 use Rattle.er_rules.specs.Rules.{Target}
 use Rattle.er_batch.proofs.StepLemmas.{past-next}
 use Rattle.er_trace.specs.Trace.{Recording, IsNamed}
-use Rattle.er_unordered.proofs.AnswerLemmas.{long, order-here, with-here}
+use Rattle.er_unordered.proofs.AnswerLemmas.{long, order-here, with-here, word-here}
 use Rattle.er_unordered.specs.Inner.Reasons.{HasReasons, Reasoned, access_reason_at, line_reason, reasons_below}
 use Rattle.er_unordered.specs.Reasons.{order_reasons, reasons_with}
 
--- only an access is a race
-pub are-accesses : (steps : List Step) → AreAccesses (order_answer steps) steps
-are-accesses steps k race none =
-    let told = race-reported steps k race in
-    let clash = sym told.1 ∙ none in
-    cc
+-- only an access and a reuse are races
+has-word : (o : Option Step) (w : ℕ) → word_of o ≡ Some w → may_race_at o ≡ true
+has-word None w is = cc
+has-word (Some s) w is = by s.event is
+  where
+    by : (e : Event) → word_in e ≡ Some w → may_race e ≡ true
+    by (Access kind v site) is = refl
+    by (Acquire l m) is = cc
+    by (Release l m) is = cc
+    by (Reuse range) is = refl
+    by IgnoreOn is = cc
+    by IgnoreOff is = cc
+    by (Show v) is = cc
+    by (Level n) is = cc
+    by (Sync sync) is = cc
+
+pub races-told : (steps : List Step) → RacesHaveLines (order_answer steps) steps
+races-told steps k race none =
+    ⊎_elim
+    (λ told. let clash = sym (has-word (slice_get steps k) told.0 told.1) ∙ none in cc)
+    (λ reused. let clash = sym (ap may_race_at reused.3 ∙ ap may_race reused.4) ∙ none in cc)
+    (race-cases steps k race)
 
 -- an access is told on its line
 module _ (number : ℕ) where
@@ -74,7 +90,7 @@ module _ (r : Recording) (k : ℕ) where
   unfolding order_reasons
   reason-told =
       told-by (unordered_with r.steps k)
-      (λ j is. let found = with-conflict r.steps k j is in (found.0, with-word r.steps k j is ∙ found.1))
+      (λ j is. let found = with-use r.steps k j is in (found.0, with-word r.steps k j is found.0 found.1))
 
 -- the reasons below one more position
 module _ (r : Recording) (rules : List Target) (k : ℕ) where
@@ -113,11 +129,12 @@ module _ (r : Recording) (rules : List Target) (k : ℕ) (step : Step) (here : s
       ∙ race-is (order_answer r.steps k) (and_parts (is_race (order_answer r.steps k)) (is_none (matching_rule_by (order_answer r.steps) r rules k)) printed).0
 
   pub found-here : (latest : List (ℕ × Latest Because)) (found : Option Because) → Follows (access_reason_at r) latest past → true ≡ is_printed_by (order_answer r.steps) r rules k
+      → (raced : Option ℕ) → raced ≡ word_raced r.steps k
       → ((past : List Step) (tags : ℕ → Because) → Follows tags latest past → order_answer (past ++ step ∷ []) (length past) ≡ Ok Race
-      → IsClockAfter (past ++ step ∷ []) step.thread clock → found ≡ option_map tags (unordered_with (past ++ step ∷ []) (length past)))
+      → raced ≡ word_raced (past ++ step ∷ []) (length past) → IsClockAfter (past ++ step ∷ []) step.thread clock → found ≡ option_map tags (unordered_with (past ++ step ∷ []) (length past)))
       → option_to_list found ≡ order_reasons r k
-  found-here latest found follows printed finds =
-      ap option_to_list (finds past (access_reason_at r) follows (race-here (sym printed)) clock-here
+  found-here latest found follows printed raced word finds =
+      ap option_to_list (finds past (access_reason_at r) follows (race-here (sym printed)) (word ∙ sym (word-here r.steps k step here)) clock-here
       ∙ ap (option_map (access_reason_at r)) (with-here r.steps k step here))
       ∙ reason-told r k
 

@@ -100,12 +100,14 @@ fn explain_step(
     ensures fault { IfErr result (λ why. IsOrderFault why) }
     ensures full { (r : Recording) (k : ℕ) → HasExplainedTo machine.old builder.old reasons.old r k → slice_get r.steps k ≡ Some step.now → IfErr result (λ why. IsStopIn r.steps why) }
 {
+    let raced = machine.word_raced(step);
     let answer = machine.step(step)?;
     let before = builder.races();
     let held = machine.held(step.thread).held();
     builder.add(names, line, step, &answer, held)?;
     let clock = machine.clock(step.thread);
-    reasons.follow(line, step, &answer, &clock, builder.races() > before)?;
+    let printed = builder.races() > before;
+    reasons.follow(line, step, &answer, raced, &clock, printed)?;
     Ok(())
 }
 

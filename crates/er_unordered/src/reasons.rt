@@ -7,11 +7,12 @@ ghost use Rattle.er_report.specs.Report.{is_printed_by};
 ghost use Rattle.er_rules.specs.Rules.{Target};
 ghost use Rattle.er_trace.specs.Trace.{Recording};
 ghost use Rattle.er_order.specs.Races.{order_answer};
+ghost use Rattle.er_order.specs.Reasons.{word_raced};
 ghost use Rattle.er_unordered.specs.Inner.Reasons.{HasReasons, access_reason_at, line_reason};
 ghost use Rattle.er_unordered.specs.Reasons.{order_reasons};
 
 use er_clocks::ThreadClock;
-use er_event::{Event, Kind, Refusal, Reply, Step};
+use er_event::{Event, Kind, Refusal, Reply, Step, Word};
 use er_latest::LatestWords;
 use er_report::{Because, Label};
 use er_trace::NameKeys;
@@ -48,17 +49,18 @@ impl Reasons {
     }
 
     /// Goes on by one step on this line of the text, which was answered so, and after which the clock is that of its thread. A race that
-    /// has a line in the report gets its reason. `AllocError`: memory was refused, and what is kept is of no more use.
+    /// has a line in the report gets its reason, by the word that it is on. `AllocError`: memory was refused, and what is kept is of no more use.
     pub(crate) fn follow(
         &mut self,
         line: u64,
         step: &Step,
         answer: &Result<Reply, Refusal>,
+        raced: Option<Word>,
         clock: &ThreadClock<'_>,
         printed: bool,
     ) -> Result<(), AllocError>
         ensures { (r : Recording) (rules : List Target) (k : ℕ) → HasReasons self.old r rules k → slice_get r.steps k ≡ Some step.now → line ≡ slice_index r.lines k
-            → answer.now ≡ order_answer r.steps k → printed ≡ is_printed_by (order_answer r.steps) r rules k
+            → answer.now ≡ order_answer r.steps k → printed ≡ is_printed_by (order_answer r.steps) r rules k → raced ≡ word_raced r.steps k
             → IsClockAfter (take (k + 1) r.steps) step.now.thread clock.now → OnOk result (HasReasons self.new r rules (k + 1)) }
     {
         tell(
@@ -66,6 +68,7 @@ impl Reasons {
             &mut self.told,
             &self.latest,
             step,
+            raced,
             clock,
             printed,
         )?;
@@ -89,15 +92,16 @@ fn tell(
     told: &mut Vec<Vec<Because>>,
     latest: &LatestWords<Because>,
     step: &Step,
+    raced: Option<Word>,
     clock: &ThreadClock<'_>,
     printed: bool,
 ) -> Result<(), AllocError>
     ensures { (r : Recording) (rules : List Target) (k : ℕ) → Follows (access_reason_at r) latest.now (take k r.steps) → slice_get r.steps k ≡ Some step.now
-        → printed ≡ is_printed_by (order_answer r.steps) r rules k → IsClockAfter (take (k + 1) r.steps) step.now.thread clock.now
+        → printed ≡ is_printed_by (order_answer r.steps) r rules k → raced ≡ word_raced r.steps k → IsClockAfter (take (k + 1) r.steps) step.now.thread clock.now
         → OnOk result (map (λ reasons. reasons.items) told.new.items ≡ map (λ reasons. reasons.items) told.old.items ++ cond printed (order_reasons r k ∷ []) []) }
 {
     if printed {
-        put_found(alloc, told, latest.find(step, clock))
+        put_found(alloc, told, latest.find(step, raced, clock))
     } else {
         Ok(())
     }

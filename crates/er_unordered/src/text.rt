@@ -12,7 +12,7 @@ use er_device::Device;
 use er_event::{Kind, Lockset, Site, ThreadId, Word};
 use er_print::{
     WriteFault, put_address, put_kind, put_line, put_locks, put_lost, put_number, put_place,
-    put_reasons, put_rule_counts, put_site, put_thread, report_text,
+    put_reasons, put_reuse, put_rule_counts, put_site, put_thread, report_text,
 };
 use er_report::{Line, Report};
 use er_trace::Names;
@@ -100,6 +100,19 @@ fn put_unordered_line(out: &mut Vec<u8>, names: &Names, line: &Line) -> Result<(
             put_place(out, *line)?;
             out.extend_from_slice(b"unordered: ")?;
             put_access(out, names, *thread, *kind, *word, *site, held)?;
+            put_reasons(out, names, explained)
+        }
+        Line::Reused {
+            line,
+            thread,
+            range,
+            held: _,
+            explained,
+        } => {
+            put_place(out, *line)?;
+            out.extend_from_slice(b"unordered: ")?;
+            put_reuse(out, names, *thread, range)?;
+            out.extend_from_slice(b"\n")?;
             put_reasons(out, names, explained)
         }
         Line::Refused { .. } | Line::Shown { .. } => put_line(out, names, line),

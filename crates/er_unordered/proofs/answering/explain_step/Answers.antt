@@ -7,7 +7,7 @@ use Rattle.er_rules.specs.Rules.{Target}
 use Rattle.er_order.specs.Races.{order_answer}
 use Rattle.er_unordered.specs.Inner.Passes.{HasComeTo}
 use Rattle.er_unordered.specs.Inner.Reasons.{HasReasons}
-use Rattle.er_unordered.proofs.PassLemmas.{clock-lent, come-to, known-here, printed-here, step-here}
+use Rattle.er_unordered.proofs.PassLemmas.{clock-lent, come-to, known-here, printed-here, raced-here, step-here}
 use Rattle.er_unordered.proofs.StoppingLemmas.{full-here, stop-by}
 use Rattle.er_unordered.proofs.answering.explain_step.Goals as goal
 
@@ -24,6 +24,7 @@ returns-clause-run c = λ r k old here line named.
       explained = subst (λ (rules : List Target). HasReasons c.follow.new.self r rules (k + 1)) (sym c.in_ok-add.ensures.rules)
           (c.in_ok-follow.ensures r c.args.builder.now.rules k old.explained here line known
           (ap₂ nat_lt c.races-before.ensures c.races.ensures ∙ printed-here (order_answer r.steps) c.args.builder.now c.add.new.self r k old.come.built built c.in_ok-add.ensures.rules)
+          (raced-here c.args.machine.now c.step.new.self c.args.builder.now r k c.args.step.now here old.come c.in_ok-answer.answer c.in_ok-answer.ensures.answered c.in_ok-answer.ensures.answer c.in_ok-answer.ensures.goes_on c.word_raced-raced.result c.word_raced-raced.ensures)
           (clock-lent c.step.new.self _ c.args.step.now.thread c.clock-clock.result come.stands c.clock-clock.ensures.thread c.clock-clock.ensures.counts));
     }
 

@@ -7,8 +7,8 @@ use Rattle.er_unordered.proofs.ReasonLemmas.{found-here, told-here}
 use Rattle.er_unordered.proofs.reasons.tell.Goals as goal
 
 pub returns-then-printed : goal.returns-then-printed
-returns-then-printed c = λ r rules k follows here printed known.
+returns-then-printed c = λ r rules k follows here printed word known.
     on_ok_weaker c.put_found.result
     (told-here c.args.printed c.if-printed.true _ _ (option_to_list c.find.result) (order_reasons r k)
-    (found-here r rules k c.args.step.now here c.args.clock.now known c.args.latest.now c.find.result follows (sym c.if-printed.true ∙ printed) c.find.ensures.reason))
+    (found-here r rules k c.args.step.now here c.args.clock.now known c.args.latest.now c.find.result follows (sym c.if-printed.true ∙ printed) c.args.raced word c.find.ensures.reason))
     c.put_found.ensures

@@ -1,4 +1,4 @@
-use Rattle.std.proofs.Common.{◌≡◌, ◌&&◌, suc, sym, ◌∙◌}
+use Rattle.std.proofs.Common.{◌≡◌, ◌&&◌, suc, sym}
 use Rattle.std.proofs.Math.Path.{fun_ext}
 use Rattle.er_event.specs.declared.steps.Kind.TheVariants.{Write as writing}
 use Rattle.er_model.specs.Words.{is_within}

@@ -10,7 +10,7 @@ use Rattle.er_clocks.specs.Counts.{count_by}
 use Rattle.er_order.specs.Order.{Local}
 use Rattle.er_order.specs.Races.{reuse_reply}
 use Rattle.er_order.specs.Following.{reports_at, word_reported}
-use Rattle.er_before.specs.Standing.{holding, clock_of, kept_of}
+use Rattle.er_before.specs.Standing.{clock_of, kept_of}
 use Rattle.er_before.specs.contracts.machine.OrderMachine.{the_view}
 use Rattle.er_before.proofs.StandingLemmas.{changes, held_same, clocks_same, in-range, lowest-is}
 use Rattle.er_before.proofs.machine.OrderMachine.reuse.Goals as goal

@@ -10,7 +10,7 @@ use Rattle.er_unordered.specs.Inner.Reasons.{HasReasons, Reasoned}
 use Rattle.er_unordered.specs.Reasons.{order_reasons}
 use Rattle.er_unordered.specs.Reports.{unordered_report}
 use Rattle.er_unordered.proofs.AnswerLemmas.{no-state}
-use Rattle.er_unordered.proofs.ReasonLemmas.{are-accesses, reasons-named}
+use Rattle.er_unordered.proofs.ReasonLemmas.{races-told, reasons-named}
 use Rattle.er_unordered.proofs.building.OrderBuilder.finish.Goals as goal
 
 pub returns-in-None-clause-report : goal.returns-in-None-clause-report
@@ -35,7 +35,7 @@ returns-in-Some-clause-report c =
     let kept : HasReasons c.in-Some.reasons r c.self.inside.report.rules (length r.steps) =
     subst (λ (o : Option Reasoned). IfSome o (λ kept. HasReasons kept r c.self.inside.report.rules (length r.steps))) c.in-Some.is reasoned in
     subst (λ (o : Option Reasoned). summary c.finish_with.result ≡ unordered_report r c.self.inside.report.rules (is_some o)) (sym c.in-Some.is)
-    (c.finish_with.ensures.report_by (order_answer r.steps) (order_reasons r) r (are-accesses r.steps) built
+    (c.finish_with.ensures.report_by (order_answer r.steps) (order_reasons r) r (races-told r.steps) built
     (c.into_told.ensures ∙ kept.reasons ∙ ap (map (order_reasons r)) (sym built.races))))
 
 pub returns-in-Some-clause-named : goal.returns-in-Some-clause-named
@@ -45,5 +45,5 @@ returns-in-Some-clause-named c =
     (λ r built reasoned named.
     let kept : HasReasons c.in-Some.reasons r c.self.inside.report.rules (length r.steps) =
     subst (λ (o : Option Reasoned). IfSome o (λ kept. HasReasons kept r c.self.inside.report.rules (length r.steps))) c.in-Some.is reasoned in
-    c.finish_with.ensures.named_by (order_answer r.steps) (order_reasons r) r _ (are-accesses r.steps) built
+    c.finish_with.ensures.named_by (order_answer r.steps) (order_reasons r) r _ (races-told r.steps) built
     (c.into_told.ensures ∙ kept.reasons ∙ ap (map (order_reasons r)) (sym built.races)) named (no-state r.names r.steps) (reasons-named r named))
