@@ -120,25 +120,6 @@ impl OrderWord {
         }
     }
 
-    /// Whether a write by the clock's thread would be reported as a race. If a list has the reads, the caller says whether one of them doesn't
-    /// happen before what that thread does now.
-    #[inline]
-    pub(crate) fn refuses_write(self, clock: &ThreadClock<'_>, is_list_unordered: bool) -> bool
-        ensures { (listed : EpochList) → is_list_unordered ≡ list_any (is_unordered (count_by clock.now)) listed → result ≡ reports_at (count_by clock.now) (kept_in self listed) Kind.Write }
-    {
-        if self.writer == TOLD {
-            return false;
-        }
-        if !is_ordered(self.writer, self.write_count, clock) {
-            return true;
-        }
-        if self.reader == SEVERAL {
-            is_list_unordered
-        } else {
-            !is_ordered(self.reader, self.read_count, clock)
-        }
-    }
-
     /// The same with the list of reads, which may change and stands at this place. `AllocError`: memory was refused, and with the list the word
     /// says what it said.
     pub(crate) fn access_listed(
@@ -173,6 +154,25 @@ impl OrderWord {
                     Ok((written(clock.epoch()), false))
                 }
             }
+        }
+    }
+
+    /// Whether a write by the clock's thread would be reported as a race. If a list has the reads, the caller says whether one of them doesn't
+    /// happen before what that thread does now.
+    #[inline]
+    pub(crate) fn refuses_write(self, clock: &ThreadClock<'_>, is_list_unordered: bool) -> bool
+        ensures { (listed : EpochList) → is_list_unordered ≡ list_any (is_unordered (count_by clock.now)) listed → result ≡ reports_at (count_by clock.now) (kept_in self listed) Kind.Write }
+    {
+        if self.writer == TOLD {
+            return false;
+        }
+        if !is_ordered(self.writer, self.write_count, clock) {
+            return true;
+        }
+        if self.reader == SEVERAL {
+            is_list_unordered
+        } else {
+            !is_ordered(self.reader, self.read_count, clock)
         }
     }
 
