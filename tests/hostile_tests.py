@@ -47,9 +47,9 @@ COSTS = {
     "handed-on": (2000, [[], HAPPENS_BEFORE]),
     "own-locks": (2000, [[], HAPPENS_BEFORE]),
 }
-# By happens-before a step takes time by the threads that its thread knows, and a read in no order is compared with all others of its word. So of these
-# kinds memory alone is limited there: their instructions grow faster than the text.
-NOT_BY_INSTRUCTIONS = {"thread-names", "threads", "readers", "handed-on", "own-locks"}
+# By happens-before a read in no order is compared with all others of its word. So of these kinds memory alone is limited there: their instructions grow
+# faster than the text.
+NOT_BY_INSTRUCTIONS = {"thread-names", "threads", "readers"}
 COUNTED = ["valgrind", "--tool=cachegrind", "--cache-sim=no", "--cachegrind-out-file=/dev/null"]
 
 
