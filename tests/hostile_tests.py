@@ -47,9 +47,8 @@ COSTS = {
     "handed-on": (2000, [[], HAPPENS_BEFORE]),
     "own-locks": (2000, [[], HAPPENS_BEFORE]),
 }
-# By happens-before a step takes time by the threads that its thread knows. So of these kinds memory alone is limited there: their instructions grow
-# faster than the text.
-NOT_BY_INSTRUCTIONS = {"thread-names", "threads", "handed-on", "own-locks"}
+# Of these kinds memory alone is limited by happens-before: there their instructions grow faster than the text.
+NOT_BY_INSTRUCTIONS = {"thread-names", "threads"}
 COUNTED = ["valgrind", "--tool=cachegrind", "--cache-sim=no", "--cachegrind-out-file=/dev/null"]
 
 
