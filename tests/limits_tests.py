@@ -4,7 +4,7 @@
 `tests/run` calls `tests`. By itself this file runs these tests alone. Each trace is made beside what the program must write of it.
 
 - more threads, locks and sites than 18 bits number; more sets of locks by both analyses, blocks of words, lists of reads and releases of one
-  thread by happens-before, rules of a file, and locks of a strict replay than 17 bits number; more pages than 16 bits number
+  thread by happens-before, races with reasons, rules of a file, and locks of a strict replay than 17 bits number; more pages than 16 bits number
 - a word whose reads are in order again gives their list up: memory goes by the words that have a list now
 - each number of workers starts more threads than the one before it, and a thread that can't be started hides no fault of the text
 - an option with a number takes the least and the greatest, and nothing beyond
@@ -117,6 +117,18 @@ def many_releases(record):
     trace += ["t1 write 0x2000", "t1 signal q", "t2 await q", "t2 write 0x2000", "t1 write 0x3000", "t2 write 0x3000"]
     output = [f"line {len(trace)}: unordered: t2 write 0x000000003000 at -, holds none", totals(trace, races=1, what="unordered")]
     check(record, "releases of one thread", HAPPENS_BEFORE, trace, output, status=1)
+
+
+def many_reasons(record):
+    """Each word is written by two threads, so that each has a race with reasons."""
+    words = range(1, OVER_17 + 1)
+    trace = ["eraser trace 1", *(f"{thread} write {4 * k}" for thread in ("t1", "t2") for k in words)]
+    output = []
+    for k in words:
+        line = 1 + OVER_17 + k
+        output.append(f"line {line}: race: t2 write 0x{4 * k:012x} at -, holds none")
+        output += [f"  first: line {1 + k}, t1 write", f"  joined: line {line}, t2 write", f"  write: line {line}, t2 write"]
+    check(record, "races with reasons", ["--explain"], trace, [*output, totals(trace, races=OVER_17)], status=1)
 
 
 def many_rules(record, folder):
@@ -338,6 +350,7 @@ def tests(record, preloaded):
     many_blocks(record)
     many_reads(record)
     many_releases(record)
+    many_reasons(record)
     many_locks(record)
     reads_given_up(record)
     workers(record, preloaded)
