@@ -1,3 +1,4 @@
 pub mod BatchLemmas
 pub mod LagLemmas
 pub mod StepLemmas
+pub mod PassLemmas

@@ -1,2 +1,3 @@
--- How far the answers to a batch have come.
+-- How far the answers to a batch have come, and a pass over a text.
 pub mod Answering
+pub mod Passes

@@ -1,3 +1,4 @@
 pub mod Limits
 pub mod Runs
+pub mod Analysts
 pub mod Inner

@@ -1,27 +1,34 @@
-//! What replays of every kind share: what they are asked for, who sees them, what they come to, and how a batch of steps is answered.
+//! What replays of every kind share: what they are asked for, who sees them, what they come to, and the pass that has the steps of a text
+//! answered.
 //!
-//! Begin with [`answer_batch`]. It answers the steps of one batch of a trace by a machine, and adds them to a report. A replay reads batch
-//! after batch and forgets each once it was answered. `er_run` does so for the lockset rule alone, and `er_unordered` beside happens-before.
+//! Begin with [`analyse`]. It reads a text batch after batch, has each batch answered by an [`Analyst`], and forgets it. The lockset rule is
+//! one ([`LocksetAnalyst`]), `er_unordered` has another, and `er_run` one that looks for damage. A [`Pair`] of two is one too.
 //!
-//! What it promises, by the name of its clause: if machine, report and stop are those of a run over the steps so far, then they are those of
-//! a run over these steps and the batch behind them (`run`).
+//! What it promises, by the name of its clause: an analyst that stands for no steps before the pass stands for all steps of the text behind it
+//! (`answered`), and a fault is the text's first (`fault`).
 //!
 //! ```text
-//! let mut stop = None;
-//! // for each batch that the trace reader puts into `trace`:
-//! stop = answer_batch(&rt, &mut machine, &trace, &mut builder, stop)?;
+//! let lockset = LocksetAnalyst::new(alloc, &table, &rules, false, NameKeys::KNOWN)?;
+//! let found = analyse(&rt, alloc, &mut reader, Options::USUAL_BYTES, NameKeys::KNOWN, lockset, &mut Unwatched)?;
+//! let report = found.analyst.finish();
 //! ```
 //!
 //! [`Options`] says how a replay is run, a [`Watch`] sees how far it has come, and a [`Verdict`] is what it comes to,
 //! with how the text ended in [`Replayed`].
 #![tactic(auto)]
 
+pub use analyst::{Analyst, Pair};
 pub use answering::answer_batch;
+pub use lockset::LocksetAnalyst;
 pub use options::Options;
+pub use passes::{Analysed, analyse};
 pub use verdict::{Replayed, Verdict};
 pub use watching::{Progress, Unwatched, Watch};
 
+mod analyst;
 mod answering;
+mod lockset;
 mod options;
+mod passes;
 mod verdict;
 mod watching;

@@ -12,7 +12,7 @@ use Rattle.er_report.specs.declared.report.Report.{Report}
 use Rattle.er_rules.specs.Rules.{Target}
 use Rattle.er_run.specs.Inner.Reports.{WritesFound}
 use Rattle.er_run.specs.Replays.{IsReplayed, IsFailed, IsFailedBy, FailsBy, WritesNothing, report_with, verdict_of, verdict_by, is_stopped, is_verdict_of}
-use Rattle.er_run.specs.Reports.{IsReportOfText, IsReportOfSteps, IsFaultOfText}
+use Rattle.er_run.specs.Reports.{IsReportBy, IsReportOfText, IsFaultOfText}
 use Rattle.er_batch.specs.declared.verdict.Replayed.{Replayed}
 use Rattle.er_run.specs.declared.fault.RunFault.{RunFault}
 use Rattle.er_run.specs.declared.fault.RunFault.TheVariants.{Read, Write, Replay, Memory, Damaged}
@@ -125,7 +125,7 @@ whole-verdict report (Err why) none says = tt
 
 -- the report with the number of lost events that the text says
 pub lost-said : (told : Option (List ℕ)) (limit : ℕ) (rules : List Target) (explain : Bool) (names : NameTable) (report : Report) (lost : Option ℕ)
-    → IfSome told (λ text. IsReportOfSteps text limit rules explain names report) → IfSome told (λ text. lost ≡ lost_told text)
+    → IfSome told (λ text. IsReportBy None text limit rules explain names report) → IfSome told (λ text. lost ≡ lost_told text)
     → IfSome told (λ text. IsReportOfText text limit rules explain names (record report { lost = lost }))
 lost-said None limit rules explain names report lost built says = tt
 lost-said (Some text) limit rules explain names report lost built says = record {

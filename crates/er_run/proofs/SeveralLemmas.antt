@@ -32,7 +32,7 @@ use Rattle.er_report.specs.declared.report.Report.{Report}
 use Rattle.er_batch.proofs.BatchLemmas.{all-named, read-part, read-whole}
 use Rattle.er_run.specs.Faults.{fault_of}
 use Rattle.er_batch.specs.Runs.{recorded}
-use Rattle.er_run.specs.Inner.Reports.{IsFaultOfText, IsReportOfSteps}
+use Rattle.er_run.specs.Reports.{IsFaultOfText, IsReportBy}
 use Rattle.er_run.specs.Inner.Several.{AreItems, BeginsWith, HasMore, HasReadAll, HasReadOn, HasReportedAll, IsNext, IsReadFault, Pending}
 use Rattle.er_run.specs.declared.fault.RunFault.TheVariants.{Read}
 use Rattle.er_text.proofs.BatchLaws.{forgotten}
@@ -413,10 +413,10 @@ module _ (told : Option (List ℕ)) (limit : ℕ) (names : NameTable) (batch : L
 pub finished : (told : Option (List ℕ)) (limit : ℕ) (used : NameTable) (builder : Built) (report : Report) → HasReportedAll told limit used builder
     → ((r : Recording) (stopped : Option Stopped) → IsReported builder r (length (answered_steps r.steps stopped)) → None ≡ stop_line r stopped
     → summary report ≡ report_of r builder.rules (is_some builder.kept) stopped)
-    → IfSome told (λ text. IsReportOfSteps text limit builder.rules (is_some builder.kept) used report)
+    → IfSome told (λ text. IsReportBy None text limit builder.rules (is_some builder.kept) used report)
 finished told limit used builder report all says = by told all.read
   where
-    by : (o : Option (List ℕ)) → IfSome o (λ text. IsTrace text limit all.recording) → IfSome o (λ text. IsReportOfSteps text limit builder.rules (is_some builder.kept) used report)
+    by : (o : Option (List ℕ)) → IfSome o (λ text. IsTrace text limit all.recording) → IfSome o (λ text. IsReportBy None text limit builder.rules (is_some builder.kept) used report)
     by None read = tt
     by (Some text) read =
         record {

@@ -1,5 +1,4 @@
 -- What the parts of a replay keep true of one another.
 pub mod Reports
-pub mod Passes
 pub mod Several
 pub mod Inspected

@@ -24,11 +24,13 @@
 
 pub use er_batch::{Options, Progress, Replayed, Unwatched, Verdict, Watch, answer_batch};
 pub use fault::RunFault;
-pub use replay::{ReplayedTrace, replay_report, replay_text, replay_text_watched, verdict_of};
+pub use outcome::ReplayedTrace;
+pub use replay::{replay_report, replay_text, replay_text_watched, verdict_of};
 
 mod adding;
 mod fault;
 mod inspecting;
+mod outcome;
 mod passes;
 mod replay;
 mod rest;

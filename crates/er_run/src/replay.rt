@@ -9,33 +9,21 @@ ghost use Rattle.er_rules.specs.Rules.{targets_of};
 ghost use Rattle.er_run.specs.Inner.Reports.{WritesFound};
 ghost use Rattle.er_batch.specs.Limits.{bytes_past_limit};
 ghost use Rattle.er_run.specs.Replays.{IsReplayed, IsFailed, IsNoDamage, WritesNothing, FailsBy, is_stopped, is_verdict_of};
-ghost use Rattle.er_run.specs.Reports.{IsReportOfText, IsReportOfSteps, IsFaultOfText};
+ghost use Rattle.er_run.specs.Reports.{IsFaultOfText, IsReplayOf, IsReportOfText};
 ghost use Rattle.er_text.specs.Ending.{IsEndingOf};
 
-use crate::passes::{Reported, report_in_batches};
+use crate::outcome::ReplayedTrace;
+use crate::passes::report_in_batches;
 use crate::several::report_by_crew;
 use crate::{Options, Replayed, RunFault, Unwatched, Verdict, Watch};
 use er_device::Device;
 use er_print::write_report;
 use er_report::Report;
 use er_rules::Suppressions;
-use er_text::Ending;
-use er_trace::Trace;
 use std::alloc::Global;
 use std::io::{Read, Write};
 use std::sync::Wait;
 use std::thread::Threads;
-
-/// What a replay of a text came to, before a byte of it is written.
-#[derive(Drop)]
-pub struct ReplayedTrace {
-    /// The report, without the races that the rules take.
-    pub report: Report,
-    /// It has the names of the numbers in the report. Most of its steps were forgotten.
-    pub trace: Trace,
-    /// How the text ended.
-    pub ending: Ending,
-}
 
 /// Reads a trace text, replays it, and writes its report, without the races that the rules take.
 ///
@@ -116,7 +104,7 @@ where
 fn write_found<W: Write>(
     alloc: Global,
     writer: &mut Device<W>,
-    found: &Reported,
+    found: &ReplayedTrace,
 ) -> Result<Replayed, RunFault>
     requires writer { has_failed writer.old ≡ false }
     requires named { All (HasNames found.now.trace.names) found.now.report.lines.items }
@@ -160,22 +148,10 @@ where
 {
     let found = report_on(rt, alloc, reader, suppressions, options, watcher);
     watcher.end();
-    let Reported {
-        report,
-        trace,
-        ending,
-    } = match found {
-        Ok(found) => found,
-        Err(why) => return Err(why),
-    };
-    Ok(ReplayedTrace {
-        report,
-        trace,
-        ending,
-    })
+    found
 }
 
-// Reads and replays a text. The report says how many events it lost.
+// Reads and replays a text, by one worker or by several.
 fn report_on<R, D, V>(
     rt: &R,
     alloc: Global,
@@ -183,53 +159,13 @@ fn report_on<R, D, V>(
     suppressions: &Suppressions,
     options: &Options,
     watcher: &mut V,
-) -> Result<Reported, RunFault>
+) -> Result<ReplayedTrace, RunFault>
 where
     R: Threads + Wait + Sync,
     D: Read,
     V: Watch,
     requires reader { has_failed reader.old ≡ false }
-    ensures report { IfOk result (λ found. IfSome (D.remaining (inner_of reader.old)) (λ text. IsReportOfText text options.now.byte_limit (targets_of suppressions.now) options.now.explain found.trace.names found.report)) }
-    ensures named { IfOk result (λ found. All (HasNames found.trace.names) found.report.lines.items) }
-    ensures ending { IfOk result (λ found. IfSome (D.remaining (inner_of reader.old)) (λ text. IsEndingOf text found.ending)) }
-    ensures fault { IfErr result (λ why. IsFaultOfText (D.remaining (inner_of reader.old)) options.now.byte_limit why) }
-    ensures undamaged { IsTrue options.now.strict → OnOk result (IfSome (D.remaining (inner_of reader.old)) (λ text. IsDamageOf text options.now.byte_limit no_damage)) }
-    ensures lenient { IsFalse options.now.strict → IfErr result IsNoDamage }
-    ensures failed { FailsBy (has_failed reader.new) false result }
-    ensures taken { taken_of reader.new ≤ taken_of reader.old + options.now.byte_limit + bytes_past_limit }
-    ensures whole { 1 < options.now.workers → IfOk result (λ found. found.report.stop ≡ None) }
-{
-    match report_of_steps(rt, alloc, reader, suppressions, options, watcher) {
-        Ok(mut found) => {
-            found.report.lost = found.ending.lost_events();
-            Ok(found)
-        }
-        Err(why) => Err(why),
-    }
-}
-
-// Reads and replays a text, by one worker or by several. Nothing is said of lost events yet.
-fn report_of_steps<R, D, V>(
-    rt: &R,
-    alloc: Global,
-    reader: &mut Device<D>,
-    suppressions: &Suppressions,
-    options: &Options,
-    watcher: &mut V,
-) -> Result<Reported, RunFault>
-where
-    R: Threads + Wait + Sync,
-    D: Read,
-    V: Watch,
-    requires reader { has_failed reader.old ≡ false }
-    ensures report { IfOk result (λ found. IfSome (D.remaining (inner_of reader.old)) (λ text. IsReportOfSteps text options.now.byte_limit (targets_of suppressions.now) options.now.explain found.trace.names found.report)) }
-    ensures named { IfOk result (λ found. All (HasNames found.trace.names) found.report.lines.items) }
-    ensures ending { IfOk result (λ found. IfSome (D.remaining (inner_of reader.old)) (λ text. IsEndingOf text found.ending)) }
-    ensures fault { IfErr result (λ why. IsFaultOfText (D.remaining (inner_of reader.old)) options.now.byte_limit why) }
-    ensures undamaged { IsTrue options.now.strict → OnOk result (IfSome (D.remaining (inner_of reader.old)) (λ text. IsDamageOf text options.now.byte_limit no_damage)) }
-    ensures lenient { IsFalse options.now.strict → IfErr result IsNoDamage }
-    ensures failed { FailsBy (has_failed reader.new) false result }
-    ensures taken { taken_of reader.new ≤ taken_of reader.old + options.now.byte_limit + bytes_past_limit }
+    ensures replay { IsReplayOf (D.remaining (inner_of reader.old)) options.now (targets_of suppressions.now) (taken_of reader.old) (taken_of reader.new) (has_failed reader.new) result }
     ensures whole { 1 < options.now.workers → IfOk result (λ found. found.report.stop ≡ None) }
 {
     if options.workers > 1 {

@@ -1,5 +1,5 @@
 //! A replay by several workers: half of them answer one batch of lines while the others read the next.
-ghost use Rattle.std.specs.Prelude.{◌≡◌, ◌+◌, ◌++◌, ◌<◌, ◌≤◌, ℕ, List, Option, All, None, [], false, true, length, is_some, IfSome, IfOk, IfErr, IsNone, IsTrue, IsFalse, OnOk};
+ghost use Rattle.std.specs.Prelude.{◌≡◌, ◌+◌, ◌++◌, ◌<◌, ◌≤◌, ℕ, Bool, List, Option, All, None, [], false, true, length, is_some, IfSome, IfOk, IfErr, IsNone, IsTrue, IsFalse, OnOk};
 ghost use Rattle.std.specs.Thread.{IsSync};
 ghost use Rattle.er_damage.specs.Damaged.{IsDamageOf, no_damage};
 ghost use Rattle.er_device.specs.Device.{inner_of, has_failed, taken_of};
@@ -9,9 +9,11 @@ ghost use Rattle.er_parallel.specs.Faults.{MayFail};
 ghost use Rattle.er_report.specs.Builder.{IsReported};
 ghost use Rattle.er_report.specs.Names.{HasNames};
 ghost use Rattle.er_rules.specs.Rules.{targets_of};
-ghost use Rattle.er_run.specs.Inner.Inspected.{HasSeen, HasSeenAll, HasFound};
+ghost use Rattle.er_batch.specs.Analysts.{Asked, IsAnswered};
+ghost use Rattle.er_batch.specs.Inner.Passes.{HasCome};
 ghost use Rattle.er_batch.specs.Runs.{recorded};
-ghost use Rattle.er_run.specs.Inner.Reports.{IsReportOfSteps, IsFaultOfText};
+ghost use Rattle.er_run.specs.Inner.Inspected.{IsInspected};
+ghost use Rattle.er_run.specs.Reports.{IsFaultOfText, IsOutcomeOf, IsReplayOf};
 ghost use Rattle.er_run.specs.Inner.Several.{HasReadAll, HasReadOn, HasReportedAll, Pending};
 ghost use Rattle.er_batch.specs.Limits.{bytes_past_limit, most_bytes};
 ghost use Rattle.er_run.specs.Replays.{FailsBy, IsNoDamage};
@@ -23,12 +25,12 @@ ghost use Rattle.er_text.specs.Trace.{HasFailedBy};
 ghost use Rattle.er_trace.specs.Trace.{IsNamed};
 
 use crate::adding::add_batch;
-use crate::inspecting::{damage_of, inspect, start};
-use crate::passes::Reported;
+use crate::inspecting::Inspection;
+use crate::outcome::{ReplayedTrace, with_lost};
 use crate::rest::fault_behind;
 use crate::watching::progress_of;
 use crate::{Options, RunFault, Watch};
-use er_damage::{Damage, Inspector};
+use er_batch::Analyst;
 use er_device::Device;
 use er_event::Step;
 use er_parallel::{Crew, ReplayConfig, ReplayFault, Unusual};
@@ -55,7 +57,7 @@ struct Shared<'t, 'r> {
     builder: ReportBuilder<'r>,
     steps: Vec<Step>,
     numbers: Vec<u64>,
-    inspector: Option<Inspector>,
+    inspection: Inspection,
 }
 
 // Of so many workers, how many read lines and how many answer steps: half of them each, and an odd one answers. One worker alone would do both.
@@ -126,8 +128,7 @@ impl<'t, 'r> Shared<'t, 'r> {
         ensures same { OnOk result ((D.remaining (inner_of reader.new) ≡ D.remaining (inner_of reader.old)) × (taken_of reader.new ≡ taken_of reader.old)) }
         ensures rules { IfOk result (λ shared. shared.builder.rules ≡ targets_of suppressions.now) }
         ensures explains { IfOk result (λ shared. is_some shared.builder.kept ≡ options.now.explain) }
-        ensures seen { IfOk result (λ shared. (told : Option (List ℕ)) → HasSeen told told shared.lines shared.trace shared.inspector) }
-        ensures strict { IfOk result (λ shared. is_some shared.inspector ≡ options.now.strict) }
+        ensures seen { IfOk result (λ shared. (told : Option (List ℕ)) → HasCome (IsInspected shared.inspection.inspector options.now.strict) told told shared.lines shared.trace) }
         ensures limit { IfOk result (λ shared. shared.lines.place.limit ≡ options.now.byte_limit) }
         ensures none { IfOk result (λ shared. taken_by shared.lines.place ≡ 0) }
         ensures fault { IfErr result (λ why. IsFaultOfText (D.remaining (inner_of reader.old)) options.now.byte_limit why) }
@@ -150,6 +151,7 @@ impl<'t, 'r> Shared<'t, 'r> {
             }
         };
         let mut trace = Trace::keyed(alloc, options.keys);
+        let inspection = Inspection::new(alloc, options.strict);
         let config = ReplayConfig {
             shards: options.shards,
             max_sets: options.max_sets,
@@ -164,13 +166,14 @@ impl<'t, 'r> Shared<'t, 'r> {
                 builder,
                 steps: Vec::new(alloc),
                 numbers: Vec::new(alloc),
-                inspector: start(alloc, options.strict),
+                inspection,
             }),
             Err(why) => {
                 let fault = fault_behind(rt, &mut lines, reader, &mut trace, Batch::More, why);
                 drop(lines);
                 drop(trace);
                 drop(builder);
+                drop(inspection);
                 Err(fault)
             }
         }
@@ -195,11 +198,12 @@ impl<'t, 'r> Shared<'t, 'r> {
         ensures named { OnOk result (All (IsNamed self.new.trace.names) self.new.steps.items) }
         ensures rules { OnOk result (self.new.builder.rules ≡ self.old.builder.rules) }
         ensures explains { OnOk result (is_some self.new.builder.kept ≡ is_some self.old.builder.kept) }
-        ensures seen { (told : Option (List ℕ)) → HasSeen told (D.remaining (inner_of reader.old)) self.old.lines self.old.trace self.old.inspector
-            → IfOk result (λ more. more ≡ true → HasSeen told (D.remaining (inner_of reader.new)) self.new.lines self.new.trace self.new.inspector) }
-        ensures seen_all { (told : Option (List ℕ)) → HasSeen told (D.remaining (inner_of reader.old)) self.old.lines self.old.trace self.old.inspector
-            → IfOk result (λ more. more ≡ false → IfSome told (λ text. HasSeenAll text self.old.lines.place.limit self.new.lines self.new.inspector)) }
-        ensures strict { OnOk result (is_some self.new.inspector ≡ is_some self.old.inspector) }
+        ensures seen { (strict : Bool) (told : Option (List ℕ)) → HasCome (IsInspected self.old.inspection.inspector strict) told (D.remaining (inner_of reader.old)) self.old.lines self.old.trace
+            → IfOk result (λ more. more ≡ true → HasCome (IsInspected self.new.inspection.inspector strict) told (D.remaining (inner_of reader.new)) self.new.lines self.new.trace) }
+        ensures seen_all { (strict : Bool) (told : Option (List ℕ)) → HasCome (IsInspected self.old.inspection.inspector strict) told (D.remaining (inner_of reader.old)) self.old.lines self.old.trace
+            → IfOk result (λ more. more ≡ false → IsAnswered (IsInspected self.new.inspection.inspector strict) told self.old.lines.place.limit self.new.trace.names) }
+        ensures ends { (strict : Bool) (told : Option (List ℕ)) → HasCome (IsInspected self.old.inspection.inspector strict) told (D.remaining (inner_of reader.old)) self.old.lines self.old.trace
+            → IfOk result (λ more. more ≡ false → IfSome told (λ text. KnowsEnd text self.new.lines)) }
         ensures undamaged { IfErr result IsNoDamage }
         ensures limit { self.new.lines.place.limit ≡ self.old.lines.place.limit }
         ensures more { IfOk result (λ more. more ≡ true → self.old.lines.place.start < self.new.lines.place.start) }
@@ -235,7 +239,7 @@ impl<'t, 'r> Shared<'t, 'r> {
             self.numbers.as_slice(),
             items.as_slice(),
         )?;
-        inspect(&mut self.inspector, &self.trace)?;
+        self.inspection.answer(rt, &self.trace)?;
         self.trace.take_steps(&mut self.steps, &mut self.numbers);
         match batch {
             Batch::More => Ok(true),
@@ -253,7 +257,7 @@ impl<'t, 'r> Shared<'t, 'r> {
             → IfErr result (λ why. IsFaultOfText told limit why) }
         ensures rules { OnOk result (self.new.builder.rules ≡ self.old.builder.rules) }
         ensures explains { OnOk result (is_some self.new.builder.kept ≡ is_some self.old.builder.kept) }
-        ensures same { (self.new.lines ≡ self.old.lines) × (self.new.inspector ≡ self.old.inspector) }
+        ensures same { (self.new.lines ≡ self.old.lines) × (self.new.inspection ≡ self.old.inspection) × (self.new.trace ≡ self.old.trace) }
         ensures undamaged { IfErr result IsNoDamage }
         ensures failed { FailsBy false false result }
     {
@@ -291,9 +295,10 @@ impl<'t, 'r> Shared<'t, 'r> {
             → IfErr result (λ why. IsFaultOfText told self.old.lines.place.limit why) }
         ensures rules { OnOk result (self.new.builder.rules ≡ self.old.builder.rules) }
         ensures explains { OnOk result (is_some self.new.builder.kept ≡ is_some self.old.builder.kept) }
-        ensures seen_all { (told : Option (List ℕ)) → HasSeen told (D.remaining (inner_of reader.old)) self.old.lines self.old.trace self.old.inspector
-            → OnOk result (IfSome told (λ text. HasSeenAll text self.old.lines.place.limit self.new.lines self.new.inspector)) }
-        ensures strict { OnOk result (is_some self.new.inspector ≡ is_some self.old.inspector) }
+        ensures seen_all { (strict : Bool) (told : Option (List ℕ)) → HasCome (IsInspected self.old.inspection.inspector strict) told (D.remaining (inner_of reader.old)) self.old.lines self.old.trace
+            → OnOk result (IsAnswered (IsInspected self.new.inspection.inspector strict) told self.old.lines.place.limit self.new.trace.names) }
+        ensures ends { (strict : Bool) (told : Option (List ℕ)) → HasCome (IsInspected self.old.inspection.inspector strict) told (D.remaining (inner_of reader.old)) self.old.lines self.old.trace
+            → OnOk result (IfSome told (λ text. KnowsEnd text self.new.lines)) }
         ensures undamaged { IfErr result IsNoDamage }
         ensures failed { FailsBy (has_failed reader.new) false result }
         ensures taken { taken_of reader.new + taken_by self.old.lines.place ≤ taken_of reader.old + self.old.lines.place.limit + bytes_past_limit }
@@ -306,48 +311,14 @@ impl<'t, 'r> Shared<'t, 'r> {
         Ok(())
     }
 
-    /// The damage of the text that was read, if the replay is strict and there is any.
-    fn damage(&self) -> Option<Damage>
-        ensures found { (told : Option (List ℕ)) (limit : ℕ) → IfSome told (λ text. HasSeenAll text limit self.now.lines self.now.inspector)
-            → HasFound told limit (is_some self.now.inspector) result }
-        ensures lenient { is_some self.now.inspector ≡ false → IsNone result }
-    {
-        damage_of(&self.inspector, self.lines.ending())
-    }
-
     /// The report of the text that was read, or its damage, if the replay is strict and there is any.
-    fn end(self) -> Result<Reported, RunFault>
-        ensures report { (told : Option (List ℕ)) (limit : ℕ) → HasReportedAll told limit self.entry.trace.names self.entry.builder
-            → IfOk result (λ found. IfSome told (λ text. IsReportOfSteps text limit self.entry.builder.rules (is_some self.entry.builder.kept) found.trace.names found.report)) }
-        ensures named { (told : Option (List ℕ)) (limit : ℕ) → HasReportedAll told limit self.entry.trace.names self.entry.builder
-            → IfOk result (λ found. All (HasNames found.trace.names) found.report.lines.items) }
-        ensures fault { (told : Option (List ℕ)) (limit : ℕ) → IfSome told (λ text. HasSeenAll text limit self.entry.lines self.entry.inspector)
-            → IfErr result (λ why. IsFaultOfText told limit why) }
-        ensures undamaged { (told : Option (List ℕ)) (limit : ℕ) → IfSome told (λ text. HasSeenAll text limit self.entry.lines self.entry.inspector)
-            → is_some self.entry.inspector ≡ true → OnOk result (IfSome told (λ text. IsDamageOf text limit no_damage)) }
-        ensures lenient { is_some self.entry.inspector ≡ false → IfErr result IsNoDamage }
-        ensures ending { (told : Option (List ℕ)) (limit : ℕ) → IfSome told (λ text. HasSeenAll text limit self.entry.lines self.entry.inspector)
-            → IfOk result (λ found. IfSome told (λ text. IsEndingOf text found.ending)) }
+    fn end(self) -> Result<ReplayedTrace, RunFault>
+        ensures outcome { (asked : Asked) (told : Option (List ℕ)) (limit : ℕ) → HasReportedAll told limit self.entry.trace.names self.entry.builder
+            → self.entry.builder.rules ≡ asked.rules → is_some self.entry.builder.kept ≡ asked.explain
+            → IsAnswered (IsInspected self.entry.inspection.inspector asked.strict) told limit self.entry.trace.names → IfSome told (λ text. KnowsEnd text self.entry.lines)
+            → IsOutcomeOf told limit asked result }
         ensures failed { FailsBy false false result }
         ensures whole { IfOk result (λ found. found.report.stop ≡ None) }
-    {
-        match self.damage() {
-            None => Ok(self.finish()),
-            Some(damage) => {
-                drop(self);
-                Err(RunFault::Damaged(damage))
-            }
-        }
-    }
-
-    /// The report of the text that was read, and its names.
-    fn finish(self) -> Reported
-        ensures report { (told : Option (List ℕ)) (limit : ℕ) → HasReportedAll told limit self.entry.trace.names self.entry.builder
-            → IfSome told (λ text. IsReportOfSteps text limit self.entry.builder.rules (is_some self.entry.builder.kept) result.trace.names result.report) }
-        ensures named { (told : Option (List ℕ)) (limit : ℕ) → HasReportedAll told limit self.entry.trace.names self.entry.builder
-            → All (HasNames result.trace.names) result.report.lines.items }
-        ensures ending { (text : List ℕ) → KnowsEnd text self.entry.lines → IsEndingOf text result.ending }
-        ensures whole { result.report.stop ≡ None }
     {
         let Shared {
             alloc: _,
@@ -357,31 +328,29 @@ impl<'t, 'r> Shared<'t, 'r> {
             builder,
             steps,
             numbers,
-            inspector,
+            inspection,
         } = self;
         let ending = lines.ending();
-        close(lines, crew, steps, numbers, inspector);
-        Reported {
-            report: builder.finish_explained(None),
-            trace,
-            ending,
+        close(lines, crew, steps, numbers);
+        let damage = inspection.damage(ending);
+        drop(inspection);
+        match damage {
+            None => Ok(with_lost(builder.finish_explained(None), trace, ending)),
+            Some(damage) => {
+                drop(trace);
+                drop(builder);
+                Err(RunFault::Damaged(damage))
+            }
         }
     }
 }
 
 // Lets go of what has read and answered the steps. Split for the prover.
-fn close(
-    lines: PieceReader,
-    crew: Crew<'_>,
-    steps: Vec<Step>,
-    numbers: Vec<u64>,
-    inspector: Option<Inspector>,
-) {
+fn close(lines: PieceReader, crew: Crew<'_>, steps: Vec<Step>, numbers: Vec<u64>) {
     drop(lines);
     drop(crew);
     drop(steps);
     drop(numbers);
-    drop(inspector);
 }
 
 /// The report of a replay by several workers, who answer one batch of lines while the next is read.
@@ -392,20 +361,13 @@ pub(crate) fn report_by_crew<R, D, V>(
     suppressions: &Suppressions,
     options: &Options,
     watcher: &mut V,
-) -> Result<Reported, RunFault>
+) -> Result<ReplayedTrace, RunFault>
 where
     R: Threads + Wait + Sync,
     D: Read,
     V: Watch,
     requires reader { has_failed reader.old ≡ false }
-    ensures report { IfOk result (λ found. IfSome (D.remaining (inner_of reader.old)) (λ text. IsReportOfSteps text options.now.byte_limit (targets_of suppressions.now) options.now.explain found.trace.names found.report)) }
-    ensures named { IfOk result (λ found. All (HasNames found.trace.names) found.report.lines.items) }
-    ensures ending { IfOk result (λ found. IfSome (D.remaining (inner_of reader.old)) (λ text. IsEndingOf text found.ending)) }
-    ensures fault { IfErr result (λ why. IsFaultOfText (D.remaining (inner_of reader.old)) options.now.byte_limit why) }
-    ensures undamaged { IsTrue options.now.strict → OnOk result (IfSome (D.remaining (inner_of reader.old)) (λ text. IsDamageOf text options.now.byte_limit no_damage)) }
-    ensures lenient { IsFalse options.now.strict → IfErr result IsNoDamage }
-    ensures failed { FailsBy (has_failed reader.new) false result }
-    ensures taken { taken_of reader.new ≤ taken_of reader.old + options.now.byte_limit + bytes_past_limit }
+    ensures replay { IsReplayOf (D.remaining (inner_of reader.old)) options.now (targets_of suppressions.now) (taken_of reader.old) (taken_of reader.new) (has_failed reader.new) result }
     ensures whole { IfOk result (λ found. found.report.stop ≡ None) }
 {
     let table = LocksetTable::keyed(alloc, options.max_sets, options.keys)?;
@@ -423,20 +385,13 @@ fn report_over<R, D, V>(
     suppressions: &Suppressions,
     options: &Options,
     watcher: &mut V,
-) -> Result<Reported, RunFault>
+) -> Result<ReplayedTrace, RunFault>
 where
     R: Threads + Wait + Sync,
     D: Read,
     V: Watch,
     requires reader { has_failed reader.old ≡ false }
-    ensures report { IfOk result (λ found. IfSome (D.remaining (inner_of reader.old)) (λ text. IsReportOfSteps text options.now.byte_limit (targets_of suppressions.now) options.now.explain found.trace.names found.report)) }
-    ensures named { IfOk result (λ found. All (HasNames found.trace.names) found.report.lines.items) }
-    ensures ending { IfOk result (λ found. IfSome (D.remaining (inner_of reader.old)) (λ text. IsEndingOf text found.ending)) }
-    ensures fault { IfErr result (λ why. IsFaultOfText (D.remaining (inner_of reader.old)) options.now.byte_limit why) }
-    ensures undamaged { IsTrue options.now.strict → OnOk result (IfSome (D.remaining (inner_of reader.old)) (λ text. IsDamageOf text options.now.byte_limit no_damage)) }
-    ensures lenient { IsFalse options.now.strict → IfErr result IsNoDamage }
-    ensures failed { FailsBy (has_failed reader.new) false result }
-    ensures taken { taken_of reader.new ≤ taken_of reader.old + options.now.byte_limit + bytes_past_limit }
+    ensures replay { IsReplayOf (D.remaining (inner_of reader.old)) options.now (targets_of suppressions.now) (taken_of reader.old) (taken_of reader.new) (has_failed reader.new) result }
     ensures whole { IfOk result (λ found. found.report.stop ≡ None) }
 {
     let mut shared = match Shared::start(rt, alloc, table, reader, suppressions, options) {

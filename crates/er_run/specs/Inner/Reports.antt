@@ -2,7 +2,7 @@
 use Rattle.std.specs.Prelude.{ℕ, List, Option, Result, Ok, Err, take}
 use Rattle.std.specs.Io.KnownBytes.{Appends, Keeps}
 use Rattle.er_print.specs.declared.fault.WriteFault.TheVariants as writing
-pub use Rattle.er_run.specs.Reports.{IsReportOfText, IsReportOfSteps, IsFaultOfText}
+pub use Rattle.er_run.specs.Reports.{IsReportOfText, IsFaultOfText}
 use Rattle.er_run.specs.declared.fault.RunFault.{RunFault}
 use Rattle.er_run.specs.declared.fault.RunFault.TheVariants.{Read, Write, Replay, Memory, Damaged}
 

@@ -7,12 +7,12 @@ use Rattle.er_run.proofs.replay.replay_text_watched.Goals as goal
 pub returns-in-Ok-clause-report : goal.returns-in-Ok-clause-report
 returns-in-Ok-clause-report g c =
     whole-of (g.D.Read.remaining (inner_of c.args.reader.now)) c.args.options.now.byte_limit (targets_of c.args.suppressions.now) c.args.options.now.explain _ _ c.in-Ok.found.trace.names c.in-Ok.found.report c.write_found-replayed.result
-    c.in-Ok.ensures.report c.write_found-replayed.ensures.verdict c.write_found-replayed.ensures.bytes
+    c.in-Ok.ensures.replay.outcome.report c.write_found-replayed.ensures.verdict c.write_found-replayed.ensures.bytes
 
 pub returns-in-Ok-clause-fault : goal.returns-in-Ok-clause-fault
 returns-in-Ok-clause-fault g c =
     part (g.D.Read.remaining (inner_of c.args.reader.now)) c.args.options.now.byte_limit (targets_of c.args.suppressions.now) c.args.options.now.explain _ _ c.in-Ok.found.trace.names c.in-Ok.found.report c.write_found-replayed.result
-    c.in-Ok.ensures.report c.write_found-replayed.ensures.bytes
+    c.in-Ok.ensures.replay.outcome.report c.write_found-replayed.ensures.bytes
 
 pub returns-in-Ok-clause-nothing : goal.returns-in-Ok-clause-nothing
 returns-in-Ok-clause-nothing g c = nothing _ _ _ c.write_found-replayed.result c.write_found-replayed.ensures.bytes
@@ -22,7 +22,7 @@ returns-in-Ok-clause-whole g c = λ several. whole-verdict c.in-Ok.found.report 
 
 pub returns-in-Err-clause-fault : goal.returns-in-Err-clause-fault
 returns-in-Err-clause-fault g c =
-    unwritten _ (g.D.Read.remaining (inner_of c.args.reader.now)) c.args.options.now.byte_limit c.in-Err.why c.in-Err.ensures.fault
+    unwritten _ (g.D.Read.remaining (inner_of c.args.reader.now)) c.args.options.now.byte_limit c.in-Err.why c.in-Err.ensures.replay.outcome.fault
 
 pub returns-in-Err-clause-nothing : goal.returns-in-Err-clause-nothing
-returns-in-Err-clause-nothing g c = untouched (g.D.Read.remaining (inner_of c.args.reader.now)) _ c.args.options.now.byte_limit c.in-Err.why c.in-Err.ensures.fault
+returns-in-Err-clause-nothing g c = untouched (g.D.Read.remaining (inner_of c.args.reader.now)) _ c.args.options.now.byte_limit c.in-Err.why c.in-Err.ensures.replay.outcome.fault

@@ -1,6 +1,7 @@
-use Rattle.std.proofs.Common.{◌≡◌, ◌+◌, ◌-◌, ◌≤◌, ℕ, List, Option, All, is_some, false, length}
+use Rattle.std.proofs.Common.{◌≡◌, ◌+◌, ◌-◌, ◌≤◌, ℕ, Bool, List, Option, All, is_some, false, length}
 use Rattle.er_device.specs.Device.{inner_of, has_failed, taken_of}
-use Rattle.er_run.specs.Inner.Inspected.{HasSeen}
+use Rattle.er_batch.specs.Inner.Passes.{HasCome}
+use Rattle.er_run.specs.Inner.Inspected.{IsInspected}
 use Rattle.er_run.specs.Inner.Several.{HasReadOn}
 use Rattle.er_text.specs.Inner.Lending.{taken_by}
 use Rattle.er_trace.specs.Trace.{IsNamed}
@@ -18,9 +19,8 @@ invariant-loop-watcher g l = record {
   taken : taken_of l.reader + taken_by l.fn.self.lines.place ≤ taken_of l.fn.reader + taken_by l.self.lines.place;
   come : (told : Option (List ℕ)) → HasReadOn told (g.D.Read.remaining (inner_of l.fn.reader)) l.fn.self.lines l.fn.self.trace l.fn.self.crew l.fn.self.builder l.fn.self.steps.items l.fn.self.numbers.items
       → HasReadOn told (g.D.Read.remaining (inner_of l.reader)) l.self.lines l.self.trace l.self.crew l.self.builder l.self.steps.items l.self.numbers.items;
-  strict : is_some l.self.inspector ≡ is_some l.fn.self.inspector;
-  seen : (told : Option (List ℕ)) → HasSeen told (g.D.Read.remaining (inner_of l.fn.reader)) l.fn.self.lines l.fn.self.trace l.fn.self.inspector
-      → HasSeen told (g.D.Read.remaining (inner_of l.reader)) l.self.lines l.self.trace l.self.inspector;
+  seen : (strict : Bool) (told : Option (List ℕ)) → HasCome (IsInspected l.fn.self.inspection.inspector strict) told (g.D.Read.remaining (inner_of l.fn.reader)) l.fn.self.lines l.fn.self.trace
+      → HasCome (IsInspected l.self.inspection.inspector strict) told (g.D.Read.remaining (inner_of l.reader)) l.self.lines l.self.trace;
 }
 
 abbrev pub decreases-loop-watcher : goal.decreases-loop-watcher

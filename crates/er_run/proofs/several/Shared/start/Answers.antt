@@ -3,7 +3,8 @@ use Rattle.std.proofs.Common.{[], ℕ, List, Option, subst}
 use Rattle.er_device.specs.Device.{inner_of}
 use Rattle.er_run.specs.Inner.Reports.{IsFaultOfText}
 use Rattle.er_run.proofs.SeveralLemmas.{start-may, start-read}
-use Rattle.er_run.proofs.SeenLemmas.{seen-begun}
+use Rattle.er_batch.proofs.PassLemmas.{begun}
+use Rattle.er_run.specs.Inner.Inspected.{IsInspected}
 use Rattle.er_run.proofs.several.Shared.start.Goals as goal
 
 pub returns-in-Err-new-clause-fault : goal.returns-in-Err-new-clause-fault
@@ -14,4 +15,5 @@ returns-in-Err-new-clause-fault g c =
     (start-read told c.in_ok-lines.lines c.keyed-trace.result c.keyed-trace.ensures c.in_ok-lines.ensures.starts))
 
 pub returns-in-Ok-new-clause-seen : goal.returns-in-Ok-new-clause-seen
-returns-in-Ok-new-clause-seen g c = seen-begun c.in_ok-lines.lines c.keyed-trace.result c.start.result c.keyed-trace.ensures c.in_ok-lines.ensures.starts c.start.ensures.seen
+returns-in-Ok-new-clause-seen g c = λ told.
+    begun (IsInspected c.new-inspection.result.inspector c.args.options.now.strict) c.in_ok-lines.lines c.keyed-trace.result c.keyed-trace.ensures c.in_ok-lines.ensures.starts c.new-inspection.ensures told

@@ -1,5 +1,5 @@
 -- A batch that the workers have answered goes into the report, and the one that was read takes its place.
-use Rattle.std.proofs.Common.{◌≡◌, ◌∙◌, ◌++◌, ℕ, List, Option, Result, IfErr, IfOk, OnOk, refl, subst, sym}
+use Rattle.std.proofs.Common.{◌≡◌, ◌∙◌, ◌++◌, ℕ, false, List, [], Option, Result, IfErr, IfOk, OnOk, refl, subst, sym}
 use Rattle.er_device.specs.Device.{inner_of}
 use Rattle.er_event.specs.declared.steps.Step.{Step}
 use Rattle.er_parallel.specs.Crews.{AreNoted, AreUnusual, HaveAnswered}
@@ -7,9 +7,11 @@ use Rattle.er_parallel.specs.Faults.{MayFail}
 use Rattle.er_parallel.specs.declared.faults.ReplayFault.{ReplayFault}
 use Rattle.er_batch.proofs.BatchLemmas.{all-named}
 use Rattle.er_run.proofs.SeveralLemmas.{given-of, reads-all, reads-on}
-use Rattle.er_run.proofs.SeenLemmas.{seen-part, seen-whole}
-use Rattle.er_run.specs.Inner.Inspected.{HasSeen}
-use Rattle.er_run.specs.Inner.Reports.{IsFaultOfText}
+use Rattle.er_batch.proofs.PassLemmas.{part, whole, ends-by}
+use Rattle.er_batch.specs.Analysts.{Asked, IsAnswered}
+use Rattle.er_batch.specs.Inner.Passes.{HasCome}
+use Rattle.er_run.specs.Inner.Inspected.{IsInspected}
+use Rattle.er_run.specs.Reports.{IsFaultOfText}
 use Rattle.er_text.specs.Batches.{GivesBatch}
 use Rattle.er_text.specs.Ending.{KnowsEnd}
 use Rattle.er_text.specs.Named.{Grows}
@@ -92,24 +94,38 @@ returns-clause-ended g c = λ told state ended.
     c.take_steps.ensures.steps c.take_steps.new.lines.items c.take_steps.ensures.lines
 
 pub returns-in-More-clause-seen : goal.returns-in-More-clause-seen
-returns-in-More-clause-seen g c = λ told state more.
+returns-in-More-clause-seen g c = λ strict told come more.
     let known : Option (List ℕ) = g.D.Read.remaining (inner_of c.args.reader.now) in
     let rest : Option (List ℕ) = g.D.Read.remaining (inner_of c.answer_and_read-answers.new.reader) in
+    let t : Recording = c.args.self.now.trace in
     let u : Recording = c.answer_and_read-answers.new.trace in
-    subst (λ (trace : Recording). HasSeen told rest c.answer_and_read-answers.new.lines trace c.inspect.new.inspector) (sym c.take_steps.ensures.trace)
-    (seen-part told c.args.self.now.lines c.answer_and_read-answers.new.lines known rest c.args.self.now.trace u c.in-Ok.batch c.args.self.now.inspector c.inspect.new.inspector state
+    let grows : Grows t u = subst (λ (r : Result Batch ReadFault). OnOk r (Grows t u)) c.in-Ok.is c.answer_and_read-answers.ensures.grows in
+    let asked : Asked = record { rules = []; explain = false; strict = strict } in
+    subst (λ (trace : Recording). HasCome (IsInspected c.answer.new.self.inspector strict) told rest c.answer_and_read-answers.new.lines trace) (sym c.take_steps.ensures.trace)
+    (part (IsInspected c.args.self.now.inspection.inspector strict) (IsInspected c.answer.new.self.inspector strict) told c.args.self.now.lines c.answer_and_read-answers.new.lines known rest
+    t u c.in-Ok.batch come
     (λ text past lines read. subst (λ (r : Result Batch ReadFault). GivesBatch text past lines c.answer_and_read-answers.new.lines rest u r) c.in-Ok.is
     (c.answer_and_read-answers.ensures.told text past lines read))
-    c.inspect.ensures.level (c.in_ok-inspect.ensures.seen state.past state.lines state.even state.stands) c.in-More.is)
+    (λ past lines stands. c.in_ok-answer.ensures.goes_on asked past lines t.names grows.names stands) c.in-More.is)
 
 pub returns-clause-seen_all : goal.returns-clause-seen_all
-returns-clause-seen_all g c = λ told state ended.
+returns-clause-seen_all g c = λ strict told come ended.
     let known : Option (List ℕ) = g.D.Read.remaining (inner_of c.args.reader.now) in
     let rest : Option (List ℕ) = g.D.Read.remaining (inner_of c.answer_and_read-answers.new.reader) in
+    let t : Recording = c.args.self.now.trace in
     let u : Recording = c.answer_and_read-answers.new.trace in
-    seen-whole told c.args.self.now.lines c.answer_and_read-answers.new.lines known rest c.args.self.now.trace u c.in-Ok.batch c.args.self.now.inspector c.inspect.new.inspector state
+    let grows : Grows t u = subst (λ (r : Result Batch ReadFault). OnOk r (Grows t u)) c.in-Ok.is c.answer_and_read-answers.ensures.grows in
+    let asked : Asked = record { rules = []; explain = false; strict = strict } in
+    subst (λ (trace : Recording). IsAnswered (IsInspected c.answer.new.self.inspector strict) told c.args.self.now.lines.place.limit trace.names) (sym c.take_steps.ensures.trace)
+    (whole (IsInspected c.args.self.now.inspection.inspector strict) (IsInspected c.answer.new.self.inspector strict) told c.args.self.now.lines c.answer_and_read-answers.new.lines known rest
+    t u c.in-Ok.batch come
     (λ text past lines read. subst (λ (r : Result Batch ReadFault). GivesBatch text past lines c.answer_and_read-answers.new.lines rest u r) c.in-Ok.is
     (c.answer_and_read-answers.ensures.told text past lines read))
-    c.inspect.ensures.level (c.in_ok-inspect.ensures.seen state.past state.lines state.even state.stands) c.in-End.is c.answer_and_read-answers.ensures.limit
+    (λ past lines stands. c.in_ok-answer.ensures.goes_on asked past lines t.names grows.names stands) c.in-End.is c.answer_and_read-answers.ensures.limit)
+
+pub returns-clause-ends : goal.returns-clause-ends
+returns-clause-ends g c = λ strict told come ended.
+    ends-by (IsInspected c.args.self.now.inspection.inspector strict) told (g.D.Read.remaining (inner_of c.args.reader.now)) c.args.self.now.lines c.answer_and_read-answers.new.lines
+    c.args.self.now.trace c.in-Ok.batch come
     (λ text past lines read. subst (λ (r : Result Batch ReadFault). IfOk r (λ batch. batch ≡ End → KnowsEnd text c.answer_and_read-answers.new.lines)) c.in-Ok.is
-    (c.answer_and_read-answers.ensures.ends text past lines read))
+    (c.answer_and_read-answers.ensures.ends text past lines read)) c.in-End.is

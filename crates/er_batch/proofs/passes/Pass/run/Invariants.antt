@@ -1,0 +1,19 @@
+use Rattle.std.proofs.Common.{◌≡◌, ◌+◌, ◌-◌, ◌≤◌, ℕ, List, Option, false}
+use Rattle.er_batch.specs.Analysts.{Asked}
+use Rattle.er_batch.specs.Inner.Passes.{HasCome}
+use Rattle.er_device.specs.Device.{inner_of, has_failed, taken_of}
+use Rattle.er_text.specs.Inner.Lending.{taken_by}
+use Rattle.er_batch.proofs.passes.Pass.run.Given as goal
+
+-- what a turn wants, and that it goes on from where the pass began
+abbrev pub invariant-loop-watcher : goal.invariant-loop-watcher
+invariant-loop-watcher g l = record {
+  unfailed : has_failed l.reader ≡ false;
+  limit : l.self.lines.place.limit ≡ l.fn.self.lines.place.limit;
+  taken : taken_of l.reader + taken_by l.fn.self.lines.place ≤ taken_of l.fn.reader + taken_by l.self.lines.place;
+  come : (asked : Asked) (told : Option (List ℕ)) → HasCome (g.A.Analyst.stands l.fn.self.analyst asked) told (g.D.Read.remaining (inner_of l.fn.reader)) l.fn.self.lines l.fn.self.trace
+      → HasCome (g.A.Analyst.stands l.self.analyst asked) told (g.D.Read.remaining (inner_of l.reader)) l.self.lines l.self.trace;
+}
+
+abbrev pub decreases-loop-watcher : goal.decreases-loop-watcher
+decreases-loop-watcher g l = l.self.lines.place.limit - l.self.lines.place.start

@@ -1,0 +1,16 @@
+-- A fault of the pass is one of the text, which ends as its reader knows.
+use Rattle.std.proofs.Common.{ℕ, List, Option, subst}
+use Rattle.er_batch.proofs.PassLemmas.{ending-of}
+use Rattle.er_batch.specs.Analysts.{IsFaultOfReading}
+use Rattle.er_device.specs.Device.{inner_of}
+use Rattle.er_batch.proofs.passes.analyse.Goals as goal
+
+pub returns-in-Err-clause-fault : goal.returns-in-Err-clause-fault
+returns-in-Err-clause-fault g c = λ asked stands.
+    let told : Option (List ℕ) = g.D.Read.remaining (inner_of c.args.reader.now) in
+    subst (λ (n : ℕ). IsFaultOfReading told n c.in-Err.why) c.in_ok-pass.ensures.limit (c.in-Err.ensures.fault asked told (c.in_ok-pass.ensures.come asked stands told))
+
+pub returns-in-Ok-clause-ending : goal.returns-in-Ok-clause-ending
+returns-in-Ok-clause-ending g c = λ asked stands.
+    let told : Option (List ℕ) = g.D.Read.remaining (inner_of c.args.reader.now) in
+    ending-of told c.run.new.self.lines c.ending-ending.result (c.in-Ok.ensures.ends asked told (c.in_ok-pass.ensures.come asked stands told)) c.ending-ending.ensures

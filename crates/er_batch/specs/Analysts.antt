@@ -1,0 +1,43 @@
+-- What an analyst is asked for, and what a pass over a text comes to.
+use Rattle.std.specs.Prelude.{◌≡◌, ℕ, Bool, List, Option, IfSome, is_some}
+use Rattle.er_batch.specs.Runs.{HasRun}
+use Rattle.er_event.specs.declared.refusals.NoRoom.{NoRoom}
+use Rattle.er_replay.specs.Standing.{Replayed}
+use Rattle.er_report.specs.Builder.{Built}
+use Rattle.er_rules.specs.Rules.{Target}
+use Rattle.er_text.specs.Trace.{IsTrace, IsFault}
+use Rattle.er_text.specs.declared.faults.ReadFault.{ReadFault}
+use Rattle.er_text.specs.declared.faults.ReadFault.TheVariants.{Text, Memory, Read}
+use Rattle.er_trace.specs.Names.{NameTable}
+use Rattle.er_trace.specs.Trace.{Recording}
+
+-- the rules that take races, whether the others are explained, and whether damage is looked for
+pub record Asked : Type 0 where
+  pub rules : List Target
+  pub explain : Bool
+  pub strict : Bool
+
+-- the text is a trace with these names, and this stands for it
+pub record IsAnswered (Stands : Recording → Type 0) (told : Option (List ℕ)) (limit : ℕ) (used : NameTable) : Type 0 where
+  pub recording : Recording
+  pub trace : IfSome told (λ text. IsTrace text limit recording)
+  pub names : used ≡ recording.names
+  pub stands : Stands recording
+
+-- a fault of the text is its first
+abbrev pub IsFaultOfReading : Option (List ℕ) → ℕ → ReadFault → Type 0
+IsFaultOfReading told limit (Text fault) = IfSome told (λ text. IsFault text limit fault)
+IsFaultOfReading told limit Memory = Unit {0}
+IsFaultOfReading told limit Read = Unit {0}
+
+-- what the lockset rule keeps of the steps so far: its machine, its report, and where it has stopped
+pub record Ran : Type 0 where
+  pub machine : Replayed
+  pub builder : Built
+  pub stop : Option (ℕ × NoRoom)
+
+-- that is a run over the recording's steps, under the rules that are asked for
+pub record HasRunFor (ran : Ran) (asked : Asked) (r : Recording) : Type 0 where
+  pub run : HasRun ran.machine ran.builder ran.stop r
+  pub rules : ran.builder.rules ≡ asked.rules
+  pub explain : is_some ran.builder.kept ≡ asked.explain

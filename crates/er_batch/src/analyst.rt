@@ -1,0 +1,72 @@
+//! What answers the steps of a trace.
+ghost use Rattle.std.specs.Prelude.{◌≡◌, ◌+◌, ◌<◌, ◌^◌, ℕ, List, max, OnOk};
+ghost use Rattle.er_batch.specs.Analysts.{Asked};
+ghost use Rattle.er_batch.specs.Runs.{recorded};
+ghost use Rattle.er_event.specs.declared.steps.Step.{Step as Steps};
+ghost use Rattle.er_text.specs.Batches.{joined};
+ghost use Rattle.er_text.specs.Named.{KeepsNames};
+ghost use Rattle.er_trace.specs.Names.{NameTable};
+ghost use Rattle.er_trace.specs.Trace.{Recording};
+
+use er_trace::Trace;
+use std::alloc::AllocError;
+
+/// What answers the steps of a trace, batch by batch, and keeps what is to be reported of them.
+///
+/// An analyst that can't go on keeps why, and answers no later step: the text is read to its end all the same, since a fault of the text
+/// comes first. If it may wait for other threads, it does so by the handle `R`.
+pub trait Analyst<R> {
+    /// It stands for this recording, of which it is asked this.
+    ghost stands: { Self → Asked → Recording → Type 0 };
+
+    /// How many steps it has answered.
+    ghost answered: { Self → ℕ };
+
+    /// How many of them are races that have a line.
+    ghost found: { Self → ℕ };
+
+    /// Answers the steps of a batch, behind those of the batches before.
+    fn answer(&mut self, rt: &R, trace: &Trace) -> Result<(), AllocError>
+        ensures goes_on { (asked : Asked) (past : List Steps) (lines : List ℕ) (names : NameTable) → KeepsNames names trace.now.names → stands self.old asked (recorded past lines names)
+            → OnOk result (stands self.new asked (joined past lines trace.now)) };
+
+    /// How many steps it has answered.
+    fn steps(&self) -> u64
+        ensures { result ≡ answered self.now };
+
+    /// How many of them are races that have a line, or the greatest number that there is.
+    fn races(&self) -> u64
+        ensures { found self.now < 2 ^ 64 → result ≡ found self.now };
+}
+
+/// Two analysts of the same steps. Each batch is answered by the first and then by the second.
+#[derive(Drop)]
+pub struct Pair<A, B> {
+    /// The one that answers first.
+    pub first: A,
+    /// The other one.
+    pub second: B,
+}
+
+impl<R, A: Analyst<R>, B: Analyst<R>> Analyst<R> for Pair<A, B> {
+    ghost use Rattle.std.specs.Prelude.{◌+◌, max};
+
+    ghost stands = { λ pair asked r. A.stands pair.first asked r × B.stands pair.second asked r };
+
+    ghost answered = { λ pair. max (A.answered pair.first) (B.answered pair.second) };
+
+    ghost found = { λ pair. A.found pair.first + B.found pair.second };
+
+    fn answer(&mut self, rt: &R, trace: &Trace) -> Result<(), AllocError> {
+        self.first.answer(rt, trace)?;
+        self.second.answer(rt, trace)
+    }
+
+    fn steps(&self) -> u64 {
+        self.first.steps().max(self.second.steps())
+    }
+
+    fn races(&self) -> u64 {
+        self.first.races().saturating_add(self.second.races())
+    }
+}
