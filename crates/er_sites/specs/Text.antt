@@ -9,14 +9,14 @@ use Rattle.er_trace.specs.Names.{NameTable}
 use Rattle.er_places.specs.Places.{PlaceTable}
 use Rattle.er_places.specs.Reasons.{access_place, reason_place}
 use Rattle.er_places.specs.declared.place.Place.{Place}
-use Rattle.er_print.specs.Printed.{name_at, address_text, stop_text, counts_text, totals_text}
-use Rattle.er_report.specs.Lines.{LineView, RaceView, RefusedView, ShownView, line_view}
+use Rattle.er_print.specs.Printed.{name_at, address_text, size_text, stop_text, counts_text, totals_text}
+use Rattle.er_report.specs.Lines.{LineView, RaceView, ReusedView, RefusedView, ShownView, line_view}
 use Rattle.er_report.specs.Report.{told}
 use Rattle.er_report.specs.declared.report.Because.{Because}
 use Rattle.er_report.specs.declared.report.Label.{Label}
 use Rattle.er_report.specs.declared.report.Label.TheVariants as label
 use Rattle.er_report.specs.declared.report.Line.{Line}
-use Rattle.er_report.specs.declared.report.Line.TheVariants.{Race, Refused, Shown}
+use Rattle.er_report.specs.declared.report.Line.TheVariants.{Race, Reused, Refused, Shown}
 use Rattle.er_report.specs.declared.report.Report.{Report}
 use Rattle.er_sites.specs.Table.{words_of}
 use Rattle.er_sites.specs.declared.row.SiteRow.{SiteRow}
@@ -215,8 +215,24 @@ example_text names table (RaceView number thread kind word site held explained) 
     title_text names table site thread explained ++ head_text names number thread kind word
     ++ holds_text names number thread (access_place table number thread kind) explained held
     ++ flat_map (reason_text names table number) explained ++ so_text explained
+example_text names table (ReusedView number thread range held explained) = []
 example_text names table (RefusedView number step refusal) = []
 example_text names table (ShownView number word state) = []
+
+-- a reuse in sentences, under the address of its first byte
+abbrev pub reuse_story : NameTable → PlaceTable → LineView → List ℕ
+reuse_story names table (RaceView number thread kind word site held explained) = []
+reuse_story names table (ReusedView number thread range held explained) =
+    address_text range.lo ++ codes ":\n  " ++ thread_text names thread ++ codes " gave back " ++ size_text range.lo range.hi ++ codes " bytes"
+    ++ line_text number ++ 10 ∷ [] ++ flat_map (reason_text names table number) explained ++ 10 ∷ []
+reuse_story names table (RefusedView number step refusal) = []
+reuse_story names table (ShownView number word state) = []
+
+abbrev pub is_reused : Line → Bool
+is_reused (Race number thread kind word site held explained) = false
+is_reused (Reused number thread range held explained) = true
+is_reused (Refused number step refusal) = false
+is_reused (Shown number word state) = false
 
 -- the example of a row, among the lines of the report
 abbrev pub example_of : NameTable → PlaceTable → Option Line → List ℕ
@@ -241,11 +257,13 @@ rows_text names table lines rows =
 -- the line of a refused step, and why it was refused
 abbrev pub refusal_text : LineView → List ℕ
 refusal_text (RaceView number thread kind word site held explained) = []
+refusal_text (ReusedView number thread range held explained) = []
 refusal_text (RefusedView number step refusal) = codes "first refused: line " ++ decimal number ++ codes ": " ++ text_of refusal ++ 10 ∷ []
 refusal_text (ShownView number word state) = []
 
 abbrev pub is_refused : Line → Bool
 is_refused (Race number thread kind word site held explained) = false
+is_refused (Reused number thread range held explained) = false
 is_refused (Refused number step refusal) = true
 is_refused (Shown number word state) = false
 

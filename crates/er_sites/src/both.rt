@@ -1,13 +1,16 @@
 //! The sites of two analyses over one trace.
 ghost use Rattle.std.specs.Prelude.{◌≡◌, ◌++◌, ◌≤◌, All, flat_map, length, IfOk, OnOk};
+ghost use Rattle.std.specs.List.{list_any};
 ghost use Rattle.er_report.specs.Names.{HasNames};
-ghost use Rattle.er_sites.specs.Both.{PutsBoth, both_text, if_elsewhere, other_rows, part_text, title_of};
+ghost use Rattle.er_sites.specs.Both.{PutsBoth, both_text, if_elsewhere, nothing_in, other_rows, part_text, reuses_text, run_text, title_of};
 ghost use Rattle.er_sites.specs.Inner.Counted.{AreCounts};
 ghost use Rattle.er_sites.specs.Table.{IsTable};
+ghost use Rattle.er_sites.specs.Text.{is_reused};
 
 use crate::counts::{Counts, count_at, count_races};
 use crate::row::SiteRow;
 use crate::sites::{first_refused, put_refused, put_rows};
+use crate::stories::put_reuse_story;
 use crate::table::site_rows;
 use er_places::Places;
 use er_report::{Line, Report};
@@ -63,15 +66,7 @@ fn put_both(
     ensures { OnOk result (out.new.items ≡ out.old.items ++ both_text names.now places.now lockset.now unordered.now first.now all.now) }
 {
     let others = other_rows(alloc, unordered, all)?;
-    put_part(
-        out,
-        b"races in this run",
-        b": none\n\n",
-        names,
-        places,
-        unordered,
-        first,
-    )?;
+    put_run(out, names, places, unordered, first)?;
     put_part(
         out,
         b"no common lock",
@@ -82,6 +77,67 @@ fn put_both(
         &others,
     )?;
     put_refused(out, first_refused(lockset))?;
+    Ok(())
+}
+
+// Puts what is unordered in this run: the sites of accesses, and then the reuses.
+#[tactic(auto, unfolding(crate::specs::Both::run_text))]
+fn put_run(
+    out: &mut Vec<u8>,
+    names: &Names,
+    places: &Places,
+    lines: &[Line],
+    rows: &[SiteRow],
+) -> Result<(), AllocError>
+    requires names { All (HasNames names.now) lines.now }
+    requires rows { All (λ row. row.site ≤ length names.now.sites) rows.now }
+    ensures { OnOk result (out.new.items ≡ out.old.items ++ run_text names.now places.now lines.now rows.now) }
+{
+    let nothing = nothing_in(lines);
+    put_part(
+        out,
+        b"races in this run",
+        nothing,
+        names,
+        places,
+        lines,
+        rows,
+    )?;
+    put_reuses(out, names, places, lines)?;
+    Ok(())
+}
+
+// What stands behind the heading of the run if no site is below it.
+fn nothing_in(lines: &[Line]) -> &'static [u8]
+    ensures { result.now ≡ nothing_in lines.now }
+{
+    if has_reuse(lines) {
+        b"\n".as_slice()
+    } else {
+        b": none\n\n".as_slice()
+    }
+}
+
+// Whether one of the lines is a reuse.
+fn has_reuse(lines: &[Line]) -> bool
+    ensures { result ≡ list_any is_reused lines.now }
+{
+    lines.iter().any(|line| matches!(line, Line::Reused { .. }))
+}
+
+// Puts the reuses in sentences.
+fn put_reuses(
+    out: &mut Vec<u8>,
+    names: &Names,
+    places: &Places,
+    lines: &[Line],
+) -> Result<(), AllocError>
+    requires { All (HasNames names.now) lines.now }
+    ensures { OnOk result (out.new.items ≡ out.old.items ++ reuses_text names.now places.now lines.now) }
+{
+    for line in lines {
+        put_reuse_story(out, names, places, line)?;
+    }
     Ok(())
 }
 

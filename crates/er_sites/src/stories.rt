@@ -5,13 +5,13 @@ ghost use Rattle.er_places.specs.Places.{HasPlaceNames};
 ghost use Rattle.er_places.specs.Reasons.{reason_place};
 ghost use Rattle.er_report.specs.Lines.{line_view};
 ghost use Rattle.er_report.specs.Names.{HasLabelName, HasLockName, HasLockNames, HasNames, HasReasonNames};
-ghost use Rattle.er_sites.specs.Text.{deed_text, example_text, failed_lock_text, head_text, held_text, holds_text, is_others, is_weak_at, met_text, mode_text, title_text, no_lock_text, reason_text, so_by, so_text, story_text, unordered_text, unprotected_text, is_without};
+ghost use Rattle.er_sites.specs.Text.{deed_text, example_text, failed_lock_text, head_text, held_text, holds_text, is_others, is_weak_at, met_text, mode_text, title_text, no_lock_text, reason_text, reuse_story, so_by, so_text, story_text, unordered_text, unprotected_text, is_without};
 
 use crate::names::{put_access, put_did, put_line, put_lock, put_pair, put_site, put_thread};
 use crate::standing::put_where;
 use er_event::{Kind, LockId, Site, ThreadId, Word};
 use er_places::{Place, Places};
-use er_print::put_address;
+use er_print::{put_address, put_size};
 use er_report::{Because, Label, Line};
 use er_trace::Names;
 use std::alloc::AllocError;
@@ -243,6 +243,38 @@ fn is_without(line: u64, lock: LockId, because: &Because) -> bool
         Label::Uncovered(other) => other.number() == lock.number() && because.line == line,
         _ => false,
     }
+}
+
+/// Puts a reuse that races in sentences, under the address of its first byte. Of another line it puts nothing.
+pub(crate) fn put_reuse_story(
+    out: &mut Vec<u8>,
+    names: &Names,
+    places: &Places,
+    line: &Line,
+) -> Result<(), AllocError>
+    requires { HasNames names.now line.now }
+    ensures { OnOk result (out.new.items ≡ out.old.items ++ reuse_story names.now places.now (line_view line.now)) }
+{
+    let Line::Reused {
+        line,
+        thread,
+        range,
+        explained,
+        ..
+    } = line
+    else {
+        return Ok(());
+    };
+    put_address(out, range.lo)?;
+    out.extend_from_slice(b":\n  ")?;
+    put_thread(out, names, *thread)?;
+    out.extend_from_slice(b" gave back ")?;
+    put_size(out, range)?;
+    out.extend_from_slice(b" bytes")?;
+    put_line(out, *line)?;
+    out.extend_from_slice(b"\n")?;
+    put_reasons(out, names, places, *line, explained)?;
+    out.extend_from_slice(b"\n")
 }
 
 // Puts the reasons of the race on this line.

@@ -2,7 +2,7 @@
 use Rattle.std.proofs.Common.{◌≡◌, ◌+◌, ◌<◌, ◌≤◌, ℕ, List, Option, Some, None, length, slice_index, slice_index_or, count_by, ◌∙◌, ap, refl, sym, subst, arith}
 use Rattle.std.specs.List.{position}
 use Rattle.er_report.specs.declared.report.Line.{Line}
-use Rattle.er_sites.specs.Table.{is_at, races_at, reads_at, writes_at}
+use Rattle.er_sites.specs.Table.{is_at, reads_at, writes_at}
 use Rattle.er_sites.proofs.ExampleLemmas.{position_none, position_some, races_are}
 use Rattle.er_sites.proofs.NameLemmas.{first_named}
 use Rattle.er_sites.proofs.RowLemmas.{none_added, row_added}

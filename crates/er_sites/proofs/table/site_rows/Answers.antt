@@ -1,5 +1,5 @@
 -- Sorting changes the order alone, and puts the rows into theirs.
-use Rattle.std.proofs.Common.{All, ◌∙◌, rules}
+use Rattle.std.proofs.Common.{◌∙◌, rules}
 use Rattle.std.proofs.lemmas.List.Sorted.{sum_by-IsPermutation, All-permutation}
 use Rattle.er_sites.specs.Table.{words_at, IsOwnCount}
 use Rattle.er_sites.proofs.RowLemmas.{rows_sorted}
