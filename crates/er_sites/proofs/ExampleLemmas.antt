@@ -6,7 +6,7 @@ use Rattle.std.proofs.lemmas.List.{length-take-le, take_more}
 use Rattle.std.proofs.lemmas.List.Sums.{sum_by-cons}
 use Rattle.er_event.specs.declared.steps.Kind.TheVariants as kind
 use Rattle.er_report.specs.declared.report.Line.{Line}
-use Rattle.er_report.specs.declared.report.Line.TheVariants.{Race, Refused, Shown}
+use Rattle.er_report.specs.declared.report.Line.TheVariants.{Race, Reused, Refused, Shown}
 use Rattle.er_sites.specs.Inner.Counted.{or_first}
 use Rattle.er_sites.specs.Table.{is_at, races_at, reads_at, writes_at}
 
@@ -14,6 +14,7 @@ use Rattle.er_sites.specs.Table.{is_at, races_at, reads_at, writes_at}
 one_race : (s : ℕ) (line : Line) → cond (reads_at s line) 1 0 + cond (writes_at s line) 1 0 ≡ cond (is_at s line) 1 0
 one_race s (Race number thread kind.Read word site held explained) = omega arith
 one_race s (Race number thread kind.Write word site held explained) = omega arith
+one_race s (Reused number thread range held explained) = refl
 one_race s (Refused number step refusal) = refl
 one_race s (Shown number word state) = refl
 

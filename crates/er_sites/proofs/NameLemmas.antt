@@ -7,13 +7,14 @@ use Rattle.er_event.specs.declared.steps.WordState.TheVariants.{Virgin}
 use Rattle.er_trace.specs.Names.{NameTable}
 use Rattle.er_report.specs.Names.{HasNames}
 use Rattle.er_report.specs.declared.report.Line.{Line}
-use Rattle.er_report.specs.declared.report.Line.TheVariants.{Race, Refused, Shown}
+use Rattle.er_report.specs.declared.report.Line.TheVariants.{Race, Reused, Refused, Shown}
 use Rattle.er_sites.specs.declared.row.SiteRow.{SiteRow}
 use Rattle.er_sites.specs.Table.{is_at, IsOwnCount}
 
 -- the site of a race has a name
 named_at : (names : NameTable) (s : ℕ) (line : Line) → HasNames names line → is_at s line ≡ true → s ≤ length names.sites
 named_at names s (Race number thread kind word site held explained) named here = subst (λ (n : ℕ). n ≤ length names.sites) (sym (eqb-true s site here)) named.1
+named_at names s (Reused number thread range held explained) named here = absurd (cc)
 named_at names s (Refused number step refusal) named here = absurd (cc)
 named_at names s (Shown number word state) named here = absurd (cc)
 

@@ -6,7 +6,7 @@ use Rattle.std.specs.declared.cmp.Ordering.{Ordering}
 use Rattle.er_event.specs.declared.steps.Kind.{Kind}
 use Rattle.er_event.specs.declared.steps.Kind.TheVariants as kind
 use Rattle.er_report.specs.declared.report.Line.{Line}
-use Rattle.er_report.specs.declared.report.Line.TheVariants.{Race, Refused, Shown}
+use Rattle.er_report.specs.declared.report.Line.TheVariants.{Race, Reused, Refused, Shown}
 use Rattle.er_sites.specs.System.{is_system_site}
 use Rattle.er_sites.specs.declared.row.SiteRow.{SiteRow}
 use Rattle.er_trace.specs.Names.{NameTable}
@@ -22,18 +22,21 @@ is_write kind.Write = true
 -- the line is a race of a read at this site
 abbrev pub reads_at : ℕ → Line → Bool
 reads_at s (Race number thread kind word site held explained) = is_read kind && s == site
+reads_at s (Reused number thread range held explained) = false
 reads_at s (Refused number step refusal) = false
 reads_at s (Shown number word state) = false
 
 -- the line is a race of a write at this site
 abbrev pub writes_at : ℕ → Line → Bool
 writes_at s (Race number thread kind word site held explained) = is_write kind && s == site
+writes_at s (Reused number thread range held explained) = false
 writes_at s (Refused number step refusal) = false
 writes_at s (Shown number word state) = false
 
 -- the line is a race at this site
 abbrev pub is_at : ℕ → Line → Bool
 is_at s (Race number thread kind word site held explained) = s == site
+is_at s (Reused number thread range held explained) = false
 is_at s (Refused number step refusal) = false
 is_at s (Shown number word state) = false
 
