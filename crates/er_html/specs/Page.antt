@@ -5,7 +5,9 @@ use Rattle.er_html.specs.declared.picture.TheConstants.{PICTURE}
 use Rattle.er_html.specs.declared.script.TheConstants.{SCRIPT}
 use Rattle.er_html.specs.declared.shell.TheConstants.{BEFORE_SCRIPT, BETWEEN, BODY, CLOSING, OPENING}
 use Rattle.er_html.specs.declared.style.TheConstants.{STYLE}
-use Rattle.er_json.specs.Document.{array_text, escaped, json_text, string_text}
+use Rattle.er_json.specs.Document.{json_text}
+use Rattle.er_print.specs.Styles.{escaped, string_text}
+use Rattle.er_print.specs.Values.{values_text}
 use Rattle.er_report.specs.Report.{Summary}
 use Rattle.er_trace.specs.Names.{NameTable}
 
@@ -36,7 +38,7 @@ excerpt_text excerpt =
 
 -- all of them
 unfoldable pub excerpts_text : List Excerpt → List ℕ
-excerpts_text excerpts = array_text excerpt_text excerpts
+excerpts_text excerpts = codes "[" ++ values_text excerpt_text excerpts ++ codes "]"
 
 -- what stands before the report
 unfoldable pub head_text : List ℕ

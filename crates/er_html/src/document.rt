@@ -14,8 +14,8 @@ use crate::script::SCRIPT;
 use crate::shell::{BEFORE_SCRIPT, BETWEEN, BODY, CLOSING, OPENING};
 use crate::style::STYLE;
 use er_device::Device;
-use er_json::write_json;
-use er_print::WriteFault;
+use er_json::json_text;
+use er_print::{WriteFault, write_text};
 use er_report::Report;
 use er_trace::Names;
 use std::alloc::{AllocError, Global};
@@ -37,13 +37,7 @@ pub fn write_html<W: Write>(
     ensures failed { FailsWriting (has_failed writer.new) result }
     ensures taken { taken_of writer.new ≡ taken_of writer.old }
 {
-    let Ok(text) = html_text(alloc, report, names, excerpts) else {
-        return Err(WriteFault::Memory);
-    };
-    if writer.write_all(&text).is_err() {
-        return Err(WriteFault::Write);
-    }
-    Ok(())
+    write_text(writer, html_text(alloc, report, names, excerpts))
 }
 
 #[tactic(auto, unfolding(crate::specs::Page::html_text))]
@@ -65,18 +59,6 @@ fn html_text(
     put_block(&mut text, &sources)?;
     put_tail(&mut text)?;
     Ok(text)
-}
-
-// The document of the report.
-fn json_text(alloc: Global, report: &Report, names: &Names) -> Result<Vec<u8>, AllocError>
-    requires { All (HasNames names.now) report.now.lines.items }
-    ensures { IfOk result (λ json. json.items ≡ json_text names.now (told report.now)) }
-{
-    let mut device = Device::new(Vec::new(alloc));
-    match write_json(alloc, &mut device, report, names) {
-        Ok(()) => Ok(device.into_inner()),
-        Err(_) => Err(AllocError),
-    }
 }
 
 fn sources_text(alloc: Global, excerpts: &[Excerpt]) -> Result<Vec<u8>, AllocError>

@@ -1,10 +1,9 @@
 //! Lines of source files, as JSON.
 ghost use Rattle.std.specs.Prelude.{◌≡◌, ◌++◌, flat_map, OnOk};
 ghost use Rattle.er_html.specs.Page.{excerpt_text, excerpts_text, source_byte, source_member};
-ghost use Rattle.er_json.specs.Document.{more_text, values_text};
+ghost use Rattle.er_print.specs.Values.{values_text};
 
-use er_json::{put_escaped, put_string};
-use er_print::put_number;
+use er_print::{comma_before, put_escaped, put_number, put_string};
 use std::alloc::AllocError;
 
 /// Lines of a source file around a site.
@@ -31,21 +30,8 @@ pub(crate) fn put_excerpts(out: &mut Vec<u8>, excerpts: &[Excerpt]) -> Result<()
 fn put_excerpt_list(out: &mut Vec<u8>, excerpts: &[Excerpt]) -> Result<(), AllocError>
     ensures { OnOk result (out.new.items ≡ out.old.items ++ values_text excerpt_text excerpts.now) }
 {
-    match excerpts {
-        [] => Ok(()),
-        [first, rest @ ..] => {
-            put_excerpt(out, first)?;
-            put_more_excerpts(out, rest)
-        }
-    }
-}
-
-// Puts each excerpt behind a comma.
-fn put_more_excerpts(out: &mut Vec<u8>, excerpts: &[Excerpt]) -> Result<(), AllocError>
-    ensures { OnOk result (out.new.items ≡ out.old.items ++ more_text excerpt_text excerpts.now) }
-{
-    for excerpt in excerpts {
-        out.push(b',')?;
+    for (place, excerpt) in excerpts.iter().enumerate() {
+        out.extend_from_slice(comma_before(place))?;
         put_excerpt(out, excerpt)?;
     }
     Ok(())

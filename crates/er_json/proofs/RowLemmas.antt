@@ -1,39 +1,13 @@
 -- The rows of a list, line by line.
-use Rattle.std.proofs.Common.{◌≡◌, ◌∙◌, ◌+◌, ◌<◌, ◌&&◌, ℕ, Bool, true, false, List, [], ◌∷◌, ◌++◌, length, take, get_or, flat_map, map, refl, sym, ap, append_assoc}
+use Rattle.std.proofs.Common.{◌≡◌, ◌∙◌, ◌+◌, ◌<◌, ◌&&◌, ℕ, Bool, true, false, cond, List, [], ◌∷◌, ◌++◌, length, take, get_or, flat_map, map, refl, sym, ap, append_assoc}
 use Rattle.std.proofs.lemmas.List.{append-nil, map-append, take_more}
-use Rattle.std.proofs.lemmas.Bool.{true≢false}
 use Rattle.std.proofs.lemmas.Grind.{flat_map-append}
-use Rattle.er_json.specs.Document.{rows_text}
-use Rattle.er_json.specs.Inner.Sections.{has_none, is_in, next_text, row_text, rows_in, separator_text}
+use Rattle.er_json.specs.Document.{row_text, rows_text}
+use Rattle.er_json.specs.Inner.Sections.{has_none, is_in, next_text, rows_in, separator_text}
 use Rattle.er_json.specs.declared.document.Section.{Section}
-use Rattle.er_json.specs.declared.document.Section.TheVariants as section
-use Rattle.er_report.specs.Lines.{LineView, RaceView, RefusedView, ShownView, line_view}
+use Rattle.er_report.specs.Lines.{LineView, line_view}
 use Rattle.er_report.specs.declared.report.Line.{Line}
 use Rattle.er_trace.specs.Names.{NameTable}
-
--- a line that a list has an object of
-pub has_row : (s : Section) (names : NameTable) (line : LineView) → is_in s line ≡ true → rows_in s names line ≡ row_text names line ∷ []
-has_row section.Races names (RaceView number thread kind word site held explained) is = refl
-has_row section.Races names (RefusedView number step refusal) is = absurd (true≢false (sym is))
-has_row section.Races names (ShownView number word state) is = absurd (true≢false (sym is))
-has_row section.Refused names (RaceView number thread kind word site held explained) is = absurd (true≢false (sym is))
-has_row section.Refused names (RefusedView number step refusal) is = refl
-has_row section.Refused names (ShownView number word state) is = absurd (true≢false (sym is))
-has_row section.Shown names (RaceView number thread kind word site held explained) is = absurd (true≢false (sym is))
-has_row section.Shown names (RefusedView number step refusal) is = absurd (true≢false (sym is))
-has_row section.Shown names (ShownView number word state) is = refl
-
--- and one that it has none of
-pub no_row : (s : Section) (names : NameTable) (line : LineView) → is_in s line ≡ false → rows_in s names line ≡ []
-no_row section.Races names (RaceView number thread kind word site held explained) is = absurd (true≢false is)
-no_row section.Races names (RefusedView number step refusal) is = refl
-no_row section.Races names (ShownView number word state) is = refl
-no_row section.Refused names (RaceView number thread kind word site held explained) is = refl
-no_row section.Refused names (RefusedView number step refusal) is = absurd (true≢false is)
-no_row section.Refused names (ShownView number word state) is = refl
-no_row section.Shown names (RaceView number thread kind word site held explained) is = refl
-no_row section.Shown names (RefusedView number step refusal) is = refl
-no_row section.Shown names (ShownView number word state) is = absurd (true≢false is)
 
 -- one more row
 pub row_more : (rows : List (List ℕ)) (row : List ℕ) → rows_text (rows ++ row ∷ []) ≡ rows_text rows ++ (separator_text (has_none rows) ++ row)
@@ -44,18 +18,10 @@ row_more (first ∷ rows) row =
     (ap (λ (text : List ℕ). first ++ text) (flat_map-append f rows (row ∷ []) ∙ ap (λ (text : List ℕ). flat_map f rows ++ text) (append-nil (44 ∷ 10 ∷ row)))
     ∙ sym (append_assoc first (flat_map f rows) (44 ∷ 10 ∷ row)))
 
--- the rows of one more line
-pub rows_more : (s : Section) (names : NameTable) (line : LineView) (rows : List (List ℕ))
-    → rows_text (rows ++ rows_in s names line) ≡ rows_text rows ++ next_text (has_none rows) (rows_in s names line)
-rows_more section.Races names (RaceView number thread kind word site held explained) rows = row_more rows _
-rows_more section.Refused names (RefusedView number step refusal) rows = row_more rows _
-rows_more section.Shown names (ShownView number word state) rows = row_more rows _
-rows_more section.Races names (RefusedView number step refusal) rows = simp append-nil
-rows_more section.Races names (ShownView number word state) rows = simp append-nil
-rows_more section.Refused names (RaceView number thread kind word site held explained) rows = simp append-nil
-rows_more section.Refused names (ShownView number word state) rows = simp append-nil
-rows_more section.Shown names (RaceView number thread kind word site held explained) rows = simp append-nil
-rows_more section.Shown names (RefusedView number step refusal) rows = simp append-nil
+-- and what may be one
+pub rows_more : (b : Bool) (row : List ℕ) (rows : List (List ℕ)) → rows_text (rows ++ cond b (row ∷ []) []) ≡ rows_text rows ++ next_text (has_none rows) (cond b (row ∷ []) [])
+rows_more true row rows = row_more rows row
+rows_more false row rows = simp append-nil
 
 -- the rows up to the next line
 pub rows_next : (s : Section) (names : NameTable) (lines : List Line) (k : ℕ) (line : Line) → k < length lines → line ≡ get_or lines k line
@@ -72,4 +38,4 @@ pub text_next : (s : Section) (names : NameTable) (line : LineView) (rows : List
 text_next s names line rows old before after is_first first was put =
     put ∙ ap (λ (text : List ℕ). text ++ next_text is_first (rows_in s names line)) was
     ∙ ap (λ (b : Bool). (old ++ rows_text rows) ++ next_text b (rows_in s names line)) first
-    ∙ append_assoc old (rows_text rows) _ ∙ ap (λ (text : List ℕ). old ++ text) (sym (rows_more s names line rows))
+    ∙ append_assoc old (rows_text rows) _ ∙ ap (λ (text : List ℕ). old ++ text) (sym (rows_more (is_in s line) (row_text names line) rows))

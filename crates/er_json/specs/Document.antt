@@ -1,101 +1,71 @@
 -- The JSON of a report: each word here is the text of one value.
-use Rattle.std.specs.Prelude.{ℕ, zero, suc, ◌-◌, ◌==◌, ◌||◌, cond, List, [], ◌∷◌, ◌++◌, flat_map, Option, Some, None, codes, decimal}
-use Rattle.er_event.specs.Lockset.{is_level_lock, level_base}
+use Rattle.std.specs.Prelude.{ℕ, Bool, true, false, cond, List, [], ◌∷◌, ◌++◌, flat_map, Option, Some, None, codes, decimal}
 use Rattle.er_event.specs.Refusal.{text_of, refusal_of}
+use Rattle.er_event.specs.declared.addresses.PageRange.{PageRange}
 use Rattle.er_event.specs.declared.refusals.NoRoom.{NoRoom}
 use Rattle.er_event.specs.declared.refusals.Refusal.{Refusal}
 use Rattle.er_event.specs.declared.steps.Event.{Event}
 use Rattle.er_event.specs.declared.steps.Event.TheVariants.{Acquire, Release, Access, Reuse, IgnoreOn, IgnoreOff, Show, Level, Sync}
 use Rattle.er_event.specs.declared.steps.Kind.{Kind}
-use Rattle.er_event.specs.declared.steps.Kind.TheVariants as kind
 use Rattle.er_event.specs.declared.steps.Mode.{Mode}
 use Rattle.er_event.specs.declared.steps.Mode.TheVariants as mode
 use Rattle.er_event.specs.declared.steps.Step.{Step}
 use Rattle.er_event.specs.declared.steps.WordState.{WordState}
 use Rattle.er_event.specs.declared.steps.WordState.TheVariants.{Virgin, Exclusive, Shared, SharedModified}
-use Rattle.er_print.specs.Printed.{address_text, lost_text, name_at, order_text}
-use Rattle.er_report.specs.Lines.{LineView, RaceView, RefusedView, ShownView}
+use Rattle.er_print.specs.Printed.{address_text, bytes_between, kind_text, lost_text, order_text}
+use Rattle.er_print.specs.Styles.{lock_in, locks_in, site_in, thread_in}
+use Rattle.er_print.specs.Values.{values_text}
+use Rattle.er_print.specs.declared.styles.Style.TheVariants as style
+use Rattle.er_report.specs.Lines.{LineView, RaceView, ReusedView, RefusedView, ShownView}
 use Rattle.er_report.specs.Report.{Summary}
 use Rattle.er_report.specs.declared.report.Because.{Because}
 use Rattle.er_report.specs.declared.report.Label.{Label}
 use Rattle.er_report.specs.declared.report.Label.TheVariants as label
 use Rattle.er_trace.specs.Names.{NameTable}
 
--- a byte of a string: a quotation mark and a backslash have a backslash before them
-abbrev pub escaped : ℕ → List ℕ
-escaped byte = cond (byte == 34 || byte == 92) (92 ∷ byte ∷ []) (byte ∷ [])
-
--- the bytes of a string
-abbrev pub escaped_text : List ℕ → List ℕ
-escaped_text bytes = flat_map escaped bytes
-
--- a string
-unfoldable pub string_text : List ℕ → List ℕ
-string_text bytes = 34 ∷ escaped_text bytes ++ 34 ∷ []
-
--- values behind commas
-abbrev pub more_text : {X : Type 0} → (X → List ℕ) → List X → List ℕ
-more_text text xs = flat_map (λ x. 44 ∷ text x) xs
-
--- values with commas between them
-abbrev pub values_text : {X : Type 0} → (X → List ℕ) → List X → List ℕ
-values_text text [] = []
-values_text text (x ∷ xs) = text x ++ more_text text xs
-
--- an array of them
-abbrev pub array_text : {X : Type 0} → (X → List ℕ) → List X → List ℕ
-array_text text xs = 91 ∷ values_text text xs ++ 93 ∷ []
-
 -- objects on lines of their own, with commas between them
 abbrev pub rows_text : List (List ℕ) → List ℕ
 rows_text [] = []
 rows_text (row ∷ rows) = 10 ∷ row ++ flat_map (λ next. 44 ∷ 10 ∷ next) rows
 
-unfoldable pub thread_text : NameTable → ℕ → List ℕ
-thread_text names thread = string_text (name_at names.threads thread)
+-- who did what; the lines of a trace count from 1
+unfoldable pub access_text : NameTable → Because → List ℕ
+access_text names because =
+    codes "{\"line\":" ++ decimal because.line ++ codes ",\"thread\":" ++ thread_in style.Json names because.thread
+    ++ codes ",\"kind\":\"" ++ kind_text because.kind ++ codes "\",\"label\":\""
 
--- the lock of a level is a mark and the level
-unfoldable pub lock_text : NameTable → ℕ → List ℕ
-lock_text names lock = cond (is_level_lock lock) (codes "\"!" ++ decimal (lock - level_base) ++ 34 ∷ []) (string_text (name_at names.locks lock))
-
--- sites count from 1, and the missing one is null
-unfoldable pub site_text : NameTable → ℕ → List ℕ
-site_text names zero = codes "null"
-site_text names (suc n) = string_text (name_at names.sites n)
-
-abbrev pub access_verb : Kind → List ℕ
-access_verb kind.Read = codes "read"
-access_verb kind.Write = codes "write"
-
--- the lines of a trace count from 1
-unfoldable pub line_member : ℕ → List ℕ
-line_member number = codes "{\"line\":" ++ decimal number
-
-unfoldable pub thread_member : NameTable → ℕ → List ℕ
-thread_member names thread = codes ",\"thread\":" ++ thread_text names thread
-
-unfoldable pub kind_member : Kind → List ℕ
-kind_member kind = codes ",\"kind\":\"" ++ access_verb kind ++ 34 ∷ []
-
--- the word's first byte, as in a report's text
-unfoldable pub address_member : ℕ → List ℕ
-address_member word = codes ",\"address\":\"" ++ address_text word ++ 34 ∷ []
-
-unfoldable pub uncovered_member : NameTable → ℕ → List ℕ
-uncovered_member names lock = codes ",\"label\":\"not covering\",\"lock\":" ++ lock_text names lock ++ 125 ∷ []
-
--- what an access has to do with a race, and the lock that does not cover it
+-- what it has to do with a race, and the lock that does not cover it
 unfoldable pub label_member : NameTable → Label → List ℕ
-label_member names label.First = codes ",\"label\":\"first\",\"lock\":null}"
-label_member names label.Joined = codes ",\"label\":\"joined\",\"lock\":null}"
-label_member names label.Write = codes ",\"label\":\"write\",\"lock\":null}"
-label_member names (label.Uncovered lock) = uncovered_member names lock
-label_member names label.Unordered = codes ",\"label\":\"unordered with\",\"lock\":null}"
+label_member names label.First = codes "first\",\"lock\":null}"
+label_member names label.Joined = codes "joined\",\"lock\":null}"
+label_member names label.Write = codes "write\",\"lock\":null}"
+label_member names (label.Uncovered lock) = codes "not covering\",\"lock\":" ++ lock_in style.Json names lock ++ codes "}"
+label_member names label.Unordered = codes "unordered with\",\"lock\":null}"
 
 -- one of a race's reasons
-unfoldable pub reason_text : NameTable → Because → List ℕ
-reason_text names because =
-    line_member because.line ++ thread_member names because.thread ++ kind_member because.kind ++ label_member names because.label
+abbrev pub reason_text : NameTable → Because → List ℕ
+reason_text names because = access_text names because ++ label_member names because.label
+
+-- who did what to which word, where it stands, and what protected it
+unfoldable pub race_front : NameTable → ℕ → ℕ → Kind → ℕ → ℕ → List ℕ → List ℕ
+race_front names number thread kind word site held =
+    codes "{\"line\":" ++ decimal number ++ codes ",\"thread\":" ++ thread_in style.Json names thread ++ codes ",\"kind\":\"" ++ kind_text kind
+    ++ codes "\",\"address\":\"" ++ address_text word ++ codes "\",\"site\":" ++ site_in style.Json names site
+    ++ codes ",\"held\":" ++ locks_in style.Json names held ++ codes ",\"reasons\":["
+
+-- who gave back which bytes, and which locks it held
+unfoldable pub reused_front : NameTable → ℕ → ℕ → PageRange → List ℕ → List ℕ
+reused_front names number thread range held =
+    codes "{\"line\":" ++ decimal number ++ codes ",\"thread\":" ++ thread_in style.Json names thread ++ codes ",\"reuse\":\"" ++ address_text range.lo
+    ++ codes "\",\"bytes\":" ++ decimal (bytes_between range.lo range.hi) ++ codes ",\"held\":" ++ locks_in style.Json names held ++ codes ",\"reasons\":["
+
+-- why it is a race
+abbrev pub reasons_end : NameTable → List Because → List ℕ
+reasons_end names explained = values_text (reason_text names) explained ++ codes "]}"
+
+-- a race as an object
+abbrev pub race_text : NameTable → ℕ → ℕ → Kind → ℕ → ℕ → List ℕ → List Because → List ℕ
+race_text names number thread kind word site held explained = race_front names number thread kind word site held ++ reasons_end names explained
 
 -- the verb of a lock event
 abbrev pub acquire_verb : Mode → List ℕ
@@ -106,113 +76,96 @@ abbrev pub release_verb : Mode → List ℕ
 release_verb mode.Write = codes "unlock"
 release_verb mode.Read = codes "runlock"
 
--- what a thread asked for with a lock
-unfoldable pub lock_event_member : NameTable → List ℕ → ℕ → List ℕ
-lock_event_member names verb lock = codes ",\"event\":\"" ++ verb ++ codes "\",\"lock\":" ++ lock_text names lock
+-- what a thread asked for with a lock, and why it was refused
+unfoldable pub lock_event_member : NameTable → List ℕ → ℕ → Refusal → List ℕ
+lock_event_member names verb lock refusal = verb ++ codes "\",\"lock\":" ++ lock_in style.Json names lock ++ codes ",\"why\":\"" ++ text_of refusal ++ codes "\"}"
 
 -- and with none
-unfoldable pub plain_event_member : List ℕ → List ℕ
-plain_event_member verb = codes ",\"event\":\"" ++ verb ++ codes "\",\"lock\":null"
+unfoldable pub plain_event_member : List ℕ → Refusal → List ℕ
+plain_event_member verb refusal = verb ++ codes "\",\"lock\":null,\"why\":\"" ++ text_of refusal ++ codes "\"}"
 
--- the verb of a step
-unfoldable pub event_member : NameTable → Event → List ℕ
+abbrev pub event_member : NameTable → Event → Refusal → List ℕ
 event_member names (Acquire lock mode) = lock_event_member names (acquire_verb mode) lock
 event_member names (Release lock mode) = lock_event_member names (release_verb mode) lock
 event_member names IgnoreOn = plain_event_member (codes "ignore-on")
 event_member names IgnoreOff = plain_event_member (codes "ignore-off")
-event_member names (Access kind word site) = plain_event_member (access_verb kind)
+event_member names (Access kind word site) = plain_event_member (kind_text kind)
 event_member names (Reuse range) = plain_event_member (codes "reuse")
 event_member names (Show word) = plain_event_member (codes "show")
 event_member names (Level level) = plain_event_member (codes "level")
 event_member names (Sync sync) = plain_event_member (order_text sync)
 
-unfoldable pub why_member : Refusal → List ℕ
-why_member refusal = codes ",\"why\":\"" ++ text_of refusal ++ codes "\"}"
+-- which step was refused
+unfoldable pub refused_front : NameTable → ℕ → ℕ → List ℕ
+refused_front names number thread =
+    codes "{\"line\":" ++ decimal number ++ codes ",\"thread\":" ++ thread_in style.Json names thread ++ codes ",\"event\":\""
 
--- a word of one thread
-unfoldable pub exclusive_text : NameTable → ℕ → List ℕ
-exclusive_text names thread = codes ",\"state\":\"exclusive\",\"owner\":" ++ thread_text names thread ++ codes ",\"candidates\":null}"
+-- a refused step as an object
+abbrev pub refused_text : NameTable → ℕ → Step → Refusal → List ℕ
+refused_text names number step refusal = refused_front names number step.thread ++ event_member names step.event refusal
 
--- the candidate set of a word of several threads
-unfoldable pub shared_text : NameTable → List ℕ → List ℕ → List ℕ
-shared_text names state locks = codes ",\"state\":\"" ++ state ++ codes "\",\"owner\":null,\"candidates\":" ++ array_text (lock_text names) locks ++ 125 ∷ []
-
+-- the state of a word, and its candidate set if several threads use it
 unfoldable pub state_member : NameTable → WordState → List ℕ
-state_member names Virgin = codes ",\"state\":\"virgin\",\"owner\":null,\"candidates\":null}"
-state_member names (Exclusive thread) = exclusive_text names thread
-state_member names (Shared locks) = shared_text names (codes "shared") locks
-state_member names (SharedModified locks) = shared_text names (codes "shared-modified") locks
+state_member names Virgin = codes "virgin\",\"owner\":null,\"candidates\":null}"
+state_member names (Exclusive thread) = codes "exclusive\",\"owner\":" ++ thread_in style.Json names thread ++ codes ",\"candidates\":null}"
+state_member names (Shared locks) = codes "shared\",\"owner\":null,\"candidates\":" ++ locks_in style.Json names locks ++ codes "}"
+state_member names (SharedModified locks) = codes "shared-modified\",\"owner\":null,\"candidates\":" ++ locks_in style.Json names locks ++ codes "}"
 
--- who did what to which word
-unfoldable pub access_text : NameTable → ℕ → ℕ → Kind → ℕ → List ℕ
-access_text names number thread kind word = line_member number ++ thread_member names thread ++ kind_member kind ++ address_member word
+-- which word was shown
+unfoldable pub shown_front : ℕ → ℕ → List ℕ
+shown_front number word = codes "{\"line\":" ++ decimal number ++ codes ",\"address\":\"" ++ address_text word ++ codes "\",\"state\":\""
 
-unfoldable pub site_member : NameTable → ℕ → List ℕ
-site_member names site = codes ",\"site\":" ++ site_text names site
+-- and that as an object
+abbrev pub shown_text : NameTable → ℕ → ℕ → WordState → List ℕ
+shown_text names number word state = shown_front number word ++ state_member names state
 
-unfoldable pub held_member : NameTable → List ℕ → List ℕ
-held_member names held = codes ",\"held\":" ++ array_text (lock_text names) held
+-- the object of a line
+abbrev pub row_text : NameTable → LineView → List ℕ
+row_text names (RaceView number thread kind word site held explained) = race_text names number thread kind word site held explained
+row_text names (ReusedView number thread range held explained) = reused_front names number thread range held ++ reasons_end names explained
+row_text names (RefusedView number step refusal) = refused_text names number step refusal
+row_text names (ShownView number word state) = shown_text names number word state
 
-unfoldable pub reasons_member : NameTable → List Because → List ℕ
-reasons_member names explained = codes ",\"reasons\":" ++ array_text (reason_text names) explained ++ 125 ∷ []
+abbrev pub is_race : LineView → Bool
+is_race (RaceView number thread kind word site held explained) = true
+is_race (ReusedView number thread range held explained) = true
+is_race (RefusedView number step refusal) = false
+is_race (ShownView number word state) = false
 
--- where it stands, what protected it, and why it is a race
-unfoldable pub context_text : NameTable → ℕ → List ℕ → List Because → List ℕ
-context_text names site held explained = site_member names site ++ held_member names held ++ reasons_member names explained
+abbrev pub is_refused : LineView → Bool
+is_refused (RaceView number thread kind word site held explained) = false
+is_refused (ReusedView number thread range held explained) = false
+is_refused (RefusedView number step refusal) = true
+is_refused (ShownView number word state) = false
 
--- a race as an object
-unfoldable pub race_text : NameTable → ℕ → ℕ → Kind → ℕ → ℕ → List ℕ → List Because → List ℕ
-race_text names number thread kind word site held explained = access_text names number thread kind word ++ context_text names site held explained
+abbrev pub is_shown : LineView → Bool
+is_shown (RaceView number thread kind word site held explained) = false
+is_shown (ReusedView number thread range held explained) = false
+is_shown (RefusedView number step refusal) = false
+is_shown (ShownView number word state) = true
 
--- and a refused step
-unfoldable pub refused_text : NameTable → ℕ → Step → Refusal → List ℕ
-refused_text names number step refusal = line_member number ++ thread_member names step.thread ++ event_member names step.event ++ why_member refusal
+-- the object of a line that passes
+abbrev pub rows_if : (LineView → Bool) → NameTable → LineView → List (List ℕ)
+rows_if test names line = cond (test line) (row_text names line ∷ []) []
 
--- and a word that was shown
-unfoldable pub shown_text : NameTable → ℕ → ℕ → WordState → List ℕ
-shown_text names number word state = line_member number ++ address_member word ++ state_member names state
-
--- the object of a race; other lines have none
-abbrev pub race_rows : NameTable → LineView → List (List ℕ)
-race_rows names (RaceView number thread kind word site held explained) =
-    race_text names number thread kind word site held explained ∷ []
-race_rows names (RefusedView number step refusal) = []
-race_rows names (ShownView number word state) = []
-
--- that of a refused step
-abbrev pub refused_rows : NameTable → LineView → List (List ℕ)
-refused_rows names (RaceView number thread kind word site held explained) = []
-refused_rows names (RefusedView number step refusal) =
-    refused_text names number step refusal ∷ []
-refused_rows names (ShownView number word state) = []
-
--- and that of a word that was shown
-abbrev pub shown_rows : NameTable → LineView → List (List ℕ)
-shown_rows names (RaceView number thread kind word site held explained) = []
-shown_rows names (RefusedView number step refusal) = []
-shown_rows names (ShownView number word state) = shown_text names number word state ∷ []
-
--- where the run stopped, or null
-unfoldable pub stop_text : Option (ℕ × NoRoom) → List ℕ
-stop_text None = codes "null"
-stop_text (Some stop) = line_member stop.0 ++ why_member (refusal_of stop.1)
-
+-- where the run stopped, or null; this closes the lists
 unfoldable pub stop_member : Option (ℕ × NoRoom) → List ℕ
-stop_member stop = codes "],\n\"stop\":" ++ stop_text stop
+stop_member None = codes "],\n\"stop\":null"
+stop_member (Some stop) = codes "],\n\"stop\":{\"line\":" ++ decimal stop.0 ++ codes ",\"why\":\"" ++ text_of (refusal_of stop.1) ++ codes "\"}"
 
 -- how many races each rule took
 unfoldable pub counts_member : List ℕ → List ℕ
-counts_member counts = codes ",\n\"suppressions\":" ++ array_text decimal counts
+counts_member counts = codes ",\n\"suppressions\":[" ++ values_text decimal counts ++ codes "]"
 
--- a count, behind its name
-abbrev pub count_member : List ℕ → ℕ → List ℕ
-count_member name count = name ++ decimal count
+-- the totals
+unfoldable pub totals_front : Summary → List ℕ
+totals_front s =
+    codes ",\n\"totals\":{\"steps\":" ++ decimal s.steps ++ codes ",\"races\":" ++ decimal s.races
+    ++ codes ",\"suppressed\":" ++ decimal s.suppressed ++ codes ",\"refused\":" ++ decimal s.refused
 
+-- with the lost events, if some were; this closes the document
 unfoldable pub totals_member : Summary → List ℕ
-totals_member s =
-    count_member (codes ",\n\"totals\":{\"steps\":") s.steps ++ count_member (codes ",\"races\":") s.races
-    ++ count_member (codes ",\"suppressed\":") s.suppressed ++ count_member (codes ",\"refused\":") s.refused
-    ++ lost_text (codes ",\"lost\":") [] s.lost ++ codes "}}\n"
+totals_member s = totals_front s ++ lost_text (codes ",\"lost\":") [] s.lost ++ codes "}}\n"
 
 -- the rows of a list, behind its name
 unfoldable pub list_text : List ℕ → List (List ℕ) → List ℕ
@@ -221,9 +174,9 @@ list_text name rows = name ++ rows_text rows
 -- the lists of the document, each in the order of the report
 unfoldable pub lists_text : NameTable → List LineView → List ℕ
 lists_text names lines =
-    list_text (codes "{\"format\":1,\n\"races\":[") (flat_map (race_rows names) lines)
-    ++ list_text (codes "],\n\"refused\":[") (flat_map (refused_rows names) lines)
-    ++ list_text (codes "],\n\"shown\":[") (flat_map (shown_rows names) lines)
+    list_text (codes "{\"format\":1,\n\"races\":[") (flat_map (rows_if is_race names) lines)
+    ++ list_text (codes "],\n\"refused\":[") (flat_map (rows_if is_refused names) lines)
+    ++ list_text (codes "],\n\"shown\":[") (flat_map (rows_if is_shown names) lines)
 
 -- the whole document
 unfoldable pub json_text : NameTable → Summary → List ℕ

@@ -1,18 +1,21 @@
 //! The whole document.
 ghost use Rattle.std.specs.Prelude.{◌≡◌, ◌++◌, ◌&&◌, All, false, flat_map, map, IfOk, OnOk, decimal};
 ghost use Rattle.er_device.specs.Device.{inner_of, has_failed, taken_of};
-ghost use Rattle.er_json.specs.Document.{array_text, count_member, counts_member, json_text, list_text, lists_text, more_text, rows_text, stop_member, stop_text, totals_member, values_text};
-ghost use Rattle.er_json.specs.Inner.Sections.{has_none, heading_text, is_in, next_text, row_text, rows_in, separator_text};
+ghost use Rattle.er_json.specs.Document.{counts_member, json_text, list_text, lists_text, row_text, rows_text, stop_member, totals_front, totals_member};
+ghost use Rattle.er_json.specs.Inner.Sections.{has_none, heading_text, is_in, next_text, rows_in, separator_text};
+ghost use Rattle.er_print.specs.Values.{values_text};
 ghost use Rattle.er_print.specs.Written.{WritesReport, FailsWriting};
 ghost use Rattle.er_report.specs.Lines.{line_view};
 ghost use Rattle.er_report.specs.Names.{HasNames};
 ghost use Rattle.er_report.specs.Report.{told};
 
-use crate::members::{put_line, put_why};
-use crate::rows::{put_access, put_context, put_refused, put_shown};
+use crate::rows::{
+    put_event, put_race, put_reasons, put_refused, put_reused, put_shown, put_state,
+};
 use er_device::Device;
 use er_event::NoRoom;
-use er_print::{WriteFault, put_lost, put_number};
+use er_print::Piece::{Number, Text};
+use er_print::{Style, WriteFault, comma_before, put_all, put_lost, put_number, write_text};
 use er_report::{Line, Report};
 use er_trace::Names;
 use std::alloc::{AllocError, Global};
@@ -31,25 +34,20 @@ pub fn write_json<W: Write>(
     ensures failed { FailsWriting (has_failed writer.new) result }
     ensures taken { taken_of writer.new ≡ taken_of writer.old }
 {
-    let Ok(text) = json_text(alloc, report, names) else {
-        return Err(WriteFault::Memory);
-    };
-    if writer.write_all(&text).is_err() {
-        return Err(WriteFault::Write);
-    }
-    Ok(())
+    write_text(writer, json_text(alloc, report, names))
 }
 
+/// The JSON of a report.
 #[tactic(auto, unfolding(crate::specs::Document::json_text))]
-fn json_text(alloc: Global, report: &Report, names: &Names) -> Result<Vec<u8>, AllocError>
+pub fn json_text(alloc: Global, report: &Report, names: &Names) -> Result<Vec<u8>, AllocError>
     requires { All (HasNames names.now) report.now.lines.items }
     ensures { IfOk result (λ text. text.items ≡ json_text names.now (told report.now)) }
 {
     let mut text = Vec::new(alloc);
     put_lists(&mut text, names, &report.lines)?;
-    put_stop(&mut text, report.stop)?;
+    put_stop(&mut text, names, report.stop)?;
     put_counts(&mut text, &report.rule_counts)?;
-    put_totals(&mut text, report)?;
+    put_totals(&mut text, names, report)?;
     Ok(text)
 }
 
@@ -140,7 +138,7 @@ fn is_in(section: Section, line: &Line) -> bool
     ensures { result ≡ is_in section (line_view line.now) }
 {
     match (section, line) {
-        (Section::Races, Line::Race { .. }) => true,
+        (Section::Races, Line::Race { .. } | Line::Reused { .. }) => true,
         (Section::Refused, Line::Refused { .. }) => true,
         (Section::Shown, Line::Shown { .. }) => true,
         _ => false,
@@ -159,7 +157,6 @@ pub fn put_separator(out: &mut Vec<u8>, is_first: bool) -> Result<(), AllocError
 }
 
 // Puts the object of a line.
-#[tactic(auto, unfolding(crate::specs::Document::race_text))]
 fn put_row(out: &mut Vec<u8>, names: &Names, line: &Line) -> Result<(), AllocError>
     requires { HasNames names.now line.now }
     ensures { OnOk result (out.new.items ≡ out.old.items ++ row_text names.now (line_view line.now)) }
@@ -174,36 +171,50 @@ fn put_row(out: &mut Vec<u8>, names: &Names, line: &Line) -> Result<(), AllocErr
             held,
             explained,
         } => {
-            put_access(out, names, *line, *thread, *kind, *word)?;
-            put_context(out, names, *site, held.as_slice(), explained)
+            let held = held.as_slice();
+            put_race(out, names, *line, *thread, *kind, *word, *site, held)?;
+            put_reasons(out, names, explained)
+        }
+        Line::Reused {
+            line,
+            thread,
+            range,
+            held,
+            explained,
+        } => {
+            put_reused(out, names, *line, *thread, range, held.as_slice())?;
+            put_reasons(out, names, explained)
         }
         Line::Refused {
             line,
             step,
             refusal,
-        } => put_refused(out, names, *line, step, *refusal),
-        Line::Shown { line, word, state } => put_shown(out, names, *line, *word, state),
+        } => {
+            put_refused(out, names, *line, step.thread)?;
+            put_event(out, names, step.event, *refusal)
+        }
+        Line::Shown { line, word, state } => {
+            put_shown(out, names, *line, *word)?;
+            put_state(out, names, state)
+        }
     }
 }
 
 // Puts where the run stopped, or null, and closes the last list.
 #[tactic(auto, unfolding(crate::specs::Document::stop_member))]
-fn put_stop(out: &mut Vec<u8>, stop: Option<(u64, NoRoom)>) -> Result<(), AllocError>
+fn put_stop(out: &mut Vec<u8>, names: &Names, stop: Option<(u64, NoRoom)>) -> Result<(), AllocError>
     ensures { OnOk result (out.new.items ≡ out.old.items ++ stop_member stop) }
 {
-    out.extend_from_slice(b"],\n\"stop\":")?;
-    put_stop_value(out, stop)
-}
-
-#[tactic(auto, unfolding(crate::specs::Document::stop_text))]
-fn put_stop_value(out: &mut Vec<u8>, stop: Option<(u64, NoRoom)>) -> Result<(), AllocError>
-    ensures { OnOk result (out.new.items ≡ out.old.items ++ stop_text stop) }
-{
     let Some((line, cause)) = stop else {
-        return out.extend_from_slice(b"null");
+        return out.extend_from_slice(b"],\n\"stop\":null");
     };
-    put_line(out, line)?;
-    put_why(out, cause.refusal())
+    let pieces = [
+        Number(b"],\n\"stop\":{\"line\":", line),
+        Text(b",\"why\":\""),
+        Text(cause.refusal().text().as_bytes()),
+        Text(b"\"}"),
+    ];
+    put_all(out, Style::Json, names, &pieces)
 }
 
 // Puts how many races each rule took.
@@ -211,14 +222,7 @@ fn put_stop_value(out: &mut Vec<u8>, stop: Option<(u64, NoRoom)>) -> Result<(), 
 fn put_counts(out: &mut Vec<u8>, counts: &[u64]) -> Result<(), AllocError>
     ensures { OnOk result (out.new.items ≡ out.old.items ++ counts_member counts.now) }
 {
-    out.extend_from_slice(b",\n\"suppressions\":")?;
-    put_count_array(out, counts)
-}
-
-fn put_count_array(out: &mut Vec<u8>, counts: &[u64]) -> Result<(), AllocError>
-    ensures { OnOk result (out.new.items ≡ out.old.items ++ array_text decimal counts.now) }
-{
-    out.extend_from_slice(b"[")?;
+    out.extend_from_slice(b",\n\"suppressions\":[")?;
     put_count_list(out, counts)?;
     out.extend_from_slice(b"]")
 }
@@ -226,20 +230,8 @@ fn put_count_array(out: &mut Vec<u8>, counts: &[u64]) -> Result<(), AllocError>
 fn put_count_list(out: &mut Vec<u8>, counts: &[u64]) -> Result<(), AllocError>
     ensures { OnOk result (out.new.items ≡ out.old.items ++ values_text decimal counts.now) }
 {
-    match counts {
-        [] => Ok(()),
-        [first, rest @ ..] => {
-            put_number(out, *first)?;
-            put_more_counts(out, rest)
-        }
-    }
-}
-
-fn put_more_counts(out: &mut Vec<u8>, counts: &[u64]) -> Result<(), AllocError>
-    ensures { OnOk result (out.new.items ≡ out.old.items ++ more_text decimal counts.now) }
-{
-    for count in counts {
-        out.push(b',')?;
+    for (place, count) in counts.iter().enumerate() {
+        out.extend_from_slice(comma_before(place))?;
         put_number(out, *count)?;
     }
     Ok(())
@@ -247,21 +239,23 @@ fn put_more_counts(out: &mut Vec<u8>, counts: &[u64]) -> Result<(), AllocError>
 
 // Puts the totals, and closes the document.
 #[tactic(auto, unfolding(crate::specs::Document::totals_member))]
-fn put_totals(out: &mut Vec<u8>, report: &Report) -> Result<(), AllocError>
+fn put_totals(out: &mut Vec<u8>, names: &Names, report: &Report) -> Result<(), AllocError>
     ensures { OnOk result (out.new.items ≡ out.old.items ++ totals_member (told report.now)) }
 {
-    put_count(out, b",\n\"totals\":{\"steps\":", report.steps)?;
-    put_count(out, b",\"races\":", report.races)?;
-    put_count(out, b",\"suppressed\":", report.suppressed)?;
-    put_count(out, b",\"refused\":", report.refused)?;
+    put_counted(out, names, report)?;
     put_lost(out, b",\"lost\":", report.lost, b"")?;
-    out.extend_from_slice(b"}}\n")?;
-    Ok(())
+    out.extend_from_slice(b"}}\n")
 }
 
-fn put_count(out: &mut Vec<u8>, name: &[u8], count: u64) -> Result<(), AllocError>
-    ensures { OnOk result (out.new.items ≡ out.old.items ++ count_member name.now count) }
+#[tactic(auto, unfolding(crate::specs::Document::totals_front))]
+fn put_counted(out: &mut Vec<u8>, names: &Names, report: &Report) -> Result<(), AllocError>
+    ensures { OnOk result (out.new.items ≡ out.old.items ++ totals_front (told report.now)) }
 {
-    out.extend_from_slice(name)?;
-    put_number(out, count)
+    let pieces = [
+        Number(b",\n\"totals\":{\"steps\":", report.steps),
+        Number(b",\"races\":", report.races),
+        Number(b",\"suppressed\":", report.suppressed),
+        Number(b",\"refused\":", report.refused),
+    ];
+    put_all(out, Style::Json, names, &pieces)
 }

@@ -24,10 +24,7 @@
 //! ```
 #![tactic(auto)]
 
-pub use document::{put_separator, write_json};
-pub use values::{put_escaped, put_locks, put_string};
+pub use document::{json_text, put_separator, write_json};
 
 mod document;
-mod members;
 mod rows;
-mod values;

@@ -1,2 +1,5 @@
+pub mod Pieces
 pub mod Printed
+pub mod Styles
+pub mod Values
 pub mod Written

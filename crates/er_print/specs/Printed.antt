@@ -1,7 +1,6 @@
 -- The bytes of a report: each word here is the text of one thing, and a line ends with its LF.
-use Rattle.std.specs.Prelude.{ℕ, zero, suc, ◌+◌, ◌-◌, ◌*◌, ◌/◌, ◌%◌, Bool, cond, nat_lt, List, [], ◌∷◌, ◌++◌, flat_map, slice_index_or, Option, Some, None, codes, decimal}
+use Rattle.std.specs.Prelude.{ℕ, zero, suc, ◌+◌, ◌-◌, ◌*◌, ◌/◌, ◌%◌, Bool, cond, nat_lt, List, [], ◌∷◌, ◌++◌, flat_map, Option, Some, None, codes, decimal}
 use Rattle.std.specs.Char.{digit_char}
-use Rattle.er_event.specs.Lockset.{is_level_lock, level_base}
 use Rattle.er_trace.specs.Names.{NameTable}
 use Rattle.er_event.specs.Refusal.{text_of, refusal_of}
 use Rattle.er_event.specs.declared.refusals.NoRoom.{NoRoom}
@@ -21,8 +20,10 @@ use Rattle.er_report.specs.Report.{Summary, report_of}
 use Rattle.er_report.specs.Lines.{LineView, RaceView, ReusedView, RefusedView, ShownView}
 use Rattle.er_report.specs.declared.report.Because.{Because}
 use Rattle.er_report.specs.declared.report.Label.{Label}
-use Rattle.er_report.specs.declared.report.Label.TheVariants as label
 use Rattle.er_rules.specs.Rules.{Target}
+use Rattle.er_print.specs.Styles.{label_in, lock_in, locks_in, site_in}
+use Rattle.er_print.specs.declared.styles.Style.TheVariants as style
+pub use Rattle.er_print.specs.Styles.{name_at}
 
 -- so many lower-case hexadecimal digits, of which the last is the lowest
 unfoldable pub hex_digits : ℕ → ℕ → List ℕ
@@ -33,26 +34,14 @@ hex_digits (suc k) n = hex_digits k (n / 16) ++ digit_char (n % 16) ∷ []
 abbrev pub address_text : ℕ → List ℕ
 address_text word = codes "0x" ++ hex_digits 12 (4 * word)
 
--- the name of a number, counted from 0
-abbrev pub name_at : List (List ℕ) → ℕ → List ℕ
-name_at names n = slice_index_or names n []
-
--- sites count from 1, and the missing one is a dash
 abbrev pub site_text : NameTable → ℕ → List ℕ
-site_text names zero = codes "-"
-site_text names (suc n) = name_at names.sites n
+site_text names site = site_in style.Plain names site
 
--- the lock of a level is a mark and the level
 abbrev pub lock_text : NameTable → ℕ → List ℕ
-lock_text names lock = cond (is_level_lock lock) (codes "!" ++ decimal (lock - level_base)) (name_at names.locks lock)
-
--- the locks after the first, each behind a space
-abbrev pub more_locks : NameTable → List ℕ → List ℕ
-more_locks names locks = flat_map (λ lock. 32 ∷ lock_text names lock) locks
+lock_text names lock = lock_in style.Plain names lock
 
 abbrev pub locks_text : NameTable → List ℕ → List ℕ
-locks_text names [] = codes "none"
-locks_text names (lock ∷ locks) = lock_text names lock ++ more_locks names locks
+locks_text names locks = locks_in style.Plain names locks
 
 abbrev pub kind_text : Kind → List ℕ
 kind_text kind.Read = codes "read"
@@ -99,13 +88,8 @@ state_text names (SharedModified locks) = codes "shared-modified" ++ candidates_
 abbrev pub place_text : ℕ → List ℕ
 place_text number = codes "line " ++ decimal number ++ codes ": "
 
--- what an access has to do with a race; a lock that does not cover it is named
 abbrev pub label_text : NameTable → Label → List ℕ
-label_text names label.First = codes "first"
-label_text names label.Joined = codes "joined"
-label_text names label.Write = codes "write"
-label_text names (label.Uncovered lock) = lock_text names lock ++ codes " not covering"
-label_text names label.Unordered = codes "unordered with"
+label_text names label = label_in style.Plain names label
 
 -- one of a race's reasons, on a line of its own
 abbrev pub reason_text : NameTable → Because → List ℕ
@@ -114,12 +98,12 @@ reason_text names because =
     ++ name_at names.threads because.thread ++ codes " " ++ kind_text because.kind ++ 10 ∷ []
 
 -- how many bytes the words from lo to hi have
-abbrev pub size_text : ℕ → ℕ → List ℕ
-size_text lo hi = decimal ((hi - lo + 1) * 4)
+abbrev pub bytes_between : ℕ → ℕ → ℕ
+bytes_between lo hi = (hi - lo + 1) * 4
 
--- who gave them back, by the address of the first byte
+-- who gave back these words, by the address of the first byte and the number of bytes
 abbrev pub reuse_text : NameTable → ℕ → ℕ → ℕ → List ℕ
-reuse_text names thread lo hi = name_at names.threads thread ++ codes " reuse " ++ address_text lo ++ codes " " ++ size_text lo hi
+reuse_text names thread lo hi = name_at names.threads thread ++ codes " reuse " ++ address_text lo ++ codes " " ++ decimal (bytes_between lo hi)
 
 -- what a line says of its step
 abbrev pub own_text : NameTable → LineView → List ℕ

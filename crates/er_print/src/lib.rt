@@ -9,6 +9,9 @@
 //!
 //! The text is built whole, in one list of bytes, before the first byte is written.
 //!
+//! Every form of a report is put in parts: a [`Piece`] is a value with the bytes before it, [`put_all`] puts a list of them, and a [`Style`]
+//! says how names are written. [`write_text`] writes what was built.
+//!
 //! ```
 //! let mut device = Device::new(Vec::new(alloc));
 //! write_report(alloc, &mut device, &report, trace.names())?;
@@ -20,17 +23,19 @@
 
 pub use fault::WriteFault;
 pub use lines::{
-    put_line, put_lost, put_place, put_reasons, put_reuse, put_rule_counts, put_size, put_stop,
+    bytes_of, put_line, put_lost, put_place, put_reasons, put_reuse, put_rule_counts, put_stop,
     put_totals,
 };
-pub use naming::{
-    order_verb, put_event, put_kind, put_lock, put_locks, put_site, put_state, put_thread,
-};
+pub use naming::{order_verb, verb};
 pub use numbers::{put_address, put_number};
-pub use report::{report_text, write_report};
+pub use pieces::{Piece, put_all};
+pub use report::{report_text, write_report, write_text};
+pub use styles::{Style, comma_before, put_escaped, put_short, put_string};
 
 mod fault;
 mod lines;
 mod naming;
 mod numbers;
+mod pieces;
 mod report;
+mod styles;

@@ -1,15 +1,17 @@
 //! The lines of a report.
-ghost use Rattle.std.specs.Prelude.{◌≡◌, ◌<◌, ◌≤◌, ◌+◌, ◌-◌, ◌*◌, [], ◌∷◌, ◌++◌, length, All, codes, decimal, flat_map, OnOk};
+ghost use Rattle.std.specs.Prelude.{◌≡◌, ◌<◌, ◌≤◌, [], ◌∷◌, ◌++◌, length, All, codes, decimal, flat_map, OnOk};
 ghost use Rattle.er_event.specs.Refusal.{text_of};
 ghost use Rattle.er_report.specs.Lines.{line_view};
-ghost use Rattle.er_report.specs.Names.{HasLabelName, HasLockNames, HasEventNames, HasNames, HasReasonNames, HasStateNames};
+ghost use Rattle.er_report.specs.Names.{HasLockNames, HasEventNames, HasNames, HasReasonNames, HasStateNames};
 ghost use Rattle.er_report.specs.Report.{told};
-ghost use Rattle.er_print.specs.Printed.{name_at, site_text, locks_text, kind_text, address_text, event_text, state_text, label_text, place_text, reason_text, reuse_text, size_text, own_text, line_text, stop_text, count_text, counts_text, lost_text, totals_text};
+ghost use Rattle.er_print.specs.Printed.{name_at, site_text, locks_text, kind_text, address_text, event_text, state_text, bytes_between, place_text, reason_text, reuse_text, own_text, line_text, stop_text, count_text, counts_text, lost_text, totals_text};
 
-use crate::naming::{put_event, put_lock, put_locks, put_site, put_state, put_thread};
-use crate::numbers::{put_address, put_number};
-use er_event::{Kind, Lockset, NoRoom, PageRange, Refusal, Site, Step, ThreadId, Word, WordState};
-use er_report::{Because, Label, Line, Report};
+use crate::numbers::put_number;
+use crate::pieces::Piece::{Address, Event, Label, Locks, Number, Site, State, Text, Thread, Verb};
+use crate::pieces::put_all;
+use crate::styles::Style;
+use er_event::{Kind, LockId, NoRoom, PageRange, Refusal, Step, ThreadId, Word, WordState};
+use er_report::{Because, Line, Report};
 use er_trace::Names;
 use std::alloc::AllocError;
 
@@ -57,8 +59,7 @@ fn put_own_line(out: &mut Vec<u8>, names: &Names, line: &Line) -> Result<(), All
             explained: _,
         } => {
             put_place(out, *line)?;
-            put_race(out, names, *thread, *kind, *word)?;
-            put_where(out, names, *site, held)
+            put_race(out, names, *thread, *kind, *word, *site, held.as_slice())
         }
         Line::Reused {
             line,
@@ -87,6 +88,32 @@ fn put_own_line(out: &mut Vec<u8>, names: &Names, line: &Line) -> Result<(), All
     }
 }
 
+// Puts a race, with the locks that its thread held.
+fn put_race(
+    out: &mut Vec<u8>,
+    names: &Names,
+    thread: ThreadId,
+    kind: Kind,
+    word: Word,
+    site: er_event::Site,
+    held: &[LockId],
+) -> Result<(), AllocError>
+    requires thread { thread < length names.now.threads }
+    requires site { site ≤ length names.now.sites }
+    requires locks { HasLockNames names.now held.now }
+    ensures { OnOk result (out.new.items ≡ out.old.items ++ (codes "race: " ++ name_at names.now.threads thread ++ codes " " ++ kind_text kind ++ codes " " ++ address_text word ++ codes " at " ++ site_text names.now site ++ codes ", holds " ++ locks_text names.now held.now ++ 10 ∷ [])) }
+{
+    let pieces = [
+        Thread(b"race: ", thread),
+        Verb(b" ", kind),
+        Address(b" ", word),
+        Site(b" at ", site),
+        Locks(b", holds ", held),
+        Text(b"\n"),
+    ];
+    put_all(out, Style::Plain, names, &pieces)
+}
+
 /// Puts who gave back which bytes.
 pub fn put_reuse(
     out: &mut Vec<u8>,
@@ -97,65 +124,22 @@ pub fn put_reuse(
     requires { thread < length names.now.threads }
     ensures { OnOk result (out.new.items ≡ out.old.items ++ reuse_text names.now thread range.now.lo range.now.hi) }
 {
-    put_thread(out, names, thread)?;
-    out.extend_from_slice(b" reuse ")?;
-    put_address(out, range.lo)?;
-    out.extend_from_slice(b" ")?;
-    put_size(out, range)
+    let pieces = [
+        Thread(b"", thread),
+        Address(b" reuse ", range.lo),
+        Number(b" ", bytes_of(range)),
+    ];
+    put_all(out, Style::Plain, names, &pieces)
 }
 
-/// Puts how many bytes the words of a range have.
-pub fn put_size(out: &mut Vec<u8>, range: &PageRange) -> Result<(), AllocError>
-    ensures { OnOk result (out.new.items ≡ out.old.items ++ size_text range.now.lo range.now.hi) }
+/// How many bytes the words of a range have.
+pub fn bytes_of(range: &PageRange) -> u64
+    ensures { result ≡ bytes_between range.now.lo range.now.hi }
 {
-    let words = range.hi.number() - range.lo.number() + 1;
-    put_number(out, words * Word::BYTES)
+    (range.hi.number() - range.lo.number() + 1) * Word::BYTES
 }
 
-// Puts the access of a race.
-#[inline]
-fn put_race(
-    out: &mut Vec<u8>,
-    names: &Names,
-    thread: ThreadId,
-    kind: Kind,
-    word: Word,
-) -> Result<(), AllocError>
-    requires { thread < length names.now.threads }
-    ensures { OnOk result (out.new.items ≡ out.old.items ++ (codes "race: " ++ name_at names.now.threads thread ++ codes " " ++ kind_text kind ++ codes " " ++ address_text word)) }
-{
-    out.extend_from_slice(b"race: ")?;
-    put_thread(out, names, thread)?;
-    out.extend_from_slice(spaced_verb(kind))?;
-    put_address(out, word)
-}
-
-// The verb of an access, between spaces.
-fn spaced_verb(kind: Kind) -> &'static [u8]
-    ensures { result.now ≡ codes " " ++ kind_text kind ++ codes " " }
-{
-    match kind {
-        Kind::Read => b" read ".as_slice(),
-        Kind::Write => b" write ".as_slice(),
-    }
-}
-
-// Puts the site of a race and the locks that its thread held there, and ends the line.
-#[inline]
-fn put_where(out: &mut Vec<u8>, names: &Names, site: Site, held: &Lockset) -> Result<(), AllocError>
-    requires site { site ≤ length names.now.sites }
-    requires locks { HasLockNames names.now held.now }
-    ensures { OnOk result (out.new.items ≡ out.old.items ++ (codes " at " ++ site_text names.now site ++ codes ", holds " ++ locks_text names.now held.now ++ 10 ∷ [])) }
-{
-    out.extend_from_slice(b" at ")?;
-    put_site(out, names, site)?;
-    out.extend_from_slice(b", holds ")?;
-    put_locks(out, names, held)?;
-    out.extend_from_slice(b"\n")
-}
-
-// Puts a step that was refused and why, and ends the line.
-#[inline]
+// Puts a step that was refused and why.
 fn put_refused(
     out: &mut Vec<u8>,
     names: &Names,
@@ -166,17 +150,17 @@ fn put_refused(
     requires event { HasEventNames names.now step.now.event }
     ensures { OnOk result (out.new.items ≡ out.old.items ++ (codes "refused: " ++ name_at names.now.threads step.now.thread ++ codes " " ++ event_text names.now step.now.event ++ codes ": " ++ text_of refusal ++ 10 ∷ [])) }
 {
-    out.extend_from_slice(b"refused: ")?;
-    put_thread(out, names, step.thread)?;
-    out.extend_from_slice(b" ")?;
-    put_event(out, names, step.event)?;
-    out.extend_from_slice(b": ")?;
-    out.extend_from_slice(refusal.text().as_bytes())?;
-    out.extend_from_slice(b"\n")
+    let pieces = [
+        Thread(b"refused: ", step.thread),
+        Event(b" ", &step.event),
+        Text(b": "),
+        Text(refusal.text().as_bytes()),
+        Text(b"\n"),
+    ];
+    put_all(out, Style::Plain, names, &pieces)
 }
 
-// Puts a word's state, and ends the line.
-#[inline]
+// Puts a word's state.
 fn put_shown(
     out: &mut Vec<u8>,
     names: &Names,
@@ -186,11 +170,8 @@ fn put_shown(
     requires { HasStateNames names.now state.now }
     ensures { OnOk result (out.new.items ≡ out.old.items ++ (codes "state " ++ address_text word ++ codes ": " ++ state_text names.now state.now ++ 10 ∷ [])) }
 {
-    out.extend_from_slice(b"state ")?;
-    put_address(out, word)?;
-    out.extend_from_slice(b": ")?;
-    put_state(out, names, state)?;
-    out.extend_from_slice(b"\n")
+    let pieces = [Address(b"state ", word), State(b": ", state), Text(b"\n")];
+    put_all(out, Style::Plain, names, &pieces)
 }
 
 // Puts the line of one access that makes a race.
@@ -198,39 +179,14 @@ fn put_reason(out: &mut Vec<u8>, names: &Names, because: &Because) -> Result<(),
     requires { HasReasonNames names.now because.now }
     ensures { OnOk result (out.new.items ≡ out.old.items ++ reason_text names.now because.now) }
 {
-    put_label(out, names, because.label)?;
-    put_number(out, because.line)?;
-    out.extend_from_slice(b", ")?;
-    put_thread(out, names, because.thread)?;
-    out.extend_from_slice(last_verb(because.kind))
-}
-
-// Puts what the line of an access that makes a race begins with.
-fn put_label(out: &mut Vec<u8>, names: &Names, label: Label) -> Result<(), AllocError>
-    requires { HasLabelName names.now label }
-    ensures { OnOk result (out.new.items ≡ out.old.items ++ (codes "  " ++ label_text names.now label ++ codes ": line ")) }
-{
-    match label {
-        Label::First => out.extend_from_slice(b"  first: line "),
-        Label::Joined => out.extend_from_slice(b"  joined: line "),
-        Label::Write => out.extend_from_slice(b"  write: line "),
-        Label::Uncovered(lock) => {
-            out.extend_from_slice(b"  ")?;
-            put_lock(out, names, lock)?;
-            out.extend_from_slice(b" not covering: line ")
-        }
-        Label::Unordered => out.extend_from_slice(b"  unordered with: line "),
-    }
-}
-
-// The verb of an access at the end of a line, behind a space.
-fn last_verb(kind: Kind) -> &'static [u8]
-    ensures { result.now ≡ codes " " ++ kind_text kind ++ 10 ∷ [] }
-{
-    match kind {
-        Kind::Read => b" read\n".as_slice(),
-        Kind::Write => b" write\n".as_slice(),
-    }
+    let pieces = [
+        Label(b"  ", because.label),
+        Number(b": line ", because.line),
+        Thread(b", ", because.thread),
+        Verb(b" ", because.kind),
+        Text(b"\n"),
+    ];
+    put_all(out, Style::Plain, names, &pieces)
 }
 
 /// Puts the line of the stop, if there is one.

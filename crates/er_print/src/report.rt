@@ -1,9 +1,10 @@
 //! Whole reports.
-ghost use Rattle.std.specs.Prelude.{◌≡◌, All, IfOk, false};
+ghost use Rattle.std.specs.Prelude.{◌≡◌, ℕ, List, All, Err, IfErr, IfOk, false};
 ghost use Rattle.er_device.specs.Device.{inner_of, has_failed, taken_of};
 ghost use Rattle.er_report.specs.Names.{HasNames};
 ghost use Rattle.er_report.specs.Report.{told};
 ghost use Rattle.er_print.specs.Printed.{report_text};
+ghost use Rattle.er_print.specs.declared.fault.WriteFault.TheVariants.{Memory};
 ghost use Rattle.er_print.specs.Written.{WritesReport, FailsWriting};
 
 use crate::WriteFault;
@@ -27,7 +28,21 @@ pub fn write_report<W: Write>(
     ensures failed { FailsWriting (has_failed writer.new) result }
     ensures taken { taken_of writer.new ≡ taken_of writer.old }
 {
-    let Ok(text) = report_text(alloc, report, names) else {
+    write_text(writer, report_text(alloc, report, names))
+}
+
+/// Writes a text, unless there was no memory for it.
+pub fn write_text<W: Write>(
+    writer: &mut Device<W>,
+    text: Result<Vec<u8>, AllocError>,
+) -> Result<(), WriteFault>
+    requires open { has_failed writer.old ≡ false }
+    ensures bytes { (bytes : List ℕ) → IfOk text (λ text. text.items ≡ bytes) → WritesReport (W.contents (inner_of writer.old)) (W.contents (inner_of writer.new)) bytes result }
+    ensures memory { IfErr text (λ why. result ≡ Err Memory) }
+    ensures failed { FailsWriting (has_failed writer.new) result }
+    ensures taken { taken_of writer.new ≡ taken_of writer.old }
+{
+    let Ok(text) = text else {
         return Err(WriteFault::Memory);
     };
     if writer.write_all(&text).is_err() {

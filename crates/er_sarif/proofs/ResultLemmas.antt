@@ -8,7 +8,7 @@ use Rattle.er_json.specs.Document.{rows_text}
 use Rattle.er_json.specs.Inner.Sections.{has_none, next_text}
 use Rattle.er_places.specs.Places.{PlaceTable}
 use Rattle.er_report.specs.declared.report.Line.{Line}
-use Rattle.er_report.specs.declared.report.Line.TheVariants.{Race, Refused, Shown}
+use Rattle.er_report.specs.declared.report.Line.TheVariants.{Race, Reused, Refused, Shown}
 use Rattle.er_sarif.specs.Document.{races_like, results_below, results_of}
 use Rattle.er_sarif.specs.Inner.Results.{count_like}
 use Rattle.er_sites.specs.Table.{reads_at, writes_at}
@@ -24,6 +24,7 @@ pub like : (reads writes : List ℕ) (lines : List Line) → ((s : ℕ) → slic
     → (line : Line) → count_like reads writes line ≡ races_like lines line
 like reads writes lines read written (Race number thread kind.Read word site held explained) = read site
 like reads writes lines read written (Race number thread kind.Write word site held explained) = written site
+like reads writes lines read written (Reused number thread range held explained) = refl
 like reads writes lines read written (Refused number step refusal) = refl
 like reads writes lines read written (Shown number word state) = refl
 
@@ -39,6 +40,7 @@ one_more false row rows = simp append-nil
 results_more : (names : NameTable) (table : PlaceTable) (before count : ℕ) (line : Line) (rows : List (List ℕ))
     → rows_text (rows ++ results_of names table before count line) ≡ rows_text rows ++ next_text (has_none rows) (results_of names table before count line)
 results_more names table before count (Race number thread kind word site held explained) rows = one_more (before == 0) _ rows
+results_more names table before count (Reused number thread range held explained) rows = simp append-nil
 results_more names table before count (Refused number step refusal) rows = simp append-nil
 results_more names table before count (Shown number word state) rows = simp append-nil
 

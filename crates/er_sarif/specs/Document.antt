@@ -1,18 +1,19 @@
 -- The SARIF of a report: a result for each site and kind of race, and one for each rule that takes races.
-use Rattle.std.specs.Prelude.{ℕ, zero, suc, ◌+◌, ◌-◌, ◌==◌, cond, List, [], ◌∷◌, ◌++◌, flat_map, take, drop, length, count_by, slice_get, Option, Some, None, codes, decimal}
-use Rattle.er_event.specs.Lockset.{has, is_level_lock, level_base}
+use Rattle.std.specs.Prelude.{ℕ, zero, suc, ◌+◌, ◌==◌, cond, List, [], ◌∷◌, ◌++◌, flat_map, take, drop, length, count_by, slice_get, Option, Some, None, codes, decimal}
+use Rattle.er_event.specs.Lockset.{has}
 use Rattle.er_event.specs.declared.steps.Kind.{Kind}
 use Rattle.er_event.specs.declared.steps.Kind.TheVariants as kind
-use Rattle.er_json.specs.Document.{access_verb, array_text, escaped_text, lock_text, rows_text, string_text}
+use Rattle.er_json.specs.Document.{rows_text}
 use Rattle.er_places.specs.Places.{PlaceTable}
 use Rattle.er_places.specs.Reasons.{reason_place}
 use Rattle.er_places.specs.declared.place.Place.{Place}
-use Rattle.er_print.specs.Printed.{address_text, lost_text, name_at, site_text}
+use Rattle.er_print.specs.Printed.{address_text, kind_text, lost_text, name_at, site_text}
+use Rattle.er_print.specs.Styles.{escaped_text, label_in, lock_in, locks_in, string_text, thread_in}
+use Rattle.er_print.specs.Values.{values_text}
+use Rattle.er_print.specs.declared.styles.Style.TheVariants as style
 use Rattle.er_report.specs.declared.report.Because.{Because}
-use Rattle.er_report.specs.declared.report.Label.{Label}
-use Rattle.er_report.specs.declared.report.Label.TheVariants as label
 use Rattle.er_report.specs.declared.report.Line.{Line}
-use Rattle.er_report.specs.declared.report.Line.TheVariants.{Race, Refused, Shown}
+use Rattle.er_report.specs.declared.report.Line.TheVariants.{Race, Reused, Refused, Shown}
 use Rattle.er_report.specs.declared.report.Report.{Report}
 use Rattle.er_rules.specs.Rules.{Target, AtSite, AtWords}
 use Rattle.er_sarif.specs.Places.{file_end}
@@ -21,28 +22,10 @@ use Rattle.er_sites.specs.Table.{reads_at, writes_at}
 use Rattle.er_trace.specs.Names.{NameTable}
 use Rattle.er_triage.specs.Texts.{target_text}
 
--- a name inside a string
-unfoldable pub thread_words : NameTable → ℕ → List ℕ
-thread_words names thread = escaped_text (name_at names.threads thread)
-
-unfoldable pub lock_words : NameTable → ℕ → List ℕ
-lock_words names lock = cond (is_level_lock lock) (codes "!" ++ decimal (lock - level_base)) (escaped_text (name_at names.locks lock))
-
--- the rule that a kind of race goes by
-unfoldable pub rule_member : Kind → List ℕ
-rule_member kind = codes "{\"ruleId\":\"race/" ++ access_verb kind ++ codes "\",\"level\":\"error\""
-
 -- what an access did to the word of a race
 abbrev pub deed_words : Kind → List ℕ
 deed_words kind.Read = codes " read the word at "
 deed_words kind.Write = codes " wrote the word at "
-
-unfoldable pub message_member : NameTable → ℕ → Kind → ℕ → List ℕ
-message_member names thread kind word =
-    codes ",\"message\":{\"text\":\"" ++ thread_words names thread ++ deed_words kind ++ address_text word ++ codes ", and no lock protects it\"}"
-
-unfoldable pub count_member : ℕ → List ℕ
-count_member count = codes ",\"occurrenceCount\":" ++ decimal count
 
 -- a site that doesn't end with a line is a name
 unfoldable pub name_member : List ℕ → List ℕ
@@ -64,34 +47,24 @@ open_location site = place_by site (file_end site)
 unfoldable pub location_member : List ℕ → List ℕ
 location_member site = codes ",\"locations\":[" ++ open_location site ++ codes "}]"
 
--- what an access has to do with a race
-unfoldable pub label_words : NameTable → Label → List ℕ
-label_words names label.First = codes "first: "
-label_words names label.Joined = codes "joined: "
-label_words names label.Write = codes "write: "
-label_words names (label.Uncovered lock) = lock_words names lock ++ codes " not covering: "
-label_words names label.Unordered = codes "unordered with: "
-
--- who did what there
-unfoldable pub access_words : NameTable → ℕ → Kind → ℕ → List ℕ
-access_words names thread kind number = thread_words names thread ++ codes " " ++ access_verb kind ++ codes " on line " ++ decimal number
-
+-- who did what there, and what it has to do with the race
 unfoldable pub sentence_words : NameTable → Because → List ℕ
 sentence_words names because =
-    codes "\"message\":{\"text\":\"" ++ label_words names because.label ++ access_words names because.thread because.kind because.line ++ codes " of the trace"
+    codes "\"message\":{\"text\":\"" ++ label_in style.InString names because.label ++ codes ": " ++ thread_in style.InString names because.thread ++ codes " "
+    ++ kind_text because.kind ++ codes " on line " ++ decimal because.line ++ codes " of the trace"
 
 -- a lock that is held only to read is marked
 abbrev pub mode_words : List ℕ → ℕ → List ℕ
 mode_words writes lock = cond (has writes lock) [] (codes " (to read)")
 
--- a lock behind others
-unfoldable pub next_words : NameTable → List ℕ → ℕ → List ℕ
-next_words names writes lock = codes ", " ++ lock_words names lock ++ mode_words writes lock
+-- a lock behind this sign
+unfoldable pub lock_words : NameTable → List ℕ → List ℕ → ℕ → List ℕ
+lock_words names writes sign lock = sign ++ lock_in style.InString names lock ++ mode_words writes lock
 
 -- the locks that a thread held, of which these to write
 abbrev pub locks_words : NameTable → List ℕ → List ℕ → List ℕ
 locks_words names writes [] = codes " no lock"
-locks_words names writes (lock ∷ locks) = codes " " ++ lock_words names lock ++ mode_words writes lock ++ flat_map (next_words names writes) locks
+locks_words names writes (lock ∷ locks) = lock_words names writes (codes " ") lock ++ flat_map (lock_words names writes (codes ", ")) locks
 
 -- if that is known
 unfoldable pub holding_words : NameTable → Option Place → List ℕ
@@ -113,27 +86,28 @@ unfoldable pub reason_text : NameTable → PlaceTable → Because → List ℕ
 reason_text names table because =
     opening_text table.names (reason_place table because) ++ sentence_words names because ++ holding_words table.names (reason_place table because) ++ codes "\"}}"
 
-unfoldable pub related_member : NameTable → PlaceTable → List Because → List ℕ
-related_member names table explained = codes ",\"relatedLocations\":" ++ array_text (reason_text names table) explained
-
--- the same in each run
-unfoldable pub fingerprint_member : List ℕ → Kind → List ℕ
-fingerprint_member site kind = codes ",\"partialFingerprints\":{\"siteAndKind/v1\":\"" ++ escaped_text site ++ codes " " ++ access_verb kind ++ codes "\"}"
-
-unfoldable pub properties_member : NameTable → ℕ → List ℕ → List ℕ
-properties_member names number held = codes ",\"properties\":{\"line\":" ++ decimal number ++ codes ",\"held\":" ++ array_text (lock_text names) held ++ codes "}}"
-
--- what is wrong, and how often
+-- what is wrong, and how often; then comes where
 unfoldable pub front_text : NameTable → ℕ → Kind → ℕ → ℕ → List ℕ
-front_text names thread kind word count = rule_member kind ++ message_member names thread kind word ++ count_member count
+front_text names thread kind word count =
+    codes "{\"ruleId\":\"race/" ++ kind_text kind ++ codes "\",\"level\":\"error\",\"message\":{\"text\":\"" ++ thread_in style.InString names thread
+    ++ deed_words kind ++ address_text word ++ codes ", and no lock protects it\"},\"occurrenceCount\":" ++ decimal count ++ codes ",\"locations\":["
+
+-- the same in each run; then come the accesses that make the first race
+unfoldable pub fingerprint_text : List ℕ → Kind → List ℕ
+fingerprint_text site kind =
+    codes "}],\"partialFingerprints\":{\"siteAndKind/v1\":\"" ++ escaped_text site ++ codes " " ++ kind_text kind ++ codes "\"},\"relatedLocations\":["
 
 -- where it is
 unfoldable pub place_text : List ℕ → Kind → List ℕ
-place_text site kind = location_member site ++ fingerprint_member site kind
+place_text site kind = open_location site ++ fingerprint_text site kind
+
+-- the line of the first race, and the locks that its thread held
+unfoldable pub properties_text : NameTable → ℕ → List ℕ → List ℕ
+properties_text names number held = codes "],\"properties\":{\"line\":" ++ decimal number ++ codes ",\"held\":" ++ locks_in style.Json names held ++ codes "}}"
 
 -- how it came about
 unfoldable pub back_text : NameTable → PlaceTable → ℕ → List ℕ → List Because → List ℕ
-back_text names table number held explained = related_member names table explained ++ properties_member names number held
+back_text names table number held explained = values_text (reason_text names table) explained ++ properties_text names number held
 
 -- a result: so many races, and the first of them
 unfoldable pub result_text : NameTable → PlaceTable → ℕ → ℕ → ℕ → Kind → ℕ → ℕ → List ℕ → List Because → List ℕ
@@ -144,6 +118,7 @@ result_text names table count number thread kind word site held explained =
 abbrev pub races_like : List Line → Line → ℕ
 races_like lines (Race number thread kind.Read word site held explained) = count_by (reads_at site) lines
 races_like lines (Race number thread kind.Write word site held explained) = count_by (writes_at site) lines
+races_like lines (Reused number thread range held explained) = 0
 races_like lines (Refused number step refusal) = 0
 races_like lines (Shown number word state) = 0
 
@@ -151,6 +126,7 @@ races_like lines (Shown number word state) = 0
 abbrev pub results_of : NameTable → PlaceTable → ℕ → ℕ → Line → List (List ℕ)
 results_of names table before count (Race number thread kind word site held explained) =
     cond (before == 0) (result_text names table count number thread kind word site held explained.items ∷ []) []
+results_of names table before count (Reused number thread range held explained) = []
 results_of names table before count (Refused number step refusal) = []
 results_of names table before count (Shown number word state) = []
 
@@ -166,7 +142,8 @@ results_below names table lines (suc n) = results_below names table lines n ++ r
 -- the rule of this text, which takes races, and how many
 unfoldable pub taken_text : List ℕ → ℕ → List ℕ
 taken_text rule count =
-    codes "{\"ruleId\":\"race/suppressed\",\"level\":\"error\",\"message\":{\"text\":\"Races that a rule takes: " ++ escaped_text rule ++ codes "\"}" ++ count_member count
+    codes "{\"ruleId\":\"race/suppressed\",\"level\":\"error\",\"message\":{\"text\":\"Races that a rule takes: " ++ escaped_text rule
+    ++ codes "\"},\"occurrenceCount\":" ++ decimal count
 
 -- where they are, if the rule is for a site that has a name
 abbrev pub target_location : Target → List ℕ

@@ -10,7 +10,7 @@ use crate::results::put_results;
 use crate::suppressed::put_suppressed;
 use er_device::Device;
 use er_places::Places;
-use er_print::{WriteFault, put_lost};
+use er_print::{WriteFault, put_lost, write_text};
 use er_report::Report;
 use er_rules::Suppressions;
 use er_sites::count_races;
@@ -34,13 +34,7 @@ pub fn write_sarif<W: Write>(
     ensures failed { FailsWriting (has_failed writer.new) result }
     ensures taken { taken_of writer.new ≡ taken_of writer.old }
 {
-    let Ok(text) = sarif_text(alloc, report, names, rules, places) else {
-        return Err(WriteFault::Memory);
-    };
-    if writer.write_all(&text).is_err() {
-        return Err(WriteFault::Write);
-    }
-    Ok(())
+    write_text(writer, sarif_text(alloc, report, names, rules, places))
 }
 
 #[tactic(auto, unfolding(crate::specs::Document::sarif_text))]

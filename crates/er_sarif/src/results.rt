@@ -1,17 +1,15 @@
 //! A result for the first race of each site and kind.
-ghost use Rattle.std.specs.Prelude.{◌≡◌, ◌++◌, ◌&&◌, ◌<◌, ◌≤◌, All, length, IfOk, OnOk};
+ghost use Rattle.std.specs.Prelude.{◌≡◌, ◌++◌, ◌&&◌, ◌≤◌, All, length, IfOk, OnOk};
 ghost use Rattle.er_json.specs.Document.{rows_text};
 ghost use Rattle.er_json.specs.Inner.Sections.{has_none, next_text};
 ghost use Rattle.er_print.specs.Printed.{site_text};
 ghost use Rattle.er_report.specs.Names.{HasLockNames, HasNames, HasReasonNames};
-ghost use Rattle.er_sarif.specs.Document.{back_text, front_text, place_text, results_below, results_of};
+ghost use Rattle.er_sarif.specs.Document.{back_text, place_text, results_below, results_of};
 ghost use Rattle.er_sarif.specs.Inner.Results.{count_like};
 ghost use Rattle.er_sites.specs.Inner.Counted.{AreCounts};
 
-use crate::members::{
-    put_count, put_fingerprint, put_location, put_message, put_properties, put_related, put_rule,
-};
-use er_event::{Kind, LockId, Site, ThreadId, Word};
+use crate::members::{open_location, put_fingerprint, put_front, put_properties, put_reasons};
+use er_event::{Kind, LockId, Site};
 use er_json::put_separator;
 use er_places::Places;
 use er_report::{Because, Line};
@@ -103,41 +101,23 @@ fn put_next(
     Ok(false)
 }
 
-// Puts what is wrong, and how often.
-#[tactic(auto, unfolding(crate::specs::Document::front_text))]
-fn put_front(
-    out: &mut Vec<u8>,
-    names: &Names,
-    thread: ThreadId,
-    kind: Kind,
-    word: Word,
-    count: u64,
-) -> Result<(), AllocError>
-    requires { thread < length names.now.threads }
-    ensures { OnOk result (out.new.items ≡ out.old.items ++ front_text names.now thread kind word count) }
-{
-    put_rule(out, kind)?;
-    put_message(out, names, thread, kind, word)?;
-    put_count(out, count)
-}
-
 // Puts where it is.
 fn put_place(out: &mut Vec<u8>, names: &Names, site: Site, kind: Kind) -> Result<(), AllocError>
     requires { site ≤ length names.now.sites }
     ensures { OnOk result (out.new.items ≡ out.old.items ++ place_text (site_text names.now site) kind) }
 {
     if site.number() == 0 {
-        return put_site(out, b"-", kind);
+        return put_site(out, names, b"-", kind);
     }
-    put_site(out, names.site_name(site).as_bytes(), kind)
+    put_site(out, names, names.site_name(site).as_bytes(), kind)
 }
 
 #[tactic(auto, unfolding(crate::specs::Document::place_text))]
-fn put_site(out: &mut Vec<u8>, site: &[u8], kind: Kind) -> Result<(), AllocError>
+fn put_site(out: &mut Vec<u8>, names: &Names, site: &[u8], kind: Kind) -> Result<(), AllocError>
     ensures { OnOk result (out.new.items ≡ out.old.items ++ place_text site.now kind) }
 {
-    put_location(out, site)?;
-    put_fingerprint(out, site, kind)
+    open_location(out, site)?;
+    put_fingerprint(out, names, site, kind)
 }
 
 // Puts how it came about, and closes the result.
@@ -154,6 +134,6 @@ fn put_back(
     requires explained { All (HasReasonNames names.now) explained.now }
     ensures { OnOk result (out.new.items ≡ out.old.items ++ back_text names.now places.now line held.now explained.now) }
 {
-    put_related(out, names, places, explained)?;
+    put_reasons(out, names, places, explained)?;
     put_properties(out, names, line, held)
 }

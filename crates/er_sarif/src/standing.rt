@@ -1,13 +1,15 @@
 //! Where the access of a reason stood, and what its thread held.
-ghost use Rattle.std.specs.Prelude.{◌≡◌, ◌++◌, ◌≤◌, flat_map, length, OnOk};
+ghost use Rattle.std.specs.Prelude.{◌≡◌, ◌++◌, ◌≤◌, codes, flat_map, length, OnOk};
 ghost use Rattle.er_places.specs.Places.{HasPlaceNames};
 ghost use Rattle.er_places.specs.Reasons.{reason_place};
 ghost use Rattle.er_report.specs.Names.{HasLockName, HasLockNames};
-ghost use Rattle.er_sarif.specs.Document.{holding_words, locks_words, mode_words, next_words, opening_of, opening_text};
+ghost use Rattle.er_sarif.specs.Document.{holding_words, lock_words, locks_words, mode_words, opening_of, opening_text};
 
-use crate::members::{open_location, put_lock};
+use crate::members::open_location;
 use er_event::{LockId, Lockset, Site};
 use er_places::Places;
+use er_print::Piece::{Lock, Text};
+use er_print::{Style, put_all};
 use er_report::Because;
 use er_trace::Names;
 use std::alloc::AllocError;
@@ -73,9 +75,7 @@ fn put_locks(
     match locks {
         [] => out.extend_from_slice(b" no lock"),
         [first, rest @ ..] => {
-            out.extend_from_slice(b" ")?;
-            put_lock(out, names, *first)?;
-            put_mode(out, write_held, *first)?;
+            put_lock(out, names, write_held, b" ", *first)?;
             put_more_locks(out, names, write_held, rest)
         }
     }
@@ -89,35 +89,38 @@ fn put_more_locks(
     locks: &[LockId],
 ) -> Result<(), AllocError>
     requires { HasLockNames names.now locks.now }
-    ensures { OnOk result (out.new.items ≡ out.old.items ++ flat_map (next_words names.now write_held.now) locks.now) }
+    ensures { OnOk result (out.new.items ≡ out.old.items ++ flat_map (lock_words names.now write_held.now (codes ", ")) locks.now) }
 {
     for lock in locks {
-        put_next(out, names, write_held, *lock)?;
+        put_lock(out, names, write_held, b", ", *lock)?;
     }
     Ok(())
 }
 
-#[tactic(auto, unfolding(crate::specs::Document::next_words))]
-fn put_next(
+// Puts a lock behind this sign.
+#[tactic(auto, unfolding(crate::specs::Document::lock_words))]
+fn put_lock(
     out: &mut Vec<u8>,
     names: &Names,
     write_held: &Lockset,
+    sign: &[u8],
     lock: LockId,
 ) -> Result<(), AllocError>
     requires { HasLockName names.now lock }
-    ensures { OnOk result (out.new.items ≡ out.old.items ++ next_words names.now write_held.now lock) }
+    ensures { OnOk result (out.new.items ≡ out.old.items ++ lock_words names.now write_held.now sign.now lock) }
 {
-    out.extend_from_slice(b", ")?;
-    put_lock(out, names, lock)?;
-    put_mode(out, write_held, lock)
+    let mode = mode_words(write_held, lock);
+    let pieces = [Text(sign), Lock(b"", lock), Text(mode)];
+    put_all(out, Style::InString, names, &pieces)
 }
 
-// Puts that a lock was held only to read, if it was.
-fn put_mode(out: &mut Vec<u8>, write_held: &Lockset, lock: LockId) -> Result<(), AllocError>
-    ensures { OnOk result (out.new.items ≡ out.old.items ++ mode_words write_held.now lock) }
+// That a lock was held only to read, if it was.
+fn mode_words(write_held: &Lockset, lock: LockId) -> &'static [u8]
+    ensures { result.now ≡ mode_words write_held.now lock }
 {
     if write_held.contains(lock) {
-        return Ok(());
+        b"".as_slice()
+    } else {
+        b" (to read)".as_slice()
     }
-    out.extend_from_slice(b" (to read)")
 }

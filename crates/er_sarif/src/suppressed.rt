@@ -6,9 +6,9 @@ ghost use Rattle.er_rules.specs.Rules.{target_of, targets_of};
 ghost use Rattle.er_sarif.specs.Document.{suppressed_below, suppressed_of, suppressed_text, suppression_text, taken_text, target_location};
 ghost use Rattle.er_triage.specs.Texts.{target_text};
 
-use crate::members::{put_count, put_location};
-use er_json::{put_escaped, put_separator};
-use er_print::put_number;
+use crate::members::put_location;
+use er_json::put_separator;
+use er_print::{put_escaped, put_number};
 use er_rules::{Rule, Suppressions};
 use er_triage::put_rule;
 use std::alloc::{AllocError, Global};
@@ -96,8 +96,8 @@ fn put_taken(out: &mut Vec<u8>, rule: &[u8], count: u64) -> Result<(), AllocErro
         b"{\"ruleId\":\"race/suppressed\",\"level\":\"error\",\"message\":{\"text\":\"Races that a rule takes: ",
     )?;
     put_escaped(out, rule)?;
-    out.extend_from_slice(b"\"}")?;
-    put_count(out, count)
+    out.extend_from_slice(b"\"},\"occurrenceCount\":")?;
+    put_number(out, count)
 }
 
 // Puts where the races are, if the rule is for a site that has a name.

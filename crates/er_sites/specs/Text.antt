@@ -1,15 +1,18 @@
 -- The text for people: a table of the sites with races, a race of each site in sentences, and the lines that every report ends with.
-use Rattle.std.specs.Prelude.{ℕ, zero, suc, ◌-◌, ◌==◌, ◌&&◌, ◌||◌, not, Bool, true, false, cond, nat_le, List, [], ◌∷◌, ◌++◌, length, drop, flat_map, min, reverse, option_and_then, Option, Some, None, codes, decimal, slice_get}
+use Rattle.std.specs.Prelude.{ℕ, zero, suc, ◌==◌, ◌&&◌, ◌||◌, not, Bool, true, false, cond, List, [], ◌∷◌, ◌++◌, length, drop, flat_map, min, reverse, option_and_then, Option, Some, None, codes, decimal, slice_get}
 use Rattle.std.specs.List.{list_any, find}
-use Rattle.er_event.specs.Lockset.{has, is_level_lock, level_base}
+use Rattle.er_event.specs.Lockset.{has}
 use Rattle.er_event.specs.Refusal.{text_of}
+use Rattle.er_event.specs.declared.addresses.PageRange.{PageRange}
 use Rattle.er_event.specs.declared.steps.Kind.{Kind}
 use Rattle.er_event.specs.declared.steps.Kind.TheVariants as kind
 use Rattle.er_trace.specs.Names.{NameTable}
 use Rattle.er_places.specs.Places.{PlaceTable}
 use Rattle.er_places.specs.Reasons.{access_place, reason_place}
 use Rattle.er_places.specs.declared.place.Place.{Place}
-use Rattle.er_print.specs.Printed.{name_at, address_text, size_text, stop_text, counts_text, totals_text}
+use Rattle.er_print.specs.Printed.{name_at, address_text, bytes_between, stop_text, counts_text, totals_text}
+use Rattle.er_print.specs.Styles.{lock_in, short, site_in, thread_in}
+use Rattle.er_print.specs.declared.styles.Style.TheVariants as style
 use Rattle.er_report.specs.Lines.{LineView, RaceView, ReusedView, RefusedView, ShownView, line_view}
 use Rattle.er_report.specs.Report.{told}
 use Rattle.er_report.specs.declared.report.Because.{Because}
@@ -21,24 +24,10 @@ use Rattle.er_report.specs.declared.report.Report.{Report}
 use Rattle.er_sites.specs.Table.{words_of}
 use Rattle.er_sites.specs.declared.row.SiteRow.{SiteRow}
 
--- a name in so many bytes at most: of a longer one the end
-abbrev pub short : ℕ → List ℕ → List ℕ
-short most name = cond (nat_le (length name) most) name (codes ".." ++ drop (length name - (most - 2)) name)
-
-abbrev pub thread_text : NameTable → ℕ → List ℕ
-thread_text names thread = short 24 (name_at names.threads thread)
-
--- the lock of a level is a mark and the level
-abbrev pub lock_text : NameTable → ℕ → List ℕ
-lock_text names lock = cond (is_level_lock lock) (codes "!" ++ decimal (lock - level_base)) (short 32 (name_at names.locks lock))
-
 -- a site in so many bytes at most; sites count from 1, and the missing one is a dash
 abbrev pub site_within : ℕ → NameTable → ℕ → List ℕ
 site_within most names zero = codes "-"
 site_within most names (suc n) = short most (name_at names.sites n)
-
-abbrev pub site_text : NameTable → ℕ → List ℕ
-site_text names site = site_within 72 names site
 
 -- a number, and spaces up to the next column
 abbrev pub column_text : ℕ → List ℕ
@@ -53,7 +42,7 @@ kinds_text (suc k) (suc l) = codes "read write  "
 abbrev pub row_text : NameTable → SiteRow → List ℕ
 row_text names row =
     column_text (words_of row) ++ kinds_text row.reads row.writes ++ column_text row.threads ++ column_text row.locks
-    ++ site_text names row.site ++ 10 ∷ []
+    ++ (site_in style.Short names row.site ++ codes "\n")
 
 -- what an access did
 abbrev pub did_text : Kind → List ℕ
@@ -67,7 +56,7 @@ access_text kind.Write = codes " wrote the word at "
 
 -- the line of the trace
 abbrev pub line_text : ℕ → List ℕ
-line_text number = codes " (line " ++ decimal number ++ codes ")"
+line_text number = codes " (line " ++ decimal number ++ codes ")\n"
 
 -- if this reason is the race itself, the lock did not protect it: the reason names the lock, or is the second thread's first access, which
 -- is a race only if no lock protects it
@@ -94,39 +83,25 @@ mode_text number own explained lock = cond (list_any (is_without number lock) ex
 -- a lock that the thread of a race held
 abbrev pub held_text : NameTable → ℕ → ℕ → Option Place → List Because → ℕ → List ℕ
 held_text names number thread own explained lock =
-    codes "  " ++ thread_text names thread ++ codes " held " ++ lock_text names lock ++ mode_text number own explained lock ++ 10 ∷ []
+    codes "  " ++ thread_in style.Short names thread ++ codes " held " ++ lock_in style.Short names lock ++ mode_text number own explained lock ++ codes "\n"
 
 -- that a thread held no lock
 abbrev pub no_lock_text : NameTable → ℕ → List ℕ
-no_lock_text names thread = codes "  " ++ thread_text names thread ++ codes " held no lock" ++ 10 ∷ []
+no_lock_text names thread = codes "  " ++ thread_in style.Short names thread ++ codes " held no lock\n"
 
 -- all locks that a thread held, or that it held none
 abbrev pub holds_text : NameTable → ℕ → ℕ → Option Place → List Because → List ℕ → List ℕ
 holds_text names number thread own explained [] = no_lock_text names thread
 holds_text names number thread own explained (lock ∷ locks) = flat_map (held_text names number thread own explained) (lock ∷ locks)
 
--- a lock that did not protect
-abbrev pub failed_lock_text : NameTable → ℕ → List ℕ
-failed_lock_text names lock = lock_text names lock ++ codes " did not protect it when "
-
--- and the access that it did not protect
-abbrev pub deed_text : NameTable → ℕ → Kind → List ℕ
-deed_text names thread kind = thread_text names thread ++ did_text kind
-
-abbrev pub unprotected_text : NameTable → ℕ → Kind → ℕ → List ℕ
-unprotected_text names thread kind lock = failed_lock_text names lock ++ deed_text names thread kind
-
--- an access that the race doesn't come after
-abbrev pub unordered_text : NameTable → ℕ → Kind → List ℕ
-unordered_text names thread kind = codes "nothing orders this before it: " ++ deed_text names thread kind
-
--- what an access has to do with a race
+-- what an access has to do with a race: it was early, it was made without a lock, or nothing orders it
 abbrev pub story_text : NameTable → ℕ → Kind → Label → List ℕ
-story_text names thread kind label.First = thread_text names thread ++ codes " used it first: it" ++ did_text kind
-story_text names thread kind label.Joined = thread_text names thread ++ codes " was the second: it" ++ did_text kind
-story_text names thread kind label.Write = thread_text names thread ++ codes " has written it since then"
-story_text names thread kind (label.Uncovered lock) = unprotected_text names thread kind lock
-story_text names thread kind label.Unordered = unordered_text names thread kind
+story_text names thread kind label.First = thread_in style.Short names thread ++ codes " used it first: it" ++ did_text kind
+story_text names thread kind label.Joined = thread_in style.Short names thread ++ codes " was the second: it" ++ did_text kind
+story_text names thread kind label.Write = thread_in style.Short names thread ++ codes " has written it since then"
+story_text names thread kind (label.Uncovered lock) =
+    lock_in style.Short names lock ++ codes " did not protect it when " ++ thread_in style.Short names thread ++ did_text kind
+story_text names thread kind label.Unordered = codes "nothing orders this before it: " ++ thread_in style.Short names thread ++ did_text kind
 
 -- a lock that is held only to read is marked
 abbrev pub read_text : List ℕ → ℕ → List ℕ
@@ -134,18 +109,18 @@ read_text writes lock = cond (has writes lock) [] (codes ", but only to read")
 
 -- a lock that the thread of a reason held, if these are held to write
 unfoldable pub kept_text : NameTable → List ℕ → ℕ → List ℕ
-kept_text names writes lock = codes "    holding " ++ lock_text names lock ++ read_text writes lock ++ 10 ∷ []
+kept_text names writes lock = codes "    holding " ++ lock_in style.Short names lock ++ read_text writes lock ++ codes "\n"
 
 -- the site of an access that was made with locks; the missing one is left out
 abbrev pub at_text : NameTable → ℕ → List ℕ
-at_text names site = cond (site == 0) [] (codes "    at " ++ site_text names site ++ 10 ∷ [])
+at_text names site = cond (site == 0) [] (codes "    at " ++ site_in style.Short names site ++ codes "\n")
 
 -- and of one that was made without
 unfoldable pub alone_text : NameTable → ℕ → List ℕ
-alone_text names site = codes "    at " ++ site_text names site ++ codes ", holding no lock" ++ 10 ∷ []
+alone_text names site = codes "    at " ++ site_in style.Short names site ++ codes ", holding no lock\n"
 
 abbrev pub bare_text : NameTable → ℕ → List ℕ
-bare_text names site = cond (site == 0) (codes "    holding no lock" ++ 10 ∷ []) (alone_text names site)
+bare_text names site = cond (site == 0) (codes "    holding no lock\n") (alone_text names site)
 
 -- where an access stood, and what its thread held, of which these to write
 abbrev pub stood_text : NameTable → ℕ → List ℕ → List ℕ → List ℕ
@@ -164,7 +139,7 @@ where_text table number because = cond (because.line == number) [] (known_text t
 -- one of the reasons of the race on this line
 abbrev pub reason_text : NameTable → PlaceTable → ℕ → Because → List ℕ
 reason_text names table number because =
-    codes "  " ++ story_text names because.thread because.kind because.label ++ line_text because.line ++ 10 ∷ [] ++ where_text table number because
+    codes "  " ++ story_text names because.thread because.kind because.label ++ line_text because.line ++ where_text table number because
 
 -- what follows from the reasons of the lockset rule
 abbrev pub no_common_lock : List ℕ
@@ -197,8 +172,8 @@ met_place table thread explained = option_and_then (reason_place table) (find (i
 
 -- the site of a race, and that of the access which it is with, if that is known and another one
 abbrev pub met_text : NameTable → NameTable → ℕ → Option Place → List ℕ
-met_text names others site None = site_text names site
-met_text names others site (Some place) = cond (place.site == 0 || place.site == site) (site_text names site) (pair_text names others site place.site)
+met_text names others site None = site_in style.Short names site
+met_text names others site (Some place) = cond (place.site == 0 || place.site == site) (site_in style.Short names site) (pair_text names others site place.site)
 
 -- behind an empty line
 abbrev pub title_text : NameTable → PlaceTable → ℕ → ℕ → List Because → List ℕ
@@ -207,7 +182,7 @@ title_text names table site thread explained = 10 ∷ [] ++ met_text names table
 -- the access of a race
 abbrev pub head_text : NameTable → ℕ → ℕ → Kind → ℕ → List ℕ
 head_text names number thread kind word =
-    codes "  " ++ thread_text names thread ++ access_text kind ++ address_text word ++ line_text number ++ 10 ∷ []
+    codes "  " ++ thread_in style.Short names thread ++ access_text kind ++ address_text word ++ codes " (line " ++ decimal number ++ codes ")\n"
 
 -- a race in sentences, under its site
 abbrev pub example_text : NameTable → PlaceTable → LineView → List ℕ
@@ -219,12 +194,17 @@ example_text names table (ReusedView number thread range held explained) = []
 example_text names table (RefusedView number step refusal) = []
 example_text names table (ShownView number word state) = []
 
--- a reuse in sentences, under the address of its first byte
+-- who gave back how much memory, under the address of its first byte
+abbrev pub given_back_text : NameTable → ℕ → ℕ → PageRange → List ℕ
+given_back_text names number thread range =
+    address_text range.lo ++ codes ":\n  " ++ thread_in style.Short names thread ++ codes " gave back " ++ decimal (bytes_between range.lo range.hi)
+    ++ codes " bytes (line " ++ decimal number ++ codes ")\n"
+
+-- a reuse in sentences
 abbrev pub reuse_story : NameTable → PlaceTable → LineView → List ℕ
 reuse_story names table (RaceView number thread kind word site held explained) = []
 reuse_story names table (ReusedView number thread range held explained) =
-    address_text range.lo ++ codes ":\n  " ++ thread_text names thread ++ codes " gave back " ++ size_text range.lo range.hi ++ codes " bytes"
-    ++ line_text number ++ 10 ∷ [] ++ flat_map (reason_text names table number) explained ++ 10 ∷ []
+    given_back_text names number thread range ++ flat_map (reason_text names table number) explained ++ 10 ∷ []
 reuse_story names table (RefusedView number step refusal) = []
 reuse_story names table (ShownView number word state) = []
 

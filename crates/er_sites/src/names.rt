@@ -1,60 +1,15 @@
 //! Names and numbers, in columns. Of a long name only the end is put, so that lines stay short.
-ghost use Rattle.std.specs.Prelude.{◌≡◌, ◌++◌, ◌<◌, ◌≤◌, length, option_copied, OnOk};
-ghost use Rattle.er_report.specs.Names.{HasLockName};
+ghost use Rattle.std.specs.Prelude.{◌≡◌, ◌++◌, ◌≤◌, length, option_copied, OnOk};
 ghost use Rattle.er_report.specs.Report.{site_name};
 ghost use Rattle.er_sites.specs.System.{is_system_name, is_system_site};
-ghost use Rattle.er_sites.specs.Text.{short, thread_text, lock_text, site_text, site_within, pair_text, column_text, access_text, did_text, line_text};
+ghost use Rattle.er_sites.specs.Text.{site_within, pair_text, column_text, access_text, did_text};
 
-use er_event::{Kind, LockId, Site, ThreadId};
-use er_print::put_number;
+use er_event::{Kind, Site};
+use er_print::{put_number, put_short};
 use er_trace::Names;
 use std::alloc::AllocError;
 
-// Puts a name in at most so many bytes.
-fn put_short(out: &mut Vec<u8>, name: &[u8], most: usize) -> Result<(), AllocError>
-    requires { 2 ≤ most }
-    ensures { OnOk result (out.new.items ≡ out.old.items ++ short most name.now) }
-{
-    if name.len() <= most {
-        return out.extend_from_slice(name);
-    }
-    out.extend_from_slice(b"..")?;
-    out.extend_from_slice(&name[name.len() - (most - 2)..])
-}
-
-/// Puts the name of a thread.
-pub(crate) fn put_thread(
-    out: &mut Vec<u8>,
-    names: &Names,
-    thread: ThreadId,
-) -> Result<(), AllocError>
-    requires { thread < length names.now.threads }
-    ensures { OnOk result (out.new.items ≡ out.old.items ++ thread_text names.now thread) }
-{
-    put_short(out, names.thread_name(thread).as_bytes(), 24)
-}
-
-/// Puts the name of a lock, or the level of a level's.
-pub(crate) fn put_lock(out: &mut Vec<u8>, names: &Names, lock: LockId) -> Result<(), AllocError>
-    requires { HasLockName names.now lock }
-    ensures { OnOk result (out.new.items ≡ out.old.items ++ lock_text names.now lock) }
-{
-    if lock.is_level_lock() {
-        out.push(b'!')?;
-        return put_number(out, u64::from(lock.number() - LockId::BELOW_LEVELS));
-    }
-    put_short(out, names.lock_name(lock).as_bytes(), 32)
-}
-
-/// Puts the name of a site, or a dash for the missing one.
-pub(crate) fn put_site(out: &mut Vec<u8>, names: &Names, site: Site) -> Result<(), AllocError>
-    requires { site ≤ length names.now.sites }
-    ensures { OnOk result (out.new.items ≡ out.old.items ++ site_text names.now site) }
-{
-    put_site_within(out, names, site, 72)
-}
-
-// The same in at most so many bytes.
+// Puts the name of a site in at most so many bytes, or a dash for the missing one.
 fn put_site_within(
     out: &mut Vec<u8>,
     names: &Names,
@@ -130,31 +85,22 @@ pub(crate) fn put_column(out: &mut Vec<u8>, n: u64) -> Result<(), AllocError>
     out.extend_from_slice(&b"          "[width.min(10)..])
 }
 
-/// Puts what an access did.
-pub(crate) fn put_did(out: &mut Vec<u8>, kind: Kind) -> Result<(), AllocError>
-    ensures { OnOk result (out.new.items ≡ out.old.items ++ did_text kind) }
+/// What an access did.
+pub(crate) fn did_text(kind: Kind) -> &'static [u8]
+    ensures { result.now ≡ did_text kind }
 {
-    out.extend_from_slice(match kind {
+    match kind {
         Kind::Read => b" read it".as_slice(),
         Kind::Write => b" wrote it".as_slice(),
-    })
+    }
 }
 
-/// Puts what the access of a race did to the word.
-pub(crate) fn put_access(out: &mut Vec<u8>, kind: Kind) -> Result<(), AllocError>
-    ensures { OnOk result (out.new.items ≡ out.old.items ++ access_text kind) }
+/// What the access of a race did to the word.
+pub(crate) fn access_text(kind: Kind) -> &'static [u8]
+    ensures { result.now ≡ access_text kind }
 {
-    out.extend_from_slice(match kind {
+    match kind {
         Kind::Read => b" read the word at ".as_slice(),
         Kind::Write => b" wrote the word at ".as_slice(),
-    })
-}
-
-/// Puts the number of a line of the trace.
-pub(crate) fn put_line(out: &mut Vec<u8>, line: u64) -> Result<(), AllocError>
-    ensures { OnOk result (out.new.items ≡ out.old.items ++ line_text line) }
-{
-    out.extend_from_slice(b" (line ")?;
-    put_number(out, line)?;
-    out.extend_from_slice(b")")
+    }
 }

@@ -8,13 +8,14 @@ ghost use Rattle.er_sites.specs.Table.{IsTable};
 ghost use Rattle.er_sites.specs.Text.{blank_text, example_of, heading_text, is_refused, kinds_text, refusal_text, refused_text, row_text, rows_text, sites_text};
 ghost use Rattle.er_sites.specs.Written.{WritesSites};
 
-use crate::names::{put_column, put_site};
+use crate::names::put_column;
 use crate::row::SiteRow;
 use crate::stories::put_example;
 use crate::table::site_rows;
 use er_device::Device;
 use er_places::Places;
-use er_print::{WriteFault, put_number, put_rule_counts, put_stop, put_totals};
+use er_print::Piece::{Site as At, Text};
+use er_print::{Style, WriteFault, put_all, put_number, put_rule_counts, put_stop, put_totals};
 use er_report::{Line, Report};
 use er_trace::Names;
 use std::alloc::{AllocError, Global};
@@ -124,8 +125,8 @@ fn put_row(out: &mut Vec<u8>, names: &Names, row: &SiteRow) -> Result<(), AllocE
     put_kinds(out, row.reads, row.writes)?;
     put_column(out, row.threads)?;
     put_column(out, row.locks)?;
-    put_site(out, names, row.site)?;
-    out.extend_from_slice(b"\n")
+    let pieces = [At(b"", row.site), Text(b"\n")];
+    put_all(out, Style::Short, names, &pieces)
 }
 
 // Puts what the accesses of a row do, and spaces up to the next column.

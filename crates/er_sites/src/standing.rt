@@ -4,9 +4,10 @@ ghost use Rattle.er_places.specs.Places.{HasPlaceNames};
 ghost use Rattle.er_report.specs.Names.{HasLockName, HasLockNames};
 ghost use Rattle.er_sites.specs.Text.{alone_text, at_text, bare_text, kept_text, read_text, stood_text, where_text};
 
-use crate::names::{put_lock, put_site};
 use er_event::{LockId, Lockset, Site};
 use er_places::{Place, Places};
+use er_print::Piece::{Lock, Site as At, Text};
+use er_print::{Style, put_all};
 use er_report::Because;
 use er_trace::Names;
 use std::alloc::AllocError;
@@ -58,10 +59,8 @@ fn put_alone(out: &mut Vec<u8>, names: &Names, site: Site) -> Result<(), AllocEr
     requires { site ≤ length names.now.sites }
     ensures { OnOk result (out.new.items ≡ out.old.items ++ alone_text names.now site) }
 {
-    out.extend_from_slice(b"    at ")?;
-    put_site(out, names, site)?;
-    out.extend_from_slice(b", holding no lock\n")?;
-    Ok(())
+    let pieces = [At(b"    at ", site), Text(b", holding no lock\n")];
+    put_all(out, Style::Short, names, &pieces)
 }
 
 // Puts the site of an access with locks.
@@ -72,9 +71,8 @@ fn put_at(out: &mut Vec<u8>, names: &Names, site: Site) -> Result<(), AllocError
     if site.number() == 0 {
         return Ok(());
     }
-    out.extend_from_slice(b"    at ")?;
-    put_site(out, names, site)?;
-    out.extend_from_slice(b"\n")
+    let pieces = [At(b"    at ", site), Text(b"\n")];
+    put_all(out, Style::Short, names, &pieces)
 }
 
 // Puts the locks, each on a line of its own.
@@ -103,19 +101,18 @@ fn put_kept(
     requires { HasLockName names.now lock }
     ensures { OnOk result (out.new.items ≡ out.old.items ++ kept_text names.now write_held.now lock) }
 {
-    out.extend_from_slice(b"    holding ")?;
-    put_lock(out, names, lock)?;
-    put_mode(out, write_held, lock)?;
-    out.extend_from_slice(b"\n")?;
-    Ok(())
+    let mode = read_text(write_held, lock);
+    let pieces = [Lock(b"    holding ", lock), Text(mode), Text(b"\n")];
+    put_all(out, Style::Short, names, &pieces)
 }
 
-// Puts that a lock was held only to read, if it was.
-fn put_mode(out: &mut Vec<u8>, write_held: &Lockset, lock: LockId) -> Result<(), AllocError>
-    ensures { OnOk result (out.new.items ≡ out.old.items ++ read_text write_held.now lock) }
+// That a lock was held only to read, if it was.
+fn read_text(write_held: &Lockset, lock: LockId) -> &'static [u8]
+    ensures { result.now ≡ read_text write_held.now lock }
 {
     if write_held.contains(lock) {
-        return Ok(());
+        b"".as_slice()
+    } else {
+        b", but only to read".as_slice()
     }
-    out.extend_from_slice(b", but only to read")
 }

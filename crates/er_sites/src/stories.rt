@@ -5,13 +5,14 @@ ghost use Rattle.er_places.specs.Places.{HasPlaceNames};
 ghost use Rattle.er_places.specs.Reasons.{reason_place};
 ghost use Rattle.er_report.specs.Lines.{line_view};
 ghost use Rattle.er_report.specs.Names.{HasLabelName, HasLockName, HasLockNames, HasNames, HasReasonNames};
-ghost use Rattle.er_sites.specs.Text.{deed_text, example_text, failed_lock_text, head_text, held_text, holds_text, is_others, is_weak_at, met_text, mode_text, title_text, no_lock_text, reason_text, reuse_story, so_by, so_text, story_text, unordered_text, unprotected_text, is_without};
+ghost use Rattle.er_sites.specs.Text.{example_text, given_back_text, head_text, held_text, holds_text, is_others, is_weak_at, line_text, met_text, mode_text, title_text, no_lock_text, reason_text, reuse_story, so_by, so_text, story_text, is_without};
 
-use crate::names::{put_access, put_did, put_line, put_lock, put_pair, put_site, put_thread};
+use crate::names::{access_text, did_text, put_pair};
 use crate::standing::put_where;
-use er_event::{Kind, LockId, Site, ThreadId, Word};
+use er_event::{Kind, LockId, PageRange, Site, ThreadId, Word};
 use er_places::{Place, Places};
-use er_print::{put_address, put_size};
+use er_print::Piece::{Address, Lock, Number, Site as At, Text, Thread};
+use er_print::{Style, bytes_of, put_all};
 use er_report::{Because, Label, Line};
 use er_trace::Names;
 use std::alloc::AllocError;
@@ -88,7 +89,7 @@ fn put_met(
 {
     match met {
         Some(because) => put_beside(out, names, places, site, &because),
-        None => put_site(out, names, site),
+        None => put_all(out, Style::Short, names, &[At(b"", site)]),
     }
 }
 
@@ -104,7 +105,7 @@ fn put_beside(
 {
     match places.of_reason(because) {
         Some(place) => put_sites(out, names, places.names(), site, place),
-        None => put_site(out, names, site),
+        None => put_all(out, Style::Short, names, &[At(b"", site)]),
     }
 }
 
@@ -121,7 +122,7 @@ fn put_sites(
     ensures { OnOk result (out.new.items ≡ out.old.items ++ met_text names.now others.now site (Some place.now)) }
 {
     if place.site.number() == 0 || place.site == site {
-        return put_site(out, names, site);
+        return put_all(out, Style::Short, names, &[At(b"", site)]);
     }
     put_pair(out, names, others, site, place.site)
 }
@@ -138,12 +139,14 @@ fn put_head(
     requires { thread < length names.now.threads }
     ensures { OnOk result (out.new.items ≡ out.old.items ++ head_text names.now line thread kind word) }
 {
-    out.extend_from_slice(b"  ")?;
-    put_thread(out, names, thread)?;
-    put_access(out, kind)?;
-    put_address(out, word)?;
-    put_line(out, line)?;
-    out.extend_from_slice(b"\n")
+    let pieces = [
+        Thread(b"  ", thread),
+        Text(access_text(kind)),
+        Address(b"", word),
+        Number(b" (line ", line),
+        Text(b")\n"),
+    ];
+    put_all(out, Style::Short, names, &pieces)
 }
 
 // Puts the locks that the thread of a race held, and which of them only to read as far as its place is known.
@@ -174,9 +177,8 @@ fn put_no_lock(out: &mut Vec<u8>, names: &Names, thread: ThreadId) -> Result<(),
     requires { thread < length names.now.threads }
     ensures { OnOk result (out.new.items ≡ out.old.items ++ no_lock_text names.now thread) }
 {
-    out.extend_from_slice(b"  ")?;
-    put_thread(out, names, thread)?;
-    out.extend_from_slice(b" held no lock\n")
+    let pieces = [Thread(b"  ", thread), Text(b" held no lock\n")];
+    put_all(out, Style::Short, names, &pieces)
 }
 
 // Puts one lock that the thread of a race held.
@@ -193,28 +195,25 @@ fn put_held(
     requires lock { HasLockName names.now lock }
     ensures { OnOk result (out.new.items ≡ out.old.items ++ held_text names.now line thread (option_copied own.entry) explained.now lock) }
 {
-    out.extend_from_slice(b"  ")?;
-    put_thread(out, names, thread)?;
-    out.extend_from_slice(b" held ")?;
-    put_lock(out, names, lock)?;
-    put_mode(out, line, own, explained, lock)?;
-    out.extend_from_slice(b"\n")
+    let mode = mode_text(line, own, explained, lock);
+    let pieces = [
+        Thread(b"  ", thread),
+        Lock(b" held ", lock),
+        Text(mode),
+        Text(b"\n"),
+    ];
+    put_all(out, Style::Short, names, &pieces)
 }
 
-// Puts that a lock was held only to read, if it didn't protect the access on the line or wasn't held to write at its place.
-fn put_mode(
-    out: &mut Vec<u8>,
-    line: u64,
-    own: Option<&Place>,
-    explained: &[Because],
-    lock: LockId,
-) -> Result<(), AllocError>
-    ensures { OnOk result (out.new.items ≡ out.old.items ++ mode_text line (option_copied own.entry) explained.now lock) }
+// That a lock was held only to read, if it didn't protect the access on the line or wasn't held to write at its place.
+fn mode_text(line: u64, own: Option<&Place>, explained: &[Because], lock: LockId) -> &'static [u8]
+    ensures { result.now ≡ mode_text line (option_copied own.entry) explained.now lock }
 {
     if is_unprotected(line, explained, lock) || is_weak_at(own, lock) {
-        return out.extend_from_slice(b", but only to read");
+        b", but only to read".as_slice()
+    } else {
+        b"".as_slice()
     }
-    Ok(())
 }
 
 fn is_weak_at(own: Option<&Place>, lock: LockId) -> bool
@@ -265,16 +264,30 @@ pub(crate) fn put_reuse_story(
     else {
         return Ok(());
     };
-    put_address(out, range.lo)?;
-    out.extend_from_slice(b":\n  ")?;
-    put_thread(out, names, *thread)?;
-    out.extend_from_slice(b" gave back ")?;
-    put_size(out, range)?;
-    out.extend_from_slice(b" bytes")?;
-    put_line(out, *line)?;
-    out.extend_from_slice(b"\n")?;
+    put_given_back(out, names, *line, *thread, range)?;
     put_reasons(out, names, places, *line, explained)?;
     out.extend_from_slice(b"\n")
+}
+
+// Puts who gave back how much memory, under the address of its first byte.
+fn put_given_back(
+    out: &mut Vec<u8>,
+    names: &Names,
+    line: u64,
+    thread: ThreadId,
+    range: &PageRange,
+) -> Result<(), AllocError>
+    requires { thread < length names.now.threads }
+    ensures { OnOk result (out.new.items ≡ out.old.items ++ given_back_text names.now line thread range.now) }
+{
+    let pieces = [
+        Address(b"", range.lo),
+        Thread(b":\n  ", thread),
+        Number(b" gave back ", bytes_of(range)),
+        Number(b" bytes (line ", line),
+        Text(b")\n"),
+    ];
+    put_all(out, Style::Short, names, &pieces)
 }
 
 // Puts the reasons of the race on this line.
@@ -307,8 +320,7 @@ fn put_reason(
 {
     out.extend_from_slice(b"  ")?;
     put_story(out, names, because.thread, because.kind, because.label)?;
-    put_line(out, because.line)?;
-    out.extend_from_slice(b"\n")?;
+    put_line(out, names, because.line)?;
     put_where(out, places, line, because)
 }
 
@@ -323,76 +335,44 @@ fn put_story(
     requires label { HasLabelName names.now label }
     ensures { OnOk result (out.new.items ≡ out.old.items ++ story_text names.now thread kind label) }
 {
+    let did = did_text(kind);
     match label {
         Label::First => {
-            put_thread(out, names, thread)?;
-            out.extend_from_slice(b" used it first: it")?;
-            put_did(out, kind)
+            let pieces = [Thread(b"", thread), Text(b" used it first: it"), Text(did)];
+            put_all(out, Style::Short, names, &pieces)
         }
         Label::Joined => {
-            put_thread(out, names, thread)?;
-            out.extend_from_slice(b" was the second: it")?;
-            put_did(out, kind)
+            let pieces = [Thread(b"", thread), Text(b" was the second: it"), Text(did)];
+            put_all(out, Style::Short, names, &pieces)
         }
         Label::Write => {
-            put_thread(out, names, thread)?;
-            out.extend_from_slice(b" has written it since then")
+            let pieces = [Thread(b"", thread), Text(b" has written it since then")];
+            put_all(out, Style::Short, names, &pieces)
         }
-        Label::Uncovered(lock) => put_unprotected(out, names, thread, kind, lock),
-        Label::Unordered => put_unordered(out, names, thread, kind),
+        Label::Uncovered(lock) => {
+            let pieces = [
+                Lock(b"", lock),
+                Thread(b" did not protect it when ", thread),
+                Text(did),
+            ];
+            put_all(out, Style::Short, names, &pieces)
+        }
+        Label::Unordered => {
+            let pieces = [
+                Thread(b"nothing orders this before it: ", thread),
+                Text(did),
+            ];
+            put_all(out, Style::Short, names, &pieces)
+        }
     }
 }
 
-// Puts an access that the race doesn't come after.
-fn put_unordered(
-    out: &mut Vec<u8>,
-    names: &Names,
-    thread: ThreadId,
-    kind: Kind,
-) -> Result<(), AllocError>
-    requires { thread < length names.now.threads }
-    ensures { OnOk result (out.new.items ≡ out.old.items ++ unordered_text names.now thread kind) }
+// Puts the number of a line of the trace.
+fn put_line(out: &mut Vec<u8>, names: &Names, line: u64) -> Result<(), AllocError>
+    ensures { OnOk result (out.new.items ≡ out.old.items ++ line_text line) }
 {
-    out.extend_from_slice(b"nothing orders this before it: ")?;
-    put_deed(out, names, thread, kind)
-}
-
-// Puts that a lock didn't protect an access.
-fn put_unprotected(
-    out: &mut Vec<u8>,
-    names: &Names,
-    thread: ThreadId,
-    kind: Kind,
-    lock: LockId,
-) -> Result<(), AllocError>
-    requires thread { thread < length names.now.threads }
-    requires lock { HasLockName names.now lock }
-    ensures { OnOk result (out.new.items ≡ out.old.items ++ unprotected_text names.now thread kind lock) }
-{
-    put_failed_lock(out, names, lock)?;
-    put_deed(out, names, thread, kind)
-}
-
-fn put_failed_lock(out: &mut Vec<u8>, names: &Names, lock: LockId) -> Result<(), AllocError>
-    requires { HasLockName names.now lock }
-    ensures { OnOk result (out.new.items ≡ out.old.items ++ failed_lock_text names.now lock) }
-{
-    put_lock(out, names, lock)?;
-    out.extend_from_slice(b" did not protect it when ")?;
-    Ok(())
-}
-
-fn put_deed(
-    out: &mut Vec<u8>,
-    names: &Names,
-    thread: ThreadId,
-    kind: Kind,
-) -> Result<(), AllocError>
-    requires { thread < length names.now.threads }
-    ensures { OnOk result (out.new.items ≡ out.old.items ++ deed_text names.now thread kind) }
-{
-    put_thread(out, names, thread)?;
-    put_did(out, kind)
+    let pieces = [Number(b" (line ", line), Text(b")\n")];
+    put_all(out, Style::Short, names, &pieces)
 }
 
 // Puts what follows from the reasons, if they are known.

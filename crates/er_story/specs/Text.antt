@@ -10,7 +10,7 @@ use Rattle.er_event.specs.declared.steps.Reply.TheVariants.{Done, Quiet, Race, I
 use Rattle.er_event.specs.declared.steps.WordState.{WordState}
 use Rattle.er_event.specs.declared.steps.WordState.TheVariants.{Virgin, Exclusive, Shared, SharedModified}
 use Rattle.er_model.specs.Words.{is_empty}
-use Rattle.er_print.specs.Printed.{name_at, address_text, event_text, kind_text, lock_text, place_text, site_text, state_text}
+use Rattle.er_print.specs.Printed.{name_at, address_text, event_text, kind_text, lock_text, site_text, state_text}
 use Rattle.er_story.specs.Story.{empties}
 use Rattle.er_story.specs.Tale.{WordTale}
 use Rattle.er_story.specs.declared.story.Story.{Story}
@@ -41,11 +41,13 @@ deed_text names IgnoreOff = event_text names IgnoreOff
 deed_text names (Level level) = event_text names (Level level)
 deed_text names (Sync sync) = event_text names (Sync sync)
 
+-- whose step it is
+abbrev pub step_front : NameTable → Story → List ℕ
+step_front names s = codes "line " ++ decimal s.line ++ codes ": " ++ name_at names.threads s.step.thread ++ codes " "
+
 -- the step
 abbrev pub step_text : NameTable → Story → List ℕ
-step_text names s =
-    place_text s.line ++ name_at names.threads s.step.thread ++ codes " " ++ deed_text names s.step.event
-    ++ holding_text names s.write_held s.held ++ 10 ∷ []
+step_text names s = step_front names s ++ deed_text names s.step.event ++ holding_text names s.write_held s.held ++ 10 ∷ []
 
 -- why an access that leaves its word in this state is no race
 abbrev pub quiet_text : WordState → List ℕ
@@ -74,20 +76,18 @@ answer_text tale (Err why) = codes "refused: " ++ text_of why
 abbrev pub emptied_text : Bool → List ℕ
 emptied_text emptied = cond emptied (codes ": this access left no candidate") []
 
--- an earlier access that changed the word's state: its number and its line
-abbrev pub place_of_turn : Turn → List ℕ
-place_of_turn turn = codes "  access " ++ decimal turn.number ++ codes ": line " ++ decimal turn.line ++ codes ", "
-
--- what its thread did
-abbrev pub act_text : NameTable → Turn → List ℕ
-act_text names turn = name_at names.threads turn.thread ++ codes " " ++ kind_text turn.kind ++ codes " at " ++ site_text names turn.site
+-- an earlier access that changed the word's state: its number, its line, and what its thread did
+abbrev pub turn_front : NameTable → Turn → List ℕ
+turn_front names turn =
+    codes "  access " ++ decimal turn.number ++ codes ": line " ++ decimal turn.line ++ codes ", " ++ name_at names.threads turn.thread ++ codes " "
+    ++ kind_text turn.kind ++ codes " at " ++ site_text names turn.site
 
 -- and what it made of the word
 abbrev pub outcome_text : NameTable → Turn → List ℕ
 outcome_text names turn = codes ": " ++ state_text names turn.state ++ emptied_text turn.emptied ++ 10 ∷ []
 
 abbrev pub turn_text : NameTable → Turn → List ℕ
-turn_text names turn = place_of_turn turn ++ act_text names turn ++ holding_text names turn.write_held turn.held ++ outcome_text names turn
+turn_text names turn = turn_front names turn ++ holding_text names turn.write_held turn.held ++ outcome_text names turn
 
 -- the word before the step and after it
 abbrev pub change_text : NameTable → WordTale → List ℕ

@@ -60,12 +60,13 @@ fn quiet_text(state: &WordState) -> &'static [u8]
     }
 }
 
-/// Puts that an access left no candidate, if it did.
-pub(crate) fn put_emptied(out: &mut Vec<u8>, emptied: bool) -> Result<(), AllocError>
-    ensures { OnOk result (out.new.items ≡ out.old.items ++ emptied_text emptied) }
+/// That an access left no candidate, if it did.
+pub(crate) fn emptied_text(emptied: bool) -> &'static [u8]
+    ensures { result.now ≡ emptied_text emptied }
 {
     if emptied {
-        return out.extend_from_slice(b": this access left no candidate");
+        b": this access left no candidate".as_slice()
+    } else {
+        b"".as_slice()
     }
-    Ok(())
 }

@@ -4,18 +4,16 @@ ghost use Rattle.er_device.specs.Device.{inner_of, has_failed, taken_of};
 ghost use Rattle.er_print.specs.Written.{FailsWriting, WritesReport};
 ghost use Rattle.er_report.specs.Names.{HasEventNames, HasLockName, HasLockNames, HasSiteName};
 ghost use Rattle.er_story.specs.Names.{HasStoryNames, HasTaleNames, HasTurnNames, HasWordNames};
-ghost use Rattle.er_story.specs.Text.{act_text, change_text, count_text, deed_text, held_text, holding_text, outcome_text, past_text, place_of_turn, step_text, story_text, turn_text, word_text};
+ghost use Rattle.er_story.specs.Text.{change_text, count_text, deed_text, held_text, holding_text, mode_text, outcome_text, past_text, step_text, story_text, turn_front, turn_text, word_text};
 
-use crate::sentences::{put_answer, put_emptied};
+use crate::sentences::{emptied_text, put_answer};
 use crate::states::empties;
 use crate::story::{Story, Turn};
 use crate::word_story::WordStory;
 use er_device::Device;
 use er_event::{Event, LockId, Lockset};
-use er_print::{
-    WriteFault, put_address, put_event, put_kind, put_lock, put_number, put_site, put_state,
-    put_thread,
-};
+use er_print::Piece::{Address, Event as Asked, Lock, Number, Site, State, Text, Thread, Verb};
+use er_print::{Style, WriteFault, put_all, write_text};
 use er_trace::Names;
 use std::alloc::{AllocError, Global};
 use std::io::Write;
@@ -33,13 +31,7 @@ pub fn write_story<W: Write>(
     ensures failed { FailsWriting (has_failed writer.new) result }
     ensures taken { taken_of writer.new ≡ taken_of writer.old }
 {
-    let Ok(text) = story_text(alloc, names, story) else {
-        return Err(WriteFault::Memory);
-    };
-    if writer.write_all(&text).is_err() {
-        return Err(WriteFault::Write);
-    }
-    Ok(())
+    write_text(writer, story_text(alloc, names, story))
 }
 
 #[tactic(auto, unfolding(crate::specs::Text::story_text))]
@@ -61,11 +53,12 @@ fn put_step(out: &mut Vec<u8>, names: &Names, story: &Story) -> Result<(), Alloc
     requires { HasStoryNames names.now story.now }
     ensures { OnOk result (out.new.items ≡ out.old.items ++ step_text names.now story.now) }
 {
-    out.extend_from_slice(b"line ")?;
-    put_number(out, story.line)?;
-    out.extend_from_slice(b": ")?;
-    put_thread(out, names, story.step.thread)?;
-    out.extend_from_slice(b" ")?;
+    let pieces = [
+        Number(b"line ", story.line),
+        Thread(b": ", story.step.thread),
+        Text(b" "),
+    ];
+    put_all(out, Style::Plain, names, &pieces)?;
     put_deed(out, names, story.step.event)?;
     put_holding(out, names, &story.write_held, &story.held)?;
     out.extend_from_slice(b"\n")
@@ -79,23 +72,17 @@ fn put_deed(out: &mut Vec<u8>, names: &Names, event: Event) -> Result<(), AllocE
 {
     match event {
         Event::Access(kind, word, site) => {
-            put_kind(out, kind)?;
-            out.extend_from_slice(b" ")?;
-            put_address(out, word)?;
-            out.extend_from_slice(b" at ")?;
-            put_site(out, names, site)
+            let pieces = [Verb(b"", kind), Address(b" ", word), Site(b" at ", site)];
+            put_all(out, Style::Plain, names, &pieces)
         }
-        Event::Show(word) => {
-            out.extend_from_slice(b"show ")?;
-            put_address(out, word)
-        }
+        Event::Show(word) => put_all(out, Style::Plain, names, &[Address(b"show ", word)]),
         Event::Acquire(..)
         | Event::Release(..)
         | Event::Reuse(_)
         | Event::IgnoreOn
         | Event::IgnoreOff
         | Event::Level(_)
-        | Event::Sync(_) => put_event(out, names, event),
+        | Event::Sync(_) => put_all(out, Style::Plain, names, &[Asked(b"", &event)]),
     }
 }
 
@@ -141,12 +128,20 @@ fn put_held(
     requires { HasLockName names.now lock }
     ensures { OnOk result (out.new.items ≡ out.old.items ++ held_text names.now write_held.now lock) }
 {
-    out.push(b' ')?;
-    put_lock(out, names, lock)?;
-    if write_held.contains(lock) {
-        return Ok(());
+    let mode = mode_text(write_held.contains(lock));
+    let pieces = [Lock(b" ", lock), Text(mode)];
+    put_all(out, Style::Plain, names, &pieces)
+}
+
+// That a lock was held only to read, if it was.
+fn mode_text(writes: bool) -> &'static [u8]
+    ensures { result.now ≡ mode_text writes }
+{
+    if writes {
+        b"".as_slice()
+    } else {
+        b" (to read)".as_slice()
     }
-    out.extend_from_slice(b" (to read)")
 }
 
 // Puts what happened to the word of a step, if it has one.
@@ -169,28 +164,28 @@ fn put_change(out: &mut Vec<u8>, names: &Names, word: &WordStory) -> Result<(), 
 {
     let before = word.before();
     let after = word.after();
-    out.extend_from_slice(b"before: ")?;
-    put_state(out, names, before)?;
-    out.extend_from_slice(b"\nafter: ")?;
-    put_state(out, names, after)?;
-    put_emptied(out, empties(before, after))?;
-    out.extend_from_slice(b"\n")
+    let pieces = [
+        State(b"before: ", before),
+        State(b"\nafter: ", after),
+        Text(emptied_text(empties(before, after))),
+        Text(b"\n"),
+    ];
+    put_all(out, Style::Plain, names, &pieces)
 }
 
 fn put_past(out: &mut Vec<u8>, names: &Names, word: &WordStory) -> Result<(), AllocError>
     requires { HasTaleNames names.now word.now }
     ensures { OnOk result (out.new.items ≡ out.old.items ++ past_text names.now word.now) }
 {
-    put_count(out, word.accesses())?;
+    put_count(out, names, word.accesses())?;
     put_turns(out, names, word.turns())
 }
 
-fn put_count(out: &mut Vec<u8>, accesses: u64) -> Result<(), AllocError>
+fn put_count(out: &mut Vec<u8>, names: &Names, accesses: u64) -> Result<(), AllocError>
     ensures { OnOk result (out.new.items ≡ out.old.items ++ count_text accesses) }
 {
-    out.extend_from_slice(b"earlier accesses: ")?;
-    put_number(out, accesses)?;
-    out.extend_from_slice(b"\n")
+    let pieces = [Number(b"earlier accesses: ", accesses), Text(b"\n")];
+    put_all(out, Style::Plain, names, &pieces)
 }
 
 fn put_turns(out: &mut Vec<u8>, names: &Names, turns: &[Turn]) -> Result<(), AllocError>
@@ -208,39 +203,33 @@ fn put_turn(out: &mut Vec<u8>, names: &Names, turn: &Turn) -> Result<(), AllocEr
     requires { HasTurnNames names.now turn.now }
     ensures { OnOk result (out.new.items ≡ out.old.items ++ turn_text names.now turn.now) }
 {
-    put_place(out, turn)?;
     put_act(out, names, turn)?;
     put_holding(out, names, &turn.write_held, &turn.held)?;
     put_outcome(out, names, turn)
 }
 
-fn put_place(out: &mut Vec<u8>, turn: &Turn) -> Result<(), AllocError>
-    ensures { OnOk result (out.new.items ≡ out.old.items ++ place_of_turn turn.now) }
-{
-    out.extend_from_slice(b"  access ")?;
-    put_number(out, turn.number)?;
-    out.extend_from_slice(b": line ")?;
-    put_number(out, turn.line)?;
-    out.extend_from_slice(b", ")
-}
-
 fn put_act(out: &mut Vec<u8>, names: &Names, turn: &Turn) -> Result<(), AllocError>
     requires { HasTurnNames names.now turn.now }
-    ensures { OnOk result (out.new.items ≡ out.old.items ++ act_text names.now turn.now) }
+    ensures { OnOk result (out.new.items ≡ out.old.items ++ turn_front names.now turn.now) }
 {
-    put_thread(out, names, turn.thread)?;
-    out.extend_from_slice(b" ")?;
-    put_kind(out, turn.kind)?;
-    out.extend_from_slice(b" at ")?;
-    put_site(out, names, turn.site)
+    let pieces = [
+        Number(b"  access ", turn.number),
+        Number(b": line ", turn.line),
+        Thread(b", ", turn.thread),
+        Verb(b" ", turn.kind),
+        Site(b" at ", turn.site),
+    ];
+    put_all(out, Style::Plain, names, &pieces)
 }
 
 fn put_outcome(out: &mut Vec<u8>, names: &Names, turn: &Turn) -> Result<(), AllocError>
     requires { HasTurnNames names.now turn.now }
     ensures { OnOk result (out.new.items ≡ out.old.items ++ outcome_text names.now turn.now) }
 {
-    out.extend_from_slice(b": ")?;
-    put_state(out, names, &turn.state)?;
-    put_emptied(out, turn.emptied)?;
-    out.extend_from_slice(b"\n")
+    let pieces = [
+        State(b": ", &turn.state),
+        Text(emptied_text(turn.emptied)),
+        Text(b"\n"),
+    ];
+    put_all(out, Style::Plain, names, &pieces)
 }

@@ -8,7 +8,7 @@ use Rattle.std.proofs.lemmas.List.Sums.{prefix_len-le-length}
 use Rattle.std.proofs.lemmas.Slice.Eq.{bytes_eq-Decides}
 use Rattle.er_report.specs.Report.{site_name}
 use Rattle.er_report.specs.declared.report.Line.{Line}
-use Rattle.er_report.specs.declared.report.Line.TheVariants.{Race, Refused, Shown}
+use Rattle.er_report.specs.declared.report.Line.TheVariants.{Race, Reused, Refused, Shown}
 use Rattle.er_rules.specs.Rules.{Target, takes, matching_rule}
 use Rattle.er_trace.specs.Names.{NameTable}
 use Rattle.er_triage.specs.Known.{race_target, with_rule, rules_of, IsTaken}
@@ -50,8 +50,10 @@ own (Some name) word = grind (arith, bytes_eq-Decides)
 module _ (names : NameTable) where
   -- a rule more takes no race away
   stays : (rules : List Target) (line other : Line) → IsTaken names rules line → IsTaken names (with_rule names rules other) line
+  stays rules (Reused number thread range held explained) other taken = tt
   stays rules (Refused number step refusal) other taken = tt
   stays rules (Shown number word state) other taken = tt
+  stays rules (Race number thread kind word site held explained) (Reused n t range h e) taken = taken
   stays rules (Race number thread kind word site held explained) (Refused n step refusal) taken = taken
   stays rules (Race number thread kind word site held explained) (Shown n w state) taken = taken
   stays rules (Race number thread kind word site held explained) (Race n t k w s h e) taken = by (is_some (matching_rule rules (site_name names s) w))
@@ -66,6 +68,7 @@ module _ (names : NameTable) where
 
   -- and a race is taken once it was gone over
   now : (rules : List Target) (line : Line) → IsTaken names (with_rule names rules line) line
+  now rules (Reused number thread range held explained) = tt
   now rules (Refused number step refusal) = tt
   now rules (Shown number word state) = tt
   now rules (Race number thread kind word site held explained) = by (is_some (matching_rule rules (site_name names site) word)) refl

@@ -4,10 +4,11 @@ use Rattle.er_report.specs.Lines.{line_view}
 use Rattle.er_report.specs.Report.{told}
 use Rattle.er_report.specs.declared.report.Report.{Report}
 use Rattle.er_report.specs.declared.report.Line.{Line}
-use Rattle.er_report.specs.declared.report.Line.TheVariants.{Race, Refused, Shown}
+use Rattle.er_report.specs.declared.report.Line.TheVariants.{Race, Reused, Refused, Shown}
 
 abbrev pub is_race : Line → Bool
 is_race (Race number thread kind word site held explained) = true
+is_race (Reused number thread range held explained) = true
 is_race (Refused number step refusal) = false
 is_race (Shown number word state) = false
 

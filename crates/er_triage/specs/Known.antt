@@ -3,7 +3,7 @@ use Rattle.std.specs.Prelude.{◌≡◌, ℕ, ◌<◌, ◌≤◌, ◌==◌, Bool
 use Rattle.std.specs.List.{find, fold}
 use Rattle.er_report.specs.Report.{site_name}
 use Rattle.er_report.specs.declared.report.Line.{Line}
-use Rattle.er_report.specs.declared.report.Line.TheVariants.{Race, Refused, Shown}
+use Rattle.er_report.specs.declared.report.Line.TheVariants.{Race, Reused, Refused, Shown}
 use Rattle.er_rules.specs.Rules.{Target, AtSite, AtWords, matching_rule}
 use Rattle.er_trace.specs.Names.{NameTable}
 use Rattle.er_triage.specs.declared.known.KnownRace.{KnownRace}
@@ -21,6 +21,7 @@ known_target names race = race_target (site_name names race.site) race.word
 abbrev pub with_rule : NameTable → List Target → Line → List Target
 with_rule names rules (Race number thread kind word site held explained) =
     cond (is_some (matching_rule rules (site_name names site) word)) rules (rules ++ race_target (site_name names site) word ∷ [])
+with_rule names rules (Reused number thread range held explained) = rules
 with_rule names rules (Refused number step refusal) = rules
 with_rule names rules (Shown number word state) = rules
 
@@ -31,6 +32,7 @@ rules_of names lines = fold (with_rule names) [] lines
 -- if the line is a race, one of the rules takes it
 abbrev pub IsTaken : NameTable → List Target → Line → Type 0
 IsTaken names rules (Race number thread kind word site held explained) = IsSome (matching_rule rules (site_name names site) word)
+IsTaken names rules (Reused number thread range held explained) = Unit {0}
 IsTaken names rules (Refused number step refusal) = Unit {0}
 IsTaken names rules (Shown number word state) = Unit {0}
 

@@ -70,5 +70,5 @@ fn is_kept(line: &Line, left: &mut u64) -> bool
 fn is_race(line: &Line) -> bool
     ensures { result ≡ is_race line.now }
 {
-    matches!(line, Line::Race { .. })
+    matches!(line, Line::Race { .. } | Line::Reused { .. })
 }

@@ -10,9 +10,10 @@ ghost use Rattle.er_unordered.specs.Text.{access_text, unordered_line, unordered
 
 use er_device::Device;
 use er_event::{Kind, Lockset, Site, ThreadId, Word};
+use er_print::Piece::{Address, Locks, Site as At, Text, Thread, Verb};
 use er_print::{
-    WriteFault, put_address, put_kind, put_line, put_locks, put_lost, put_number, put_place,
-    put_reasons, put_reuse, put_rule_counts, put_site, put_thread, report_text,
+    Style, WriteFault, put_all, put_line, put_lost, put_number, put_place, put_reasons, put_reuse,
+    put_rule_counts, report_text,
 };
 use er_report::{Line, Report};
 use er_trace::Names;
@@ -134,16 +135,15 @@ fn put_access(
     requires held { HasLockNames names.now held.now }
     ensures { OnOk result (out.new.items ≡ out.old.items ++ access_text names.now thread kind word site held.now) }
 {
-    put_thread(out, names, thread)?;
-    out.extend_from_slice(b" ")?;
-    put_kind(out, kind)?;
-    out.extend_from_slice(b" ")?;
-    put_address(out, word)?;
-    out.extend_from_slice(b" at ")?;
-    put_site(out, names, site)?;
-    out.extend_from_slice(b", holds ")?;
-    put_locks(out, names, held)?;
-    out.extend_from_slice(b"\n")
+    let pieces = [
+        Thread(b"", thread),
+        Verb(b" ", kind),
+        Address(b" ", word),
+        At(b" at ", site),
+        Locks(b", holds ", held.as_slice()),
+        Text(b"\n"),
+    ];
+    put_all(out, Style::Plain, names, &pieces)
 }
 
 /// Puts the line of totals of a report of unordered accesses.

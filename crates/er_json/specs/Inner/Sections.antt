@@ -1,34 +1,20 @@
 -- The three lists of the document.
 use Rattle.std.specs.Prelude.{ℕ, Bool, true, false, cond, List, [], ◌∷◌, ◌++◌, codes}
-use Rattle.er_json.specs.Document.{race_rows, race_text, refused_rows, refused_text, shown_rows, shown_text}
+use Rattle.er_json.specs.Document.{is_race, is_refused, is_shown, rows_if}
 use Rattle.er_json.specs.declared.document.Section.{Section}
 use Rattle.er_json.specs.declared.document.Section.TheVariants as section
-use Rattle.er_report.specs.Lines.{LineView, RaceView, RefusedView, ShownView}
+use Rattle.er_report.specs.Lines.{LineView}
 use Rattle.er_trace.specs.Names.{NameTable}
 
--- the object of a line in a list, if it has one there
-abbrev pub rows_in : Section → NameTable → LineView → List (List ℕ)
-rows_in section.Races names = race_rows names
-rows_in section.Refused names = refused_rows names
-rows_in section.Shown names = shown_rows names
-
--- whether it has one there
+-- whether a list has an object of a line
 abbrev pub is_in : Section → LineView → Bool
-is_in section.Races (RaceView number thread kind word site held explained) = true
-is_in section.Races (RefusedView number step refusal) = false
-is_in section.Races (ShownView number word state) = false
-is_in section.Refused (RaceView number thread kind word site held explained) = false
-is_in section.Refused (RefusedView number step refusal) = true
-is_in section.Refused (ShownView number word state) = false
-is_in section.Shown (RaceView number thread kind word site held explained) = false
-is_in section.Shown (RefusedView number step refusal) = false
-is_in section.Shown (ShownView number word state) = true
+is_in section.Races line = is_race line
+is_in section.Refused line = is_refused line
+is_in section.Shown line = is_shown line
 
--- the object of a line
-abbrev pub row_text : NameTable → LineView → List ℕ
-row_text names (RaceView number thread kind word site held explained) = race_text names number thread kind word site held explained
-row_text names (RefusedView number step refusal) = refused_text names number step refusal
-row_text names (ShownView number word state) = shown_text names number word state
+-- that object
+abbrev pub rows_in : Section → NameTable → LineView → List (List ℕ)
+rows_in s = rows_if (is_in s)
 
 -- what stands before an object
 abbrev pub separator_text : Bool → List ℕ

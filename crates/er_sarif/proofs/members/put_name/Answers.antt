@@ -1,7 +1,7 @@
 -- The three parts, one behind another.
 use Rattle.std.proofs.Common.{codes}
 use Rattle.er_json.proofs.PutLemmas.{put_three}
-use Rattle.er_json.specs.Document.{string_text}
+use Rattle.er_print.specs.Styles.{string_text}
 use Rattle.er_sarif.specs.Document.{name_member}
 use Rattle.er_sarif.proofs.members.put_name.Goals as goal
 

@@ -1,6 +1,0 @@
-use Rattle.std.proofs.Common.{◌≡◌, ◌++◌, take}
-use Rattle.er_json.specs.Document.{more_text, reason_text}
-use Rattle.er_json.proofs.rows.put_more_reasons.Given as goal
-
-abbrev pub invariant-loop-because : goal.invariant-loop-because
-invariant-loop-because l = l.out.items ≡ l.fn.out.items ++ more_text (reason_text l.names) (take l.because-index l.explained)

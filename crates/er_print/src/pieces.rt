@@ -1,0 +1,114 @@
+//! Texts by their parts.
+ghost use Rattle.std.specs.Prelude.{◌≡◌, ◌++◌, OnOk};
+ghost use Rattle.er_print.specs.Pieces.{HasPieceName, HavePieceNames, before_of, piece_text, pieces_text, value_text};
+
+use crate::naming::{put_event, put_state, verb};
+use crate::numbers::{put_address, put_number};
+use crate::styles::{Style, put_label_in, put_lock_in, put_locks_in, put_name, put_site_in};
+use er_event::{Kind, LockId, ThreadId, Word, WordState};
+use er_trace::Names;
+use std::alloc::AllocError;
+
+/// A part of a text: a value, with these bytes before it.
+#[derive(Clone, Copy)]
+pub enum Piece<'a> {
+    /// These bytes alone.
+    Text(&'a [u8]),
+    /// A number, in decimal.
+    Number(&'a [u8], u64),
+    /// The address of the word's first byte.
+    Address(&'a [u8], Word),
+    /// The verb of an access.
+    Verb(&'a [u8], Kind),
+    /// This name.
+    Name(&'a [u8], &'a [u8]),
+    /// A thread by its name.
+    Thread(&'a [u8], ThreadId),
+    /// A lock by its name, or by its level.
+    Lock(&'a [u8], LockId),
+    /// A site by its name.
+    Site(&'a [u8], er_event::Site),
+    /// Locks by their names.
+    Locks(&'a [u8], &'a [LockId]),
+    /// What an access has to do with a race.
+    Label(&'a [u8], er_report::Label),
+    /// What a thread asked for.
+    Event(&'a [u8], &'a er_event::Event),
+    /// The state of a word.
+    State(&'a [u8], &'a WordState),
+}
+
+/// Puts the parts of a text, one behind another.
+pub fn put_all(
+    out: &mut Vec<u8>,
+    style: Style,
+    names: &Names,
+    pieces: &[Piece<'_>],
+) -> Result<(), AllocError>
+    requires { HavePieceNames names.now pieces.now }
+    ensures { OnOk result (out.new.items ≡ out.old.items ++ pieces_text style names.now pieces.now) }
+{
+    for piece in pieces {
+        put_piece(out, style, names, piece)?;
+    }
+    Ok(())
+}
+
+fn put_piece(
+    out: &mut Vec<u8>,
+    style: Style,
+    names: &Names,
+    piece: &Piece<'_>,
+) -> Result<(), AllocError>
+    requires { HasPieceName names.now piece.now }
+    ensures { OnOk result (out.new.items ≡ out.old.items ++ piece_text style names.now piece.now) }
+{
+    out.extend_from_slice(before_of(piece))?;
+    put_value(out, style, names, piece)
+}
+
+fn before_of<'a>(piece: &Piece<'a>) -> &'a [u8]
+    ensures { result.now ≡ before_of piece.now }
+{
+    match piece {
+        Piece::Text(_) => b"".as_slice(),
+        Piece::Number(before, _)
+        | Piece::Address(before, _)
+        | Piece::Verb(before, _)
+        | Piece::Name(before, _)
+        | Piece::Thread(before, _)
+        | Piece::Lock(before, _)
+        | Piece::Site(before, _)
+        | Piece::Locks(before, _)
+        | Piece::Label(before, _)
+        | Piece::Event(before, _)
+        | Piece::State(before, _) => before,
+    }
+}
+
+fn put_value(
+    out: &mut Vec<u8>,
+    style: Style,
+    names: &Names,
+    piece: &Piece<'_>,
+) -> Result<(), AllocError>
+    requires { HasPieceName names.now piece.now }
+    ensures { OnOk result (out.new.items ≡ out.old.items ++ value_text style names.now piece.now) }
+{
+    match piece {
+        Piece::Text(text) => out.extend_from_slice(text),
+        Piece::Number(_, n) => put_number(out, *n),
+        Piece::Address(_, word) => put_address(out, *word),
+        Piece::Verb(_, kind) => out.extend_from_slice(verb(*kind)),
+        Piece::Name(_, name) => put_name(out, style, name, 72),
+        Piece::Thread(_, thread) => {
+            put_name(out, style, names.thread_name(*thread).as_bytes(), 24)
+        }
+        Piece::Lock(_, lock) => put_lock_in(out, style, names, *lock),
+        Piece::Site(_, site) => put_site_in(out, style, names, *site),
+        Piece::Locks(_, locks) => put_locks_in(out, style, names, locks),
+        Piece::Label(_, label) => put_label_in(out, style, names, *label),
+        Piece::Event(_, event) => put_event(out, names, **event),
+        Piece::State(_, state) => put_state(out, names, state),
+    }
+}
