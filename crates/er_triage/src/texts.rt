@@ -6,7 +6,8 @@ ghost use Rattle.er_triage.specs.Texts.{access_text, comment_text, count_text, h
 
 use crate::known::KnownRace;
 use er_event::Word;
-use er_print::{put_address, put_kind, put_number, put_thread};
+use er_print::Piece::{Address, Thread, Verb};
+use er_print::{Style, put_address, put_all, put_number};
 use er_rules::{Rule, Suppressions, WordSpan};
 use er_sites::{is_system_name, name_of};
 use er_trace::Names;
@@ -120,11 +121,12 @@ fn put_access(out: &mut Vec<u8>, names: &Names, race: &KnownRace) -> Result<(), 
     requires { IsNamed names.now race.now }
     ensures { OnOk result (out.new.items ≡ out.old.items ++ access_text names.now race.now) }
 {
-    put_thread(out, names, race.thread)?;
-    out.extend_from_slice(b" ")?;
-    put_kind(out, race.kind)?;
-    out.extend_from_slice(b" ")?;
-    put_address(out, race.word)
+    let pieces = [
+        Thread(b"", race.thread),
+        Verb(b" ", race.kind),
+        Address(b" ", race.word),
+    ];
+    put_all(out, Style::Plain, names, &pieces)
 }
 
 // Puts the rule of a race at the site of this name, or of the word at the missing one.
