@@ -10,7 +10,7 @@ use Rattle.std.proofs.lemmas.List.Sums.{prefix_len-le-length, count_by-le-length
 use Rattle.std.proofs.lemmas.Option.{get_or_from_slice_get, slice_get_within, slice_get-get_or}
 use Rattle.er_report.specs.Report.{site_name}
 use Rattle.er_report.specs.declared.report.Line.{Line}
-use Rattle.er_report.specs.declared.report.Line.TheVariants.{Race, Refused, Shown}
+use Rattle.er_report.specs.declared.report.Line.TheVariants.{Race, Reused, Refused, Shown}
 use Rattle.er_rules.specs.Rules.{Target, takes, matching_rule}
 use Rattle.er_trace.specs.Names.{NameTable}
 use Rattle.er_triage.specs.Known.{race_target, known_target, IsTaken, is_place, is_taken_by, IsRaceOf, IsCountAt, AreCounts}
@@ -113,6 +113,7 @@ passed_over p q lines line race same fails counts =
 
 still_first : (race : KnownRace) (line : Line) → IsRaceOf race line → IsRaceOf (one_more race) line
 still_first race (Race number thread kind word site held explained) is = is
+still_first race (Reused number thread range held explained) is = is
 still_first race (Refused number step refusal) is = is
 still_first race (Shown number word state) is = is
 
@@ -150,6 +151,7 @@ module _ (names : NameTable) where
 
   -- a rule more behind the others takes nothing from them
   same_rule : (rules : List Target) (r : Target) (place : ℕ) (l : Line) → IsTaken names rules l → is_taken_by names rules place l ≡ is_taken_by names (rules ++ r ∷ []) place l
+  same_rule rules r place (Reused number thread range held explained) taken = refl
   same_rule rules r place (Refused number step refusal) taken = refl
   same_rule rules r place (Shown number word state) taken = refl
   same_rule rules r place (Race number thread kind word site held explained) taken = by (matching_rule rules (site_name names site) word) refl taken
@@ -161,6 +163,7 @@ module _ (names : NameTable) where
 
   -- and has none of theirs
   not_new : (rules : List Target) (l : Line) → IsTaken names rules l → is_taken_by names rules (length rules) l ≡ false
+  not_new rules (Reused number thread range held explained) taken = refl
   not_new rules (Refused number step refusal) taken = refl
   not_new rules (Shown number word state) taken = refl
   not_new rules (Race number thread kind word site held explained) taken = by (matching_rule rules (site_name names site) word) refl taken
@@ -237,6 +240,7 @@ module _ (names : NameTable) where
 pub counted_on : (names : NameTable) (known : List KnownRace) (lines : List Line) (line : Line)
     → All (IsTaken names (map (known_target names) known)) lines → length lines + 1 < 2 ^ 64 → AreCounts names lines known
     → AreCounts names (lines ++ line ∷ []) (with_line names known line)
+counted_on names known lines (Reused number thread range held explained) taken few counted = skipped names known lines (Reused number thread range held explained) (λ place. refl) counted
 counted_on names known lines (Refused number step refusal) taken few counted = skipped names known lines (Refused number step refusal) (λ place. refl) counted
 counted_on names known lines (Shown number word state) taken few counted = skipped names known lines (Shown number word state) (λ place. refl) counted
 counted_on names known lines (Race number thread kind word site held explained) taken few counted = by (matching_rule (map (known_target names) known) (site_name names site) word) refl

@@ -44,6 +44,7 @@ is_place place (Some other) = place == other
 -- the line is a race that the rule in this place takes, and none before it
 abbrev pub is_taken_by : NameTable → List Target → ℕ → Line → Bool
 is_taken_by names rules place (Race number thread kind word site held explained) = is_place place (matching_rule rules (site_name names site) word)
+is_taken_by names rules place (Reused number thread range held explained) = false
 is_taken_by names rules place (Refused number step refusal) = false
 is_taken_by names rules place (Shown number word state) = false
 
@@ -51,6 +52,7 @@ is_taken_by names rules place (Shown number word state) = false
 abbrev pub IsRaceOf : KnownRace → Line → Type 0
 IsRaceOf race (Race number thread kind word site held explained) =
     (race.line ≡ number) × (race.thread ≡ thread) × (race.kind ≡ kind) × (race.word ≡ word) × (race.site ≡ site)
+IsRaceOf race (Reused number thread range held explained) = ⊥
 IsRaceOf race (Refused number step refusal) = ⊥
 IsRaceOf race (Shown number word state) = ⊥
 

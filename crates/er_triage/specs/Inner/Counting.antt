@@ -2,7 +2,7 @@
 use Rattle.std.specs.Prelude.{ℕ, ◌+◌, ◌-◌, ◌^◌, min, List, [], ◌∷◌, ◌++◌, map, slice_get, slice_set, Option, Some, None}
 use Rattle.er_report.specs.Report.{site_name}
 use Rattle.er_report.specs.declared.report.Line.{Line}
-use Rattle.er_report.specs.declared.report.Line.TheVariants.{Race, Refused, Shown}
+use Rattle.er_report.specs.declared.report.Line.TheVariants.{Race, Reused, Refused, Shown}
 use Rattle.er_rules.specs.Rules.{matching_rule}
 use Rattle.er_trace.specs.Names.{NameTable}
 use Rattle.er_triage.specs.Known.{known_target}
@@ -27,5 +27,6 @@ abbrev pub with_line : NameTable → List KnownRace → Line → List KnownRace
 with_line names known (Race number thread kind word site held explained) =
     with_race_at (matching_rule (map (known_target names) known) (site_name names site) word) known
     (record { line = number; thread = thread; kind = kind; word = word; site = site; races = 1 })
+with_line names known (Reused number thread range held explained) = known
 with_line names known (Refused number step refusal) = known
 with_line names known (Shown number word state) = known
