@@ -5,10 +5,10 @@
 
 - each kind is answered as the references answer it: by locks and by happens-before, with reasons, by several workers, and also if the system gives no
   random bytes to hash by
-- no text takes more than 400 bytes of memory for each of its own, beside 32 MiB. The dearest line takes a page: 4,096 bytes by locks, and 2,048 by
-  happens-before
-- a text that is four times as long takes at most 5.5 times the instructions, as valgrind counts them, but for some kinds by happens-before. What
-  compares each with all others takes up to 16 times as many, and what keeps all for each does so too
+- no text takes more than 400 bytes of memory for each of its own, beside 32 MiB, and by happens-before alone no more than 200. The dearest line takes a
+  page: 4,096 bytes by locks, and 2,048 by happens-before
+- a text that is four times as long takes at most 5.5 times the instructions, as valgrind counts them. What compares each with all others takes up to 16
+  times as many, and what keeps all for each does so too
 """
 
 import functools
@@ -31,7 +31,7 @@ PROGRAM = program("eraser")
 HOSTILE = pathlib.Path(__file__).resolve().parent.parent / "bench/hostile"
 HAPPENS_BEFORE, EXPLAIN = ["--analysis", "happens-before"], ["--explain"]
 FEW = 60
-BYTES_FOR_A_BYTE, BYTES_BESIDE = 400, 32 << 20
+BYTES_FOR_A_BYTE, BYTES_BY_ORDER, BYTES_BESIDE = 400, 200, 32 << 20
 LONGER, MOST_TIMES = 4, 5.5
 # What is replayed of each kind: how many there are in the shorter text, and by which options.
 COSTS = {
@@ -41,14 +41,15 @@ COSTS = {
     "pages": (1000, [[], EXPLAIN, HAPPENS_BEFORE, [*HAPPENS_BEFORE, *EXPLAIN]]),
     "locksets": (2000, [[], EXPLAIN]),
     "meets": (2000, [[]]),
-    "threads": (4000, [[], HAPPENS_BEFORE]),
+    "threads": (4000, [[]]),
     "lines": (2000, [["--by-site", *EXPLAIN]]),
     "readers": (2000, [[], EXPLAIN, HAPPENS_BEFORE]),
     "handed-on": (2000, [[], HAPPENS_BEFORE]),
     "own-locks": (2000, [[], HAPPENS_BEFORE]),
 }
-# Of these kinds memory alone is limited by happens-before: there their instructions grow faster than the text.
-NOT_BY_INSTRUCTIONS = {"thread-names", "threads"}
+# The same of a kind whose second options want a shorter text: a thread that hands on what it knows copies a reference for each 128 threads that it knows. A text
+# has eight times as many threads as its number, and from 32,000 threads on these references are most of a step.
+COSTS_BESIDE = [("threads", (1000, [HAPPENS_BEFORE]))]
 COUNTED = ["valgrind", "--tool=cachegrind", "--cache-sim=no", "--cachegrind-out-file=/dev/null"]
 
 
@@ -100,9 +101,9 @@ def answers(record, preloaded):
 # ---- Costs
 
 
-def limited(size):
+def limited(size, options):
     """Lets the program have so much memory as a text of this size may take."""
-    bytes_of_memory = BYTES_FOR_A_BYTE * size + BYTES_BESIDE
+    bytes_of_memory = (BYTES_BY_ORDER if options == HAPPENS_BEFORE else BYTES_FOR_A_BYTE) * size + BYTES_BESIDE
     resource.setrlimit(resource.RLIMIT_AS, (bytes_of_memory, bytes_of_memory))
 
 
@@ -115,7 +116,7 @@ def instructions(words):
 def costs(record):
     with tempfile.TemporaryDirectory() as folder:
         short, long = pathlib.Path(folder) / "short.trace", pathlib.Path(folder) / "long.trace"
-        for kind, (count, rows) in COSTS.items():
+        for kind, (count, rows) in [*COSTS.items(), *COSTS_BESIDE]:
             short.write_bytes(made(kind, count))
             long.write_bytes(made(kind, LONGER * count))
             size = long.stat().st_size
@@ -123,11 +124,11 @@ def costs(record):
             steps = sum(bool(line) for line in long.read_bytes().splitlines()) - 1
             for options in rows:
                 name = f"hostile: {kind} {' '.join(options)}"
-                found = run([*options, long], preexec_fn=functools.partial(limited, size))
+                found = run([*options, long], preexec_fn=functools.partial(limited, size, options))
                 is_whole = b"steps %d, " % steps in found[0] and found[1] == b"" and found[2] < 2
                 record(f"{name}: memory of a text of {size} bytes", is_whole, f"{found}"[:300])
                 # What takes too much memory isn't run without a limit.
-                if is_whole and not (kind in NOT_BY_INSTRUCTIONS and options == HAPPENS_BEFORE):
+                if is_whole:
                     few, many = instructions([*options, short]), instructions([*options, long])
                     record(f"{name}: instructions", many <= MOST_TIMES * longer * few, f"{few} and {many}, {many / few / longer:.2f} times as many")
 
