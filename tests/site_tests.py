@@ -141,9 +141,11 @@ def place_lines(place):
 
 
 def title(race, places):
-    """The site of a race, and that of the last of its reasons whose access another thread made, if it is known and another one."""
-    _, thread, _, _, site, _, reasons = race
-    met, _ = places.get(next((at for _, at, other, _ in reversed(reasons) if other != thread), None), ("-", []))
+    """The site of a race, and that of the access which it is with, if that is known and another one: the last of its reasons that isn't the race itself, if
+    a lock did not protect that, and else the last one whose access another thread made."""
+    line, thread, _, _, site, _, reasons = race
+    lacks = any(label.endswith(" not covering") and at == line for label, at, _, _ in reasons)
+    met, _ = places.get(next((at for _, at, other, _ in reversed(reasons) if (at != line if lacks else other != thread)), None), ("-", []))
     return f"{short(site, 72)}:" if met in ("-", site) else f"{short(site, 57)} and {short(met, 57)}:"
 
 

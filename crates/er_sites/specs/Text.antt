@@ -67,6 +67,14 @@ is_failed lock label.Write = false
 is_failed lock (label.Uncovered other) = other == lock
 is_failed lock label.Unordered = false
 
+-- it says that some lock did not protect an access
+abbrev pub is_uncovered : Label → Bool
+is_uncovered label.First = false
+is_uncovered label.Joined = false
+is_uncovered label.Write = false
+is_uncovered (label.Uncovered lock) = true
+is_uncovered label.Unordered = false
+
 -- the reason shows that this lock did not protect the race on that line
 abbrev pub is_without : ℕ → ℕ → Because → Bool
 is_without number lock because = is_failed lock because.label && because.line == number
@@ -158,17 +166,25 @@ abbrev pub so_text : List Because → List ℕ
 so_text [] = []
 so_text (because ∷ more) = so_by because.label
 
--- another thread made this access
-abbrev pub is_others : ℕ → Because → Bool
-is_others thread because = not (because.thread == thread)
+-- a lock that had covered the word did not protect this access, which is the race on this line
+abbrev pub lacks_lock : ℕ → Because → Bool
+lacks_lock number because = is_uncovered because.label && because.line == number
+
+-- a race on this line, of this thread, may be with this access: if it lacks a lock, with any but itself, and else with one of another thread
+abbrev pub may_meet : Bool → ℕ → ℕ → Because → Bool
+may_meet lacks number thread because = not (cond lacks (because.line == number) (because.thread == thread))
 
 -- two sites in one line
 unfoldable pub pair_text : NameTable → NameTable → ℕ → ℕ → List ℕ
 pair_text names others site other = site_within 57 names site ++ codes " and " ++ site_within 57 others other
 
--- where the access stands that a race of this thread is with: that of the last of its reasons whose access another thread made
-abbrev pub met_place : PlaceTable → ℕ → List Because → Option Place
-met_place table thread explained = option_and_then (reason_place table) (find (is_others thread) (reverse explained))
+-- the last reason whose access a race may be with
+abbrev pub met : ℕ → ℕ → List Because → Option Because
+met number thread explained = find (may_meet (list_any (lacks_lock number) explained) number thread) (reverse explained)
+
+-- where that access stands
+abbrev pub met_place : PlaceTable → ℕ → ℕ → List Because → Option Place
+met_place table number thread explained = option_and_then (reason_place table) (met number thread explained)
 
 -- the site of a race, and that of the access which it is with, if that is known and another one
 abbrev pub met_text : NameTable → NameTable → ℕ → Option Place → List ℕ
@@ -176,8 +192,8 @@ met_text names others site None = site_in style.Short names site
 met_text names others site (Some place) = cond (place.site == 0 || place.site == site) (site_in style.Short names site) (pair_text names others site place.site)
 
 -- behind an empty line
-abbrev pub title_text : NameTable → PlaceTable → ℕ → ℕ → List Because → List ℕ
-title_text names table site thread explained = 10 ∷ [] ++ met_text names table.names site (met_place table thread explained) ++ 58 ∷ 10 ∷ []
+abbrev pub title_text : NameTable → PlaceTable → ℕ → ℕ → ℕ → List Because → List ℕ
+title_text names table number site thread explained = 10 ∷ [] ++ met_text names table.names site (met_place table number thread explained) ++ 58 ∷ 10 ∷ []
 
 -- the access of a race
 abbrev pub head_text : NameTable → ℕ → ℕ → Kind → ℕ → List ℕ
@@ -187,7 +203,7 @@ head_text names number thread kind word =
 -- a race in sentences, under its site
 abbrev pub example_text : NameTable → PlaceTable → LineView → List ℕ
 example_text names table (RaceView number thread kind word site held explained) =
-    title_text names table site thread explained ++ head_text names number thread kind word
+    title_text names table number site thread explained ++ head_text names number thread kind word
     ++ holds_text names number thread (access_place table number thread kind) explained held
     ++ flat_map (reason_text names table number) explained ++ so_text explained
 example_text names table (ReusedView number thread range held explained) = []

@@ -5,7 +5,7 @@ ghost use Rattle.er_places.specs.Places.{HasPlaceNames};
 ghost use Rattle.er_places.specs.Reasons.{reason_place};
 ghost use Rattle.er_report.specs.Lines.{line_view};
 ghost use Rattle.er_report.specs.Names.{HasLabelName, HasLockName, HasLockNames, HasNames, HasReasonNames};
-ghost use Rattle.er_sites.specs.Text.{example_text, given_back_text, head_text, held_text, holds_text, is_others, is_weak_at, line_text, met_text, mode_text, title_text, no_lock_text, reason_text, reuse_story, so_by, so_text, story_text, is_without};
+ghost use Rattle.er_sites.specs.Text.{example_text, given_back_text, head_text, held_text, holds_text, is_weak_at, lacks_lock, line_text, may_meet, met, met_text, mode_text, title_text, no_lock_text, reason_text, reuse_story, so_by, so_text, story_text, is_without};
 
 use crate::names::{access_text, did_text, put_pair};
 use crate::standing::put_where;
@@ -39,7 +39,7 @@ pub(crate) fn put_example(
     else {
         return Ok(());
     };
-    put_title(out, names, places, *site, *thread, explained)?;
+    put_title(out, names, places, *line, *site, *thread, explained)?;
     put_head(out, names, *line, *thread, *kind, *word)?;
     let own = places.of_access(*line, *thread, *kind);
     put_locks(out, names, *line, *thread, own, explained, held.as_slice())?;
@@ -52,29 +52,55 @@ fn put_title(
     out: &mut Vec<u8>,
     names: &Names,
     places: &Places,
+    line: u64,
     site: Site,
     thread: ThreadId,
     explained: &[Because],
 ) -> Result<(), AllocError>
     requires { site ≤ length names.now.sites }
-    ensures { OnOk result (out.new.items ≡ out.old.items ++ title_text names.now places.now site thread explained.now) }
+    ensures { OnOk result (out.new.items ≡ out.old.items ++ title_text names.now places.now line site thread explained.now) }
 {
     out.extend_from_slice(b"\n")?;
-    put_met(out, names, places, site, last_other(thread, explained))?;
+    put_met(out, names, places, site, met(line, thread, explained))?;
     out.extend_from_slice(b":\n")
 }
 
-// The last of the reasons whose access another thread made.
-fn last_other(thread: ThreadId, explained: &[Because]) -> Option<Because>
-    ensures { result ≡ find (is_others thread) (reverse explained.now) }
+// The last of the reasons whose access a race on this line may be with.
+fn met(line: u64, thread: ThreadId, explained: &[Because]) -> Option<Because>
+    ensures { result ≡ met line thread explained.now }
 {
+    let lacks = lacks_some(line, explained);
     let mut last = None;
     for because in explained {
-        if because.thread != thread {
+        if may_meet(lacks, line, thread, because) {
             last = Some(*because);
         }
     }
     last
+}
+
+fn lacks_some(line: u64, explained: &[Because]) -> bool
+    ensures { result ≡ list_any (lacks_lock line) explained.now }
+{
+    explained.iter().any(|because| lacks_lock(line, because))
+}
+
+// Whether a lock that had covered the word did not protect this access, which is the race on this line.
+fn lacks_lock(line: u64, because: &Because) -> bool
+    ensures { result ≡ lacks_lock line because.now }
+{
+    matches!(because.label, Label::Uncovered(_)) && because.line == line
+}
+
+// If the race lacks a lock, it may be with any access but itself, and else with one of another thread.
+fn may_meet(lacks: bool, line: u64, thread: ThreadId, because: &Because) -> bool
+    ensures { result ≡ may_meet lacks line thread because.now }
+{
+    if lacks {
+        because.line != line
+    } else {
+        because.thread != thread
+    }
 }
 
 fn put_met(
