@@ -3,7 +3,7 @@ use Rattle.std.specs.Prelude.{ℕ, ◌+◌, ◌^◌, nat_lt, nat_eq, Bool, false
 use Rattle.er_clock.specs.declared.clock.Epoch.{Epoch as Kept}
 use Rattle.er_order.specs.Clocks.{Epoch}
 
--- the latest first
+-- a list of epochs
 abbrev pub EpochList : Type 0
 EpochList = List Epoch
 
@@ -11,7 +11,7 @@ EpochList = List Epoch
 abbrev pub pair_of : Kept → Epoch
 pair_of epoch = (epoch.thread, epoch.count)
 
--- the latest reads'
+-- those of a list
 abbrev pub pairs_of : List Kept → EpochList
 pairs_of epochs = map pair_of epochs
 

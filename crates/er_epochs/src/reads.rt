@@ -2,6 +2,7 @@
 ghost use Rattle.std.specs.Prelude.{◌≡◌, ℕ, [], ◌∷◌, ◌++◌, ◌&&◌, not, filter, nat_eq, Some, IsTrue, IfOk, OnOk, OnErr};
 ghost use Rattle.std.specs.List.{list_any, Contains};
 ghost use Rattle.indexmap.specs.IndexMap.{get};
+ghost use Rattle.er_order.specs.Clocks.{Epoch as Pair};
 ghost use Rattle.er_order.specs.Following.{is_unordered};
 ghost use Rattle.er_order.specs.Keeping.{IsNoted};
 ghost use Rattle.er_clocks.specs.Counts.{count_by};
@@ -22,8 +23,8 @@ const FEW: usize = 16;
 /// Epochs of reads of a word since its last write: the latest reads, of which neither happens before another, and earlier ones that nobody
 /// needs any more. The last read stands last.
 ///
-/// Of many reads the useless ones are looked for only once the list is full, and then it gets room for as many again. So a read takes the same
-/// time however many threads read the word, and a list has at most about two reads for each of these threads.
+/// Of many reads the useless ones are looked for only once the list is full, and then it gets room for as many again. So on average a read takes the
+/// same time however many threads read the word, and a list has at most about two reads for each of these threads.
 #[derive(Drop)]
 pub(crate) struct Reads {
     epochs: Vec<Epoch>,
@@ -155,7 +156,7 @@ fn note_among_few(reads: &mut Vec<Epoch>, clock: &ThreadClock<'_>) -> Result<(),
     Ok(())
 }
 
-// Puts the clock's epoch behind those reads that it doesn't cover and that are of their thread's greatest count, and makes room for as many again.
+// Puts the clock's epoch behind those reads that it doesn't cover and that are of their thread's last count, each once, and makes room for as many again.
 fn note_among_many(
     alloc: Global,
     keys: HashKeys,
@@ -166,7 +167,8 @@ fn note_among_many(
     ensures err { OnErr result (reads.new.items ≡ reads.old.items) }
 {
     let newest = newest_of(alloc, keys, reads)?;
-    let mut left = useful_of(alloc, &newest, reads, clock)?;
+    let useful = useful_of(alloc, &newest, reads, clock)?;
+    let mut left = distinct_of(alloc, keys, &useful)?;
     left.push(clock.epoch())?;
     *reads = left;
     Ok(())
@@ -187,7 +189,7 @@ fn newest_of(
     Ok(newest)
 }
 
-// The reads that the clock doesn't cover and that no later one of their thread replaces, with room for as many again.
+// The reads that the clock doesn't cover and that no later one of their thread replaces.
 fn useful_of(
     alloc: Global,
     newest: &IndexMap<u64, u32, NumberHasher>,
@@ -199,8 +201,34 @@ fn useful_of(
     let mut left = Vec::new(alloc);
     left.extend_from_slice(reads)?;
     left.retain(|epoch| is_useful(newest, epoch, clock));
+    Ok(left)
+}
+
+// Each of these epochs, and a thread's last one once, with room for as many again.
+fn distinct_of(alloc: Global, keys: HashKeys, epochs: &Vec<Epoch>) -> Result<Vec<Epoch>, AllocError>
+    ensures within { IfOk result (λ left. (e : Pair) → Contains (pairs_of left.items) e → Contains (pairs_of epochs.now.items) e) }
+    ensures all { IfOk result (λ left. (e : Pair) → Contains (pairs_of epochs.now.items) e → Contains (pairs_of left.items) e) }
+{
+    let mut kept = IndexMap::with_hasher(alloc, NumberHasher::new(keys));
+    let mut left = Vec::new(alloc);
+    for epoch in epochs {
+        if !is_kept(&kept, *epoch) {
+            kept.insert(u64::from(epoch.thread.number()), epoch.count)?;
+            left.push(*epoch)?;
+        }
+    }
     left.reserve(left.len())?;
     Ok(left)
+}
+
+// Whether it is the last epoch of its thread here.
+fn is_kept(kept: &IndexMap<u64, u32, NumberHasher>, epoch: Epoch) -> bool
+    ensures { IsTrue result → get nat_eq kept.now epoch.thread ≡ Some epoch.count }
+{
+    match kept.get(&u64::from(epoch.thread.number())) {
+        Some(&count) => count == epoch.count,
+        None => false,
+    }
 }
 
 // Whether the clock doesn't cover it, and its thread has no read of a greater count.

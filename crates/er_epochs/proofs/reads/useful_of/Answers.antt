@@ -14,4 +14,4 @@ returns c =
     retained _ (λ epoch. useful (pair_of epoch)) _ (λ x b q k. search (rules, tests)) _ _ c.retain.ensures.filtered in
     let copied : c.extend_from_slice.new.self.items ≡ c.args.reads.now.items =
     c.in_ok-extend_from_slice.ensures.items ∙ ap₂ (λ xs ys. xs ++ ys) c.new-left.ensures.items c.deref.ensures.value in
-    ap pairs_of (c.reserve.ensures.items ∙ kept) ∙ (filter-mapped useful pair_of c.extend_from_slice.new.self.items ∙ ap (λ items. filter useful (pairs_of items)) copied)
+    ap pairs_of kept ∙ (filter-mapped useful pair_of c.extend_from_slice.new.self.items ∙ ap (λ items. filter useful (pairs_of items)) copied)
