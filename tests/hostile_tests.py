@@ -7,6 +7,7 @@
   random bytes to hash by
 - no text takes more than 400 bytes of memory for each of its own, beside 32 MiB, and by happens-before alone no more than 200. The dearest line takes a
   page: 4,096 bytes by locks, and 2,048 by happens-before
+- two of many readers of a word that read it in turn, two million times, take no more than 16 MiB
 - a text that is four times as long takes at most 5.5 times the instructions, as valgrind counts them. What compares each with all others takes up to 16
   times as many, and what keeps all for each does so too
 """
@@ -33,6 +34,8 @@ HAPPENS_BEFORE, EXPLAIN = ["--analysis", "happens-before"], ["--explain"]
 FEW = 60
 BYTES_FOR_A_BYTE, BYTES_BY_ORDER, BYTES_BESIDE = 400, 200, 32 << 20
 LONGER, MOST_TIMES = 4, 5.5
+# If half of these reads were kept, they would take more than this memory.
+TURNS, BYTES_OF_TURNS = 1_000_000, 16 << 20
 # What is replayed of each kind: how many there are in the shorter text, and by which options.
 COSTS = {
     "thread-names": (1000, [[], HAPPENS_BEFORE]),
@@ -133,9 +136,22 @@ def costs(record):
                     record(f"{name}: instructions", many <= MOST_TIMES * longer * few, f"{few} and {many}, {many / few / longer:.2f} times as many")
 
 
+def turns(record):
+    """Many threads read a word in no order, and then two of them in turn: what is kept of them doesn't grow with their reads."""
+    text = b"eraser trace 1\n" + b"".join(b"t%d read 0x1000\n" % thread for thread in range(1, 41)) + b"t1 read 0x1000\nt2 read 0x1000\n" * TURNS
+    with tempfile.NamedTemporaryFile() as trace:
+        trace.write(text)
+        trace.flush()
+        for options in (HAPPENS_BEFORE, [*HAPPENS_BEFORE, *EXPLAIN]):
+            found = run([*options, trace.name], preexec_fn=functools.partial(resource.setrlimit, resource.RLIMIT_AS, (BYTES_OF_TURNS, BYTES_OF_TURNS)))
+            wanted = b"steps %d, unordered 0, suppressed 0, refused 0\n" % (40 + 2 * TURNS)
+            record(f"hostile: two of many readers in turn {' '.join(options)}", found == (wanted, b"", 0), f"{found}"[:300])
+
+
 def tests(record, preloaded):
     answers(record, preloaded)
     costs(record)
+    turns(record)
 
 
 if __name__ == "__main__":
