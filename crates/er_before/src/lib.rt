@@ -5,7 +5,7 @@
 //!
 //! What it promises, by the names of clauses: a machine that stands for a list of steps answers the next step as the definitions
 //! answer it at that list's end (`answer`), and then stands for the longer list (`goes_on`). After an error, which names what is
-//! lacking, it stands for the list that it stood for (`err`).
+//! lacking, it stands for the list that it stood for (`err`). `word_raced` says on which word a step that is answered with a race has it.
 #![tactic(auto)]
 
 pub use machine::OrderMachine;

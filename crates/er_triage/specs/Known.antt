@@ -61,7 +61,7 @@ pub record IsCountAt (names : NameTable) (rules : List Target) (lines : List Lin
   pub races : race.races ≡ count_by (is_taken_by names rules place) lines
   pub first : IsSomeAnd (find (is_taken_by names rules place) lines) (IsRaceOf race)
 
--- each does of its own rule
+-- each known race counts the races of its own rule
 abbrev pub AreCounts : NameTable → List Line → List KnownRace → Type 0
 AreCounts names lines known =
     (place : ℕ) (race : KnownRace) → slice_get known place ≡ Some race → IsCountAt names (map (known_target names) known) lines place race

@@ -6,7 +6,7 @@ use Rattle.er_trace.specs.Names.{NameTable}
 use Rattle.er_triage.specs.Known.{IsNamed}
 use Rattle.er_triage.specs.declared.known.KnownRace.{KnownRace}
 
--- the word names a site, and is not the dash of the missing one
+-- the bytes name a site, and are not the dash of the missing one
 abbrev pub NamesSite : List ℕ → Type 0
 NamesSite name = (is_site_name name ≡ true) × (bytes_eq name (codes "-") ≡ false)
 

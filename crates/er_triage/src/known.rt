@@ -1,4 +1,4 @@
-//! A rule for each race that no rule before it takes.
+//! A rule for each race of an access that no rule before it takes.
 ghost use Rattle.std.specs.Prelude.{◌≡◌, ◌<◌, All, length, map, option_copied, slice_get, IfOk, OnOk};
 ghost use Rattle.er_report.specs.Names.{HasNames};
 ghost use Rattle.er_rules.specs.Rules.{target_of, targets_of};
@@ -30,7 +30,7 @@ pub struct KnownRace {
     pub races: u64,
 }
 
-/// The rules that take the races of these lines, in the order of the first race that each takes.
+/// The rules that take the races of accesses in these lines, in the order of the first race that each takes.
 pub fn known_races(
     alloc: Global,
     lines: &[Line],

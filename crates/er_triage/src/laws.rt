@@ -14,7 +14,8 @@ pub fn names_of_a_trace_are_sound()
     ensures { (text : List ℕ) (limit : ℕ) (t : Recording) → IsTrace text limit t → AreSound t.names }
 {}
 
-/// A text of the rules of known races has these rules and no fault, if it is within the limit.
+/// A text of the rules of known races has these rules and no fault, if it is within the limit and the names and races are sound, as those of
+/// a trace are.
 pub fn written_rules_are_read_back()
     ensures { (names : NameTable) (known : List KnownRace) (limit : ℕ) → AreSound names → All (IsSound names) known → length (known_races_text names known) ≤ limit
         → IsRules (known_races_text names known) limit (map (known_target names) known) }

@@ -5,9 +5,10 @@
 //! the rules that took no race, [`keep_first_races`] leaves the lines of the other races out, and [`append_rules`] puts the rules of
 //! several files together.
 //!
-//! What it promises, by the names of clauses: each race of the report is taken by one of the rules (`taken`), and there is no rule but
-//! those that such races ask for (`rules`). A rule's comment tells how many races it takes, and the first of them (`counted`). The rules that
-//! are written are those that are read again (`written_rules_are_read_back`). The texts are defined in `specs/Texts`, and the first races in
+//! What it promises, by the names of clauses: each race of an access is taken by one of the rules (`taken`), and there is no rule but
+//! those that such races ask for (`rules`). A rule's comment says how many races it takes, and the first of them (`counted`). If the text
+//! is within the limit and the names are those of a trace, the rules that are written are those that are read again
+//! (`written_rules_are_read_back`). A reuse that races has no rule. The texts are defined in `specs/Texts`, and the first races in
 //! `specs/First`.
 //!
 //! ```

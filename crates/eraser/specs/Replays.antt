@@ -87,7 +87,7 @@ EndsUsually text old new (Err cut) = IsUsualFault text usual_limit cut.fault × 
 abbrev pub GetsNotesOn : Bool → List ℕ → Option (List ℕ) → Option (List ℕ) → Bool → Type 0
 GetsNotesOn people text old new failed = (ending : Ending) × IsEndingOf text ending × AddsNotesOn people ending 0 [] old new failed
 
--- the errors got the line of the text's first fault alone, or for people more behind it
+-- the text has a first fault, and unless it is for people the errors got its line alone
 abbrev pub GetsFirstFault : Bool → List ℕ → Option (List ℕ) → Option (List ℕ) → Bool → Type 0
 GetsFirstFault people text old new failed = (why : TextFault) × IsFault text usual_limit why × (people ≡ false → GetsLine old new (fault_line (fault.Text why)) failed)
 

@@ -64,12 +64,13 @@ where
     requires errors { has_failed errors.old ≡ false }
     ensures status { result ≤ 4 }
 
+    // If `replay -` ends with 0 or 1, it has written the report that the definitions give of the input's text, and 1 says that the report has
+    // a race. If it ends with 2, the text has a fault, and nothing was written but the line of its first one.
+    ensures usual { replays_input words.now ≡ true → IfSome (I.remaining (inner_of input.old)) (λ text. ComesTo on_terminal text (O.contents (inner_of output.old)) (O.contents (inner_of output.new)) (E.contents (inner_of errors.old)) (E.contents (inner_of errors.new)) (has_failed errors.new) result) }
+
     // With a result nothing goes to the errors but the notes that were asked for and those on the text, and with wrong arguments or a
     // faulty text nothing to the output, unless a word asks for the steps before the fault. `progress` is a device of its own: `quiet`
     // says nothing of it.
-    // `replay -` writes the report of what the input gives as the definitions have it, with 1 exactly if it has a race; or the line of its first fault.
-    ensures usual { replays_input words.now ≡ true → IfSome (I.remaining (inner_of input.old)) (λ text. ComesTo on_terminal text (O.contents (inner_of output.old)) (O.contents (inner_of output.new)) (E.contents (inner_of errors.old)) (E.contents (inner_of errors.new)) (has_failed errors.new) result) }
-
     ensures quiet { result ≤ 1 → GetsNotes (names_hints words.now || on_terminal) (E.contents (inner_of errors.old)) (E.contents (inner_of errors.new)) (has_failed errors.new) }
     ensures refused { names_until_fault words.now ≡ false → result ≡ 2 → Keeps (O.contents (inner_of output.old)) (O.contents (inner_of output.new)) }
 
