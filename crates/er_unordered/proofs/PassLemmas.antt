@@ -1,9 +1,9 @@
 -- A replay that forgets its steps is one over all of them: a batch goes on behind what was answered, and the names may have grown.
-use Rattle.std.proofs.Common.{◌≡◌, ◌+◌, ◌∙◌, ℕ, suc, add-one, nat_lt, Bool, true, false, cond, List, [], ◌∷◌, ◌++◌, length, length-append, take, slice_get, slice_index, Option, Some, None, IfSome, Result, refl, sym, ap, ap₂, subst, arith}
+use Rattle.std.proofs.Common.{◌≡◌, ◌+◌, ◌∙◌, ℕ, suc, add-one, nat_lt, Bool, true, false, cond, List, [], ◌∷◌, ◌++◌, length, length-append, take, slice_get, slice_index, Option, Some, Result, refl, sym, ap, ap₂, subst, arith}
 use Rattle.std.specs.List.{All}
 use Rattle.std.proofs.lemmas.Bool.Decides.{nat_tests}
 use Rattle.std.proofs.Math.Seq.{take-append_seam, take-length}
-use Rattle.std.proofs.lemmas.List.Elements.{All-append, All-nil}
+use Rattle.std.proofs.lemmas.List.Elements.{All-append}
 use Rattle.er_before.specs.Standing.{Ordered, Stands, answered_by, clock_of}
 use Rattle.er_clock.specs.Clock.{Counts}
 use Rattle.er_clocks.specs.Counts.{count_by}
@@ -21,17 +21,14 @@ use Rattle.er_order.specs.Races.{order_answer}
 use Rattle.er_order.specs.Reasons.{word_raced}
 use Rattle.er_report.specs.Builder.{ArePlainBy, Built, IsBuiltBy, IsStepBy, GoesOn, is_plain, report_below_by}
 use Rattle.er_batch.proofs.BatchLemmas.{all-named}
-use Rattle.er_text.specs.Batches.{joined, HasRead}
-use Rattle.er_text.specs.Ending.{KnowsEnd, IsEndingOf}
-use Rattle.er_text.specs.declared.endings.Ending.{Ending}
-use Rattle.er_text.specs.Places.{Reached}
+use Rattle.er_text.specs.Batches.{joined}
 use Rattle.er_text.specs.Named.{KeepsNames}
-use Rattle.er_trace.specs.Names.{NameTable, no_names}
-use Rattle.er_trace.specs.Trace.{Recording, IsNamed, no_steps}
+use Rattle.er_trace.specs.Names.{NameTable}
+use Rattle.er_trace.specs.Trace.{Recording, IsNamed}
 use Rattle.er_batch.proofs.StepLemmas.{past-next}
 use Rattle.er_unordered.proofs.AnswerLemmas.{locks-here, order-front, order-here, race-may, word-here}
 use Rattle.er_unordered.proofs.ReasonLemmas.{kept-there}
-use Rattle.er_unordered.specs.Inner.Passes.{HasAnswered, HasCome, HasComeTo, HasExplained, HasExplainedTo, IsReasoned, OrderBuilt, recorded}
+use Rattle.er_unordered.specs.Inner.Passes.{HasAnswered, HasComeTo, HasExplained, HasExplainedTo, recorded}
 use Rattle.er_unordered.specs.Inner.Reasons.{HasReasons, Reasoned}
 
 -- a batch of steps behind those that are past
@@ -78,31 +75,6 @@ module _ (past : List Step) (lines : List ℕ) (names : NameTable) (trace : Reco
     answered = whole machine builder come.come;
     explained = subst (λ (n : ℕ). HasReasons reasoned after builder.rules n) (sym (length-append past trace.steps)) come.explained;
   }
-
--- before the first batch
-pub begun : (reader : Reached) (trace : Recording) (machine : Ordered) (builder : OrderBuilt) → trace ≡ no_steps → ((text : List ℕ) → HasRead text [] [] reader (Some text) no_steps)
-    → Stands machine [] → IsBuiltBy (order_answer []) builder.built (recorded [] [] no_names) 0 → IsReasoned builder (recorded [] [] no_names) 0 → (told : Option (List ℕ)) → HasCome told told reader trace machine builder
-begun reader trace machine builder empty starts stands built reasoned told =
-    subst (λ (t : Recording). HasCome told told reader t machine builder) (sym empty) (record {
-      past = [];
-      lines = [];
-      read = read-by told;
-      no_steps = refl;
-      no_lines = refl;
-      run = record {
-        answered = record {
-          stands = stands;
-          built = built;
-          named = All-nil (IsNamed no_names);
-          long = refl;
-        };
-        reasoned = reasoned;
-      };
-    })
-  where
-    read-by : (o : Option (List ℕ)) → IfSome o (λ text. HasRead text [] [] reader o no_steps)
-    read-by None = tt
-    read-by (Some text) = starts text
 
 -- one step more
 module _ (machine next : Ordered) (builder : Built) (r : Recording) (n : ℕ) (step : Step) (here : slice_get r.steps n ≡ Some step) (come : HasComeTo machine builder r n)
@@ -166,14 +138,3 @@ printed-here a before after r k built next rules =
 pub clock-lent : (machine : Ordered) (steps : List Step) (t : ℕ) (clock : ℕ × Counts) → Stands machine steps → clock.0 ≡ t → ((u : ℕ) → count_by clock u ≡ clock_of machine t u)
     → IsClockAfter steps t clock
 clock-lent machine steps t clock stands thread counts = record { thread = thread; counts = λ u. counts u ∙ stands.clocks (OfThread t) u }
-
--- the reader knows how the text ends
-pub known-end : (told : Option (List ℕ)) (reader : Reached) (ending : Ending) → IfSome told (λ text. KnowsEnd text reader) → ((text : List ℕ) → KnowsEnd text reader → IsEndingOf text ending)
-    → IfSome told (λ text. IsEndingOf text ending)
-known-end None reader ending knows ends = tt
-known-end (Some text) reader ending knows ends = ends text knows
-
--- and so it does behind its last batch
-pub end-known : (told : Option (List ℕ)) (new : Reached) (Was : List ℕ → Type 0) → IfSome told Was → ((text : List ℕ) → Was text → KnowsEnd text new) → IfSome told (λ text. KnowsEnd text new)
-end-known None new Was was ends = tt
-end-known (Some text) new Was was ends = ends text was

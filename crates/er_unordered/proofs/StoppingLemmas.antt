@@ -1,9 +1,11 @@
--- A count that is full at a step is full there whatever steps come behind it, and a text whose rest was read has its first fault or is a trace.
-use Rattle.std.proofs.Common.{◌≡◌, ◌<◌, ◌+◌, ◌∙◌, ◌++◌, ◌∷◌, [], ℕ, List, length, slice_get, length-append, take, drop, Option, Some, None, IfSome, Ok, refl, sym, ap, subst, arith}
+-- A count that is full at a step is full there whatever steps come behind it, and what a replay that has stopped comes to.
+use Rattle.std.proofs.Common.{◌≡◌, ◌<◌, ◌+◌, ◌∙◌, ◌++◌, ◌∷◌, [], ℕ, Bool, true, false, List, length, slice_get, length-append, take, drop, is_some, Option, Some, None, IfSome, Err, refl, sym, ap, arith}
 use Rattle.std.proofs.lemmas.List.{take-append-drop, length-take-le}
+use Rattle.std.proofs.lemmas.List.Elements.{All-nil}
 use Rattle.std.proofs.lemmas.Option.{slice_get_within}
 use Rattle.er_batch.proofs.StepLemmas.{past-next}
-use Rattle.er_before.specs.Standing.{IsFullAfter}
+use Rattle.er_batch.specs.Analysts.{Asked, IsFaultOfReading}
+use Rattle.er_before.specs.Standing.{IsFullAfter, Ordered, Stands}
 use Rattle.er_clock.specs.declared.clock.NoTick.{NoTick}
 use Rattle.er_clock.specs.declared.clock.NoTick.TheVariants as tick
 use Rattle.er_event.specs.declared.steps.Step.{Step}
@@ -11,17 +13,20 @@ use Rattle.er_clocks.specs.Standing.{act_flows}
 use Rattle.er_order.proofs.StepLemmas.{acts-front, clocks-front}
 use Rattle.er_order.specs.Clocks.{Clocks, OfThread, clocks_at, own_count}
 use Rattle.er_order.specs.Order.{Act, acts_of}
-use Rattle.er_text.proofs.BatchLaws.{forgotten}
-use Rattle.er_text.specs.Batches.{GivesBatch, HasRead}
-use Rattle.er_text.specs.Places.{Reached}
-use Rattle.er_text.specs.Trace.{IsTrace}
-use Rattle.er_text.specs.declared.reading.Batch.{Batch}
-use Rattle.er_text.specs.declared.reading.Batch.TheVariants.{More}
-use Rattle.er_trace.specs.Trace.{Recording, without_steps}
-use Rattle.er_unordered.specs.Faults.{Overflows, OverflowsIn, fault_of}
-use Rattle.er_unordered.specs.Inner.Stopping.{HasOverflowed, IsStopIn, ReadsOn}
+use Rattle.er_order.specs.Races.{order_answer}
+use Rattle.er_report.specs.Builder.{IsBuiltBy}
+use Rattle.er_text.specs.Batches.{joined}
+use Rattle.er_text.specs.Trace.{HasFailedBy, IsTrace}
+use Rattle.er_text.specs.declared.faults.ReadFault.{ReadFault}
+use Rattle.er_text.specs.declared.faults.ReadFault.TheVariants as reading
+use Rattle.er_trace.specs.Names.{NameTable, no_names}
+use Rattle.er_trace.specs.Trace.{IsNamed, Recording, no_steps}
+use Rattle.er_unordered.specs.Faults.{FailsBy, IsFaultOf, OverflowsIn, fault_of}
+use Rattle.er_unordered.specs.Inner.Passes.{HasGathered, HasGatheredFor, HasOrdered, IsReasoned, OrderBuilt, OrderRan, recorded}
+use Rattle.er_unordered.specs.Inner.Stopping.{IsStopIn}
 use Rattle.er_unordered.specs.declared.fault.OrderFault.{OrderFault}
-use Rattle.er_unordered.specs.declared.fault.OrderFault.TheVariants.{CountFull}
+use Rattle.er_unordered.specs.declared.fault.OrderFault.TheVariants.{Read, Write, TableFull, CountFull, Memory}
+use Rattle.er_unordered.specs.declared.replay.Analysis.{Analysis}
 
 -- more steps come behind
 pub overflows-on : (steps more : List Step) → OverflowsIn steps → OverflowsIn (steps ++ more)
@@ -61,44 +66,90 @@ pub stop-by : (steps : List Step) (why : NoTick) (fault : OrderFault) → fault 
 stop-by steps tick.CountFull fault is full = rw is (full refl)
 stop-by steps tick.OutOfMemory fault is full = rw is tt
 
--- what was read is the whole text
-pub whole-overflows : (told : Option (List ℕ)) (limit : ℕ) (r : Recording) → IfSome told (λ text. IsTrace text limit r) → OverflowsIn r.steps → IfSome told (λ text. Overflows text limit)
-whole-overflows None limit r trace full = tt
-whole-overflows (Some text) limit r trace full = record { recording = r; trace = trace; full = full }
+-- why one of the steps can't be answered stays so
+pub stop-on : (steps more : List Step) (why : OrderFault) → IsStopIn steps why → IsStopIn (steps ++ more) why
+stop-on steps more (Read fault) is = absurd is
+stop-on steps more (Write fault) is = absurd is
+stop-on steps more TableFull is = absurd is
+stop-on steps more CountFull is = overflows-on steps more is
+stop-on steps more Memory is = tt
 
-module _ (told : Option (List ℕ)) (past : List Step) (lines : List ℕ) (old new : Reached) (known rest : Option (List ℕ)) (t u : Recording) where
-  -- a batch that was read
-  batch-read : (batch : Batch) → ((text : List ℕ) (steps : List Step) (numbers : List ℕ) → HasRead text steps numbers old known t → GivesBatch text steps numbers new rest u (Ok batch))
-      → IfSome told (λ text. HasRead text past lines old known t) → IfSome told (λ text. GivesBatch text past lines new rest u (Ok batch))
-  batch-read batch gives read = by told read
-    where
-      by : (o : Option (List ℕ)) → IfSome o (λ text. HasRead text past lines old known t) → IfSome o (λ text. GivesBatch text past lines new rest u (Ok batch))
-      by None read = tt
-      by (Some text) read = gives text past lines read
+-- before any step
+pub begun : (machine : Ordered) (builder : OrderBuilt) (asked : Asked) → Stands machine [] → IsBuiltBy (order_answer []) builder.built no_steps 0 → IsReasoned builder no_steps 0
+    → builder.built.rules ≡ asked.rules → is_some builder.reasons ≡ asked.explain → HasOrdered (record { machine = machine; builder = builder; stop = None }) asked no_steps
+begun machine builder asked stands built reasoned rules explain = record {
+  all = λ none. record {
+    gathered = record {
+      answered = record { stands = stands; built = built; named = All-nil (IsNamed no_names); long = refl };
+      reasoned = reasoned;
+    };
+    rules = rules;
+    explain = explain;
+  };
+  stopped = tt;
+}
 
-  -- and at one of whose steps a count is full
-  pub overflowed : (batch : Batch) (why : OrderFault) → why ≡ CountFull
-      → ((text : List ℕ) (steps : List Step) (numbers : List ℕ) → HasRead text steps numbers old known t → GivesBatch text steps numbers new rest u (Ok batch))
-      → IfSome told (λ text. HasRead text past lines old known t) → IsStopIn (past ++ u.steps) why → HasOverflowed told rest new u batch
-  overflowed batch why is gives read full = record {
-    past = past;
-    lines = lines;
-    read = batch-read batch gives read;
-    full = subst (IsStopIn (past ++ u.steps)) is full;
-  }
+-- what has stopped stands for whatever comes behind
+pub stopped-on : (ran : OrderRan) (asked : Asked) (past : List Step) (lines : List ℕ) (names : NameTable) (trace : Recording) → is_some ran.stop ≡ true
+    → HasOrdered ran asked (recorded past lines names) → HasOrdered ran asked (joined past lines trace)
+stopped-on ran asked past lines names trace some ordered = record {
+  all = λ none. absurd (let clash = ap (λ (o : Option OrderFault). is_some o) none in cc);
+  stopped = on ran.stop ordered.stopped;
+}
+  where
+    on : (o : Option OrderFault) → IfSome o (λ why. IsStopIn past why) → IfSome o (λ why. IsStopIn (past ++ trace.steps) why)
+    on None is = tt
+    on (Some why) is = stop-on past trace.steps why is
 
--- the steps of a batch are forgotten
-read-forgotten : (told : Option (List ℕ)) (past : List Step) (lines : List ℕ) (reader : Reached) (known : Option (List ℕ)) (trace : Recording) (batch : Batch) → batch ≡ More
-    → IfSome told (λ text. GivesBatch text past lines reader known trace (Ok batch)) → IfSome told (λ text. HasRead text (past ++ trace.steps) (lines ++ trace.lines) reader known (without_steps trace))
-read-forgotten None past lines reader known trace batch is read = tt
-read-forgotten (Some text) past lines reader known trace batch is read =
-    forgotten text past lines reader known trace (subst (λ (b : Batch). GivesBatch text past lines reader known trace (Ok b)) is read)
+none-by : (o : Option OrderFault) → is_some o ≡ false → o ≡ None
+none-by None going = refl
+none-by (Some why) going = absurd (cc)
 
-pub reads-on : (told : Option (List ℕ)) (reader : Reached) (known : Option (List ℕ)) (trace cleared : Recording) (batch : Batch) → cleared ≡ without_steps trace → batch ≡ More
-    → HasOverflowed told known reader trace batch → ReadsOn told known reader cleared
-reads-on told reader known trace cleared batch clear is over = subst (λ (t : Recording). ReadsOn told known reader t) (sym clear) (record {
-  past = over.past ++ trace.steps;
-  lines = over.lines ++ trace.lines;
-  read = read-forgotten told over.past over.lines reader known trace batch is over.read;
-  full = over.full;
-})
+-- what hasn't stopped goes on
+pub goes-on : (old new : OrderRan) (asked : Asked) (past : List Step) (lines : List ℕ) (names : NameTable) (trace : Recording) → is_some old.stop ≡ false → new.stop ≡ old.stop
+    → HasOrdered old asked (recorded past lines names) → (HasGathered old.machine old.builder (recorded past lines names) → HasGathered new.machine new.builder (joined past lines trace))
+    → new.builder.built.rules ≡ old.builder.built.rules → is_some new.builder.reasons ≡ is_some old.builder.reasons → HasOrdered new asked (joined past lines trace)
+goes-on old new asked past lines names trace going same ordered gathers rules explain =
+    let none : old.stop ≡ None = none-by old.stop going in
+    let all : HasGatheredFor old asked (recorded past lines names) = ordered.all none in
+    record {
+      all = λ still. record { gathered = gathers all.gathered; rules = rules ∙ all.rules; explain = explain ∙ all.explain };
+      stopped = rw (same ∙ none) tt;
+    }
+
+-- or stops in a batch
+pub stops : (old new : OrderRan) (asked : Asked) (past : List Step) (lines : List ℕ) (names : NameTable) (trace : Recording) (why : OrderFault) → is_some old.stop ≡ false → new.stop ≡ Some why
+    → HasOrdered old asked (recorded past lines names) → (HasGathered old.machine old.builder (recorded past lines names) → IsStopIn (past ++ trace.steps) why)
+    → HasOrdered new asked (joined past lines trace)
+stops old new asked past lines names trace why going some ordered full =
+    record {
+      all = λ none. absurd (let clash = sym none ∙ some in cc);
+      stopped = rw some (full (ordered.all (none-by old.stop going)).gathered);
+    }
+
+-- a fault of the text or of one of its steps
+pub of-stop : (analysis : Analysis) (told : Option (List ℕ)) (limit : ℕ) (r : Recording) (why : OrderFault) → IfSome told (λ text. IsTrace text limit r) → IsStopIn r.steps why → IsFaultOf analysis told limit why
+of-stop analysis told limit r (Read fault) trace is = absurd is
+of-stop analysis told limit r (Write fault) trace is = absurd is
+of-stop analysis told limit r TableFull trace is = absurd is
+of-stop analysis None limit r CountFull trace is = tt
+of-stop analysis (Some text) limit r CountFull trace is = record { recording = r; trace = trace; full = is }
+of-stop analysis told limit r Memory trace is = tt
+
+pub stop-fails : (X : Type 0) (steps : List Step) (failed : Bool) (why : OrderFault) → failed ≡ false → IsStopIn steps why → FailsBy {X = X} failed false (Err why)
+stop-fails X steps failed (Read fault) read is = absurd is
+stop-fails X steps failed (Write fault) read is = absurd is
+stop-fails X steps failed TableFull read is = absurd is
+stop-fails X steps failed CountFull read is = (read, refl)
+stop-fails X steps failed Memory read is = (read, refl)
+
+-- a fault of the pass
+pub of-reading : (analysis : Analysis) (told : Option (List ℕ)) (limit : ℕ) (why : ReadFault) → IsFaultOfReading told limit why → IsFaultOf analysis told limit (Read why)
+of-reading analysis told limit (reading.Text fault) is = is
+of-reading analysis told limit reading.Memory is = tt
+of-reading analysis told limit reading.Read is = tt
+
+pub reading-fails : (X Y : Type 0) (failed : Bool) (why : ReadFault) → HasFailedBy {X = X} failed (Err why) → FailsBy {X = Y} failed false (Err (Read why))
+reading-fails X Y failed (reading.Text fault) by = (by, refl)
+reading-fails X Y failed reading.Memory by = (by, refl)
+reading-fails X Y failed reading.Read by = (by, refl)

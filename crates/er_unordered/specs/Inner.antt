@@ -1,5 +1,4 @@
 -- How far a replay has come, and what it leaves in the writer.
-pub mod Both
 pub mod Passes
 pub mod Reasons
 pub mod Stopping

@@ -1,15 +1,14 @@
--- How far a replay by happens-before has come that forgets its steps batch by batch.
-use Rattle.std.specs.Prelude.{◌≡◌, ℕ, All, List, [], length, take, Option, IfSome}
+-- How far happens-before has come in the steps of a recording.
+use Rattle.std.specs.Prelude.{◌≡◌, ℕ, All, List, length, take, is_some, Option, None, IfSome}
+use Rattle.er_batch.specs.Analysts.{Asked}
 use Rattle.er_before.specs.Standing.{Ordered, Stands}
 use Rattle.er_event.specs.declared.steps.Step.{Step}
 use Rattle.er_report.specs.Builder.{Built, IsBuiltBy}
-use Rattle.er_text.specs.Batches.{HasRead}
-use Rattle.er_text.specs.Places.{Reached}
-use Rattle.er_text.specs.Trace.{IsTrace}
 use Rattle.er_trace.specs.Names.{NameTable}
 use Rattle.er_trace.specs.Trace.{Recording, IsNamed}
 use Rattle.er_order.specs.Races.{order_answer}
 use Rattle.er_unordered.specs.Inner.Reasons.{HasReasons, Reasoned}
+use Rattle.er_unordered.specs.Inner.Stopping.{IsStopIn}
 use Rattle.er_unordered.specs.declared.fault.OrderFault.{OrderFault}
 use Rattle.er_unordered.specs.declared.fault.OrderFault.TheVariants.{Read, Write, TableFull, CountFull, Memory}
 
@@ -53,23 +52,22 @@ pub record HasGathered (machine : Ordered) (builder : OrderBuilt) (r : Recording
   pub answered : HasAnswered machine builder.built r
   pub reasoned : IsReasoned builder r (length r.steps)
 
--- between two batches: some steps were read and answered, and nobody keeps them
-pub record HasCome (told known : Option (List ℕ)) (reader : Reached) (trace : Recording) (machine : Ordered) (builder : OrderBuilt) : Type 0 where
-  pub past : List Step
-  pub lines : List ℕ
-  pub read : IfSome told (λ text. HasRead text past lines reader known trace)
-  pub no_steps : trace.steps ≡ []
-  pub no_lines : trace.lines ≡ []
-  pub run : HasGathered machine builder (recorded past lines trace.names)
+-- what happens-before keeps of the steps so far: its machine, what is built for a report, and why it has stopped
+pub record OrderRan : Type 0 where
+  pub machine : Ordered
+  pub builder : OrderBuilt
+  pub stop : Option OrderFault
 
--- behind the last batch: the steps that were read are those of the text
-pub record HasEnded (told : Option (List ℕ)) (limit : ℕ) (trace : Recording) (builder : OrderBuilt) : Type 0 where
-  pub recording : Recording
-  pub read : IfSome told (λ text. IsTrace text limit recording)
-  pub names : trace.names ≡ recording.names
-  pub built : IsBuiltBy (order_answer recording.steps) builder.built recording (length recording.steps)
-  pub reasoned : IsReasoned builder recording (length recording.steps)
-  pub named : All (IsNamed recording.names) recording.steps
+-- all of the recording's steps were answered, under the rules that are asked for
+pub record HasGatheredFor (ran : OrderRan) (asked : Asked) (r : Recording) : Type 0 where
+  pub gathered : HasGathered ran.machine ran.builder r
+  pub rules : ran.builder.built.rules ≡ asked.rules
+  pub explain : is_some ran.builder.reasons ≡ asked.explain
+
+-- or one of them can't be answered
+pub record HasOrdered (ran : OrderRan) (asked : Asked) (r : Recording) : Type 0 where
+  pub all : ran.stop ≡ None → HasGatheredFor ran asked r
+  pub stopped : IfSome ran.stop (λ why. IsStopIn r.steps why)
 
 -- the steps weren't answered: not a fault of the text
 abbrev pub IsOrderFault : OrderFault → Type 0

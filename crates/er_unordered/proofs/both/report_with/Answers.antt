@@ -1,46 +1,37 @@
--- The reports of the batches are those of the text.
-use Rattle.std.proofs.Common.{◌∙◌, ℕ, Bool, List, None, IfSome, IfOk, IfErr, Option, sym, subst}
+-- What the pass stands for at the end of the text comes to the text's reports.
+use Rattle.std.proofs.Common.{ℕ, Bool, false, List, Option, refl, rules, sym, subst}
+use Rattle.er_batch.specs.Analysts.{Asked, HasRunFor}
 use Rattle.er_device.specs.Device.{inner_of}
 use Rattle.er_rules.specs.Rules.{targets_of}
-use Rattle.er_unordered.specs.Faults.{IsFaultOf}
-use Rattle.er_unordered.specs.Reports.{AreReportsBy}
+use Rattle.er_trace.specs.Trace.{no_steps}
+use Rattle.er_unordered.specs.Faults.{FailsBy}
+use Rattle.er_unordered.specs.Inner.Passes.{HasOrdered}
+use Rattle.er_unordered.specs.declared.both.BothReports.{BothReports}
 use Rattle.er_unordered.specs.declared.replay.Analysis.TheVariants.{Both}
 use Rattle.er_unordered.proofs.BothLemmas.{ends-all}
+use Rattle.er_unordered.proofs.StoppingLemmas.{of-reading}
 use Rattle.er_unordered.proofs.both.report_with.Goals as goal
 
-pub returns-in-Ok-clause-reports : goal.returns-in-Ok-clause-reports
-returns-in-Ok-clause-reports g c =
+pub returns-in-Ok-read : goal.returns-in-Ok-read
+returns-in-Ok-read g c =
     let told : Option (List ℕ) = g.D.Read.remaining (inner_of c.args.reader.now) in
-    let ended = c.in-Ok.ensures.ended told (c.in_ok-pass.ensures.come told) in
-    subst (λ (n : ℕ). IfOk c.finish.result (λ found. IfSome told (λ text. AreReportsBy None text n (targets_of c.args.suppressions.now) c.args.options.now.explain found.trace.names found.lockset found.unordered))) c.in_ok-pass.ensures.limit
-    (subst (λ (explain : Bool). IfOk c.finish.result (λ found. IfSome told (λ text. AreReportsBy None text c.in_ok-pass.pass.lines.place.limit (targets_of c.args.suppressions.now) explain found.trace.names found.lockset found.unordered)))
-    (c.in-Ok.ensures.explains ∙ c.in_ok-pass.ensures.explains)
-    (c.finish.ensures.reports told c.in_ok-pass.pass.lines.place.limit (targets_of c.args.suppressions.now) ended
-    (c.in-Ok.ensures.rules ∙ c.in_ok-pass.ensures.rules) (c.in-Ok.ensures.unordered ∙ c.in_ok-pass.ensures.unordered)
-    (c.in-Ok.ensures.reasons ∙ c.in_ok-pass.ensures.reasons ∙ sym (c.in-Ok.ensures.explains ∙ c.in_ok-pass.ensures.explains))))
+    let limit : ℕ = c.args.options.now.byte_limit in
+    let asked : Asked = record { rules = targets_of c.args.suppressions.now; explain = c.args.options.now.explain; strict = false } in
+    let stands : HasRunFor c.in_ok-lockset.lockset asked no_steps × HasOrdered c.in-Ok.ordering asked no_steps = (c.in_ok-lockset.ensures.stands false, c.in-Ok.ensures.stands asked refl refl) in
+    let all = c.in-Ok-read.ensures.answered asked stands in
+    let ends = c.in-Ok-read.ensures.ending asked stands in
+    record {
+      reports = c.end-in-Ok-read.ensures.reports asked told limit all ends;
+      named = c.end-in-Ok-read.ensures.named asked told limit all;
+      named_too = c.end-in-Ok-read.ensures.named_too asked told limit all;
+      ending = ends-all told c.in-Ok-read.found.ending c.end-in-Ok-read.result ends c.end-in-Ok-read.ensures.ending;
+      fault = c.end-in-Ok-read.ensures.fault asked told limit all;
+      failed = subst (λ (failed : Bool). FailsBy {X = BothReports} failed false c.end-in-Ok-read.result) (sym c.in-Ok-read.ensures.failed) (c.end-in-Ok-read.ensures.failed asked told limit all);
+      taken = search rules;
+    }
 
-pub returns-in-Ok-clause-named : goal.returns-in-Ok-clause-named
-returns-in-Ok-clause-named g c =
-    let told : Option (List ℕ) = g.D.Read.remaining (inner_of c.args.reader.now) in
-    c.finish.ensures.named told c.in_ok-pass.pass.lines.place.limit (c.in-Ok.ensures.ended told (c.in_ok-pass.ensures.come told))
-
-pub returns-in-Ok-clause-named_too : goal.returns-in-Ok-clause-named_too
-returns-in-Ok-clause-named_too g c =
-    let told : Option (List ℕ) = g.D.Read.remaining (inner_of c.args.reader.now) in
-    c.finish.ensures.named_too told c.in_ok-pass.pass.lines.place.limit (c.in-Ok.ensures.ended told (c.in_ok-pass.ensures.come told))
-
-pub returns-in-Ok-clause-ending : goal.returns-in-Ok-clause-ending
-returns-in-Ok-clause-ending g c =
-    let told : Option (List ℕ) = g.D.Read.remaining (inner_of c.args.reader.now) in
-    ends-all told c.run-ran.new.self.lines c.finish.result (c.in-Ok.ensures.ends told (c.in_ok-pass.ensures.come told)) c.finish.ensures.ending
-
-pub returns-in-Ok-clause-fault : goal.returns-in-Ok-clause-fault
-returns-in-Ok-clause-fault g c =
-    let told : Option (List ℕ) = g.D.Read.remaining (inner_of c.args.reader.now) in
-    subst (λ (n : ℕ). IfErr c.finish.result (λ why. IsFaultOf Both told n why)) c.in_ok-pass.ensures.limit
-    (c.finish.ensures.fault told c.in_ok-pass.pass.lines.place.limit (c.in-Ok.ensures.ended told (c.in_ok-pass.ensures.come told)))
-
-pub returns-in-Err-clause-fault : goal.returns-in-Err-clause-fault
-returns-in-Err-clause-fault g c =
-    let told : Option (List ℕ) = g.D.Read.remaining (inner_of c.args.reader.now) in
-    subst (λ (n : ℕ). IsFaultOf Both told n c.in-Err.why) c.in_ok-pass.ensures.limit (c.in-Err.ensures.fault told (c.in_ok-pass.ensures.come told))
+pub returns-in-Err-read-clause-fault : goal.returns-in-Err-read-clause-fault
+returns-in-Err-read-clause-fault g c =
+    let asked : Asked = record { rules = targets_of c.args.suppressions.now; explain = c.args.options.now.explain; strict = false } in
+    of-reading Both (g.D.Read.remaining (inner_of c.args.reader.now)) c.args.options.now.byte_limit c.in-Err-read.why
+    (c.in-Err-read.ensures.fault asked (c.in_ok-lockset.ensures.stands false, c.in-Ok.ensures.stands asked refl refl))
