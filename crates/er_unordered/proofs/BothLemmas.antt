@@ -1,5 +1,5 @@
 -- What a replay by both analyses comes to at the end of the text.
-use Rattle.std.proofs.Common.{◌≡◌, ◌∙◌, ℕ, Bool, false, List, length, Option, Some, None, Result, Ok, Err, IfSome, IfOk, refl, sym, ap, subst}
+use Rattle.std.proofs.Common.{◌≡◌, ◌∙◌, ℕ, false, List, Option, Some, None, Result, Ok, Err, IfSome, IfOk, refl, sym, ap, subst}
 use Rattle.er_batch.specs.Analysts.{Asked, HasRunFor, IsAnswered, Ran}
 use Rattle.er_event.specs.declared.refusals.NoRoom.{NoRoom}
 use Rattle.er_event.specs.declared.refusals.NoRoom.TheVariants as room
@@ -13,7 +13,7 @@ use Rattle.er_trace.specs.Names.{NameTable}
 use Rattle.er_trace.specs.Trace.{Recording}
 use Rattle.er_unordered.specs.Faults.{FailsBy, IsFaultOf, StopsFor, fault_of_room}
 use Rattle.er_unordered.specs.Inner.Passes.{HasOrdered, OrderRan}
-use Rattle.er_unordered.specs.Reports.{AreReportsBy, IsReportBy, unordered_report}
+use Rattle.er_unordered.specs.Reports.{AreReportsBy, unordered_report}
 use Rattle.er_unordered.specs.declared.both.BothReports.{BothReports}
 use Rattle.er_unordered.specs.declared.fault.OrderFault.{OrderFault}
 use Rattle.er_unordered.specs.declared.replay.Analysis.TheVariants.{Both}
@@ -22,15 +22,6 @@ use Rattle.er_unordered.specs.declared.replay.Analysis.TheVariants.{Both}
 abbrev cause-of : Option (ℕ × NoRoom) → NoRoom → NoRoom
 cause-of None other = other
 cause-of (Some stop) other = stop.1
-
--- the report by happens-before alone
-pub reported : (told : Option (List ℕ)) (limit : ℕ) (asked : Asked) (used : NameTable) (ran : OrderRan) (report : Report) → (all : IsAnswered (λ r. HasOrdered ran asked r) told limit used)
-    → summary report ≡ unordered_report all.recording asked.rules asked.explain → IfSome told (λ text. IsReportBy None text limit asked.rules asked.explain used report)
-reported told limit asked used ran report all says = by told all.trace
-  where
-    by : (o : Option (List ℕ)) → IfSome o (λ text. IsTrace text limit all.recording) → IfSome o (λ text. IsReportBy None text limit asked.rules asked.explain used report)
-    by None trace = tt
-    by (Some text) trace = record { recording = all.recording; trace = trace; says = says; names = all.names }
 
 -- behind the last batch
 module _ (told : Option (List ℕ)) (limit : ℕ) (asked : Asked) (used : NameTable) (ran : Ran) (ordered : OrderRan) (all : IsAnswered (λ r. HasRunFor ran asked r × HasOrdered ordered asked r) told limit used) where

@@ -6,6 +6,7 @@ use Rattle.er_print.specs.declared.fault.WriteFault.TheVariants as writing
 use Rattle.er_report.specs.Report.{Summary, report_of, told as summary}
 use Rattle.er_report.specs.declared.report.Report.{Report}
 use Rattle.er_rules.specs.Rules.{Target}
+use Rattle.er_batch.specs.Analysts.{Asked, IsAnswered}
 use Rattle.er_batch.specs.declared.verdict.Replayed.{Replayed}
 use Rattle.er_batch.specs.declared.verdict.Verdict.{Verdict}
 use Rattle.er_text.specs.Ending.{IsEndingOf, is_text_3, lost_if, lost_told}
@@ -15,6 +16,7 @@ use Rattle.er_text.specs.Trace.{IsTrace}
 use Rattle.er_trace.specs.Names.{NameTable}
 use Rattle.er_trace.specs.Trace.{Recording}
 use Rattle.er_unordered.specs.Faults.{IsFaultOf}
+use Rattle.er_unordered.specs.Inner.Passes.{HasOrdered, OrderRan}
 use Rattle.er_unordered.specs.Inner.Written.{WritesFound}
 use Rattle.er_unordered.specs.Replays.{IsBegunBy, IsFailedBy, IsReplayedBy, WritesNothing, has_races, lockset_output, output_by, verdict_if}
 use Rattle.er_unordered.specs.Reports.{AreReportsBy, AreReportsOfText, IsReportBy, IsReportOfText, unordered_report, with_lost}
@@ -119,6 +121,15 @@ untouched analysis told old limit (Write fault) is = absurd is
 untouched analysis told old limit TableFull is = keeps old
 untouched analysis told old limit CountFull is = keeps old
 untouched analysis told old limit Memory is = keeps old
+
+-- what the steps of the text were answered to is its report
+pub reported : (told : Option (List ℕ)) (limit : ℕ) (asked : Asked) (used : NameTable) (ran : OrderRan) (report : Report) → (all : IsAnswered (λ r. HasOrdered ran asked r) told limit used)
+    → summary report ≡ unordered_report all.recording asked.rules asked.explain → IfSome told (λ text. IsReportBy None text limit asked.rules asked.explain used report)
+reported told limit asked used ran report all says = by told all.trace
+  where
+    by : (o : Option (List ℕ)) → IfSome o (λ text. IsTrace text limit all.recording) → IfSome o (λ text. IsReportBy None text limit asked.rules asked.explain used report)
+    by None trace = tt
+    by (Some text) trace = record { recording = all.recording; trace = trace; says = says; names = all.names }
 
 -- the number of lost events is what the text says
 says-lost : (text : List ℕ) (ending : Ending) (lost : Option ℕ) → IsEndingOf text ending → lost ≡ lost_if ending.is_text_3 ending.lost → lost ≡ lost_told text

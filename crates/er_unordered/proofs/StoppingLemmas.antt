@@ -1,5 +1,5 @@
 -- A count that is full at a step is full there whatever steps come behind it, and what a replay that has stopped comes to.
-use Rattle.std.proofs.Common.{◌≡◌, ◌<◌, ◌+◌, ◌∙◌, ◌++◌, ◌∷◌, [], ℕ, Bool, true, false, List, length, slice_get, length-append, take, drop, is_some, Option, Some, None, IfSome, Err, refl, sym, ap, arith}
+use Rattle.std.proofs.Common.{◌≡◌, ◌<◌, ◌+◌, ◌∙◌, ◌++◌, ◌∷◌, [], ℕ, Bool, true, false, List, length, slice_get, length-append, take, drop, is_some, Option, Some, None, IfSome, Result, Err, refl, sym, ap, subst, arith}
 use Rattle.std.proofs.lemmas.List.{take-append-drop, length-take-le}
 use Rattle.std.proofs.lemmas.List.Elements.{All-nil}
 use Rattle.std.proofs.lemmas.Option.{slice_get_within}
@@ -153,3 +153,7 @@ pub reading-fails : (X Y : Type 0) (failed : Bool) (why : ReadFault) → HasFail
 reading-fails X Y failed (reading.Text fault) by = (by, refl)
 reading-fails X Y failed reading.Memory by = (by, refl)
 reading-fails X Y failed reading.Read by = (by, refl)
+
+-- the reader hasn't failed
+pub fails-so : (X : Type 0) (failed : Bool) (result : Result X OrderFault) → failed ≡ false → FailsBy {X = X} false false result → FailsBy {X = X} failed false result
+fails-so X failed result none by = subst (λ (b : Bool). FailsBy {X = X} b false result) (sym none) by

@@ -41,9 +41,9 @@ pub enum Analysis {
 /// some report is printed, and never `Stopped`. The watcher is told how far the replay has come, as by `replay_text_watched`.
 ///
 /// # Errors
-/// `Read`: the text has a fault, a read failed, or memory was refused to the reader. `Write`: a write failed, or memory was refused to the
-/// text. `TableFull`: a step of the lockset rule wants one set of locks more than may be kept. `CountFull`: a thread releases, starts,
-/// signals and is joined 2^32 - 1 times or more. `Memory`: memory was refused.
+/// `Read`: the text has a fault, a read failed, or memory was refused to the reader or to a step. `Write`: a write failed, or memory was
+/// refused to the text. `TableFull`: a step of the lockset rule wants one set of locks more than may be kept. `CountFull`: a thread releases,
+/// starts, signals and is joined 2^32 - 1 times or more. `Memory`: memory was refused elsewhere.
 pub fn replay_by<R: AllocGlobal + Wait, D: Read, W: Write, V: Watch>(
     rt: &R,
     reader: &mut Device<D>,

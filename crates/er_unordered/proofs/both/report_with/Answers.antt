@@ -1,15 +1,14 @@
 -- What the pass stands for at the end of the text comes to the text's reports.
-use Rattle.std.proofs.Common.{ℕ, Bool, false, List, Option, refl, rules, sym, subst}
+use Rattle.std.proofs.Common.{ℕ, false, List, Option, refl, rules}
 use Rattle.er_batch.specs.Analysts.{Asked, HasRunFor}
-use Rattle.er_device.specs.Device.{inner_of}
+use Rattle.er_device.specs.Device.{has_failed, inner_of}
 use Rattle.er_rules.specs.Rules.{targets_of}
 use Rattle.er_trace.specs.Trace.{no_steps}
-use Rattle.er_unordered.specs.Faults.{FailsBy}
 use Rattle.er_unordered.specs.Inner.Passes.{HasOrdered}
 use Rattle.er_unordered.specs.declared.both.BothReports.{BothReports}
 use Rattle.er_unordered.specs.declared.replay.Analysis.TheVariants.{Both}
 use Rattle.er_unordered.proofs.BothLemmas.{ends-all}
-use Rattle.er_unordered.proofs.StoppingLemmas.{of-reading}
+use Rattle.er_unordered.proofs.StoppingLemmas.{fails-so, of-reading}
 use Rattle.er_unordered.proofs.both.report_with.Goals as goal
 
 pub returns-in-Ok-read : goal.returns-in-Ok-read
@@ -26,7 +25,7 @@ returns-in-Ok-read g c =
       named_too = c.end-in-Ok-read.ensures.named_too asked told limit all;
       ending = ends-all told c.in-Ok-read.found.ending c.end-in-Ok-read.result ends c.end-in-Ok-read.ensures.ending;
       fault = c.end-in-Ok-read.ensures.fault asked told limit all;
-      failed = subst (λ (failed : Bool). FailsBy {X = BothReports} failed false c.end-in-Ok-read.result) (sym c.in-Ok-read.ensures.failed) (c.end-in-Ok-read.ensures.failed asked told limit all);
+      failed = fails-so BothReports (has_failed c.analyse-read.new.reader) c.end-in-Ok-read.result c.in-Ok-read.ensures.failed (c.end-in-Ok-read.ensures.failed asked told limit all);
       taken = search rules;
     }
 

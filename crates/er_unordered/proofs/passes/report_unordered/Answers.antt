@@ -1,12 +1,11 @@
 -- What the pass stands for at the end of the text is the text's report.
-use Rattle.std.proofs.Common.{◌≡◌, ℕ, false, List, Option, refl}
+use Rattle.std.proofs.Common.{ℕ, false, List, Option, refl}
 use Rattle.er_batch.specs.Analysts.{Asked}
 use Rattle.er_device.specs.Device.{has_failed, inner_of}
 use Rattle.er_rules.specs.Rules.{Target, targets_of}
 use Rattle.er_unordered.specs.declared.passes.UnorderedReport.{UnorderedReport}
 use Rattle.er_unordered.specs.declared.replay.Analysis.TheVariants.{HappensBefore}
-use Rattle.er_unordered.proofs.BothLemmas.{reported}
-use Rattle.er_unordered.proofs.ReplayLemmas.{lost-alone}
+use Rattle.er_unordered.proofs.ReplayLemmas.{lost-alone, reported}
 use Rattle.er_unordered.proofs.StoppingLemmas.{of-reading, of-stop, stop-fails}
 use Rattle.er_unordered.proofs.passes.report_unordered.Goals as goal
 
