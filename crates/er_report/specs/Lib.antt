@@ -5,3 +5,4 @@ pub mod Lines
 pub mod Names
 pub mod Reasons
 pub mod Report
+pub mod Reports
