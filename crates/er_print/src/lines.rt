@@ -7,7 +7,9 @@ ghost use Rattle.er_report.specs.Report.{told};
 ghost use Rattle.er_print.specs.Printed.{name_at, access_text, address_text, event_text, state_text, bytes_between, place_text, race_label, races_label, reason_text, reuse_text, own_text, line_text, stop_text, count_text, counts_text, lost_text, totals_text, end_text};
 
 use crate::numbers::put_number;
-use crate::pieces::Piece::{Address, Event, Label, Locks, Name, Number, Site, State, Text, Thread, Verb};
+use crate::pieces::Piece::{
+    Address, Event, Label, Locks, Name, Number, Site, State, Text, Thread, Verb,
+};
 use crate::pieces::put_all;
 use crate::styles::Style;
 use er_event::{Kind, LockId, NoRoom, PageRange, Refusal, Step, ThreadId, Word, WordState};
@@ -43,11 +45,7 @@ pub(crate) fn put_line(
 }
 
 // Puts the lines of a race's reasons, one for each.
-fn put_reasons(
-    out: &mut Vec<u8>,
-    names: &Names,
-    explained: &[Because],
-) -> Result<(), AllocError>
+fn put_reasons(out: &mut Vec<u8>, names: &Names, explained: &[Because]) -> Result<(), AllocError>
     requires { All (HasReasonNames names.now) explained.now }
     ensures { OnOk result (out.new.items ≡ out.old.items ++ flat_map (reason_text names.now) explained.now) }
 {
@@ -268,7 +266,8 @@ fn put_totals(out: &mut Vec<u8>, of: ReportKind, report: &Report) -> Result<(), 
     put_labelled(out, b", suppressed ", report.suppressed)?;
     put_labelled(out, b", refused ", report.refused)?;
     put_lost(out, b", lost ", report.lost, b"")?;
-    out.extend_from_slice(b"\n")
+    out.extend_from_slice(b"\n")?;
+    Ok(())
 }
 
 // What its totals call its races.

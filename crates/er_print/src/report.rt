@@ -64,11 +64,7 @@ pub fn report_text(alloc: Global, report: &Report, names: &Names) -> Result<Vec<
 
 /// The texts of the reports that there are, one behind the other, with these names for their numbers.
 #[tactic(auto, unfolding(crate::specs::Printed::reports_text))]
-pub fn reports_text(
-    alloc: Global,
-    reports: &Reports,
-    names: &Names,
-) -> Result<Vec<u8>, AllocError>
+pub fn reports_text(alloc: Global, reports: &Reports, names: &Names) -> Result<Vec<u8>, AllocError>
     requires { HaveNames names.now reports.now }
     ensures { IfOk result (λ text. text.items ≡ reports_text names.now reports.now) }
 {
