@@ -26,7 +26,7 @@ use Rattle.er_order.specs.Reasons.{word_raced, word_raced_by, word_raced_in}
 use Rattle.er_order.proofs.Searches.{least-there}
 use Rattle.er_order.proofs.ReasonLemmas.{word-raced-access, word-raced-reuse}
 use Rattle.er_order.proofs.ReusesGrow.{reuse-grow, in-use-grow}
-use Rattle.er_order.specs.Following.{Kept, act_by, kept_by, kept_at, kept_after, kept_moved, fresh, access_answered, word_reported, reuse_answered}
+use Rattle.er_order.specs.Following.{Kept, act_by, kept_at, fresh, access_answered, word_reported, reuse_answered}
 use Rattle.er_order.specs.Keeping.{Serves, IsKeptBy, IsKeptMoved, IsKeptAfter}
 use Rattle.er_order.proofs.ClockSteps.{local}
 use Rattle.er_order.proofs.StepLemmas.{act-step, clocks-grow, held-front}
