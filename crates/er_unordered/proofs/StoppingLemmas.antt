@@ -89,7 +89,7 @@ begun machine builder asked stands built reasoned rules explain = record {
 order-on : (old new : OrderRan) (past : List Step) (trace : Recording) → new.has_order ≡ (old.has_order || has_order trace.steps) → old.has_order ≡ has_order past
     → new.has_order ≡ has_order (past ++ trace.steps)
 order-on old new past trace said before =
-    said ∙ ap (λ (b : Bool). b || has_order trace.steps) before ∙ sym (list_any-append (λ (s : Step). is_order s.event) past trace.steps)
+    said ∙ ap (λ (b : Bool). b || has_order trace.steps) before ∙ sym (list_any-append is_order past trace.steps)
 
 -- what has stopped stands for whatever comes behind
 pub stopped-on : (old new : OrderRan) (asked : Asked) (past : List Step) (lines : List ℕ) (names : NameTable) (trace : Recording) → is_some old.stop ≡ true → new.stop ≡ old.stop

@@ -15,10 +15,14 @@ abbrev pub unordered_report : Recording → List Target → Bool → Summary
 unordered_report recording rules explain = report_by (order_answer recording.steps) (order_reasons_if explain recording) recording rules None
 
 -- the event starts or joins a thread, signals or awaits
-abbrev pub is_order : Event → Bool
-is_order (Sync sync) = true
-is_order _ = false
+abbrev pub is_sync : Event → Bool
+is_sync (Sync sync) = true
+is_sync _ = false
+
+-- the step does
+abbrev pub is_order : Step → Bool
+is_order step = is_sync step.event
 
 -- some of the steps does
 abbrev pub has_order : List Step → Bool
-has_order steps = list_any (λ (s : Step). is_order s.event) steps
+has_order steps = list_any is_order steps

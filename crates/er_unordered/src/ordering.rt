@@ -126,12 +126,19 @@ impl<'r, R> Analyst<R> for OrderAnalyst<'r> {
 fn with_order(before: bool, steps: &[Step]) -> bool
     ensures { result ≡ (before || has_order steps.now) }
 {
-    before || steps.iter().any(|step| is_order(step.event))
+    before || has_order(steps)
 }
 
-// Whether the event starts or joins a thread, signals or awaits.
-fn is_order(event: Event) -> bool
-    ensures { result ≡ is_order event }
+// Whether one of the steps is an order event.
+fn has_order(steps: &[Step]) -> bool
+    ensures { result ≡ has_order steps.now }
 {
-    matches!(event, Event::Sync(_))
+    steps.iter().any(|step| is_order(step))
+}
+
+// Whether the step starts or joins a thread, signals or awaits.
+fn is_order(step: &Step) -> bool
+    ensures { result ≡ is_order step.now }
+{
+    matches!(step.event, Event::Sync(_))
 }

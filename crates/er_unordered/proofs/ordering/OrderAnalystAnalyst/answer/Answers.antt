@@ -9,7 +9,7 @@ pub returns-then-is_some : goal.returns-then-is_some
 returns-then-is_some g c = record {
   goes_on = λ asked past lines names kept ordered.
       let inside : OrderRan = record { machine = c.self.inside.machine; builder = c.self.inside.builder; stop = c.self.inside.stop; has_order = c.self.inside.has_order } in
-      stopped-on inside _ asked past lines names c.args.trace.now (sym c.is_some.ensures ∙ c.if-is_some.true) refl (rw c.steps.ensures.value at c.with_order.ensures)
+      stopped-on inside _ asked past lines names c.args.trace.now (sym c.is_some.ensures ∙ c.if-is_some.true) refl (rw c.steps.ensures.value at c.with_order-self-inside.ensures)
       (subst (λ (ran : OrderRan). HasOrdered ran asked (recorded past lines names)) (sym c.self.view_is) ordered);
 }
 
@@ -17,7 +17,7 @@ pub returns-in-Ok : goal.returns-in-Ok
 returns-in-Ok g c = record {
   goes_on = λ asked past lines names kept ordered.
       let inside : OrderRan = record { machine = c.self.inside.machine; builder = c.self.inside.builder; stop = c.self.inside.stop; has_order = c.self.inside.has_order } in
-      goes-on inside _ asked past lines names c.args.trace.now (sym c.is_some.ensures ∙ c.if-is_some.false) refl (rw c.steps.ensures.value at c.with_order.ensures)
+      goes-on inside _ asked past lines names c.args.trace.now (sym c.is_some.ensures ∙ c.if-is_some.false) refl (rw c.steps.ensures.value at c.with_order-self-inside.ensures)
       (subst (λ (ran : OrderRan). HasOrdered ran asked (recorded past lines names)) (sym c.self.view_is) ordered)
       (c.in-Ok.ensures.run past lines names kept) c.in-Ok.ensures.rules c.in-Ok.ensures.explains;
 }
@@ -26,7 +26,7 @@ pub returns-in-Err : goal.returns-in-Err
 returns-in-Err g c = record {
   goes_on = λ asked past lines names kept ordered.
       let inside : OrderRan = record { machine = c.self.inside.machine; builder = c.self.inside.builder; stop = c.self.inside.stop; has_order = c.self.inside.has_order } in
-      stops inside _ asked past lines names c.args.trace.now c.in-Err.why (sym c.is_some.ensures ∙ c.if-is_some.false) refl (rw c.steps.ensures.value at c.with_order.ensures)
+      stops inside _ asked past lines names c.args.trace.now c.in-Err.why (sym c.is_some.ensures ∙ c.if-is_some.false) refl (rw c.steps.ensures.value at c.with_order-self-inside.ensures)
       (subst (λ (ran : OrderRan). HasOrdered ran asked (recorded past lines names)) (sym c.self.view_is) ordered)
       (c.in-Err.ensures.full past lines names kept);
 }
