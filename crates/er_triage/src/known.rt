@@ -1,10 +1,10 @@
 //! A rule for each race that no rule before it takes.
-ghost use Rattle.std.specs.Prelude.{◌≡◌, ◌<◌, ◌^◌, All, length, map, option_copied, slice_get, Some, IfOk, IfSome, OnOk};
+ghost use Rattle.std.specs.Prelude.{◌≡◌, ◌<◌, ◌^◌, All, length, map, slice_get, Some, IfOk, IfSome, OnOk};
 ghost use Rattle.er_report.specs.Names.{HasNames};
 ghost use Rattle.er_report.specs.Reports.{HaveNames};
 ghost use Rattle.er_rules.specs.Rules.{target_of, targets_of};
 ghost use Rattle.er_trace.specs.Names.{NameTable};
-ghost use Rattle.er_triage.specs.Known.{access_target, known_target, lines_in, lines_of, race_of, race_target, rule_of, rules_of, AreCounts, HasRacedName, IsTaken};
+ghost use Rattle.er_triage.specs.Known.{known_target, lines_in, lines_of, race_of, race_target, rule_of, rules_of, AreCounts, HasRacedName, IsTaken};
 ghost use Rattle.er_triage.specs.Inner.Counting.{with_one_more, with_race, with_races};
 ghost use Rattle.er_triage.specs.Sound.{IsSound};
 
@@ -51,33 +51,35 @@ pub fn known_races(
 {
     let mut rules = Suppressions::new(alloc);
     let mut known = Vec::new(alloc);
-    add_races(alloc, &mut rules, &mut known, names, &reports.lockset)?;
-    add_races(alloc, &mut rules, &mut known, names, &reports.unordered)?;
+    add_lines(
+        alloc,
+        &mut rules,
+        &mut known,
+        names,
+        lines_in(&reports.lockset),
+    )?;
+    add_lines(
+        alloc,
+        &mut rules,
+        &mut known,
+        names,
+        lines_in(&reports.unordered),
+    )?;
     Ok(known)
 }
 
-// Adds the races of a report, if there is one.
-fn add_races(
-    alloc: Global,
-    rules: &mut Suppressions,
-    known: &mut Vec<KnownRace>,
-    names: &Names,
-    report: &Option<Report>,
-) -> Result<(), AllocError>
-    requires names { IfSome report.now (λ report. All (HasNames names.now) report.lines.items) }
-    requires rules { map (known_target names.now) known.old.items ≡ targets_of rules.old }
-    requires sound { All (IsSound names.now) known.old.items }
-    ensures rules { OnOk result (map (known_target names.now) known.new.items ≡ targets_of rules.new) }
-    ensures counted { OnOk result (known.new.items ≡ with_races names.now known.old.items (lines_in report.now)) }
-    ensures few { OnOk result (length (lines_in report.now) < 2 ^ 63) }
-    ensures sound { OnOk result (All (IsSound names.now) known.new.items) }
+// The lines of a report, if there is one.
+pub(crate) fn lines_in(report: &Option<Report>) -> &[Line]
+    ensures lines { result.now ≡ lines_in report.now }
+    ensures few { length (lines_in report.now) < 2 ^ 63 }
 {
     match report {
-        Some(report) => add_lines(alloc, rules, known, names, &report.lines),
-        None => Ok(()),
+        Some(report) => &report.lines,
+        None => &[],
     }
 }
 
+// Adds the races of these lines.
 fn add_lines(
     alloc: Global,
     rules: &mut Suppressions,
@@ -91,7 +93,6 @@ fn add_lines(
     ensures rules { OnOk result (map (known_target names.now) known.new.items ≡ targets_of rules.new) }
     ensures counted { OnOk result (known.new.items ≡ with_races names.now known.old.items lines.now) }
     ensures sound { OnOk result (All (IsSound names.now) known.new.items) }
-    ensures few { OnOk result (length lines.now < 2 ^ 63) }
 {
     for line in lines {
         if let Some(race) = race_of(names, line) {
@@ -194,24 +195,12 @@ pub(crate) fn rule_for(alloc: Global, names: &Names, raced: Raced) -> Result<Rul
     requires { HasRacedName names.now raced }
     ensures { IfOk result (λ rule. target_of rule ≡ race_target names.now raced) }
 {
-    match raced {
-        Raced::Access(_, word, site) => rule_at(alloc, name_of(names, site), word),
-        Raced::Reuse(range) => Ok(Rule::Words(Some(WordSpan {
-            first: range.lo,
-            last: range.hi,
-        }))),
-    }
-}
-
-// The rule for an access at the site of this name, or of the word at the missing one.
-fn rule_at(alloc: Global, site: Option<&str>, word: Word) -> Result<Rule, AllocError>
-    ensures { IfOk result (λ rule. target_of rule ≡ access_target (option_copied site.entry) word) }
-{
-    match site {
-        Some(name) => Ok(Rule::Site(Some(String::from_str(alloc, name)?))),
-        None => Ok(Rule::Words(Some(WordSpan {
-            first: word,
-            last: word,
-        }))),
-    }
+    let (first, last) = match raced {
+        Raced::Access(_, word, site) => match name_of(names, site) {
+            Some(name) => return Ok(Rule::Site(Some(String::from_str(alloc, name)?))),
+            None => (word, word),
+        },
+        Raced::Reuse(range) => (range.lo, range.hi),
+    };
+    Ok(Rule::Words(Some(WordSpan { first, last })))
 }

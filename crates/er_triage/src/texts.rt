@@ -1,6 +1,6 @@
 //! The texts of rules, each built whole in memory.
 ghost use Rattle.std.specs.Prelude.{◌≡◌, ◌++◌, All, cond, [], Some, IfOk, OnOk};
-ghost use Rattle.er_rules.specs.Rules.{AtSite, AtWords, target_of, targets_of};
+ghost use Rattle.er_rules.specs.Rules.{AtWords, target_of, targets_of};
 ghost use Rattle.er_triage.specs.Known.{IsNamed};
 ghost use Rattle.er_triage.specs.Texts.{comment_text, hidden_text, is_unused, known_text, known_races_text, left_out_text, raced_text, taken_text, target_text, took_none, unused_from, unused_text};
 
@@ -137,13 +137,6 @@ fn put_raced(out: &mut Vec<u8>, names: &Names, race: &KnownRace) -> Result<(), A
     }
 }
 
-fn put_site(out: &mut Vec<u8>, name: &str) -> Result<(), AllocError>
-    ensures { OnOk result (out.new.items ≡ out.old.items ++ target_text (AtSite (Some name.now))) }
-{
-    out.extend_from_slice(b"site ")?;
-    out.extend_from_slice(name.as_bytes())
-}
-
 // Puts the rule of the words from the first to the last.
 fn put_run(out: &mut Vec<u8>, first: Word, last: Word) -> Result<(), AllocError>
     ensures { OnOk result (out.new.items ≡ out.old.items ++ target_text (AtWords (Some (record { first = first; last = last })))) }
@@ -195,7 +188,10 @@ pub fn put_rule(out: &mut Vec<u8>, rule: &Rule) -> Result<(), AllocError>
     ensures { OnOk result (out.new.items ≡ out.old.items ++ target_text (target_of rule.now)) }
 {
     match rule {
-        Rule::Site(Some(name)) => put_site(out, name),
+        Rule::Site(Some(name)) => {
+            out.extend_from_slice(b"site ")?;
+            out.extend_from_slice(name.as_bytes())
+        }
         Rule::Site(None) => out.extend_from_slice(b"site -"),
         Rule::Words(Some(WordSpan { first, last })) => put_run(out, *first, *last),
         Rule::Words(None) => out.extend_from_slice(b"words 0 0"),

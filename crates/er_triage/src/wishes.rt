@@ -1,16 +1,16 @@
 //! All of it at once, as a command line asks for it.
-ghost use Rattle.std.specs.Prelude.{◌≡◌, ◌-◌, ◌^◌, ◌<◌, [], None, cond, false, true, length, IfOk, IsSomeAnd};
+ghost use Rattle.std.specs.Prelude.{◌≡◌, ◌-◌, [], None, cond, false, true, length, IfOk, IsSomeAnd};
 ghost use Rattle.er_report.specs.Reports.{HaveNames};
 ghost use Rattle.er_rules.specs.Rules.{targets_of};
 ghost use Rattle.er_triage.specs.First.{KeepFirst};
-ghost use Rattle.er_triage.specs.Known.{lines_in, lines_of};
+ghost use Rattle.er_triage.specs.Known.{lines_of};
 ghost use Rattle.er_triage.specs.Notes.{AreNotes, notes_text};
 ghost use Rattle.er_triage.specs.Texts.{unused_from, IsKnownText};
 
 use crate::first::keep_first_races;
-use crate::known::known_races;
+use crate::known::{known_races, lines_in};
 use crate::texts::{known_races_text, left_out_text, unused_rules_text};
-use er_report::{Report, Reports};
+use er_report::Reports;
 use er_rules::Suppressions;
 use er_trace::Names;
 use std::alloc::{AllocError, Global};
@@ -106,15 +106,5 @@ fn unused_if(
 fn count_lines(reports: &Reports) -> u64
     ensures { result ≡ length (lines_of reports.now) }
 {
-    count_in(&reports.lockset) as u64 + count_in(&reports.unordered) as u64
-}
-
-fn count_in(report: &Option<Report>) -> usize
-    ensures lines { result ≡ length (lines_in report.now) }
-    ensures few { result < 2 ^ 63 }
-{
-    match report {
-        Some(report) => report.lines.len(),
-        None => 0,
-    }
+    lines_in(&reports.lockset).len() as u64 + lines_in(&reports.unordered).len() as u64
 }
