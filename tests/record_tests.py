@@ -518,6 +518,44 @@ def terminal(folder, findings, counter, right, busy):
     findings.check("on a terminal, several programs", "record: 2 programs recorded, 2 with races" in text and lines.startswith("races in this run\n"), f"{status} {text} {lines}")
 
 
+# ---- What a user sees first ----
+
+
+def blocks(report):
+    """The places that each block of a report by site names: those of its head, and those of the accesses below it."""
+    found = re.findall(r"^(\S+(?: and \S+)?:\n(?:  .*\n?)+)", report, re.M)
+    return [re.findall(r"(?:^|^    at |(?<=\d) and )(\S+?:\d+)(?=[:, \n]|$)", block, re.M) for block in found]
+
+
+def default_blocks(program):
+    """The blocks of the report that a user sees on a terminal: those about this run, and those of lines without a common lock."""
+    _, _, text = on_terminal([RUN, program], cwd=program.parent)
+    in_run, _, by_locks = text.partition("\nno common lock")
+    return blocks(in_run), blocks(by_locks)
+
+
+def bugs(source):
+    """The name of the bug of each line that has a mark `RACE name`, by the line's place."""
+    return {f"{source.name}:{number}": name for number, line in enumerate(source.read_text().splitlines(), 1) for name in re.findall(r"\bRACE (\w+)", line)}
+
+
+def real_programs(folder, findings):
+    """Each bug of the programs of tests/record/real is in the report, but for memory that is freed where it races before. What raced in this run is a bug,
+    and a pointer that is read without its lock, or a flag that orders nothing, stands beside the other side's place."""
+    for source in sorted((SOURCES / "real").glob("*.c*")):
+        program, built = build(folder, source, "gcc", "-O0")
+        findings.check(f"{source.stem} is built", built.returncode == 0, built.stderr)
+        places = bugs(source)
+        for _ in range(min(RUNS, 3)):
+            in_run, by_locks = default_blocks(program)
+            found = {places.get(place) for block in in_run + by_locks for place in block}
+            findings.check(f"each bug of {source.name} is in the default report", found >= set(places.values()) - {"freed"}, f"{in_run} {by_locks}")
+            findings.check(f"what raced in a run of {source.name} is a bug", all(set(block) & set(places) for block in in_run), f"{in_run}")
+            for name in {"pointer", "payload"} & set(places.values()):
+                both = {place for place, bug in places.items() if bug == name}
+                findings.check(f"both sides of {name} of {source.name}", any(both <= set(block) for block in in_run), f"{in_run}")
+
+
 # ---- Sites ----
 
 
@@ -868,6 +906,7 @@ def tests(record):
         large_report(folder, findings, counter)
         several_programs(folder, findings, made)
         terminal(folder, findings, counter, made[SOURCES / "recursive.cpp", "gcc", "-O0"], busy)
+        real_programs(folder, findings)
         sites(folder, findings)
         misuse(folder, findings)
         hangups(folder, findings)
