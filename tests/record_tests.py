@@ -293,6 +293,12 @@ def ways_to_use(folder, findings, counter, queue):
     for words in (["--replay"], ["--suppress", rules], ["--explain"], ["--format", "text"], ["--exit-status", "report"]):
         found = command([RUN, "-o", trace, *words, counter])
         findings.check(f"a trace that is kept, and its report by {words[0]}", found.stdout == "30\n" and "\nsteps " in found.stderr and found.returncode == 3, f"{found}")
+    # A report with places of reasons is made of the whole file.
+    for words in (["--by-site"], ["--analysis", "both", "--by-site"], ["--format", "sarif"]):
+        found = command([RUN, "-q", "-o", trace, "--replay", *words, counter])
+        replayed = command([TOP / "eraser", "replay", *words, trace])
+        is_whole = found.stderr == replayed.stdout and len(re.findall(r'^    at counter.c|"relatedLocations":.*"uri":"counter.c"', replayed.stdout, re.M)) > 0
+        findings.check(f"a trace that is kept, and the places of its report with {words}", is_whole and (found.stdout, found.returncode) == ("30\n", 3), f"{found} {replayed}")
     report = folder / "kept.report"
     found = command([RUN, "-o", trace, "--report", report, counter])
     kept = "\nsteps " in report.read_text() and re.fullmatch(r"record: \d+ events recorded, 0 lost\n", found.stderr)
@@ -413,6 +419,9 @@ def several_programs(folder, findings, made):
     documents = [json.loads((folder / "forms" / f"0{number}-queue-gcc-O0.json").read_text()) for number in (1, 2)]
     sites = [{race["site"] for race in document["races"]} for document in documents]
     findings.check("traces and reports of several programs", sites == 2 * [marked(SOURCES / "queue.cpp", "RACE")] and len(listed(folder / "traces")) == 2, f"{found} {sites}")
+    found = command([RUN, "-q", "-o", "traces/", "--by-site", "--report", "places/", "sh", "-c", f"{racy}; {racy}"], cwd=folder)
+    texts = [(folder / "places" / f"0{number}-queue-gcc-O0.txt").read_text() for number in (1, 2)]
+    findings.check("the places of the reports of several traces", all("\n    at queue.cpp:" in text for text in texts), f"{found} {texts}")
     found = command([RUN, "-q", "--report", "one/", racy], cwd=folder)
     findings.check("a folder for the report of one program", list(listed(folder / "one")) == ["01-queue-gcc-O0.txt"], f"{found}")
     found = command([RUN, "--exit-status", "report", "--report", "-", "sh", "-c", f"{forking}; {right}; exit 7"], cwd=folder)
