@@ -43,16 +43,7 @@ impl<A> Model for OrderWords<A> {
 }
 
 impl<A: Copy> OrderWords<A> {
-    /// No word was accessed. Whoever chooses the words that are accessed can make it slow: see [`keyed`](OrderWords::keyed).
-    pub fn new(alloc: Global) -> Self
-        ensures stored { (w : ℕ) → stored_among result w ≡ Accesses untouched }
-        ensures kept { (w : ℕ) → kept_among result w ≡ fresh }
-        ensures follows { (tags : ℕ → A) → Follows tags result [] }
-    {
-        OrderWords::keyed(alloc, HashKeys::KNOWN)
-    }
-
-    /// No word was accessed, and each word will be found by these keys.
+    /// No word was accessed, and each word will be found by these keys. If whoever chooses the words knows the keys, that can be slow.
     pub fn keyed(alloc: Global, keys: HashKeys) -> Self
         ensures stored { (w : ℕ) → stored_among result w ≡ Accesses untouched }
         ensures kept { (w : ℕ) → kept_among result w ≡ fresh }
