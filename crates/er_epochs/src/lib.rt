@@ -7,14 +7,6 @@
 //! A call on one word leaves the others (`others`). A reset says which word of its range was still in use (`in_use`). With the tags of the
 //! steps of a list it goes on by one step at a time (`goes_on`), and at a race it names the access that the definitions name
 //! (`reason`). How an entry is found without a hash as a rule (`index_of`) serves other maps too. That the last write and the latest reads are enough for this is a law of the definitions (`a_reason_is_found` of `er_order`).
-//!
-//! ```text
-//! let answer = machine.step(&step)?;
-//! if let Ok(Reply::Race) = answer {
-//!     reason = words.reason(&step, raced, &clock);
-//! }
-//! words.follow(&step, &answer, &clock, line)?;
-//! ```
 #![tactic(auto)]
 
 pub use finding::index_of;
