@@ -49,7 +49,7 @@ COSTS = {
     "meets": (2000, [[]]),
     "threads": (4000, [[]]),
     "lines": (2000, [["--by-site", *EXPLAIN]]),
-    "readers": (2000, [[], EXPLAIN, HAPPENS_BEFORE]),
+    "readers": (2000, [[], EXPLAIN, HAPPENS_BEFORE, [*HAPPENS_BEFORE, *EXPLAIN]]),
     "handed-on": (2000, [[], HAPPENS_BEFORE]),
     "own-locks": (2000, [[], HAPPENS_BEFORE]),
 }

@@ -107,7 +107,7 @@ ignored before t w kind ignores =
     changes before before t (Access kind w 0) refl (held_same before t) (clocks_same before.clocks t Local refl) refl (λ v. rw ignores refl)
 
 -- one that is
-pub accessed : (before : Ordered) (words : AllWords) (t w : ℕ) (kind : Kind) (clock : ℕ × Counts) → nat_lt 0 (holding before t).depth ≡ false →
+pub accessed : (before : Ordered) (words : AllWords (Unit {0})) (t w : ℕ) (kind : Kind) (clock : ℕ × Counts) → nat_lt 0 (holding before t).depth ≡ false →
     clock.0 ≡ t → ((u : ℕ) → count_by clock u ≡ clock_of before t u) →
     IsKeptBy (count_by clock) (kept_of before w) clock.0 kind (kept_among words w) → ((v : ℕ) → (w == v) ≡ false → kept_among words v ≡ kept_of before v) →
     Changes before (record { thread = t; event = Access kind w 0 }) (record { holders = before.holders; clocks = before.clocks; words = words })

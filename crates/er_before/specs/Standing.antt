@@ -22,7 +22,7 @@ use Rattle.er_epochs.specs.Words.{AllWords, kept_among}
 pub record Ordered : Type 0 where
   pub holders : List (ℕ × Holdings)
   pub clocks : ClockMaps
-  pub words : AllWords
+  pub words : AllWords (Unit {0})
 
 -- thread t's holdings
 abbrev pub holding : Ordered → ℕ → Holdings

@@ -25,7 +25,7 @@ use std::marker::Model;
 pub struct OrderMachine {
     holders: Holders,
     clocks: Clocks,
-    words: OrderWords,
+    words: OrderWords<()>,
 }
 
 impl Model for OrderMachine {
@@ -225,7 +225,7 @@ impl OrderMachine {
             return Ok(Reply::Ignored);
         }
         let clock = self.clocks.clock(thread);
-        match self.words.access(word, &clock, kind) {
+        match self.words.access(word, &clock, kind, ()) {
             Ok(true) => Ok(Reply::Race),
             Ok(false) => Ok(Reply::Quiet),
             Err(_) => Err(NoTick::OutOfMemory),
