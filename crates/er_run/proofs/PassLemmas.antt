@@ -87,12 +87,15 @@ module _ (asked : Asked) (r : Recording) (ran : Ran) (run : HasRunFor ran asked 
 pub order-fault : (analysis : Analysis) (told : Option (List ℕ)) (limit : ℕ) (r : Recording) (why : OrderStop) → asks_order analysis ≡ true → IfSome told (λ text. IsTrace text limit r)
     → IsStopIn r.steps why → IsFaultOfText analysis told limit (fault_of_stop why)
 order-fault analysis None limit r order.CountFull orders trace is = (orders, tt)
+order-fault analysis None limit r order.ThreadsFull orders trace is = (orders, tt)
 order-fault analysis (Some text) limit r order.CountFull orders trace is = (orders, record { recording = r; trace = trace; full = is })
+order-fault analysis (Some text) limit r order.ThreadsFull orders trace is = (orders, record { recording = r; trace = trace; full = is })
 order-fault analysis told limit r order.Memory orders trace is = tt
 
 -- neither is a failed read or write, nor damage
 pub stop-told : (X : Type 0) (why : OrderStop) → FailsBy {X = X} false false (Err (fault_of_stop why)) × IsNoDamage (fault_of_stop why)
 stop-told X order.CountFull = ((refl, refl), tt)
+stop-told X order.ThreadsFull = ((refl, refl), tt)
 stop-told X order.Memory = ((refl, refl), tt)
 
 pub room-told : (X : Type 0) (cause : NoRoom) → FailsBy {X = X} false false (Err (fault_of_room cause)) × IsNoDamage (fault_of_room cause)
