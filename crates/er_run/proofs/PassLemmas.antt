@@ -1,5 +1,5 @@
 -- The reports of the steps that were answered are those of the text, and a stop of an analysis is a fault at one of its steps.
-use Rattle.std.proofs.Common.{◌≡◌, ◌∙◌, ℕ, Bool, true, false, List, Option, Some, None, IfSome, refl, sym, ap, subst}
+use Rattle.std.proofs.Common.{◌≡◌, ◌∙◌, ℕ, true, false, List, Option, Some, None, IfSome, refl, sym, ap, subst}
 use Rattle.std.specs.List.{All}
 use Rattle.er_batch.specs.Analysts.{Asked, HasRunFor, IsAnswered, IsFaultOfReading, Ran}
 use Rattle.er_damage.specs.Standing.{Inspected}

@@ -1,6 +1,6 @@
 -- Damage that is looked for comes before the reports.
 use Rattle.std.proofs.Common.{◌∙◌, None, Some, subst, sym, Ok}
-use Rattle.er_run.specs.Inner.Inspected.{IsInspected, HasFound}
+use Rattle.er_run.specs.Inner.Inspected.{HasFound}
 use Rattle.er_run.specs.Inner.Outcomes.{IsOutcomeOf}
 use Rattle.er_run.specs.declared.fault.RunFault.TheVariants.{Damaged}
 use Rattle.er_run.specs.declared.outcome.ReplayedTrace.{ReplayedTrace}
