@@ -2,15 +2,15 @@
 use Rattle.std.proofs.Common.{◌∙◌, sym}
 use Rattle.er_device.specs.Device.{inner_of}
 use Rattle.er_places.proofs.TextLemmas.{places-asked, places-none}
-use Rattle.er_places.specs.Wanted.{is_asked, is_wanted}
-use Rattle.er_places.proofs.finding.places_of_reasons.Goals as goal
+use Rattle.er_places.specs.Wanted.{are_asked, is_wanted}
+use Rattle.er_places.proofs.finding.places_of_reports.Goals as goal
 
 pub returns-clause-found : goal.returns-clause-found
 returns-clause-found g c =
-    places-asked (is_wanted c.in_ok-wanted.wanted) (is_asked c.args.lines.now) (g.D.Read.remaining (inner_of c.args.reader.now)) c.args.byte_limit c.find_places.result c.in_ok-wanted.ensures
+    places-asked (is_wanted c.in_ok-wanted.wanted) (are_asked c.args.reports.now) (g.D.Read.remaining (inner_of c.args.reader.now)) c.args.byte_limit c.find_places.result c.in_ok-wanted.ensures
     c.find_places.ensures.found
 
 pub returns-then-is_empty-clause-found : goal.returns-then-is_empty-clause-found
 returns-then-is_empty-clause-found g c =
-    places-none (is_asked c.args.lines.now) (g.D.Read.remaining (inner_of c.args.reader.now)) c.args.byte_limit c.new.result
+    places-none (are_asked c.args.reports.now) (g.D.Read.remaining (inner_of c.args.reader.now)) c.args.byte_limit c.new.result
     (λ line. sym (c.in_ok-wanted.ensures line) ∙ c.is_empty.ensures c.if-is_empty.true line) c.new.ensures.none c.new.ensures.names
