@@ -10,7 +10,7 @@ use Rattle.er_report.specs.declared.reports.Form.TheVariants.{Text, BySite, Json
 use Rattle.er_report.specs.declared.reports.Reports.{Reports}
 use Rattle.er_rules.specs.Rules.{Target}
 use Rattle.er_sarif.specs.Document.{sarif_reports}
-use Rattle.er_sites.specs.Text.{AreSitesOf}
+use Rattle.er_sites.specs.Sites.{AreSitesOf}
 use Rattle.er_trace.specs.Names.{NameTable}
 
 -- these bytes are the reports in this form. By site and as SARIF they have the places, as SARIF how many races each rule takes, and as a page the excerpts

@@ -1,0 +1,54 @@
+//! A second look at a trace, for the places of the accesses that reasons name.
+ghost use Rattle.std.specs.Prelude.{◌≡◌, false, IfSome};
+ghost use Rattle.er_device.specs.Device.{has_failed};
+ghost use Rattle.eraser.specs.Places.{ArePlacesFor, shows_places};
+
+use crate::replaying::Job;
+use crate::sources::is_ordinary;
+use er_device::Device;
+use er_places::{Places, places_of_reports};
+use er_report::{Form, Reports};
+use er_request::Replay;
+use std::fs::File;
+use std::rt::Files;
+
+/// The places of the accesses that the reports' reasons name. None is known if they aren't shown, and if the trace can't be read again.
+pub(crate) fn places_of<R>(rt: &R, job: Job<'_>, reports: &Reports) -> Places
+where
+    R: Files + AllocGlobal,
+    ensures { ArePlacesFor R.File.remaining job.replay.now job.options.now.byte_limit reports.now result }
+{
+    let alloc = rt.alloc();
+    let Some(mut again) = open_again(rt, job.replay) else {
+        return Places::new(alloc);
+    };
+    let options = job.options;
+    let found = places_of_reports(alloc, &mut again, options.byte_limit, options.keys, reports);
+    drop(again);
+    match found {
+        Ok(places) => places,
+        Err(_) => Places::new(alloc),
+    }
+}
+
+// The trace once more, if its reports have reasons whose places are shown. What is no ordinary file can't be read twice.
+fn open_again<R: Files>(rt: &R, replay: &Replay<'_>) -> Option<Device<R::File>>
+    ensures open { IfSome result (λ again. has_failed again ≡ false) }
+    ensures shown { shows_places replay.now ≡ false → result ≡ None }
+{
+    if !shows_places(replay) || !is_ordinary(rt, replay.trace) {
+        return None;
+    }
+    match File::open(rt, replay.trace) {
+        Ok(file) => Some(Device::new(file)),
+        Err(_) => None,
+    }
+}
+
+// Whether places are shown, and the trace may be a file that is read whole.
+fn shows_places(replay: &Replay<'_>) -> bool
+    ensures { result ≡ shows_places replay.now }
+{
+    let is_shown = matches!(replay.form, Form::BySite | Form::Sarif);
+    replay.explain && is_shown && !replay.until_fault && replay.trace != "-"
+}
