@@ -177,11 +177,7 @@ fn asked_lines(alloc: Global, keys: NameKeys, reports: &Reports) -> Result<Wante
 }
 
 // Adds the lines that the reasons of a report name, if there is one.
-fn add_asked(
-    alloc: Global,
-    wanted: &mut Wanted,
-    report: &Option<Report>,
-) -> Result<(), AllocError>
+fn add_asked(alloc: Global, wanted: &mut Wanted, report: &Option<Report>) -> Result<(), AllocError>
     ensures { OnOk result ((line : ℕ) → is_wanted wanted.new line ≡ (is_wanted wanted.old line || asked_in report.now line)) }
 {
     match report {

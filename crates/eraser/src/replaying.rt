@@ -220,8 +220,7 @@ fn write_known<R: Files>(
     path: Option<&str>,
     triaged: &Triaged,
     verdict: Verdict,
-) -> Result<(), Fault>
-{
+) -> Result<(), Fault> {
     match (path, &triaged.known_races) {
         (Some(path), Some(text)) if verdict != Verdict::Stopped => write_rules(rt, path, text),
         _ => Ok(()),
