@@ -1,5 +1,5 @@
 //! One command line, run over a reader and its writers.
-ghost use Rattle.std.specs.Prelude.{◌≡◌, ◌≢◌, ◌≤◌, ◌||◌, ◌×◌, [], false, true, None, codes, IfOk, IfErr, IfSome};
+ghost use Rattle.std.specs.Prelude.{◌≡◌, ◌≢◌, ◌≤◌, ◌||◌, [], false, true, None, codes, IfOk, IfErr, IfSome};
 ghost use Rattle.std.specs.Io.KnownBytes.{Keeps};
 ghost use Rattle.er_device.specs.Device.{inner_of, has_failed};
 ghost use Rattle.er_exit.specs.Lines.{fault_line};
@@ -278,6 +278,7 @@ pub(crate) fn options_of(replay: &Replay<'_>, keys: NameKeys) -> Options
     ensures explain { result.explain ≡ replay.now.explain }
     ensures bytes { result.byte_limit ≡ replay.now.byte_limit }
     ensures strict { result.strict ≡ replay.now.strict }
+    ensures workers { result.workers ≡ replay.now.workers }
 {
     let options = Options::usual().with_explain(replay.explain);
     let options = options.with_strict(replay.strict).with_keys(keys);

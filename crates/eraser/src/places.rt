@@ -1,7 +1,7 @@
 //! A second look at a trace, for the places of the accesses that reasons name.
-ghost use Rattle.std.specs.Prelude.{◌≡◌, false, IfSome};
+ghost use Rattle.std.specs.Prelude.{◌≡◌, false, None, IfSome};
 ghost use Rattle.er_device.specs.Device.{has_failed};
-ghost use Rattle.eraser.specs.Places.{ArePlacesFor, shows_places};
+ghost use Rattle.eraser.specs.Replays.{HasNoPlace, shows_places, tells_places};
 
 use crate::replaying::Job;
 use crate::sources::is_ordinary;
@@ -16,7 +16,7 @@ use std::rt::Files;
 pub(crate) fn places_of<R>(rt: &R, job: Job<'_>, reports: &Reports) -> Places
 where
     R: Files + AllocGlobal,
-    ensures { ArePlacesFor R.File.remaining job.replay.now job.options.now.byte_limit reports.now result }
+    ensures { shows_places job.replay.now ≡ false → HasNoPlace result }
 {
     let alloc = rt.alloc();
     let Some(mut again) = open_again(rt, job.replay) else {
@@ -49,6 +49,12 @@ fn open_again<R: Files>(rt: &R, replay: &Replay<'_>) -> Option<Device<R::File>>
 fn shows_places(replay: &Replay<'_>) -> bool
     ensures { result ≡ shows_places replay.now }
 {
-    let is_shown = matches!(replay.form, Form::BySite | Form::Sarif);
-    replay.explain && is_shown && !replay.until_fault && replay.trace != "-"
+    replay.explain && tells_places(replay.form) && !replay.until_fault && replay.trace != "-"
+}
+
+// Whether a form tells where accesses stood.
+fn tells_places(form: Form) -> bool
+    ensures { result ≡ tells_places form }
+{
+    matches!(form, Form::BySite | Form::Sarif)
 }

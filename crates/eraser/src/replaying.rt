@@ -1,13 +1,16 @@
 //! One replay: a trace in, its reports out as they are asked for.
-ghost use Rattle.std.specs.Prelude.{◌≡◌, ◌≢◌, ◌≤◌, ◌×◌, [], false, None, IfOk, IfErr, IfSome};
+ghost use Rattle.std.specs.Prelude.{◌≡◌, ◌≢◌, ◌≤◌, ℕ, Bool, List, [], false, None, IsSome, is_some, IfOk, IfErr, IfSome};
 ghost use Rattle.er_device.specs.Device.{inner_of, has_failed};
+ghost use Rattle.er_exit.specs.declared.faults.Fault.TheVariants.{WriteRules};
 ghost use Rattle.er_exit.specs.Writes.{LeavesOutput};
 ghost use Rattle.er_report.specs.Reports.{HaveNames};
 ghost use Rattle.er_rules.specs.Rules.{targets_of};
+ghost use Rattle.er_run.specs.Replays.{is_verdict_of};
+ghost use Rattle.er_run.specs.Reports.{AreReportsOfText, RecordsOrder};
 ghost use Rattle.er_text.specs.Ending.{IsEndingOf};
 ghost use Rattle.er_triage.specs.Notes.{AreNotes};
-ghost use Rattle.eraser.specs.Inner.{Delivers, Shows};
-ghost use Rattle.eraser.specs.Replays.{EndsAs, FailsAs, unordered_of, verdict_status};
+ghost use Rattle.eraser.specs.Inner.Writes.{WritesSome};
+ghost use Rattle.eraser.specs.Replays.{AreShown, EndsAs, FailsAs, unordered_of, verdict_status};
 
 use crate::faults::fault_of;
 use crate::places::places_of;
@@ -115,6 +118,14 @@ where
     O: Write,
     requires output { has_failed output.old ≡ false }
     requires named { HaveNames names.now reports }
+    ensures status { IfOk result (λ ended. (ended.status ≤ 4) × (ended.status ≢ 2)) }
+    ensures notes { IfOk result (λ ended. AreNotes ended.notes.items) }
+    ensures silent { job.replay.now.unused_rules ≡ false → job.replay.now.max_races ≡ None → IfOk result (λ ended. ended.notes.items ≡ []) }
+    ensures ends { (text : List ℕ) (limit : ℕ) (explain : Bool) → AreReportsOfText job.replay.now.analysis text limit (targets_of job.suppressions.now) explain names.now reports
+        → IsEndingOf text ending → RecordsOrder text limit has_order → IfOk result (EndsAs job.replay.now text limit (targets_of job.suppressions.now) explain (O.contents (inner_of output.old)) (O.contents (inner_of output.new))) }
+    ensures fails { (text : List ℕ) (limit : ℕ) (explain strict : Bool) → AreReportsOfText job.replay.now.analysis text limit (targets_of job.suppressions.now) explain names.now reports
+        → IfErr result (FailsAs job.replay.now text limit (targets_of job.suppressions.now) explain strict (O.contents (inner_of output.old)) (O.contents (inner_of output.new))) }
+    ensures nothing { IfErr result (LeavesOutput (O.contents (inner_of output.old)) (O.contents (inner_of output.new))) }
 {
     let wishes = wishes_of(job.replay);
     let Ok(triaged) = triage(rt.alloc(), reports, names, job.suppressions, wishes) else {
@@ -165,6 +176,7 @@ where
     O: Write,
     requires output { has_failed output.old ≡ false }
     requires named { HaveNames names.now reports.now }
+    ensures { WritesSome (AreShown job.replay.now names.now (targets_of job.suppressions.now) reports.now) (O.contents (inner_of output.old)) (O.contents (inner_of output.new)) result }
 {
     let excerpts = excerpts_of(rt, job.replay.source, reports, names)?;
     let places = places_of(rt, job, reports);
@@ -193,7 +205,12 @@ fn finish<R: Files>(
     triaged: Triaged,
     ending: Ending,
     unordered: u64,
-) -> Result<Ended, Fault> {
+) -> Result<Ended, Fault>
+    ensures status { IfOk result (λ ended. ended.status ≡ verdict_status (is_verdict_of triaged.reports)) }
+    ensures notes { IfOk result (λ ended. ended.notes.items ≡ triaged.notes.items) }
+    ensures text { IfOk result (λ ended. (ended.ending ≡ ending) × (ended.unordered ≡ unordered)) }
+    ensures fault { IfErr result (λ fault. (fault ≡ WriteRules) × IsSome path) }
+{
     let verdict = verdict_of(&triaged.reports);
     if let Err(fault) = write_known(rt, path, &triaged, verdict) {
         drop(triaged);
@@ -220,7 +237,9 @@ fn write_known<R: Files>(
     path: Option<&str>,
     triaged: &Triaged,
     verdict: Verdict,
-) -> Result<(), Fault> {
+) -> Result<(), Fault>
+    ensures { IfErr result (λ fault. (fault ≡ WriteRules) × IsSome path) }
+{
     match (path, &triaged.known_races) {
         (Some(path), Some(text)) if verdict != Verdict::Stopped => write_rules(rt, path, text),
         _ => Ok(()),

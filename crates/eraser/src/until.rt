@@ -2,7 +2,7 @@
 //!
 //! It has two passes. The first replays the text as ever. If it ends in a fault of the text, the lines before that one are read again by a
 //! reader that ends there, and are replayed as any other text.
-ghost use Rattle.std.specs.Prelude.{◌≡◌, ◌≢◌, ◌≤◌, ◌×◌, [], false, None, codes, IfOk, IfErr, IfSome};
+ghost use Rattle.std.specs.Prelude.{◌≡◌, ◌≢◌, ◌≤◌, [], false, None, codes, IfOk, IfErr, IfSome};
 ghost use Rattle.er_device.specs.Device.{inner_of, has_failed};
 ghost use Rattle.er_exit.specs.Statuses.{fault_status};
 ghost use Rattle.er_exit.specs.Lines.{fault_line};
