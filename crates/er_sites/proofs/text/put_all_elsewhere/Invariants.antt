@@ -1,6 +1,6 @@
 use Rattle.std.proofs.Common.{◌≡◌, ◌++◌, flat_map, take}
-use Rattle.er_sites.specs.Both.{if_elsewhere}
-use Rattle.er_sites.proofs.both.put_others.Given as goal
+use Rattle.er_sites.specs.Sites.{if_elsewhere}
+use Rattle.er_sites.proofs.text.put_all_elsewhere.Given as goal
 
 -- the rows so far were put, if they are elsewhere
 abbrev pub invariant-loop-row : goal.invariant-loop-row

@@ -1,6 +1,6 @@
 use Rattle.std.proofs.Common.{arith}
-use Rattle.er_sites.proofs.BothLemmas.{others_next}
-use Rattle.er_sites.proofs.both.put_others.Goals as goal
+use Rattle.er_sites.proofs.SiteLemmas.{others_next}
+use Rattle.er_sites.proofs.text.put_all_elsewhere.Goals as goal
 
 pub loop-row-preserved : goal.loop-row-preserved
 loop-row-preserved c =

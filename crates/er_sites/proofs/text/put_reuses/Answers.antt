@@ -3,7 +3,7 @@ use Rattle.er_print.proofs.LineLemmas.{one_more}
 use Rattle.er_report.specs.Lines.{line_view}
 use Rattle.er_report.specs.declared.report.Line.{Line}
 use Rattle.er_sites.specs.Text.{reuse_story}
-use Rattle.er_sites.proofs.both.put_reuses.Goals as goal
+use Rattle.er_sites.proofs.text.put_reuses.Goals as goal
 
 pub loop-line-preserved : goal.loop-line-preserved
 loop-line-preserved c =
