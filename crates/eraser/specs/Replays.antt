@@ -1,7 +1,8 @@
 -- What a replay leaves, and its exit status.
-use Rattle.std.specs.Prelude.{◌≡◌, ◌⊎◌, ◌&&◌, ℕ, Bool, true, false, not, cond, List, [], length, ◌-◌, take, codes, Option, Some, None, IsSome, Result, Ok, Err}
+use Rattle.std.specs.Prelude.{◌≡◌, ◌⊎◌, ◌&&◌, ℕ, Bool, true, false, not, cond, List, [], length, ◌-◌, take, codes, Option, Some, None, IsSome, is_some, IsFalse, Result, Ok, Err}
 use Rattle.std.specs.Io.KnownBytes.{Appends, Keeps}
 use Rattle.std.specs.Str.{bytes_eq}
+use Rattle.er_batch.specs.declared.options.Options.{Options}
 use Rattle.er_batch.specs.declared.verdict.Verdict.{Verdict}
 use Rattle.er_batch.specs.declared.verdict.Verdict.TheVariants.{Clean, Races, Stopped}
 use Rattle.er_exit.specs.Lines.{fault_line}
@@ -20,7 +21,8 @@ use Rattle.er_request.specs.declared.request.Replay.{Replay}
 use Rattle.er_request.specs.Words.{usual_limit}
 use Rattle.er_rules.specs.Rules.{Target}
 use Rattle.er_run.specs.Replays.{IsBegun, IsNoDamage, IsReplayed, is_verdict_of}
-use Rattle.er_run.specs.Reports.{AreReportsOfText, IsFaultOfText}
+use Rattle.er_report.specs.Reports.{asks_locks, asks_order}
+use Rattle.er_run.specs.Reports.{AreReportsOfText, IsFaultOfText, RecordsOrder}
 use Rattle.er_run.specs.declared.fault.RunFault.{RunFault}
 use Rattle.er_text.specs.Ending.{IsEndingOf}
 use Rattle.er_text.specs.Trace.{IsTrace, IsFault}
@@ -65,13 +67,15 @@ pub record AreShown (replay : Replay) (names : NameTable) (rules : List Target) 
   pub sources : replay.source ≡ None → excerpts ≡ []
   pub form : IsForm replay.form names table rules excerpts reports bytes
 
--- the text is a trace, and these bytes are the form of its reports by the analysis that is asked for, under these rules, with reasons or without, and
--- with the lines of the first races alone if their number is limited
-pub record IsOutput (replay : Replay) (text : List ℕ) (limit : ℕ) (rules : List Target) (explain : Bool) (bytes : List ℕ) : Type 0 where
+-- the text is a trace, and these bytes are the form of its reports by the analysis that is asked for, under these rules, and with the lines of the first
+-- races alone if their number is limited
+pub record IsOutput (replay : Replay) (text : List ℕ) (rules : List Target) (bytes : List ℕ) : Type 0 where
   pub names : NameTable
   pub found : Reports
   pub left : Reports
-  pub reports : AreReportsOfText replay.analysis text limit rules explain names found
+  pub reports : AreReportsOfText replay.analysis text replay.byte_limit rules replay.explain names found
+  pub locks : is_some found.lockset ≡ asks_locks replay.analysis
+  pub order : is_some found.unordered ≡ asks_order replay.analysis
   pub first : KeepFirst replay.max_races found left
   pub shown : AreShown replay names rules left bytes
 
@@ -85,28 +89,36 @@ abbrev pub unordered_of : Bool → Reports → ℕ
 unordered_of has_order reports = cond has_order 0 (races_in reports.unordered)
 
 -- what a replay leaves that ends so: the whole output, the status of its verdict, and what is noted
-pub record EndsAs (replay : Replay) (text : List ℕ) (limit : ℕ) (rules : List Target) (explain : Bool) (old new : Option (List ℕ)) (ended : Ended) : Type 0 where
+pub record EndsAs (replay : Replay) (text : List ℕ) (rules : List Target) (old new : Option (List ℕ)) (ended : Ended) : Type 0 where
   pub bytes : List ℕ
-  pub output : IsOutput replay text limit rules explain bytes
+  pub output : IsOutput replay text rules bytes
   pub written : Appends old new bytes
   pub status : ended.status ≡ verdict_status (is_verdict_of output.left)
   pub ending : IsEndingOf text ended.ending
+  pub order : (has_order : Bool) × (RecordsOrder replay.analysis text replay.byte_limit has_order × (ended.unordered ≡ unordered_of has_order output.found))
   pub notes : ended.notes.items ≡ notes_text replay.unused_rules output.found rules (length (lines_of output.found) - length (lines_of output.left))
 
 -- the fault of a replay, before a byte is written
-pub record IsFoundFault (replay : Replay) (text : List ℕ) (limit : ℕ) (strict : Bool) (why : Fault) : Type 0 where
+pub record IsFoundFault (replay : Replay) (text : List ℕ) (why : Fault) : Type 0 where
   pub found : RunFault
   pub says : why ≡ replay_fault found
-  pub cause : IsFaultOfText replay.analysis (Some text) limit found
-  pub lenient : strict ≡ false → IsNoDamage found
+  pub cause : IsFaultOfText replay.analysis (Some text) replay.byte_limit found
+  pub lenient : IsFalse replay.strict → IsNoDamage found
 
 -- why a replay has not all that was asked for, and what it leaves: a beginning of the output if a write failed, all of it if only the file of rules
 -- is missing, and else nothing
-abbrev pub FailsAs : Replay → List ℕ → ℕ → List Target → Bool → Bool → Option (List ℕ) → Option (List ℕ) → Fault → Type 0
-FailsAs replay text limit rules explain strict old new fault.Write = (bytes : List ℕ) × IsOutput replay text limit rules explain bytes × ((n : ℕ) × Appends old new (take n bytes))
-FailsAs replay text limit rules explain strict old new fault.WriteRules = IsSome replay.write_rules × ((bytes : List ℕ) × IsOutput replay text limit rules explain bytes × Appends old new bytes)
-FailsAs replay text limit rules explain strict old new fault.Memory = Keeps old new
-FailsAs replay text limit rules explain strict old new other = IsFoundFault replay text limit strict other × Keeps old new
+abbrev pub FailsAs : Replay → List ℕ → List Target → Option (List ℕ) → Option (List ℕ) → Fault → Type 0
+FailsAs replay text rules old new fault.Write = (bytes : List ℕ) × IsOutput replay text rules bytes × ((n : ℕ) × Appends old new (take n bytes))
+FailsAs replay text rules old new fault.WriteRules = IsSome replay.write_rules × ((bytes : List ℕ) × IsOutput replay text rules bytes × Appends old new bytes)
+FailsAs replay text rules old new fault.Memory = Keeps old new
+FailsAs replay text rules old new other = IsFoundFault replay text other × Keeps old new
+
+-- by these options a replay is run as it is asked for
+pub record AreOptionsOf (replay : Replay) (options : Options) : Type 0 where
+  pub bytes : options.byte_limit ≡ replay.byte_limit
+  pub explain : options.explain ≡ replay.explain
+  pub strict : options.strict ≡ replay.strict
+  pub workers : options.workers ≡ replay.workers
 
 -- A replay of the standard input with no option
 

@@ -8,7 +8,7 @@ ghost use Rattle.er_exit.specs.Writes.{GetsLine, LeavesOutput};
 ghost use Rattle.er_request.specs.Words.{IsUsual, asks_hints, asks_progress, asks_until_fault, asks_usual, names_hints, names_progress, names_until_fault, replays_input};
 ghost use Rattle.er_triage.specs.Notes.{AreNotes};
 ghost use Rattle.eraser.specs.Notes.{AddsNotesOn, GetsNotes, IsSilent};
-ghost use Rattle.eraser.specs.Replays.{ComesTo, EndsAs, EndsUsually, FailsAs};
+ghost use Rattle.eraser.specs.Replays.{AreOptionsOf, ComesTo, EndsAs, EndsUsually, FailsAs};
 
 use crate::advice::trace_path;
 use crate::meter::Meter;
@@ -151,8 +151,8 @@ where
     ensures usual { IsUsual replay.now → IfSome (I.remaining (inner_of input.old)) (λ text. EndsUsually text (O.contents (inner_of output.old)) (O.contents (inner_of output.new)) result) }
     ensures notes { IfOk result (λ ended. AreNotes ended.notes.items) }
     ensures silent { replay.now.unused_rules ≡ false → replay.now.max_races ≡ None → IfOk result (λ ended. ended.notes.items ≡ []) }
-    ensures ends { replay.now.trace.now ≡ codes "-" → replay.now.suppressions.items ≡ [] → IfOk result (λ ended. IfSome (I.remaining (inner_of input.old)) (λ text. EndsAs replay.now text replay.now.byte_limit [] replay.now.explain (O.contents (inner_of output.old)) (O.contents (inner_of output.new)) ended)) }
-    ensures fails { replay.now.trace.now ≡ codes "-" → replay.now.suppressions.items ≡ [] → replay.now.until_fault ≡ false → IfErr result (λ cut. IfSome (I.remaining (inner_of input.old)) (λ text. FailsAs replay.now text replay.now.byte_limit [] replay.now.explain replay.now.strict (O.contents (inner_of output.old)) (O.contents (inner_of output.new)) cut.fault)) }
+    ensures ends { replay.now.trace.now ≡ codes "-" → replay.now.suppressions.items ≡ [] → IfOk result (λ ended. IfSome (I.remaining (inner_of input.old)) (λ text. EndsAs replay.now text [] (O.contents (inner_of output.old)) (O.contents (inner_of output.new)) ended)) }
+    ensures fails { replay.now.trace.now ≡ codes "-" → replay.now.suppressions.items ≡ [] → replay.now.until_fault ≡ false → IfErr result (λ cut. IfSome (I.remaining (inner_of input.old)) (λ text. FailsAs replay.now text [] (O.contents (inner_of output.old)) (O.contents (inner_of output.new)) cut.fault)) }
     ensures nothing { replay.now.until_fault ≡ false → IfErr result (λ cut. LeavesOutput (O.contents (inner_of output.old)) (O.contents (inner_of output.new)) cut.fault) }
     ensures unwatched { replay.now.progress ≡ false → Keeps (P.contents (inner_of progress.old)) (P.contents (inner_of progress.new)) }
 {
@@ -275,10 +275,7 @@ pub(crate) fn keys_from<R: RandomSource>(rt: &R) -> NameKeys {
 
 /// How the trace is to be replayed.
 pub(crate) fn options_of(replay: &Replay<'_>, keys: NameKeys) -> Options
-    ensures explain { result.explain ≡ replay.now.explain }
-    ensures bytes { result.byte_limit ≡ replay.now.byte_limit }
-    ensures strict { result.strict ≡ replay.now.strict }
-    ensures workers { result.workers ≡ replay.now.workers }
+    ensures { AreOptionsOf replay.now result }
 {
     let options = Options::usual().with_explain(replay.explain);
     let options = options.with_strict(replay.strict).with_keys(keys);

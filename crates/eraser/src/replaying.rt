@@ -3,14 +3,14 @@ ghost use Rattle.std.specs.Prelude.{◌≡◌, ◌≢◌, ◌≤◌, ℕ, Bool, 
 ghost use Rattle.er_device.specs.Device.{inner_of, has_failed};
 ghost use Rattle.er_exit.specs.declared.faults.Fault.TheVariants.{WriteRules};
 ghost use Rattle.er_exit.specs.Writes.{LeavesOutput};
-ghost use Rattle.er_report.specs.Reports.{HaveNames};
+ghost use Rattle.er_report.specs.Reports.{HaveNames, asks_locks, asks_order};
 ghost use Rattle.er_rules.specs.Rules.{targets_of};
 ghost use Rattle.er_run.specs.Replays.{is_verdict_of};
 ghost use Rattle.er_run.specs.Reports.{AreReportsOfText, RecordsOrder};
 ghost use Rattle.er_text.specs.Ending.{IsEndingOf};
 ghost use Rattle.er_triage.specs.Notes.{AreNotes};
 ghost use Rattle.eraser.specs.Inner.Writes.{WritesSome};
-ghost use Rattle.eraser.specs.Replays.{AreShown, EndsAs, FailsAs, unordered_of, verdict_status};
+ghost use Rattle.eraser.specs.Replays.{AreOptionsOf, AreShown, EndsAs, FailsAs, unordered_of, verdict_status};
 
 use crate::faults::fault_of;
 use crate::places::places_of;
@@ -74,8 +74,8 @@ where
     ensures status { IfOk result (λ ended. (ended.status ≤ 4) × (ended.status ≢ 2)) }
     ensures notes { IfOk result (λ ended. AreNotes ended.notes.items) }
     ensures silent { job.replay.now.unused_rules ≡ false → job.replay.now.max_races ≡ None → IfOk result (λ ended. ended.notes.items ≡ []) }
-    ensures ends { IfOk result (λ ended. IfSome (D.remaining (inner_of source.old)) (λ text. EndsAs job.replay.now text job.options.now.byte_limit (targets_of job.suppressions.now) job.options.now.explain (O.contents (inner_of output.old)) (O.contents (inner_of output.new)) ended)) }
-    ensures fails { IfErr result (λ why. IfSome (D.remaining (inner_of source.old)) (λ text. FailsAs job.replay.now text job.options.now.byte_limit (targets_of job.suppressions.now) job.options.now.explain job.options.now.strict (O.contents (inner_of output.old)) (O.contents (inner_of output.new)) why)) }
+    ensures ends { AreOptionsOf job.replay.now job.options.now → IfOk result (λ ended. IfSome (D.remaining (inner_of source.old)) (λ text. EndsAs job.replay.now text (targets_of job.suppressions.now) (O.contents (inner_of output.old)) (O.contents (inner_of output.new)) ended)) }
+    ensures fails { AreOptionsOf job.replay.now job.options.now → IfErr result (λ why. IfSome (D.remaining (inner_of source.old)) (λ text. FailsAs job.replay.now text (targets_of job.suppressions.now) (O.contents (inner_of output.old)) (O.contents (inner_of output.new)) why)) }
     ensures nothing { IfErr result (LeavesOutput (O.contents (inner_of output.old)) (O.contents (inner_of output.new))) }
 {
     match replay_reports(
@@ -118,13 +118,15 @@ where
     O: Write,
     requires output { has_failed output.old ≡ false }
     requires named { HaveNames names.now reports }
+    requires locks { is_some reports.lockset ≡ asks_locks job.replay.now.analysis }
+    requires order { is_some reports.unordered ≡ asks_order job.replay.now.analysis }
     ensures status { IfOk result (λ ended. (ended.status ≤ 4) × (ended.status ≢ 2)) }
     ensures notes { IfOk result (λ ended. AreNotes ended.notes.items) }
     ensures silent { job.replay.now.unused_rules ≡ false → job.replay.now.max_races ≡ None → IfOk result (λ ended. ended.notes.items ≡ []) }
-    ensures ends { (text : List ℕ) (limit : ℕ) (explain : Bool) → AreReportsOfText job.replay.now.analysis text limit (targets_of job.suppressions.now) explain names.now reports
-        → IsEndingOf text ending → RecordsOrder text limit has_order → IfOk result (EndsAs job.replay.now text limit (targets_of job.suppressions.now) explain (O.contents (inner_of output.old)) (O.contents (inner_of output.new))) }
-    ensures fails { (text : List ℕ) (limit : ℕ) (explain strict : Bool) → AreReportsOfText job.replay.now.analysis text limit (targets_of job.suppressions.now) explain names.now reports
-        → IfErr result (FailsAs job.replay.now text limit (targets_of job.suppressions.now) explain strict (O.contents (inner_of output.old)) (O.contents (inner_of output.new))) }
+    ensures ends { (text : List ℕ) → AreReportsOfText job.replay.now.analysis text job.replay.now.byte_limit (targets_of job.suppressions.now) job.replay.now.explain names.now reports
+        → IsEndingOf text ending → RecordsOrder job.replay.now.analysis text job.replay.now.byte_limit has_order → IfOk result (EndsAs job.replay.now text (targets_of job.suppressions.now) (O.contents (inner_of output.old)) (O.contents (inner_of output.new))) }
+    ensures fails { (text : List ℕ) → AreReportsOfText job.replay.now.analysis text job.replay.now.byte_limit (targets_of job.suppressions.now) job.replay.now.explain names.now reports
+        → IfErr result (FailsAs job.replay.now text (targets_of job.suppressions.now) (O.contents (inner_of output.old)) (O.contents (inner_of output.new))) }
     ensures nothing { IfErr result (LeavesOutput (O.contents (inner_of output.old)) (O.contents (inner_of output.new))) }
 {
     let wishes = wishes_of(job.replay);

@@ -9,7 +9,7 @@ ghost use Rattle.er_exit.specs.Lines.{fault_line};
 ghost use Rattle.er_exit.specs.Writes.{GetsLine, LeavesOutput};
 ghost use Rattle.er_rules.specs.Rules.{targets_of};
 ghost use Rattle.er_triage.specs.Notes.{AreNotes};
-ghost use Rattle.eraser.specs.Replays.{EndsAs, FailsAs};
+ghost use Rattle.eraser.specs.Replays.{AreOptionsOf, EndsAs, FailsAs};
 
 use crate::advice::report_replay_fault;
 use crate::notes::notes_of;
@@ -101,8 +101,8 @@ where
     ensures status { IfOk result (λ ended. (ended.status ≤ 4) × (ended.status ≢ 2)) }
     ensures notes { IfOk result (λ ended. AreNotes ended.notes.items) }
     ensures silent { job.replay.now.unused_rules ≡ false → job.replay.now.max_races ≡ None → IfOk result (λ ended. ended.notes.items ≡ []) }
-    ensures ends { job.replay.now.trace.now ≡ codes "-" → IfOk result (λ ended. IfSome (I.remaining (inner_of input.old)) (λ text. EndsAs job.replay.now text job.options.now.byte_limit (targets_of job.suppressions.now) job.options.now.explain (O.contents (inner_of output.old)) (O.contents (inner_of output.new)) ended)) }
-    ensures fails { job.replay.now.trace.now ≡ codes "-" → job.replay.now.until_fault ≡ false → IfErr result (λ cut. IfSome (I.remaining (inner_of input.old)) (λ text. FailsAs job.replay.now text job.options.now.byte_limit (targets_of job.suppressions.now) job.options.now.explain job.options.now.strict (O.contents (inner_of output.old)) (O.contents (inner_of output.new)) cut.fault)) }
+    ensures ends { job.replay.now.trace.now ≡ codes "-" → AreOptionsOf job.replay.now job.options.now → IfOk result (λ ended. IfSome (I.remaining (inner_of input.old)) (λ text. EndsAs job.replay.now text (targets_of job.suppressions.now) (O.contents (inner_of output.old)) (O.contents (inner_of output.new)) ended)) }
+    ensures fails { job.replay.now.trace.now ≡ codes "-" → job.replay.now.until_fault ≡ false → AreOptionsOf job.replay.now job.options.now → IfErr result (λ cut. IfSome (I.remaining (inner_of input.old)) (λ text. FailsAs job.replay.now text (targets_of job.suppressions.now) (O.contents (inner_of output.old)) (O.contents (inner_of output.new)) cut.fault)) }
     ensures alone { job.replay.now.until_fault ≡ false → IfErr result (λ cut. (cut.notes.items ≡ []) × (cut.damage ≡ None)) }
     ensures nothing { job.replay.now.until_fault ≡ false → IfErr result (λ cut. LeavesOutput (O.contents (inner_of output.old)) (O.contents (inner_of output.new)) cut.fault) }
 {
@@ -152,7 +152,7 @@ where
     ensures status { IfOk result (λ ended. (ended.status ≤ 4) × (ended.status ≢ 2)) }
     ensures notes { IfOk result (λ ended. AreNotes ended.notes.items) }
     ensures silent { job.replay.now.unused_rules ≡ false → job.replay.now.max_races ≡ None → IfOk result (λ ended. ended.notes.items ≡ []) }
-    ensures ends { IfOk result (λ ended. IfSome (D.remaining (inner_of source.old)) (λ text. EndsAs job.replay.now text job.options.now.byte_limit (targets_of job.suppressions.now) job.options.now.explain (O.contents (inner_of output.old)) (O.contents (inner_of output.new)) ended)) }
+    ensures ends { AreOptionsOf job.replay.now job.options.now → IfOk result (λ ended. IfSome (D.remaining (inner_of source.old)) (λ text. EndsAs job.replay.now text (targets_of job.suppressions.now) (O.contents (inner_of output.old)) (O.contents (inner_of output.new)) ended)) }
 {
     let mut keeping = Device::new(Keeping::new(rt.alloc(), source));
     let first = replay_from(rt, job, &mut keeping, output, watcher);
