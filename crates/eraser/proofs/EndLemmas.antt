@@ -19,6 +19,7 @@ use Rattle.er_report.specs.declared.reports.Form.{Form}
 use Rattle.er_report.specs.declared.reports.Reports.{Reports}
 use Rattle.er_request.specs.Words.{IsUsual, usual_limit}
 use Rattle.er_request.specs.declared.request.Replay.{Replay}
+use Rattle.er_rules.specs.Rules.{Target}
 use Rattle.er_run.specs.Faults.{IsFaultOfText, IsNoDamage, IsOfReading}
 use Rattle.er_run.specs.Replays.{IsBegun, output_of, verdict_of}
 use Rattle.er_run.specs.Reports.{AreReportsOfText, IsReportOfRun, is_verdict_of, report_with, verdict_by}
@@ -194,3 +195,22 @@ usual-fails remaining replay text old new why usual fails = by_case why fails
     by_case fault.WorkerNotStarted fails = other fault.WorkerNotStarted fails
     by_case fault.WorkerLost fails = other fault.WorkerLost fails
     by_case (fault.Unsettled why) fails = other (fault.Unsettled why) fails
+
+-- what holds of the text, if it is known
+pub for-text : {P Q : List ℕ → Type 0} (told : Option (List ℕ)) → ((text : List ℕ) → P text → Q text) → IfSome told P → IfSome told Q
+for-text None f is = tt
+for-text (Some text) f is = f text is
+
+-- before its notes or its fault are written
+pub usually : {F : Type 0} (remaining : F → Option (List ℕ)) (replay : Replay) (told old new : Option (List ℕ)) (rules : List Target) (result : Result Ended Cut) → IsUsual replay → rules ≡ []
+    → IfOk result (λ ended. IfSome told (λ text. EndsAs remaining replay text rules old new ended))
+    → IfErr result (λ cut. IfSome told (λ text. FailsAs remaining replay text rules old new cut.fault))
+    → IfOk result (λ ended. ended.notes.items ≡ []) → IfErr result (λ cut. (cut.notes.items ≡ []) × (cut.damage ≡ None))
+    → IfSome told (λ text. EndsUsually text old new result)
+usually remaining replay None old new rules result usual none ends fails quiet whole = tt
+usually remaining replay (Some text) old new rules (Ok ended) usual none ends fails quiet whole =
+    let (replays, (ending, count)) = usual-ends remaining replay text old new ended usual (subst (λ (r : List Target). EndsAs remaining replay text r old new ended) none ends) in
+    (replays, (ending, (count, quiet)))
+usually remaining replay (Some text) old new rules (Err cut) usual none ends fails quiet whole =
+    let (cause, leaves) = usual-fails remaining replay text old new cut.fault usual (subst (λ (r : List Target). FailsAs remaining replay text r old new cut.fault) none fails) in
+    (cause, (leaves, whole))
