@@ -3,7 +3,6 @@ use Rattle.std.proofs.Common.{◌≡◌, ◌||◌, ℕ, nat_lt, Bool, true, fals
 use Rattle.std.specs.Io.KnownBytes.{Appends, Keeps}
 use Rattle.er_batch.specs.declared.verdict.Verdict.{Verdict}
 use Rattle.er_batch.specs.declared.verdict.Verdict.TheVariants as verdict
-use Rattle.er_event.specs.declared.refusals.NoRoom.{NoRoom}
 use Rattle.er_journal.specs.declared.answers.Stopped.{Stopped}
 use Rattle.er_print.specs.Printed.{report_text}
 use Rattle.er_print.specs.declared.fault.WriteFault.TheVariants as writing
