@@ -91,7 +91,9 @@ module _ (asked : Asked) (r : Recording) (ran : Ran) (run : HasRunFor ran asked 
 pub order-fault : (analysis : Analysis) (told : Option (List ℕ)) (limit : ℕ) (r : Recording) (why : OrderStop) → asks_order analysis ≡ true → IfSome told (λ text. IsTrace text limit r)
     → IsStopIn r.steps why → IsFaultOfText analysis told limit (fault_of_stop why)
 order-fault analysis None limit r order.CountFull orders trace is = (orders, tt)
+order-fault analysis None limit r order.ThreadsFull orders trace is = (orders, tt)
 order-fault analysis (Some text) limit r order.CountFull orders trace is = (orders, record { recording = r; trace = trace; full = is })
+order-fault analysis (Some text) limit r order.ThreadsFull orders trace is = (orders, record { recording = r; trace = trace; full = is })
 order-fault analysis told limit r order.Memory orders trace is = tt
 
 -- what looks for damage stands for the text too
