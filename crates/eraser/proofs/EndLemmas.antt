@@ -19,7 +19,7 @@ use Rattle.er_request.specs.declared.request.Replay.{Replay}
 use Rattle.er_rules.specs.Rules.{Target}
 use Rattle.er_run.specs.Faults.{IsFaultOfText, IsNoDamage, IsOfReading}
 use Rattle.er_run.specs.Replays.{IsBegun, output_of, verdict_of}
-use Rattle.er_run.specs.Reports.{AreReportsOfText, IsReportOfRun, is_verdict_of, report_with, verdict_by}
+use Rattle.er_run.specs.Reports.{AreReportsOfText, IsOrderOfText, IsReportOfRun, is_verdict_of, report_with, verdict_by}
 use Rattle.er_run.specs.declared.fault.RunFault.{RunFault}
 use Rattle.er_run.specs.declared.fault.RunFault.TheVariants as running
 use Rattle.er_text.specs.Ending.{IsEndingOf, lost_told}
@@ -112,28 +112,27 @@ usual-ends remaining replay text old new ended usual ends =
     let left : IsAlone text ends.output.found ends.output.left ends.bytes = alone remaining replay text ends.bytes ends.output usual in (
       (
         is_verdict_of ends.output.left,
-        (
-          record {
-            recording = left.recording;
-            stop = left.stop;
-            run = left.run;
-            written = subst (λ (bytes : List ℕ). Appends old new bytes) left.bytes_are ends.written;
-            verdict = verdict_alone ends.output.left left.report left.one left.none ∙ verdict_from (lost_told text) left.recording left.stop (told left.report) left.says;
-          },
-          ends.status,
-        ),
+        record {
+          recording = left.recording;
+          stop = left.stop;
+          run = left.run;
+          written = subst (λ (bytes : List ℕ). Appends old new bytes) left.bytes_are ends.written;
+          verdict = verdict_alone ends.output.left left.report left.one left.none ∙ verdict_from (lost_told text) left.recording left.stop (told left.report) left.says;
+        },
+        ends.status,
       ),
-      (ends.ending, counted ends.order left.none_found),
+      (ends.ending, counted ends.output.found ends.order left.none_found),
     )
   where
-    counted : {Says : Bool → Type 0} (reports : Reports) → (has_order : Bool) × (Says has_order × (ended.unordered ≡ unordered_of has_order reports)) → reports.unordered ≡ None → ended.unordered ≡ 0
+    counted : (reports : Reports) → (has_order : Bool) × (IsOrderOfText replay.analysis text replay.byte_limit has_order × (ended.unordered ≡ unordered_of has_order reports)) → reports.unordered ≡ None
+        → ended.unordered ≡ 0
     counted reports (has_order, (says, count)) none = count ∙ no_order has_order reports none
 
 -- a fault of such a replay
 found_usually : (replay : Replay) (text : List ℕ) (found : RunFault) → IsUsual replay → IsFaultOfText replay.analysis (Some text) replay.byte_limit found → IsOfReading found → (IsFalse replay.strict → IsNoDamage found)
     → IsUsualFault text (replay_fault found)
-found_usually replay text found usual cause alone lenient =
-    by_case found (subst (λ (limit : ℕ). IsFaultOfText replay.analysis (Some text) limit found) usual.limit cause) alone (lenient (sym usual.strict))
+found_usually replay text found usual cause from lenient =
+    by_case found (subst (λ (limit : ℕ). IsFaultOfText replay.analysis (Some text) limit found) usual.limit cause) from (lenient usual.strict)
   where
     by_case : (found : RunFault) → IsFaultOfText replay.analysis (Some text) usual_limit found → IsOfReading found → IsNoDamage found → IsUsualFault text (replay_fault found)
     by_case (running.Read (reading.Text f)) is read whole = is
