@@ -13,10 +13,10 @@ use Rattle.er_sarif.specs.Document.{sarif_reports}
 use Rattle.er_sites.specs.Sites.{AreSitesOf}
 use Rattle.er_trace.specs.Names.{NameTable}
 
--- these bytes are the reports in this form. By site and as SARIF they have the places, as SARIF how many races each rule takes, and as a page the excerpts
+-- these bytes are the reports in this form. All forms but the text have the places, SARIF has how many races each rule takes, and a page the excerpts
 abbrev pub IsForm : Form → NameTable → PlaceTable → List Target → List Excerpt → Reports → List ℕ → Type 0
 IsForm Text names places rules excerpts reports bytes = bytes ≡ reports_text names reports
 IsForm BySite names places rules excerpts reports bytes = AreSitesOf names places reports bytes
-IsForm Json names places rules excerpts reports bytes = bytes ≡ json_reports names reports
+IsForm Json names places rules excerpts reports bytes = bytes ≡ json_reports names places reports
 IsForm Sarif names places rules excerpts reports bytes = bytes ≡ sarif_reports names places rules reports
-IsForm Html names places rules excerpts reports bytes = bytes ≡ html_reports names reports excerpts
+IsForm Html names places rules excerpts reports bytes = bytes ≡ html_reports names places reports excerpts

@@ -15,8 +15,8 @@ use er_sites::sites_text;
 use er_trace::Names;
 use std::alloc::{AllocError, Global};
 
-/// The reports of a trace in a form, with the names of its numbers. The places of accesses that reasons name are for the forms that
-/// tell them, the rules of suppressions for SARIF, and the excerpts of source files for the page.
+/// The reports of a trace in a form, with the names of its numbers. The places of accesses that reasons name are for all forms but the
+/// text, the rules of suppressions for SARIF, and the excerpts of source files for the page.
 pub fn render(
     alloc: Global,
     form: Form,
@@ -32,8 +32,8 @@ pub fn render(
     match form {
         Form::Text => reports_text(alloc, reports, names),
         Form::BySite => sites_text(alloc, reports, names, places),
-        Form::Json => json_text(alloc, reports, names),
+        Form::Json => json_text(alloc, reports, names, places),
         Form::Sarif => sarif_text(alloc, reports, names, suppressions, places),
-        Form::Html => html_text(alloc, reports, names, excerpts),
+        Form::Html => html_text(alloc, reports, names, places, excerpts),
     }
 }

@@ -50,9 +50,9 @@ verdict_status Stopped = 3
 abbrev pub tells_places : Form → Bool
 tells_places form.Text = false
 tells_places form.BySite = true
-tells_places form.Json = false
+tells_places form.Json = true
 tells_places form.Sarif = true
-tells_places form.Html = false
+tells_places form.Html = true
 
 -- places are shown, and the trace may be a file that is read whole
 abbrev pub shows_places : Replay → Bool

@@ -56,5 +56,5 @@ fn shows_places(replay: &Replay<'_>) -> bool
 fn tells_places(form: Form) -> bool
     ensures { result ≡ tells_places form }
 {
-    matches!(form, Form::BySite | Form::Sarif)
+    form != Form::Text
 }
