@@ -145,7 +145,7 @@ static void report_for_people(void)
 static bool has_places(void)
 {
     bool is_kept = options.trace || options.is_for_people;
-    return is_kept && !options.until_fault && (options.by_site || (options.format && strcmp(options.format, "sarif") == 0));
+    return is_kept && !options.until_fault && (options.by_site || (options.format && strcmp(options.format, "text") != 0));
 }
 
 /* A folder that is not there yet is known by the slash behind it. */
