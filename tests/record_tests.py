@@ -294,10 +294,10 @@ def ways_to_use(folder, findings, counter, queue):
         found = command([RUN, "-o", trace, *words, counter])
         findings.check(f"a trace that is kept, and its report by {words[0]}", found.stdout == "30\n" and "\nsteps " in found.stderr and found.returncode == 3, f"{found}")
     # A report with places of reasons is made of the whole file.
-    for words in (["--by-site"], ["--analysis", "both", "--by-site"], ["--format", "sarif"]):
+    for words in (["--by-site"], ["--analysis", "both", "--by-site"], ["--format", "sarif"], ["--format", "json", "--explain"], ["--format", "html"]):
         found = command([RUN, "-q", "-o", trace, "--replay", *words, counter])
         replayed = command([TOP / "eraser", "replay", *words, trace])
-        is_whole = found.stderr == replayed.stdout and len(re.findall(r'^    at counter.c|"relatedLocations":.*"uri":"counter.c"', replayed.stdout, re.M)) > 0
+        is_whole = found.stderr == replayed.stdout and len(re.findall(r'^    at counter.c|"relatedLocations":.*"uri":"counter.c"|"label":.*"site":"counter.c', replayed.stdout, re.M)) > 0
         findings.check(f"a trace that is kept, and the places of its report with {words}", is_whole and (found.stdout, found.returncode) == ("30\n", 3), f"{found} {replayed}")
     report = folder / "kept.report"
     found = command([RUN, "-o", trace, "--report", report, counter])
