@@ -5,6 +5,7 @@
 
 - more threads, locks and sites than 18 bits number; more sets of locks by both analyses, blocks of words, lists of reads and releases of one
   thread by happens-before, races with reasons, rules of a file, and locks of a strict replay than 17 bits number; more pages than 16 bits number
+- 65,536 threads whose order happens-before follows, and one more
 - a word whose reads are in order again gives their list up: memory goes by the words that have a list now
 - each number of workers starts more threads than the one before it, and a thread that can't be started hides no fault of the text
 - an option with a number takes the least and the greatest, and nothing beyond
@@ -117,6 +118,20 @@ def many_releases(record):
     trace += ["t1 write 0x2000", "t1 signal q", "t2 await q", "t2 write 0x2000", "t1 write 0x3000", "t2 write 0x3000"]
     output = [f"line {len(trace)}: unordered: t2 write 0x000000003000 at -, holds none", totals(trace, races=1, what="unordered")]
     check(record, "releases of one thread", HAPPENS_BEFORE, trace, output, status=1)
+
+
+def many_threads(record):
+    """A thread behind the first 65,536 of a text may access and may be refused, but takes no part in the order of threads."""
+    late = f"t{1 << 16}"
+    trace = ["eraser trace 3", *(f"t{k} {verb} m{k}" for k in range(1 << 16) for verb in ("lock", "unlock"))]
+    check(record, "threads in order", HAPPENS_BEFORE, trace, [totals(trace, what="unordered")])
+    accesses = [*trace, f"{late} write 0x1000", f"{late} unlock m0", "t0 write 0x1000"]
+    output = [f"line {len(accesses) - 1}: refused: {late} unlock m0: not held", f"line {len(accesses)}: unordered: t0 write 0x000000001000 at -, holds none"]
+    output.append(totals(accesses, races=1, what="unordered").replace("refused 0", "refused 1"))
+    check(record, "a thread more that accesses", HAPPENS_BEFORE, accesses, output, status=1)
+    for step in (f"{late} lock m0", f"t0 start {late}", f"t0 join {late}", f"{late} signal q", f"{late} await q"):
+        for analysis in (HAPPENS_BEFORE, BOTH):
+            check(record, f"a thread more: {step}", analysis, [*trace, step], [], ["too many threads"], 3)
 
 
 def many_reasons(record):
@@ -350,6 +365,7 @@ def tests(record, preloaded):
     many_blocks(record)
     many_reads(record)
     many_releases(record)
+    many_threads(record)
     many_reasons(record)
     many_locks(record)
     reads_given_up(record)
