@@ -314,15 +314,15 @@ def refusal_tests(record, schema, preloaded):
     with tempfile.TemporaryDirectory() as folder:
         library, met = preloaded(folder, "refuse"), set()
         words = ["replay", "--explain", "--format", "json", str(TOP / "examples/explained.trace")]
-        whole = run(words)
+        whole, bare = run(words), run([*words[:-1], "-"], (TOP / "examples/explained.trace").read_bytes())
         for nth, found, was_refused in each_refused(library, folder, lambda env: run(words, env=env)):
-            outcome = outcome_of(found, whole, lambda text: is_stopped(text, schema))
+            outcome = outcome_of(found, whole, lambda text: is_stopped(text, schema), bare)
             met.add(outcome)
             if was_refused:
                 record(f"JSON without allocation {nth}", outcome, f"{found}")
             else:
                 record("JSON with all allocations", outcome == "whole" and nth > 20, f"{nth}")
-        record("JSON without an allocation: each outcome", met >= OUTCOMES, f"{met}")
+        record("JSON without an allocation: each outcome", met >= OUTCOMES | {"bare"}, f"{met}")
     with open("/dev/full", "wb") as full:
         done = subprocess.run([str(site_tests.PROGRAM), *words], stdout=full, stderr=subprocess.PIPE, timeout=120)
         record("JSON on a full device", (done.stderr, done.returncode) == (b"write fault\n", 4), f"{done}")
