@@ -1,22 +1,22 @@
 -- A race more is counted at its rule, and no other count changes.
-use Rattle.std.proofs.Common.{◌≡◌, ◌<◌, ◌≤◌, ◌+◌, ◌^◌, ◌∙◌, ◌==◌, ◌⊎◌, inl, inr, ℕ, zero, suc, Bool, true, false, cond, not, nat_lt, nat_eq, IsSome, IsSomeAnd, List, [], ◌∷◌, ◌++◌, length, map, position, count_by, slice_get, slice_set, slice_index_or, get_or, Option, Some, None, All, refl, sym, ap, subst, zero-add, arith}
-use Rattle.std.specs.List.{find, position_or_len}
+use Rattle.std.proofs.Common.{◌≡◌, ◌<◌, ◌≤◌, ◌+◌, ◌^◌, ◌∙◌, ◌==◌, ◌⊎◌, inl, inr, ℕ, zero, suc, Bool, true, false, cond, not, nat_lt, nat_eq, is_some, IfSome, IsSome, IsSomeAnd, List, [], ◌∷◌, ◌++◌, length, map, position, count_by, slice_get, slice_set, slice_index_or, get_or, Option, Some, None, All, refl, sym, ap, subst, append_assoc, append-nil, zero-add, arith}
+use Rattle.std.specs.List.{find, fold, position_or_len}
 use Rattle.std.specs.Option.{option_or}
 use Rattle.std.proofs.Math.Seq.{map-set_same}
 use Rattle.std.proofs.lemmas.Bool.Decides.{nat_tests}
 use Rattle.std.proofs.lemmas.List.{length_push, length-map, map-append}
 use Rattle.std.proofs.lemmas.List.Folds.{position_or_len_push, find-append}
-use Rattle.std.proofs.lemmas.List.Sums.{prefix_len-le-length, count_by-le-length, sum_by_push, sum_by-cons}
+use Rattle.std.proofs.lemmas.List.Sums.{prefix_len-le-length, count_by-le-length, fold_push, sum_by_push, sum_by-cons}
 use Rattle.std.proofs.lemmas.Option.{get_or_from_slice_get, slice_get_within, slice_get-get_or}
-use Rattle.er_report.specs.Report.{site_name}
+use Rattle.er_report.specs.Report.{is_rule}
 use Rattle.er_report.specs.declared.report.Line.{Line}
 use Rattle.er_report.specs.declared.report.Line.TheVariants.{Race, Reused, Refused, Shown}
-use Rattle.er_rules.specs.Rules.{Target, takes, matching_rule}
+use Rattle.er_rules.specs.Rules.{Target}
 use Rattle.er_trace.specs.Names.{NameTable}
-use Rattle.er_triage.specs.Known.{race_target, known_target, IsTaken, is_place, is_taken_by, IsRaceOf, IsCountAt, AreCounts}
-use Rattle.er_triage.specs.Inner.Counting.{one_more, with_one_more, with_race_at, with_line}
+use Rattle.er_triage.specs.Known.{first_rule, known_target, race_of, rule_of, rules_of, takes_race, with_rule, IsTaken, is_taken_by, IsCountAt, AreCounts}
+use Rattle.er_triage.specs.Inner.Counting.{one_more, with_one_more, with_race, with_race_at, with_races}
 use Rattle.er_triage.specs.declared.known.KnownRace.{KnownRace}
-use Rattle.er_triage.proofs.KnownLemmas.{own}
+use Rattle.er_triage.proofs.KnownLemmas.{all_taken, own}
 
 module _ {X : Type 0} where
   pushed_at : (xs : List X) (y : X) (i : ℕ) (z : X) → slice_get (xs ++ y ∷ []) i ≡ Some z → (slice_get xs i ≡ Some z) ⊎ ((i ≡ length xs) × (y ≡ z))
@@ -97,6 +97,10 @@ module _ {X : Type 0} (p q : X → Bool) where
         ap (λ b. cond b (Some x) (find p xs)) here ∙ ap (λ o. cond (q x) (Some x) o) rest.1,
       )
 
+-- the line is that of the race
+abbrev IsRaceOf : KnownRace → Line → Type 0
+IsRaceOf race line = race_of line ≡ Some (record race { races = 1 })
+
 abbrev Counts : (Line → Bool) → List Line → KnownRace → Type 0
 Counts p lines race = (race.races ≡ count_by p lines) × IsSomeAnd (find p lines) (IsRaceOf race)
 
@@ -111,23 +115,13 @@ passed_over p q lines line race same fails counts =
       first_stays q lines line (IsRaceOf race) (subst (λ (o : Option Line). IsSomeAnd o (IsRaceOf race)) sames.1 counts.1),
     )
 
-still_first : (race : KnownRace) (line : Line) → IsRaceOf race line → IsRaceOf (one_more race) line
-still_first race (Race number thread kind word site held explained) is = is
-still_first race (Reused number thread range held explained) is = is
-still_first race (Refused number step refusal) is = is
-still_first race (Shown number word state) is = is
-
-some_still : (race : KnownRace) (o : Option Line) → IsSomeAnd o (IsRaceOf race) → IsSomeAnd o (IsRaceOf (one_more race))
-some_still race None is = is
-some_still race (Some line) is = still_first race line is
-
 -- a race more of its rule is one more
 counted_more : (p : Line → Bool) (lines : List Line) (line : Line) (race : KnownRace) → p line ≡ true → length lines + 1 < 2 ^ 64
     → Counts p lines race → Counts p (lines ++ line ∷ []) (one_more race)
 counted_more p lines line race passes few counts =
     let pushed : count_by p (lines ++ line ∷ []) ≡ count_by p lines + cond {A = ℕ} (p line) 1 0 = sum_by_push (λ (l : Line). cond {A = ℕ} (p l) 1 0) lines line in
     let one : cond {A = ℕ} (p line) 1 0 ≡ 1 = ap (λ (b : Bool). cond {A = ℕ} b 1 0) passes in
-    (omega (arith, counts.0, count_by-le-length p lines), first_stays p lines line (IsRaceOf (one_more race)) (some_still race (find p lines) counts.1))
+    (omega (arith, counts.0, count_by-le-length p lines), first_stays p lines line (IsRaceOf race) counts.1)
 
 -- the first race of a new rule
 counted_first : (p : Line → Bool) (lines : List Line) (line : Line) (race : KnownRace) → All (λ l. p l ≡ false) lines → p line ≡ true → race.races ≡ 1
@@ -151,29 +145,30 @@ module _ (names : NameTable) where
 
   -- a rule more behind the others takes nothing from them
   same_rule : (rules : List Target) (r : Target) (place : ℕ) (l : Line) → IsTaken names rules l → is_taken_by names rules place l ≡ is_taken_by names (rules ++ r ∷ []) place l
-  same_rule rules r place (Reused number thread range held explained) taken = refl
-  same_rule rules r place (Refused number step refusal) taken = refl
-  same_rule rules r place (Shown number word state) taken = refl
-  same_rule rules r place (Race number thread kind word site held explained) taken = by (matching_rule rules (site_name names site) word) refl taken
+  same_rule rules r place l = of (race_of l)
     where
-      by : (o : Option ℕ) → matching_rule rules (site_name names site) word ≡ o → IsSome o
-          → is_place place (matching_rule rules (site_name names site) word) ≡ is_place place (matching_rule (rules ++ r ∷ []) (site_name names site) word)
-      by None e some = absurd (cc)
-      by (Some i) e some = ap (is_place place) e ∙ sym (ap (is_place place) (place_stays (λ (t : Target). takes t (site_name names site) word) rules r i e))
+      of : (o : Option KnownRace) → IfSome o (λ race. IsSome (rule_of names rules race.raced)) → is_rule place (first_rule names rules o) ≡ is_rule place (first_rule names (rules ++ r ∷ []) o)
+      of None taken = refl
+      of (Some race) taken = by (rule_of names rules race.raced) refl taken
+        where
+          by : (o : Option ℕ) → rule_of names rules race.raced ≡ o → IsSome o → is_rule place (rule_of names rules race.raced) ≡ is_rule place (rule_of names (rules ++ r ∷ []) race.raced)
+          by None e some = absurd (cc)
+          by (Some i) e some = ap (is_rule place) e ∙ sym (ap (is_rule place) (place_stays (takes_race names race.raced) rules r i e))
 
   -- and has none of theirs
   not_new : (rules : List Target) (l : Line) → IsTaken names rules l → is_taken_by names rules (length rules) l ≡ false
-  not_new rules (Reused number thread range held explained) taken = refl
-  not_new rules (Refused number step refusal) taken = refl
-  not_new rules (Shown number word state) taken = refl
-  not_new rules (Race number thread kind word site held explained) taken = by (matching_rule rules (site_name names site) word) refl taken
+  not_new rules l = of (race_of l)
     where
-      by : (o : Option ℕ) → matching_rule rules (site_name names site) word ≡ o → IsSome o → is_place (length rules) (matching_rule rules (site_name names site) word) ≡ false
-      by None e some = absurd (cc)
-      by (Some i) e some =
-          let below : i < length rules = place_below (λ (t : Target). takes t (site_name names site) word) rules i e in
-          let other : (length rules == i) ≡ false = grind (arith, nat_tests) in
-          ap (is_place (length rules)) e ∙ other
+      of : (o : Option KnownRace) → IfSome o (λ race. IsSome (rule_of names rules race.raced)) → is_rule (length rules) (first_rule names rules o) ≡ false
+      of None taken = refl
+      of (Some race) taken = by (rule_of names rules race.raced) refl taken
+        where
+          by : (o : Option ℕ) → rule_of names rules race.raced ≡ o → IsSome o → is_rule (length rules) (rule_of names rules race.raced) ≡ false
+          by None e some = absurd (cc)
+          by (Some i) e some =
+              let below : i < length rules = place_below (takes_race names race.raced) rules i e in
+              let other : (length rules == i) ≡ false = grind (arith, nat_tests) in
+              ap (is_rule (length rules)) e ∙ other
 
   -- a race that no rule takes has a rule of its own
   added : (known : List KnownRace) (lines : List Line) (line : Line) (race : KnownRace) (r : Target) → known_target names race ≡ r
@@ -236,35 +231,81 @@ module _ (names : NameTable) where
           passed_over (is_taken_by names rules place) (is_taken_by names rules place) lines line other (λ k d h. refl) (taken place ∙ not_own) (old.races, old.first) in
           record { races = new.0; first = new.1 }
 
+-- the race of a line counts itself alone
+abbrev races_in : Option KnownRace → ℕ
+races_in None = 1
+races_in (Some race) = race.races
+
+alone : (line : Line) → races_in (race_of line) ≡ 1
+alone (Race number thread kind word site held explained) = refl
+alone (Reused number thread range held explained) = refl
+alone (Refused number step refusal) = refl
+alone (Shown number word state) = refl
+
 -- a race more is counted at its rule, and the counts of the others stay
-pub counted_on : (names : NameTable) (known : List KnownRace) (lines : List Line) (line : Line)
+counted_on : (names : NameTable) (known : List KnownRace) (lines : List Line) (line : Line)
     → All (IsTaken names (map (known_target names) known)) lines → length lines + 1 < 2 ^ 64 → AreCounts names lines known
-    → AreCounts names (lines ++ line ∷ []) (with_line names known line)
-counted_on names known lines (Reused number thread range held explained) taken few counted = skipped names known lines (Reused number thread range held explained) (λ place. refl) counted
-counted_on names known lines (Refused number step refusal) taken few counted = skipped names known lines (Refused number step refusal) (λ place. refl) counted
-counted_on names known lines (Shown number word state) taken few counted = skipped names known lines (Shown number word state) (λ place. refl) counted
-counted_on names known lines (Race number thread kind word site held explained) taken few counted = by (matching_rule (map (known_target names) known) (site_name names site) word) refl
+    → AreCounts names (lines ++ line ∷ []) (with_race names known (race_of line))
+counted_on names known lines line taken few counted = of (race_of line) refl
   where
-    by : (o : Option ℕ) → matching_rule (map (known_target names) known) (site_name names site) word ≡ o
-        → AreCounts names (lines ++ Race number thread kind word site held explained ∷ [])
-        (with_race_at o known (record { line = number; thread = thread; kind = kind; word = word; site = site; races = 1 }))
-    by None e =
-        let line : Line = Race number thread kind word site held explained in
-        let race : KnownRace = record { line = number; thread = thread; kind = kind; word = word; site = site; races = 1 } in
-        let rules : List Target = map (known_target names) known in
-        let r : Target = race_target (site_name names site) word in
-        let size : length rules ≡ length known = length-map known (known_target names) in
-        let here : matching_rule (rules ++ r ∷ []) (site_name names site) word ≡ Some (length known) =
-        place_new (λ (t : Target). takes t (site_name names site) word) rules r e (own (site_name names site) word) ∙ ap Some size in
-        let at : (length known == length known) ≡ true = grind (arith, nat_tests) in
-        added names known lines line race r refl taken counted (ap (is_place (length known)) here ∙ at)
-        (λ place low. let other : (place == length known) ≡ false = grind (arith, nat_tests, low) in ap (is_place place) here ∙ other) refl (refl, refl, refl, refl, refl)
-    by (Some at) e =
-        let line : Line = Race number thread kind word site held explained in
-        let race : KnownRace = record { line = number; thread = thread; kind = kind; word = word; site = site; races = 1 } in
-        let rules : List Target = map (known_target names) known in
-        let size : length rules ≡ length known = length-map known (known_target names) in
-        let low : at < length known = omega (arith, place_below (λ (t : Target). takes t (site_name names site) word) rules at e) in
-        let found : slice_get known at ≡ Some (get_or known at race) = slice_get-get_or known at race low in
-        subst (λ (o : Option KnownRace). AreCounts names (lines ++ line ∷ []) (with_one_more known at o)) (sym found)
-        (counted_at names known lines line at (get_or known at race) found few counted (λ place. ap (is_place place) e))
+    of : (o : Option KnownRace) → race_of line ≡ o → AreCounts names (lines ++ line ∷ []) (with_race names known o)
+    of None e = skipped names known lines line (λ place. ap (λ (o : Option KnownRace). is_rule place (first_rule names (map (known_target names) known) o)) e) counted
+    of (Some race) e = by (rule_of names (map (known_target names) known) race.raced) refl
+      where
+        at_rules : (rules : List Target) (place : ℕ) (o : Option ℕ) → rule_of names rules race.raced ≡ o → is_taken_by names rules place line ≡ is_rule place o
+        at_rules rules place o is = ap (λ (r : Option KnownRace). is_rule place (first_rule names rules r)) e ∙ ap (is_rule place) is
+
+        by : (o : Option ℕ) → rule_of names (map (known_target names) known) race.raced ≡ o → AreCounts names (lines ++ line ∷ []) (with_race_at o known race)
+        by None none =
+            let rules : List Target = map (known_target names) known in
+            let r : Target = known_target names race in
+            let size : length rules ≡ length known = length-map known (known_target names) in
+            let here : rule_of names (rules ++ r ∷ []) race.raced ≡ Some (length known) = place_new (takes_race names race.raced) rules r none (own names race.raced) ∙ ap Some size in
+            let at : (length known == length known) ≡ true = grind (arith, nat_tests) in
+            let one : race.races ≡ 1 = sym (ap races_in e) ∙ alone line in
+            added names known lines line race r refl taken counted (at_rules (rules ++ r ∷ []) (length known) (Some (length known)) here ∙ at)
+            (λ place low. let other : (place == length known) ≡ false = grind (arith, nat_tests, low) in at_rules (rules ++ r ∷ []) place (Some (length known)) here ∙ other)
+            one (e ∙ ap (λ (n : ℕ). Some (record race { races = n })) one)
+        by (Some at) some =
+            let rules : List Target = map (known_target names) known in
+            let size : length rules ≡ length known = length-map known (known_target names) in
+            let low : at < length known = omega (arith, place_below (takes_race names race.raced) rules at some) in
+            let found : slice_get known at ≡ Some (get_or known at race) = slice_get-get_or known at race low in
+            subst (λ (o : Option KnownRace). AreCounts names (lines ++ line ∷ []) (with_one_more known at o)) (sym found)
+            (counted_at names known lines line at (get_or known at race) found few counted (λ place. at_rules rules place (Some at) some))
+
+-- the rules of the known races, with another and with those of some lines
+one_rule : (names : NameTable) (known : List KnownRace) (o : Option KnownRace) → map (known_target names) (with_race names known o) ≡ with_rule names (map (known_target names) known) o
+one_rule names known None = refl
+one_rule names known (Some race) = by (rule_of names (map (known_target names) known) race.raced)
+  where
+    same : (place : ℕ) (o : Option KnownRace) → slice_get known place ≡ o → map (known_target names) (with_one_more known place o) ≡ map (known_target names) known
+    same place None e = refl
+    same place (Some other) e = map-set_same (known_target names) known place (one_more other) other (ap (known_target names) (sym (get_or_from_slice_get known place other other e)))
+
+    by : (o : Option ℕ) → map (known_target names) (with_race_at o known race) ≡ cond (is_some o) (map (known_target names) known) (map (known_target names) known ++ known_target names race ∷ [])
+    by None = map-append (known_target names) known (race ∷ [])
+    by (Some place) = same place (slice_get known place) refl
+
+pub all_rules : (names : NameTable) (lines : List Line) (known : List KnownRace)
+    → map (known_target names) (with_races names known lines) ≡ fold (λ (rules : List Target) (line : Line). with_rule names rules (race_of line)) (map (known_target names) known) lines
+all_rules names [] known = refl
+all_rules names (line ∷ lines) known =
+    all_rules names lines (with_race names known (race_of line))
+    ∙ ap (λ (rules : List Target). fold (λ (rules : List Target) (line : Line). with_rule names rules (race_of line)) rules lines) (one_rule names known (race_of line))
+
+-- the races of some lines behind others
+counted_behind : (names : NameTable) (lines before : List Line) (known : List KnownRace) → map (known_target names) known ≡ rules_of names before
+    → length before + length lines < 2 ^ 64 → AreCounts names before known → AreCounts names (before ++ lines) (with_races names known lines)
+counted_behind names [] before known rules few counted = subst (λ (all : List Line). AreCounts names all known) (sym (append-nil before)) counted
+counted_behind names (line ∷ lines) before known rules few counted =
+    let taken : All (IsTaken names (map (known_target names) known)) before = subst (λ (rules : List Target). All (IsTaken names rules) before) (sym rules) (all_taken names before) in
+    let more : map (known_target names) (with_race names known (race_of line)) ≡ rules_of names (before ++ line ∷ []) =
+    one_rule names known (race_of line) ∙ ap (λ (rules : List Target). with_rule names rules (race_of line)) rules
+    ∙ sym (fold_push (λ (rules : List Target) (line : Line). with_rule names rules (race_of line)) [] before line) in
+    subst (λ (all : List Line). AreCounts names all (with_races names (with_race names known (race_of line)) lines)) (append_assoc before (line ∷ []) lines)
+    (counted_behind names lines (before ++ line ∷ []) (with_race names known (race_of line)) more (omega (arith, length_push before line))
+    (counted_on names known before line taken (omega arith) counted))
+
+pub all_counted : (names : NameTable) (lines : List Line) → length lines < 2 ^ 64 → AreCounts names lines (with_races names [] lines)
+all_counted names lines few = counted_behind names lines [] [] refl (omega arith) (λ place race is. absurd (cc))

@@ -1,5 +1,5 @@
 -- The rules of the races of some lines take each of them: a rule stays, so what it takes stays taken.
-use Rattle.std.proofs.Common.{◌≡◌, ◌<◌, ◌+◌, ℕ, zero, suc, Bool, true, false, cond, not, nat_lt, nat_eq, is_some, IsSome, List, [], ◌∷◌, ◌++◌, length, position, slice_index_or, Option, Some, None, All, refl, arith}
+use Rattle.std.proofs.Common.{◌≡◌, ◌<◌, ◌≤◌, ◌+◌, ℕ, zero, suc, Bool, true, false, cond, not, nat_lt, nat_eq, is_some, IfSome, IsSome, List, [], ◌∷◌, ◌++◌, length, position, slice_index_or, Option, Some, None, All, refl, arith}
 use Rattle.std.specs.List.{fold, position_or_len}
 use Rattle.std.proofs.lemmas.Bool.Decides.{nat_tests}
 use Rattle.std.proofs.lemmas.List.{length_push}
@@ -8,10 +8,12 @@ use Rattle.std.proofs.lemmas.List.Sums.{prefix_len-le-length}
 use Rattle.std.proofs.lemmas.Slice.Eq.{bytes_eq-Decides}
 use Rattle.er_report.specs.Report.{site_name}
 use Rattle.er_report.specs.declared.report.Line.{Line}
-use Rattle.er_report.specs.declared.report.Line.TheVariants.{Race, Reused, Refused, Shown}
-use Rattle.er_rules.specs.Rules.{Target, takes, matching_rule}
+use Rattle.er_rules.specs.Rules.{Target, takes}
 use Rattle.er_trace.specs.Names.{NameTable}
-use Rattle.er_triage.specs.Known.{race_target, with_rule, rules_of, IsTaken}
+use Rattle.er_triage.specs.Known.{access_target, known_target, race_of, race_target, rule_of, rules_of, takes_race, with_rule, IsTaken}
+use Rattle.er_triage.specs.declared.known.KnownRace.{KnownRace}
+use Rattle.er_triage.specs.declared.known.Raced.{Raced}
+use Rattle.er_triage.specs.declared.known.Raced.TheVariants.{Access, Reuse}
 
 module _ {X : Type 0} (p : X → Bool) where
   within : (xs : List X) → position_or_len p xs < length xs → IsSome (position p xs)
@@ -43,45 +45,51 @@ module _ {X : Type 0} (p : X → Bool) where
       by false e = omega (arith, found xs some)
 
 -- a race is taken by its own rule
-pub own : (site : Option (List ℕ)) (word : ℕ) → takes (race_target site word) site word ≡ true
-own None word = grind (arith, nat_tests)
-own (Some name) word = grind (arith, bytes_eq-Decides)
+own_access : (site : Option (List ℕ)) (word : ℕ) → takes (access_target site word) site word ≡ true
+own_access None word = grind (arith, nat_tests)
+own_access (Some name) word = grind (arith, bytes_eq-Decides)
+
+pub own : (names : NameTable) (raced : Raced) → takes_race names raced (race_target names raced) ≡ true
+own names (Access kind word site) = own_access (site_name names site) word
+own names (Reuse range) = let low : range.lo ≤ range.hi = range.ordered in grind (arith, nat_tests, low)
 
 module _ (names : NameTable) where
-  -- a rule more takes no race away
-  stays : (rules : List Target) (line other : Line) → IsTaken names rules line → IsTaken names (with_rule names rules other) line
-  stays rules (Reused number thread range held explained) other taken = tt
-  stays rules (Refused number step refusal) other taken = tt
-  stays rules (Shown number word state) other taken = tt
-  stays rules (Race number thread kind word site held explained) (Reused n t range h e) taken = taken
-  stays rules (Race number thread kind word site held explained) (Refused n step refusal) taken = taken
-  stays rules (Race number thread kind word site held explained) (Shown n w state) taken = taken
-  stays rules (Race number thread kind word site held explained) (Race n t k w s h e) taken = by (is_some (matching_rule rules (site_name names s) w))
-    where
-      by : (b : Bool) → IsSome (matching_rule (cond b rules (rules ++ race_target (site_name names s) w ∷ [])) (site_name names site) word)
-      by true = taken
-      by false = by_others (λ (target : Target). takes target (site_name names site) word) rules (race_target (site_name names s) w) taken
+  -- if there is a race, one of the rules takes it
+  abbrev Takes : List Target → Option KnownRace → Type 0
+  Takes rules o = IfSome o (λ race. IsSome (rule_of names rules race.raced))
 
-  stays_all : (lines : List Line) (rules : List Target) (line : Line) → IsTaken names rules line → IsTaken names (fold (with_rule names) rules lines) line
-  stays_all [] rules line taken = taken
-  stays_all (other ∷ lines) rules line taken = stays_all lines (with_rule names rules other) line (stays rules line other taken)
+  -- a rule more takes no race away
+  more : (rules : List Target) (t : Target) (o : Option KnownRace) → Takes rules o → Takes (rules ++ t ∷ []) o
+  more rules t None taken = tt
+  more rules t (Some race) taken = by_others (takes_race names race.raced) rules t taken
+
+  stays : (rules : List Target) (o other : Option KnownRace) → Takes rules o → Takes (with_rule names rules other) o
+  stays rules o None taken = taken
+  stays rules o (Some race) taken = by (is_some (rule_of names rules race.raced))
+    where
+      by : (b : Bool) → Takes (cond b rules (rules ++ known_target names race ∷ [])) o
+      by true = taken
+      by false = more rules (known_target names race) o taken
+
+  stays_all : (lines : List Line) (rules : List Target) (o : Option KnownRace) → Takes rules o
+      → Takes (fold (λ (rules : List Target) (line : Line). with_rule names rules (race_of line)) rules lines) o
+  stays_all [] rules o taken = taken
+  stays_all (other ∷ lines) rules o taken = stays_all lines (with_rule names rules (race_of other)) o (stays rules o (race_of other) taken)
 
   -- and a race is taken once it was gone over
-  now : (rules : List Target) (line : Line) → IsTaken names (with_rule names rules line) line
-  now rules (Reused number thread range held explained) = tt
-  now rules (Refused number step refusal) = tt
-  now rules (Shown number word state) = tt
-  now rules (Race number thread kind word site held explained) = by (is_some (matching_rule rules (site_name names site) word)) refl
+  now : (rules : List Target) (o : Option KnownRace) → Takes (with_rule names rules o) o
+  now rules None = tt
+  now rules (Some race) = by (is_some (rule_of names rules race.raced)) refl
     where
-      by : (b : Bool) → is_some (matching_rule rules (site_name names site) word) ≡ b
-          → IsSome (matching_rule (cond b rules (rules ++ race_target (site_name names site) word ∷ [])) (site_name names site) word)
+      by : (b : Bool) → is_some (rule_of names rules race.raced) ≡ b → IsSome (rule_of names (cond b rules (rules ++ known_target names race ∷ [])) race.raced)
       by true e = e
-      by false e = by_last (λ (target : Target). takes target (site_name names site) word) rules (race_target (site_name names site) word) (own (site_name names site) word)
+      by false e = by_last (takes_race names race.raced) rules (known_target names race) (own names race.raced)
 
-  all_from : (lines : List Line) (rules : List Target) (k : ℕ) (d : Line) → k < length lines → IsTaken names (fold (with_rule names) rules lines) (slice_index_or lines k d)
+  all_from : (lines : List Line) (rules : List Target) (k : ℕ) (d : Line) → k < length lines
+      → IsTaken names (fold (λ (rules : List Target) (line : Line). with_rule names rules (race_of line)) rules lines) (slice_index_or lines k d)
   all_from [] rules k d h = absurd (omega arith)
-  all_from (line ∷ lines) rules zero d h = stays_all lines (with_rule names rules line) line (now rules line)
-  all_from (line ∷ lines) rules (suc k) d h = all_from lines (with_rule names rules line) k d (omega arith)
+  all_from (line ∷ lines) rules zero d h = stays_all lines (with_rule names rules (race_of line)) (race_of line) (now rules (race_of line))
+  all_from (line ∷ lines) rules (suc k) d h = all_from lines (with_rule names rules (race_of line)) k d (omega arith)
 
   pub all_taken : (lines : List Line) → All (IsTaken names (rules_of names lines)) lines
   all_taken lines = all_from lines []

@@ -1,12 +1,12 @@
 -- The lines that are written of known races are read as their rules: one line is a comment or a rule, and the lines of a text are read one by one.
-use Rattle.std.proofs.Common.{◌≡◌, ◌<◌, ◌≤◌, ◌+◌, ◌-◌, ◌*◌, ◌/◌, ◌%◌, ◌^◌, ◌∙◌, ◌&&◌, ℕ, zero, suc, Bool, true, false, cond, not, nat_lt, nat_le, List, [], ◌∷◌, ◌++◌, length, map, flat_map, filter, slice_get, get_or, Option, Some, None, All, codes, decimal, append_assoc, refl, sym, ap, subst, arith}
+use Rattle.std.proofs.Common.{◌≡◌, ◌<◌, ◌≤◌, ◌+◌, ◌-◌, ◌*◌, ◌/◌, ◌%◌, ◌^◌, ◌∙◌, ◌&&◌, ◌==◌, ℕ, zero, suc, Bool, true, false, cond, not, nat_lt, nat_le, List, [], ◌∷◌, ◌++◌, length, map, flat_map, filter, get_or, Option, Some, None, All, codes, decimal, append_assoc, refl, sym, ap, subst, arith}
 use Rattle.std.specs.Char.{digit_char, digit_value, is_digit}
 use Rattle.std.specs.List.{AllByRecursion, list_all}
-use Rattle.std.specs.Str.Parse.{digits_value}
+use Rattle.std.specs.Str.Parse.{digits_value, AllDigits}
 use Rattle.std.proofs.Math.Nat.{pow-suc}
 use Rattle.std.proofs.lemmas.Bool.{and_parts}
 use Rattle.std.proofs.lemmas.Bool.Decides.{nat_tests}
-use Rattle.std.proofs.lemmas.Fmt.{decimal_by_steps, decimal_digit, length-decimal-le}
+use Rattle.std.proofs.lemmas.Fmt.{decimal_by_steps, decimal_is_IsNumeral, length-decimal-le}
 use Rattle.std.proofs.lemmas.Int.Digits.{digits_value_push}
 use Rattle.std.proofs.lemmas.List.{length-append}
 use Rattle.std.proofs.lemmas.List.Elements.{All-cons}
@@ -17,21 +17,23 @@ use Rattle.std.proofs.lemmas.List.Sums.{AllPass-from_list_all, list_all-from_All
 use Rattle.er_event.specs.Span.{Span}
 use Rattle.er_event.specs.declared.steps.Kind.{Kind}
 use Rattle.er_event.specs.declared.steps.Kind.TheVariants.{Read, Write}
-use Rattle.er_print.specs.Printed.{address_text, hex_digits, kind_text, name_at}
+use Rattle.er_print.specs.Printed.{address_text, bytes_between, hex_digits, kind_text, name_at}
 use Rattle.er_report.specs.Report.{site_name}
 use Rattle.er_rules.specs.Rules.{Target, AtSite, AtWords}
 use Rattle.er_text.specs.Events.{run_of}
 use Rattle.er_text.specs.FirstFault.{IsPlain}
 use Rattle.er_text.specs.Lines.{Line, Placed, placed_from, lines_of, is_end, is_gap, is_ascii, is_comment, has_bytes, has_content, onto_line, says_something, word_at, words, width}
 use Rattle.er_text.specs.Naming.{is_name, is_name_byte, is_site_name, is_site_byte}
-use Rattle.er_text.specs.Number.{number_of}
+use Rattle.er_text.specs.Number.{number_of, value_in}
 use Rattle.er_text.specs.Rules.{AllRule, IsRule, IsRules}
 use Rattle.er_trace.specs.Names.{NameTable}
 use Rattle.er_sites.specs.System.{is_system_name}
-use Rattle.er_triage.specs.Known.{race_target, known_target}
-use Rattle.er_triage.specs.Sound.{NamesSite, AreSound, IsSound}
-use Rattle.er_triage.specs.Texts.{access_text, comment_text, count_text, hidden_text, known_races_text, known_text, target_text}
+use Rattle.er_triage.specs.Known.{access_target, known_target, race_target}
+use Rattle.er_triage.specs.Sound.{NamesSite, AreSound, IsInMemory, IsSound}
+use Rattle.er_triage.specs.Texts.{comment_text, count_text, hidden_text, known_races_text, known_text, raced_text, target_text}
 use Rattle.er_triage.specs.declared.known.KnownRace.{KnownRace}
+use Rattle.er_triage.specs.declared.known.Raced.{Raced}
+use Rattle.er_triage.specs.declared.known.Raced.TheVariants.{Access, Reuse}
 
 -- a byte from a space to `~`
 abbrev is_printed : ℕ → Bool
@@ -110,6 +112,10 @@ hex_is (suc k) n small =
 some_bytes : (bytes : List ℕ) (n : ℕ) → length bytes ≡ suc n → has_bytes bytes ≡ true
 some_bytes [] n size = absurd (omega arith)
 some_bytes (x ∷ xs) n size = refl
+
+any_bytes : (bytes : List ℕ) → 0 < length bytes → has_bytes bytes ≡ true
+any_bytes [] size = absurd (omega arith)
+any_bytes (x ∷ xs) size = refl
 
 address_hex : (word : ℕ) → word < 2 ^ 46 → IsHex 12 (4 * word)
 address_hex word small = hex_is 12 (4 * word) (let most : 16 ^ 12 ≡ 2 ^ 48 = refl in omega (arith, small, most))
@@ -207,39 +213,98 @@ site_piece name parts = record { few = parts.few; printed = weaker is_site_byte 
 site_target : (name : List ℕ) → NamesSite name → IsRule (words (codes "site " ++ name)) (AtSite (Some name))
 site_target name is = (name, site_words name (site_parts name is.0), (is.0, sym (ap (λ (b : Bool). cond b None (Some name)) is.1)))
 
--- the rule of a word
-run_bytes : (word : ℕ) → target_text (AtWords (Some (record { first = word; last = word }))) ≡ codes "words " ++ (address_text word ++ 32 ∷ codes "4")
-run_bytes word =
-    let one : 4 * (word + 1 - word) ≡ 4 = omega arith in
-    let four : decimal (4 * (word + 1 - word)) ≡ codes "4" = ap decimal one ∙ decimal_digit 4 (omega arith) in
-    ap (λ (size : List ℕ). codes "words " ++ address_text word ++ codes " " ++ size) four ∙ simp append_assoc
+abbrev words_from : ℕ → ℕ → Option Span
+words_from first last = Some (record { first = first; last = last })
+
+-- the rule of words
+abbrev size_of : Span → ℕ
+size_of run = 4 * (run.last + 1 - run.first)
+
+run_bytes : (run : Span) → target_text (AtWords (Some run)) ≡ codes "words " ++ (address_text run.first ++ 32 ∷ decimal (size_of run))
+run_bytes run = simp append_assoc
 
 address_gap : (b : ℕ) → is_digit b 16 ≡ true → is_gap b ≡ false
 address_gap b e = grind (arith, nat_tests, e)
 
-run_words : (word : ℕ) → word < 2 ^ 46 → words (codes "words " ++ (address_text word ++ 32 ∷ codes "4")) ≡ codes "words" ∷ address_text word ∷ codes "4" ∷ []
-run_words word small =
-    let hex : IsHex 12 (4 * word) = address_hex word small in
-    let all : All (λ d. is_digit d 16 ≡ true) (hex_digits 12 (4 * word)) = AllPass-from_list_all (λ d. is_digit d 16) (hex_digits 12 (4 * word)) hex.digits in
-    let digits : All (λ b. is_gap b ≡ false) (hex_digits 12 (4 * word)) = λ i d h. address_gap (get_or (hex_digits 12 (4 * word)) i d) (all i d h) in
-    let gapless : All (λ b. is_gap b ≡ false) (address_text word) = All-cons (λ b. is_gap b ≡ false) 48 (120 ∷ hex_digits 12 (4 * word)) refl (All-cons (λ b. is_gap b ≡ false) 120 (hex_digits 12 (4 * word)) refl digits) in
-    ap (λ (ws : List (List ℕ)). codes "words" ∷ filter has_bytes ws) (slice_split_at is_gap (address_text word) 32 (codes "4") gapless refl)
+size_gap : (b : ℕ) → is_digit b 10 ≡ true → is_gap b ≡ false
+size_gap b e = grind (arith, nat_tests, e)
 
-abbrev words_from : ℕ → ℕ → Option Span
-words_from first last = Some (record { first = first; last = last })
+-- the size has digits alone, and is read as it is
+record IsSize (n : ℕ) (bytes : List ℕ) : Type 0 where
+  some : has_bytes bytes ≡ true
+  gapless : All (λ b. is_gap b ≡ false) bytes
+  value : number_of bytes ≡ Some n
 
-run_of_word : (word : ℕ) → words_from word word ≡ run_of (4 * word) 4
-run_of_word word =
-    let low : word ≡ 4 * word / 4 = omega arith in
-    let high : word ≡ (4 * word + 4 - 1) / 4 = omega arith in
-    ap (λ (first : ℕ). words_from first word) low ∙ ap (λ (last : ℕ). words_from (4 * word / 4) last) high
+not_x : (b : ℕ) → is_digit b 10 ≡ true → (b == 120) ≡ false
+not_x b e = grind (arith, nat_tests, e)
 
-run_target : (word : ℕ) → word < 2 ^ 46 → IsRule (words (codes "words " ++ (address_text word ++ 32 ∷ codes "4"))) (AtWords (Some (record { first = word; last = word })))
-run_target word small = (address_text word, codes "4", 4 * word, 4, run_words word small, address_number word small, refl, omega (arith, small), omega (arith, small), run_of_word word)
+in_decimal : (bytes : List ℕ) → list_all (λ d. is_digit d 10) bytes ≡ true → has_bytes bytes ≡ true → number_of bytes ≡ value_in 10 bytes
+in_decimal [] all some = refl
+in_decimal (a ∷ []) all some = refl
+in_decimal (a ∷ b ∷ bytes) all some =
+    let rest = and_parts (is_digit a 10) (list_all (λ d. is_digit d 10) (b ∷ bytes)) all in
+    let second = and_parts (is_digit b 10) (list_all (λ d. is_digit d 10) bytes) rest.1 in
+    ap (λ (x : Bool). cond ((a == 48) && x) (value_in 16 bytes) (value_in 10 (a ∷ b ∷ bytes))) (not_x b second.0)
+    ∙ ap (λ (x : Bool). cond x (value_in 16 bytes) (value_in 10 (a ∷ b ∷ bytes))) (never (a == 48))
 
-abbrev IsSoundSite : Option (List ℕ) → Type 0
-IsSoundSite None = Unit {0}
-IsSoundSite (Some name) = NamesSite name
+one_digit_more : (d : ℕ) → digit_value d < 10 → is_digit d 10 ≡ true
+one_digit_more d low = grind (arith, nat_tests, low)
+
+all_digits : (ds : List ℕ) → AllDigits 10 ds → list_all (λ d. is_digit d 10) ds ≡ true
+all_digits [] all = refl
+all_digits (d ∷ ds) all = rw (one_digit_more d all.0) (all_digits ds all.1)
+
+decimal_size : (n : ℕ) → n < 2 ^ 64 → IsSize n (decimal n)
+decimal_size n small =
+    let is = decimal_is_IsNumeral n small in
+    let all : list_all (λ d. is_digit d 10) (decimal n) ≡ true = all_digits (decimal n) is.0.1 in
+    let some : has_bytes (decimal n) ≡ true = any_bytes (decimal n) is.0.0 in
+    let low : nat_lt (digits_value 10 (decimal n)) (2 ^ 64) ≡ true = let v : digits_value 10 (decimal n) < 2 ^ 64 = omega (arith, is.1, small) in grind (arith, nat_tests, v) in
+    record {
+      some = some;
+      gapless = λ i d h. size_gap (get_or (decimal n) i d) (AllPass-from_list_all (λ d. is_digit d 10) (decimal n) all i d h);
+      value = in_decimal (decimal n) all some ∙ rw (some, all, low) (ap Some is.1);
+    }
+
+run_words : (run : Span) → run.first < 2 ^ 46 → size_of run < 2 ^ 64
+    → words (codes "words " ++ (address_text run.first ++ 32 ∷ decimal (size_of run))) ≡ codes "words" ∷ address_text run.first ∷ decimal (size_of run) ∷ []
+run_words run small few =
+    let hex : IsHex 12 (4 * run.first) = address_hex run.first small in
+    let all : All (λ d. is_digit d 16 ≡ true) (hex_digits 12 (4 * run.first)) = AllPass-from_list_all (λ d. is_digit d 16) (hex_digits 12 (4 * run.first)) hex.digits in
+    let digits : All (λ b. is_gap b ≡ false) (hex_digits 12 (4 * run.first)) = λ i d h. address_gap (get_or (hex_digits 12 (4 * run.first)) i d) (all i d h) in
+    let gapless : All (λ b. is_gap b ≡ false) (address_text run.first) = All-cons (λ b. is_gap b ≡ false) 48 (120 ∷ hex_digits 12 (4 * run.first)) refl (All-cons (λ b. is_gap b ≡ false) 120 (hex_digits 12 (4 * run.first)) refl digits) in
+    let size : IsSize (size_of run) (decimal (size_of run)) = decimal_size (size_of run) few in
+    let some : has_bytes (decimal (size_of run)) ≡ true = size.some in
+    ap (λ (ws : List (List ℕ)). codes "words" ∷ filter has_bytes ws)
+    (slice_split_at is_gap (address_text run.first) 32 (decimal (size_of run)) gapless refl ∙ ap (λ (ws : List (List ℕ)). address_text run.first ∷ ws) (slice_split_none is_gap (decimal (size_of run)) size.gapless))
+    ∙ (rw some refl)
+
+-- words of memory, of which there are some
+record IsRun (run : Span) : Type 0 where
+  ordered : run.first ≤ run.last
+  memory : run.last < 2 ^ 46
+
+run_again : (run : Span) → run.first ≤ run.last → Some run ≡ run_of (4 * run.first) (size_of run)
+run_again run ordered =
+    let low : run.first ≡ 4 * run.first / 4 = omega arith in
+    let high : run.last ≡ (4 * run.first + size_of run - 1) / 4 = omega arith in
+    let some : (size_of run == 0) ≡ false = let more : 0 < size_of run = omega arith in grind (arith, nat_tests, more) in
+    ap (λ (first : ℕ). words_from first run.last) low ∙ ap (λ (last : ℕ). words_from (4 * run.first / 4) last) high
+    ∙ sym (ap (λ (none : Bool). cond none None (words_from (4 * run.first / 4) ((4 * run.first + size_of run - 1) / 4))) some)
+
+run_target : (run : Span) → IsRun run → IsRule (words (codes "words " ++ (address_text run.first ++ 32 ∷ decimal (size_of run)))) (AtWords (Some run))
+run_target run is =
+    let ordered : run.first ≤ run.last = is.ordered in
+    let memory : run.last < 2 ^ 46 = is.memory in
+    let few : size_of run < 2 ^ 64 = omega (arith, memory) in
+    (address_text run.first, decimal (size_of run), 4 * run.first, size_of run, run_words run (omega arith) few, address_number run.first (omega arith), (decimal_size (size_of run) few).value, omega arith, omega arith, run_again run ordered)
+
+-- the rule of a race: its site has a name that names a site, or its words are words of memory
+abbrev IsSoundTarget : Target → Type 0
+IsSoundTarget (AtSite None) = ⊥
+IsSoundTarget (AtSite (Some name)) = NamesSite name
+IsSoundTarget (AtWords None) = ⊥
+IsSoundTarget (AtWords (Some run)) = IsRun run
 
 literal : (bytes : List ℕ) (n : ℕ) → nat_le (length bytes) n ≡ true → list_all is_printed bytes ≡ true → IsPiece n bytes
 literal bytes n few printed = record { few = grind (arith, nat_tests, few); printed = printed }
@@ -247,16 +312,21 @@ literal bytes n few printed = record { few = grind (arith, nat_tests, few); prin
 wider : (m n : ℕ) (bytes : List ℕ) → m ≤ n → IsPiece m bytes → IsPiece n bytes
 wider m n bytes less piece = let few : length bytes ≤ m = piece.few in record { few = omega arith; printed = piece.printed }
 
-target_read : (site : Option (List ℕ)) (word : ℕ) (rest : List ℕ) (targets : List Target) → IsSoundSite site → word < 2 ^ 46 → AreRead (lines_of rest) targets
-    → AreRead (lines_of (target_text (race_target site word) ++ 10 ∷ rest)) (race_target site word ∷ targets)
-target_read None word rest targets sound small more =
-    let bytes : List ℕ = codes "words " ++ (address_text word ++ 32 ∷ codes "4") in
-    let behind : IsPiece 2 (codes " 4") = literal (codes " 4") 2 refl refl in
-    let piece : IsPiece 22 bytes = both 6 16 (codes "words ") (address_text word ++ codes " 4") (literal (codes "words ") 6 refl refl) (both 14 2 (address_text word) (codes " 4") (address_piece word small) behind) in
-    let speaks : says_something bytes ≡ true = ap (λ (ws : List (List ℕ)). has_bytes (word_at 0 ws) && true) (run_words word small) in
-    subst (λ (b : List ℕ). AreRead (lines_of (b ++ 10 ∷ rest)) (AtWords (Some (record { first = word; last = word })) ∷ targets)) (sym (run_bytes word))
-    (rule_in bytes rest (AtWords (Some (record { first = word; last = word }))) targets (wider 22 1024 bytes (omega arith) piece) speaks (run_target word small) more)
-target_read (Some name) word rest targets sound small more =
+target_read : (target : Target) (rest : List ℕ) (targets : List Target) → IsSoundTarget target → AreRead (lines_of rest) targets → AreRead (lines_of (target_text target ++ 10 ∷ rest)) (target ∷ targets)
+target_read (AtSite None) rest targets sound more = absurd sound
+target_read (AtWords None) rest targets sound more = absurd sound
+target_read (AtWords (Some run)) rest targets sound more =
+    let ordered : run.first ≤ run.last = sound.ordered in
+    let memory : run.last < 2 ^ 46 = sound.memory in
+    let small : run.first < 2 ^ 46 = omega arith in
+    let few : size_of run < 2 ^ 64 = omega arith in
+    let bytes : List ℕ = codes "words " ++ (address_text run.first ++ 32 ∷ decimal (size_of run)) in
+    let behind : IsPiece 21 (32 ∷ decimal (size_of run)) = both 1 20 (codes " ") (decimal (size_of run)) (literal (codes " ") 1 refl refl) (number_piece (size_of run) few) in
+    let piece : IsPiece 41 bytes = both 6 35 (codes "words ") (address_text run.first ++ 32 ∷ decimal (size_of run)) (literal (codes "words ") 6 refl refl) (both 14 21 (address_text run.first) (32 ∷ decimal (size_of run)) (address_piece run.first small) behind) in
+    let speaks : says_something bytes ≡ true = ap (λ (ws : List (List ℕ)). has_bytes (word_at 0 ws) && true) (run_words run small few) in
+    subst (λ (b : List ℕ). AreRead (lines_of (b ++ 10 ∷ rest)) (AtWords (Some run) ∷ targets)) (sym (run_bytes run))
+    (rule_in bytes rest (AtWords (Some run)) targets (wider 41 1024 bytes (omega arith) piece) speaks (run_target run sound) more)
+target_read (AtSite (Some name)) rest targets sound more =
     let bytes : List ℕ = codes "site " ++ name in
     let parts : SiteParts name = site_parts name sound.0 in
     let piece : IsPiece 133 bytes = both 5 128 (codes "site ") name (literal (codes "site ") 5 refl refl) (site_piece name parts) in
@@ -272,9 +342,10 @@ hidden_in name rest targets sound more =
     let split : comment_text name ++ rest ≡ bytes ++ 10 ∷ rest = append_assoc (codes "# " ++ name) (end ++ 10 ∷ []) rest ∙ sym (append_assoc (codes "# " ++ name) end (10 ∷ rest)) in
     subst (λ (text : List ℕ). AreRead (lines_of text) targets) (sym split) (comment_in bytes rest targets (wider 330 1024 bytes (omega arith) piece) refl more)
 
-hidden_read : (site : Option (List ℕ)) (rest : List ℕ) (targets : List Target) → IsSoundSite site → AreRead (lines_of rest) targets → AreRead (lines_of (hidden_text site ++ rest)) targets
-hidden_read None rest targets sound more = more
-hidden_read (Some name) rest targets sound more = by (is_system_name name)
+hidden_read : (target : Target) (rest : List ℕ) (targets : List Target) → IsSoundTarget target → AreRead (lines_of rest) targets → AreRead (lines_of (hidden_text target ++ rest)) targets
+hidden_read (AtSite None) rest targets sound more = more
+hidden_read (AtWords words) rest targets sound more = more
+hidden_read (AtSite (Some name)) rest targets sound more = by (is_system_name name)
   where
     by : (b : Bool) → AreRead (lines_of (cond b (comment_text name) [] ++ rest)) targets
     by false = more
@@ -293,13 +364,24 @@ kind_piece : (kind : Kind) → IsPiece 5 (kind_text kind)
 kind_piece Read = literal (codes "read") 5 refl refl
 kind_piece Write = literal (codes "write") 5 refl refl
 
-access_piece : (names : NameTable) (race : KnownRace) → AreSound names → IsSound names race → IsPiece 149 (access_text names race)
-access_piece names race sound is =
-    let name : List ℕ = name_at names.threads race.thread in
+raced_piece : (names : NameTable) (thread : ℕ) (raced : Raced) → AreSound names → thread < length names.threads → IsInMemory raced → IsPiece 170 (raced_text names thread raced)
+raced_piece names thread (Access kind word site) sound named memory =
+    let name : List ℕ = name_at names.threads thread in
     let space : IsPiece 1 (codes " ") = literal (codes " ") 1 refl refl in
-    both 135 14 (name ++ codes " " ++ kind_text race.kind ++ codes " ") (address_text race.word)
-    (both 134 1 (name ++ codes " " ++ kind_text race.kind) (codes " ") (both 129 5 (name ++ codes " ") (kind_text race.kind)
-    (both 128 1 name (codes " ") (name_piece names race.thread sound is.named.0) space) (kind_piece race.kind)) space) (address_piece race.word is.word)
+    wider 149 170 (name ++ codes " " ++ kind_text kind ++ codes " " ++ address_text word) (omega arith)
+    (both 135 14 (name ++ codes " " ++ kind_text kind ++ codes " ") (address_text word)
+    (both 134 1 (name ++ codes " " ++ kind_text kind) (codes " ") (both 129 5 (name ++ codes " ") (kind_text kind)
+    (both 128 1 name (codes " ") (name_piece names thread sound named) space) (kind_piece kind)) space) (address_piece word memory))
+raced_piece names thread (Reuse range) sound named memory =
+    let name : List ℕ = name_at names.threads thread in
+    let ordered : range.lo ≤ range.hi = range.ordered in
+    let most : range.hi < 2 ^ 46 = memory in
+    let low : range.lo < 2 ^ 46 = omega arith in
+    let few : bytes_between range.lo range.hi < 2 ^ 64 = omega arith in
+    both 150 20 (name ++ codes " reuse " ++ address_text range.lo ++ codes " ") (decimal (bytes_between range.lo range.hi))
+    (both 149 1 (name ++ codes " reuse " ++ address_text range.lo) (codes " ") (both 135 14 (name ++ codes " reuse ") (address_text range.lo)
+    (both 128 7 name (codes " reuse ") (name_piece names thread sound named) (literal (codes " reuse ") 7 refl refl)) (address_piece range.lo low)) (literal (codes " ") 1 refl refl))
+    (number_piece (bytes_between range.lo range.hi) few)
 
 count_piece : (names : NameTable) (race : KnownRace) → IsSound names race → IsPiece 62 (count_text race)
 count_piece names race is =
@@ -308,19 +390,23 @@ count_piece names race is =
     (both 8 20 (codes "# races ") (decimal race.races) (literal (codes "# races ") 8 refl refl) (number_piece race.races is.races))
     (literal (codes ", first: line ") 14 refl refl)) (number_piece race.line is.line)
 
-taken_piece : (names : NameTable) (race : KnownRace) → AreSound names → IsSound names race → IsPiece 213 (count_text race ++ codes ", " ++ access_text names race)
+taken_piece : (names : NameTable) (race : KnownRace) → AreSound names → IsSound names race → IsPiece 234 (count_text race ++ codes ", " ++ raced_text names race.thread race.raced)
 taken_piece names race sound is =
-    both 64 149 (count_text race ++ codes ", ") (access_text names race)
-    (both 62 2 (count_text race) (codes ", ") (count_piece names race is) (literal (codes ", ") 2 refl refl)) (access_piece names race sound is)
+    both 64 170 (count_text race ++ codes ", ") (raced_text names race.thread race.raced)
+    (both 62 2 (count_text race) (codes ", ") (count_piece names race is) (literal (codes ", ") 2 refl refl)) (raced_piece names race.thread race.raced sound is.named.0 is.memory)
 
 -- the site of a race is the missing one, or has a name that names a site
-site_sound : (names : NameTable) (n : ℕ) → AreSound names → IsSoundSite (site_name names n)
-site_sound names zero sound = tt
-site_sound names (suc k) sound = by (slice_get names.sites k) refl
-  where
-    by : (o : Option (List ℕ)) → slice_get names.sites k ≡ o → IsSoundSite o
-    by None e = tt
-    by (Some name) e = subst NamesSite (get_or_from_slice_get names.sites k name name e) (sound.sites k name (slice_get_within names.sites k name e))
+access_sound : (site : Option (List ℕ)) (word : ℕ) → word < 2 ^ 46 → ((name : List ℕ) → site ≡ Some name → NamesSite name) → IsSoundTarget (access_target site word)
+access_sound None word memory sound = record { ordered = omega arith; memory = memory }
+access_sound (Some name) word memory sound = sound name refl
+
+site_sound : (names : NameTable) (n : ℕ) → AreSound names → (name : List ℕ) → site_name names n ≡ Some name → NamesSite name
+site_sound names zero sound name e = absurd (cc)
+site_sound names (suc k) sound name e = subst NamesSite (get_or_from_slice_get names.sites k name name e) (sound.sites k name (slice_get_within names.sites k name e))
+
+raced_sound : (names : NameTable) (raced : Raced) → AreSound names → IsInMemory raced → IsSoundTarget (race_target names raced)
+raced_sound names (Access kind word site) sound memory = access_sound (site_name names site) word memory (site_sound names site sound)
+raced_sound names (Reuse range) sound memory = record { ordered = range.ordered; memory = memory }
 
 split_known : (taken hidden target rest : List ℕ) → (taken ++ 10 ∷ [] ++ hidden ++ target ++ 10 ∷ []) ++ rest ≡ taken ++ 10 ∷ (hidden ++ (target ++ 10 ∷ rest))
 split_known taken hidden target rest = simp append_assoc
@@ -328,13 +414,12 @@ split_known taken hidden target rest = simp append_assoc
 race_read : (names : NameTable) (race : KnownRace) (rest : List ℕ) (targets : List Target) → AreSound names → IsSound names race → AreRead (lines_of rest) targets
     → AreRead (lines_of (known_text names race ++ rest)) (known_target names race ∷ targets)
 race_read names race rest targets sound is more =
-    let site : Option (List ℕ) = site_name names race.site in
-    let taken : List ℕ = count_text race ++ codes ", " ++ access_text names race in
-    let target : List ℕ = target_text (known_target names race) in
-    let known : IsSoundSite site = site_sound names race.site sound in
-    subst (λ (text : List ℕ). AreRead (lines_of text) (known_target names race ∷ targets)) (sym (split_known taken (hidden_text site) target rest))
-    (comment_in taken (hidden_text site ++ (target ++ 10 ∷ rest)) (known_target names race ∷ targets) (wider 213 1024 taken (omega arith) (taken_piece names race sound is)) refl
-    (hidden_read site (target ++ 10 ∷ rest) (known_target names race ∷ targets) known (target_read site race.word rest targets known is.word more)))
+    let taken : List ℕ = count_text race ++ codes ", " ++ raced_text names race.thread race.raced in
+    let target : Target = known_target names race in
+    let known : IsSoundTarget target = raced_sound names race.raced sound is.memory in
+    subst (λ (text : List ℕ). AreRead (lines_of text) (target ∷ targets)) (sym (split_known taken (hidden_text target) (target_text target) rest))
+    (comment_in taken (hidden_text target ++ (target_text target ++ 10 ∷ rest)) (target ∷ targets) (wider 234 1024 taken (omega arith) (taken_piece names race sound is)) refl
+    (hidden_read target (target_text target ++ 10 ∷ rest) (target ∷ targets) known (target_read target rest targets known more)))
 
 all_read : (names : NameTable) (known : List KnownRace) → AreSound names → All (IsSound names) known → AreRead (lines_of (flat_map (known_text names) known)) (map (known_target names) known)
 all_read names [] sound all = λ n s. (tt, tt)

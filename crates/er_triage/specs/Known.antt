@@ -1,71 +1,93 @@
--- Rules that take the races of a report.
-use Rattle.std.specs.Prelude.{◌≡◌, ℕ, ◌<◌, ◌≤◌, ◌==◌, Bool, false, cond, is_some, IsSome, IsSomeAnd, List, [], ◌∷◌, ◌++◌, count_by, length, map, slice_get, Option, Some, None}
+-- Rules that take the races of reports.
+use Rattle.std.specs.Prelude.{◌≡◌, ℕ, ◌<◌, ◌≤◌, Bool, cond, is_some, IfSome, IsSome, IsSomeAnd, List, [], ◌∷◌, ◌++◌, count_by, length, map, position, slice_get, Option, Some, None}
 use Rattle.std.specs.List.{find, fold}
-use Rattle.er_report.specs.Report.{site_name}
+use Rattle.er_report.specs.Report.{is_rule, site_name}
 use Rattle.er_report.specs.declared.report.Line.{Line}
 use Rattle.er_report.specs.declared.report.Line.TheVariants.{Race, Reused, Refused, Shown}
-use Rattle.er_rules.specs.Rules.{Target, AtSite, AtWords, matching_rule}
+use Rattle.er_report.specs.declared.report.Report.{Report}
+use Rattle.er_report.specs.declared.reports.Reports.{Reports}
+use Rattle.er_rules.specs.Rules.{Target, AtSite, AtWords, takes, takes_reuse}
 use Rattle.er_trace.specs.Names.{NameTable}
 use Rattle.er_triage.specs.declared.known.KnownRace.{KnownRace}
+use Rattle.er_triage.specs.declared.known.Raced.{Raced}
+use Rattle.er_triage.specs.declared.known.Raced.TheVariants.{Access, Reuse}
 
--- the rule of a race: by the name of its site, or by its word if it has no site
-abbrev pub race_target : Option (List ℕ) → ℕ → Target
-race_target None word = AtWords (Some (record { first = word; last = word }))
-race_target (Some name) word = AtSite (Some name)
+-- the lines of a report, if there is one
+abbrev pub lines_in : Option Report → List Line
+lines_in None = []
+lines_in (Some report) = report.lines.items
+
+-- those of all reports, the report by the lockset rule first
+abbrev pub lines_of : Reports → List Line
+lines_of reports = lines_in reports.lockset ++ lines_in reports.unordered
+
+-- the race of a line, if it is one, alone
+abbrev pub race_of : Line → Option KnownRace
+race_of (Race number thread kind word site held explained) = Some (record { line = number; thread = thread; raced = Access kind word site; races = 1 })
+race_of (Reused number thread range held explained) = Some (record { line = number; thread = thread; raced = Reuse range; races = 1 })
+race_of (Refused number step refusal) = None
+race_of (Shown number word state) = None
+
+-- whether a rule takes a race
+abbrev pub takes_race : NameTable → Raced → Target → Bool
+takes_race names (Access kind word site) target = takes target (site_name names site) word
+takes_race names (Reuse range) target = takes_reuse target range.lo range.hi
+
+-- the first rule that does
+abbrev pub rule_of : NameTable → List Target → Raced → Option ℕ
+rule_of names rules raced = position (takes_race names raced) rules
+
+-- the rule of an access: by the name of its site, or by its word if it has no site
+abbrev pub access_target : Option (List ℕ) → ℕ → Target
+access_target None word = AtWords (Some (record { first = word; last = word }))
+access_target (Some name) word = AtSite (Some name)
+
+-- the rule of a race; that of a reuse is by its words
+abbrev pub race_target : NameTable → Raced → Target
+race_target names (Access kind word site) = access_target (site_name names site) word
+race_target names (Reuse range) = AtWords (Some (record { first = range.lo; last = range.hi }))
 
 -- the rule of a race that is known
 abbrev pub known_target : NameTable → KnownRace → Target
-known_target names race = race_target (site_name names race.site) race.word
+known_target names race = race_target names race.raced
 
 -- the rules, and behind them that of a race if none of them takes it
-abbrev pub with_rule : NameTable → List Target → Line → List Target
-with_rule names rules (Race number thread kind word site held explained) =
-    cond (is_some (matching_rule rules (site_name names site) word)) rules (rules ++ race_target (site_name names site) word ∷ [])
-with_rule names rules (Reused number thread range held explained) = rules
-with_rule names rules (Refused number step refusal) = rules
-with_rule names rules (Shown number word state) = rules
+abbrev pub with_rule : NameTable → List Target → Option KnownRace → List Target
+with_rule names rules None = rules
+with_rule names rules (Some race) = cond (is_some (rule_of names rules race.raced)) rules (rules ++ known_target names race ∷ [])
 
 -- the rules that the races of these lines ask for, one after another
 abbrev pub rules_of : NameTable → List Line → List Target
-rules_of names lines = fold (with_rule names) [] lines
+rules_of names lines = fold (λ rules line. with_rule names rules (race_of line)) [] lines
 
 -- if the line is a race, one of the rules takes it
 abbrev pub IsTaken : NameTable → List Target → Line → Type 0
-IsTaken names rules (Race number thread kind word site held explained) = IsSome (matching_rule rules (site_name names site) word)
-IsTaken names rules (Reused number thread range held explained) = Unit {0}
-IsTaken names rules (Refused number step refusal) = Unit {0}
-IsTaken names rules (Shown number word state) = Unit {0}
+IsTaken names rules line = IfSome (race_of line) (λ race. IsSome (rule_of names rules race.raced))
 
--- the rule was found, and in this place
-abbrev pub is_place : ℕ → Option ℕ → Bool
-is_place place None = false
-is_place place (Some other) = place == other
+-- the first rule that takes the race, if there is one
+abbrev pub first_rule : NameTable → List Target → Option KnownRace → Option ℕ
+first_rule names rules None = None
+first_rule names rules (Some race) = rule_of names rules race.raced
 
 -- the line is a race that the rule in this place takes, and none before it
 abbrev pub is_taken_by : NameTable → List Target → ℕ → Line → Bool
-is_taken_by names rules place (Race number thread kind word site held explained) = is_place place (matching_rule rules (site_name names site) word)
-is_taken_by names rules place (Reused number thread range held explained) = false
-is_taken_by names rules place (Refused number step refusal) = false
-is_taken_by names rules place (Shown number word state) = false
-
--- this is the race of the line
-abbrev pub IsRaceOf : KnownRace → Line → Type 0
-IsRaceOf race (Race number thread kind word site held explained) =
-    (race.line ≡ number) × (race.thread ≡ thread) × (race.kind ≡ kind) × (race.word ≡ word) × (race.site ≡ site)
-IsRaceOf race (Reused number thread range held explained) = ⊥
-IsRaceOf race (Refused number step refusal) = ⊥
-IsRaceOf race (Shown number word state) = ⊥
+is_taken_by names rules place line = is_rule place (first_rule names rules (race_of line))
 
 -- it counts the races that the rule in this place takes, and is the first of them
 pub record IsCountAt (names : NameTable) (rules : List Target) (lines : List Line) (place : ℕ) (race : KnownRace) : Type 0 where
   pub races : race.races ≡ count_by (is_taken_by names rules place) lines
-  pub first : IsSomeAnd (find (is_taken_by names rules place) lines) (IsRaceOf race)
+  pub first : IsSomeAnd (find (is_taken_by names rules place) lines) (λ line. race_of line ≡ Some (record race { races = 1 }))
 
 -- each known race counts the races of its own rule
 abbrev pub AreCounts : NameTable → List Line → List KnownRace → Type 0
 AreCounts names lines known =
     (place : ℕ) (race : KnownRace) → slice_get known place ≡ Some race → IsCountAt names (map (known_target names) known) lines place race
 
+-- the site of an access has a name, unless it is the missing one
+abbrev pub HasRacedName : NameTable → Raced → Type 0
+HasRacedName names (Access kind word site) = site ≤ length names.sites
+HasRacedName names (Reuse range) = Unit {0}
+
 -- the thread and the site of the race have names
 abbrev pub IsNamed : NameTable → KnownRace → Type 0
-IsNamed names race = (race.thread < length names.threads) × (race.site ≤ length names.sites)
+IsNamed names race = (race.thread < length names.threads) × HasRacedName names race.raced

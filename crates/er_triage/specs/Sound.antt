@@ -5,6 +5,8 @@ use Rattle.er_text.specs.Naming.{is_name, is_site_name}
 use Rattle.er_trace.specs.Names.{NameTable}
 use Rattle.er_triage.specs.Known.{IsNamed}
 use Rattle.er_triage.specs.declared.known.KnownRace.{KnownRace}
+use Rattle.er_triage.specs.declared.known.Raced.{Raced}
+use Rattle.er_triage.specs.declared.known.Raced.TheVariants.{Access, Reuse}
 
 -- the bytes name a site, and are not the dash of the missing one
 abbrev pub NamesSite : List ℕ → Type 0
@@ -15,9 +17,14 @@ pub record AreSound (names : NameTable) : Type 0 where
   pub threads : All (λ name. is_name name ≡ true) names.threads
   pub sites : All NamesSite names.sites
 
--- the race has names, and its numbers are those of a word of memory and of 64 bits
+-- its words are words of memory
+abbrev pub IsInMemory : Raced → Type 0
+IsInMemory (Access kind word site) = word < 2 ^ 46
+IsInMemory (Reuse range) = range.hi < 2 ^ 46
+
+-- the race has names, and its numbers are those of words of memory and of 64 bits
 pub record IsSound (names : NameTable) (race : KnownRace) : Type 0 where
   pub named : IsNamed names race
   pub line : race.line < 2 ^ 64
   pub races : race.races < 2 ^ 64
-  pub word : race.word < 2 ^ 46
+  pub memory : IsInMemory race.raced

@@ -1,99 +1,180 @@
-//! A rule for each race of an access that no rule before it takes.
-ghost use Rattle.std.specs.Prelude.{◌≡◌, ◌<◌, All, length, map, option_copied, slice_get, IfOk, OnOk};
+//! A rule for each race that no rule before it takes.
+ghost use Rattle.std.specs.Prelude.{◌≡◌, ◌<◌, ◌^◌, All, length, map, slice_get, Some, IfOk, IfSome, OnOk};
 ghost use Rattle.er_report.specs.Names.{HasNames};
+ghost use Rattle.er_report.specs.Reports.{HaveNames};
 ghost use Rattle.er_rules.specs.Rules.{target_of, targets_of};
 ghost use Rattle.er_trace.specs.Names.{NameTable};
-ghost use Rattle.er_triage.specs.Known.{race_target, known_target, rules_of, with_rule, AreCounts, IsNamed, IsTaken};
-ghost use Rattle.er_triage.specs.Inner.Counting.{with_line, with_one_more};
+ghost use Rattle.er_triage.specs.Known.{known_target, lines_in, lines_of, race_of, race_target, rule_of, rules_of, AreCounts, HasRacedName, IsTaken};
+ghost use Rattle.er_triage.specs.Inner.Counting.{with_one_more, with_race, with_races};
+ghost use Rattle.er_triage.specs.Sound.{IsSound};
 
-use er_event::{Kind, Site, ThreadId, Word};
-use er_report::Line;
+use er_event::{Kind, PageRange, Site, ThreadId, Word};
+use er_report::{Line, Report, Reports};
 use er_rules::{Rule, Suppressions, WordSpan};
 use er_sites::name_of;
 use er_trace::Names;
 use std::alloc::{AllocError, Global};
+
+/// What a race is of.
+#[derive(Clone, Copy, Debug, PartialEq, Eq)]
+pub enum Raced {
+    /// An access: whether it read or wrote, the word that it touched, and where in the program it stands.
+    Access(Kind, Word, Site),
+    /// A reuse, of the words that were given back.
+    Reuse(PageRange),
+}
 
 /// The races that one rule takes, by the first of them.
 #[derive(Clone, Copy, Debug, PartialEq, Eq)]
 pub struct KnownRace {
     /// The line of the trace, from 1, at which the first was found.
     pub line: u64,
-    /// Who made its access.
+    /// Whose step it is.
     pub thread: ThreadId,
-    /// Whether that read or wrote.
-    pub kind: Kind,
-    /// The word that it touched.
-    pub word: Word,
-    /// Where in the program it stands. The rule is by this site, or by the word if it is the missing site.
-    pub site: Site,
+    /// What it is of. The rule of an access is by its site, or by its word at the missing site, and that of a reuse by its words.
+    pub raced: Raced,
     /// How many races the rule takes, the first among them, up to the greatest number.
     pub races: u64,
 }
 
-/// The rules that take the races of accesses in these lines, in the order of the first race that each takes.
+/// The rules that take the races of these reports, in the order of the first race that each takes: first those of the lockset rule.
 pub fn known_races(
     alloc: Global,
-    lines: &[Line],
+    reports: &Reports,
     names: &Names,
 ) -> Result<Vec<KnownRace>, AllocError>
-    requires { All (HasNames names.now) lines.now }
-    ensures rules { IfOk result (λ known. map (known_target names.now) known.items ≡ rules_of names.now lines.now) }
-    ensures taken { IfOk result (λ known. All (IsTaken names.now (map (known_target names.now) known.items)) lines.now) }
-    ensures counted { IfOk result (λ known. AreCounts names.now lines.now known.items) }
-    ensures named { IfOk result (λ known. All (IsNamed names.now) known.items) }
+    requires { HaveNames names.now reports.now }
+    ensures rules { IfOk result (λ known. map (known_target names.now) known.items ≡ rules_of names.now (lines_of reports.now)) }
+    ensures taken { IfOk result (λ known. All (IsTaken names.now (map (known_target names.now) known.items)) (lines_of reports.now)) }
+    ensures counted { IfOk result (λ known. AreCounts names.now (lines_of reports.now) known.items) }
+    ensures sound { IfOk result (λ known. All (IsSound names.now) known.items) }
 {
     let mut rules = Suppressions::new(alloc);
     let mut known = Vec::new(alloc);
-    for line in lines {
-        add_line(alloc, &mut rules, &mut known, names, line)?;
-    }
+    add_lines(
+        alloc,
+        &mut rules,
+        &mut known,
+        names,
+        lines_in(&reports.lockset),
+    )?;
+    add_lines(
+        alloc,
+        &mut rules,
+        &mut known,
+        names,
+        lines_in(&reports.unordered),
+    )?;
     Ok(known)
 }
 
-// Adds a rule for a race, unless a rule takes it.
-fn add_line(
+// The lines of a report, if there is one.
+pub(crate) fn lines_in(report: &Option<Report>) -> &[Line]
+    ensures lines { result.now ≡ lines_in report.now }
+    ensures few { length (lines_in report.now) < 2 ^ 63 }
+{
+    match report {
+        Some(report) => &report.lines,
+        None => &[],
+    }
+}
+
+// Adds the races of these lines.
+fn add_lines(
     alloc: Global,
     rules: &mut Suppressions,
     known: &mut Vec<KnownRace>,
     names: &Names,
-    line: &Line,
+    lines: &[Line],
 ) -> Result<(), AllocError>
-    requires names { HasNames names.now line.now }
-    requires known { map (known_target names.now) known.old.items ≡ targets_of rules.old }
-    ensures known { OnOk result (map (known_target names.now) known.new.items ≡ targets_of rules.new) }
-    ensures rules { OnOk result (targets_of rules.new ≡ with_rule names.now (targets_of rules.old) line.now) }
-    ensures counted { OnOk result (known.new.items ≡ with_line names.now known.old.items line.now) }
-    ensures named { All (IsNamed names.now) known.old.items → OnOk result (All (IsNamed names.now) known.new.items) }
+    requires names { All (HasNames names.now) lines.now }
+    requires rules { map (known_target names.now) known.old.items ≡ targets_of rules.old }
+    requires sound { All (IsSound names.now) known.old.items }
+    ensures rules { OnOk result (map (known_target names.now) known.new.items ≡ targets_of rules.new) }
+    ensures counted { OnOk result (known.new.items ≡ with_races names.now known.old.items lines.now) }
+    ensures sound { OnOk result (All (IsSound names.now) known.new.items) }
 {
-    let Line::Race {
+    for line in lines {
+        if let Some(race) = race_of(names, line) {
+            add_race(alloc, rules, known, names, race)?;
+        }
+    }
+    Ok(())
+}
+
+// The race of a line, if it is one.
+fn race_of(names: &Names, line: &Line) -> Option<KnownRace>
+    requires { HasNames names.now line.now }
+    ensures race { result ≡ race_of line.now }
+    ensures sound { IfSome result (IsSound names.now) }
+{
+    match line {
+        Line::Race {
+            line,
+            thread,
+            kind,
+            word,
+            site,
+            ..
+        } => Some(alone(*line, *thread, Raced::Access(*kind, *word, *site))),
+        Line::Reused {
+            line,
+            thread,
+            range,
+            ..
+        } => Some(alone(*line, *thread, Raced::Reuse(*range))),
+        Line::Refused { .. } | Line::Shown { .. } => None,
+    }
+}
+
+fn alone(line: u64, thread: ThreadId, raced: Raced) -> KnownRace
+    ensures { result ≡ record { line = line; thread = thread; raced = raced; races = 1 } }
+{
+    KnownRace {
         line,
         thread,
-        kind,
-        word,
-        site,
-        ..
-    } = line
-    else {
-        return Ok(());
-    };
-    let found = KnownRace {
-        line: *line,
-        thread: *thread,
-        kind: *kind,
-        word: *word,
-        site: *site,
+        raced,
         races: 1,
-    };
-    match rules.matching_rule(name_of(names, *site), *word) {
+    }
+}
+
+// Counts a race at the first rule that takes it, and adds a rule for it if none does.
+fn add_race(
+    alloc: Global,
+    rules: &mut Suppressions,
+    known: &mut Vec<KnownRace>,
+    names: &Names,
+    race: KnownRace,
+) -> Result<(), AllocError>
+    requires race { IsSound names.now race }
+    requires rules { map (known_target names.now) known.old.items ≡ targets_of rules.old }
+    requires sound { All (IsSound names.now) known.old.items }
+    ensures rules { OnOk result (map (known_target names.now) known.new.items ≡ targets_of rules.new) }
+    ensures counted { OnOk result (known.new.items ≡ with_race names.now known.old.items (Some race)) }
+    ensures sound { OnOk result (All (IsSound names.now) known.new.items) }
+{
+    match rule_of(rules, names, race.raced) {
         Some(place) => {
             count_race(known, place);
             Ok(())
         }
         None => {
-            rules.push(rule_of(alloc, name_of(names, *site), *word)?)?;
-            known.push(found)?;
+            rules.push(rule_for(alloc, names, race.raced)?)?;
+            known.push(race)?;
             Ok(())
         }
+    }
+}
+
+// The place of the first rule that takes a race.
+fn rule_of(rules: &Suppressions, names: &Names, raced: Raced) -> Option<usize>
+    requires { HasRacedName names.now raced }
+    ensures rule { result ≡ rule_of names.now (targets_of rules.now) raced }
+    ensures within { IfSome result (λ rule. rule < length (targets_of rules.now)) }
+{
+    match raced {
+        Raced::Access(_, word, site) => rules.matching_rule(name_of(names, site), word),
+        Raced::Reuse(range) => rules.matching_reuse(range),
     }
 }
 
@@ -102,22 +183,24 @@ fn count_race(known: &mut Vec<KnownRace>, place: usize)
     requires { place < length known.old.items }
     ensures counted { known.new.items ≡ with_one_more known.old.items place (slice_get known.old.items place) }
     ensures rules { (names : NameTable) → map (known_target names) known.new.items ≡ map (known_target names) known.old.items }
-    ensures named { (names : NameTable) → All (IsNamed names) known.old.items → All (IsNamed names) known.new.items }
+    ensures sound { (names : NameTable) → All (IsSound names) known.old.items → All (IsSound names) known.new.items }
 {
     let mut race = known[place];
     race.races = race.races.saturating_add(1);
     known[place] = race;
 }
 
-// The rule of races at the site of this name, or of the word at the missing one.
-fn rule_of(alloc: Global, site: Option<&str>, word: Word) -> Result<Rule, AllocError>
-    ensures { IfOk result (λ rule. target_of rule ≡ race_target (option_copied site.entry) word) }
+// The rule for a race.
+pub(crate) fn rule_for(alloc: Global, names: &Names, raced: Raced) -> Result<Rule, AllocError>
+    requires { HasRacedName names.now raced }
+    ensures { IfOk result (λ rule. target_of rule ≡ race_target names.now raced) }
 {
-    match site {
-        Some(name) => Ok(Rule::Site(Some(String::from_str(alloc, name)?))),
-        None => Ok(Rule::Words(Some(WordSpan {
-            first: word,
-            last: word,
-        }))),
-    }
+    let (first, last) = match raced {
+        Raced::Access(_, word, site) => match name_of(names, site) {
+            Some(name) => return Ok(Rule::Site(Some(String::from_str(alloc, name)?))),
+            None => (word, word),
+        },
+        Raced::Reuse(range) => (range.lo, range.hi),
+    };
+    Ok(Rule::Words(Some(WordSpan { first, last })))
 }

@@ -1,18 +1,17 @@
-//! What else a report is good for: rules that take its races, rules that took none, and its first races alone.
+//! What else reports are good for: rules that take their races, rules that took none, and their first races alone.
 //!
-//! Begin with [`known_races`]. It goes over the lines of a report and makes a rule for each race that no rule before it takes: by the site
-//! of the access, or by its word if it has no site. [`known_races_text`] is a suppression text of these rules. [`unused_rules_text`] names
-//! the rules that took no race, [`keep_first_races`] leaves the lines of the other races out, and [`append_rules`] puts the rules of
-//! several files together.
+//! Begin with [`triage`]. It does with the reports of a trace what [`Wishes`] ask for. [`known_races`] goes over the lines of the reports and
+//! makes a rule for each race that no rule before it takes: by the site of an access, or by its word if it has no site, and by the words of
+//! a reuse. [`known_races_text`] is a suppression text of these rules. [`unused_rules_text`] names the rules that took no race of any report,
+//! [`keep_first_races`] leaves the lines of the other races out, and [`append_rules`] puts the rules of several files together.
 //!
-//! What it promises, by the names of clauses: each race of an access is taken by one of the rules (`taken`), and there is no rule but
-//! those that such races ask for (`rules`). A rule's comment says how many races it takes, and the first of them (`counted`). If the text
-//! is within the limit and the names are those of a trace, the rules that are written are those that are read again
-//! (`written_rules_are_read_back`). A reuse that races has no rule. The texts are defined in `specs/Texts`, and the first races in
-//! `specs/First`.
+//! What it promises, by the names of clauses: each race of each report is taken by one of the rules (`taken`), and there is no rule but
+//! those that the races ask for (`rules`). A rule's comment says how many races of all reports it takes, and the first of them (`counted`). If
+//! the text is within the limit and the names are those of a trace, the rules that are written are those that are read again
+//! (`written_rules_are_read_back`). The texts are defined in `specs/Texts`, and the first races in `specs/First`.
 //!
 //! ```
-//! let known = known_races(alloc, &report.lines, trace.names())?;
+//! let known = known_races(alloc, &replayed.reports, trace.names())?;
 //! let text = known_races_text(alloc, &known, trace.names())?;
 //! // A run of `t1 write 0x1000 a.c:1` and `t2 write 0x1000 a.c:1` on lines 2 and 3 has this rule, below a comment:
 //! // site a.c:1
@@ -21,7 +20,7 @@
 
 pub use first::keep_first_races;
 pub use joined::append_rules;
-pub use known::{KnownRace, known_races};
+pub use known::{KnownRace, Raced, known_races};
 pub use laws::{names_of_a_trace_are_sound, written_rules_are_read_back};
 pub use texts::{known_races_text, left_out_text, put_rule, unused_rules_text};
 pub use wishes::{Triaged, Wishes, triage};

@@ -1,15 +1,16 @@
 //! The texts of rules, each built whole in memory.
-ghost use Rattle.std.specs.Prelude.{◌≡◌, ◌++◌, All, option_copied, slice_get, IfOk, OnOk};
-ghost use Rattle.er_rules.specs.Rules.{AtSite, AtWords, target_of, targets_of};
-ghost use Rattle.er_triage.specs.Known.{race_target, IsNamed};
-ghost use Rattle.er_triage.specs.Texts.{access_text, comment_text, count_text, hidden_text, known_text, known_races_text, left_out_text, taken_text, target_text, unused_from, unused_line};
+ghost use Rattle.std.specs.Prelude.{◌≡◌, ◌++◌, All, cond, [], Some, IfOk, OnOk};
+ghost use Rattle.er_rules.specs.Rules.{AtWords, target_of, targets_of};
+ghost use Rattle.er_triage.specs.Known.{IsNamed};
+ghost use Rattle.er_triage.specs.Texts.{comment_text, hidden_text, is_unused, known_text, known_races_text, left_out_text, raced_text, taken_text, target_text, took_none, unused_from, unused_text};
 
-use crate::known::KnownRace;
+use crate::known::{KnownRace, Raced, rule_for};
 use er_event::Word;
-use er_print::Piece::{Address, Thread, Verb};
-use er_print::{Style, put_address, put_all, put_number};
+use er_print::Piece::{Address, Number, Text, Thread, Verb};
+use er_print::{Style, bytes_of, put_address, put_all, put_number};
+use er_report::{Report, Reports};
 use er_rules::{Rule, Suppressions, WordSpan};
-use er_sites::{is_system_name, name_of};
+use er_sites::is_system_name;
 use er_trace::Names;
 use std::alloc::{AllocError, Global};
 
@@ -25,27 +26,22 @@ pub fn known_races_text(
     let mut text = Vec::new(alloc);
     text.extend_from_slice(b"# Known races, written by eraser replay --write-rules\n")?;
     for race in known {
-        put_known(&mut text, names, race)?;
+        put_known(alloc, &mut text, names, race)?;
     }
     Ok(text)
 }
 
-/// A line for each rule that took no race, by how many each took.
+/// A line for each rule that took no race of any of these reports.
 pub fn unused_rules_text(
     alloc: Global,
     suppressions: &Suppressions,
-    rule_counts: &[u64],
+    reports: &Reports,
 ) -> Result<Vec<u8>, AllocError>
-    ensures { IfOk result (λ text. text.items ≡ unused_from 0 rule_counts.now (targets_of suppressions.now)) }
+    ensures { IfOk result (λ text. text.items ≡ unused_from 0 reports.now (targets_of suppressions.now)) }
 {
     let mut text = Vec::new(alloc);
     for (place, rule) in suppressions.rules.iter().enumerate() {
-        put_if_unused(
-            &mut text,
-            place as u64 + 1,
-            count_at(rule_counts, place),
-            rule,
-        )?;
+        put_if_unused(&mut text, is_unused(reports, place), place as u64 + 1, rule)?;
     }
     Ok(text)
 }
@@ -63,22 +59,28 @@ pub fn left_out_text(alloc: Global, races: u64) -> Result<Vec<u8>, AllocError>
     Ok(text)
 }
 
-fn put_known(out: &mut Vec<u8>, names: &Names, race: &KnownRace) -> Result<(), AllocError>
+fn put_known(
+    alloc: Global,
+    out: &mut Vec<u8>,
+    names: &Names,
+    race: &KnownRace,
+) -> Result<(), AllocError>
     requires { IsNamed names.now race.now }
     ensures { OnOk result (out.new.items ≡ out.old.items ++ known_text names.now race.now) }
 {
     put_taken(out, names, race)?;
-    put_hidden(out, name_of(names, race.site))?;
-    put_race_rule(out, name_of(names, race.site), race.word)?;
+    let rule = rule_for(alloc, names, race.raced)?;
+    put_hidden(out, &rule)?;
+    put_rule(out, &rule)?;
     out.extend_from_slice(b"\n")
 }
 
-// Puts what a rule by the site of this name hides, if it is in a header of the system.
-fn put_hidden(out: &mut Vec<u8>, site: Option<&str>) -> Result<(), AllocError>
-    ensures { OnOk result (out.new.items ≡ out.old.items ++ hidden_text (option_copied site.entry)) }
+// Puts what a rule hides, if it is for a site in a header of the system.
+fn put_hidden(out: &mut Vec<u8>, rule: &Rule) -> Result<(), AllocError>
+    ensures { OnOk result (out.new.items ≡ out.old.items ++ hidden_text (target_of rule.now)) }
 {
-    match site {
-        Some(name) if is_system_name(name) => put_comment(out, name),
+    match rule {
+        Rule::Site(Some(name)) if is_system_name(name) => put_comment(out, name),
         _ => Ok(()),
     }
 }
@@ -100,50 +102,39 @@ fn put_taken(out: &mut Vec<u8>, names: &Names, race: &KnownRace) -> Result<(), A
     requires { IsNamed names.now race.now }
     ensures { OnOk result (out.new.items ≡ out.old.items ++ taken_text names.now race.now) }
 {
-    put_count(out, race)?;
-    out.extend_from_slice(b", ")?;
-    put_access(out, names, race)?;
+    let pieces = [
+        Number(b"# races ", race.races),
+        Number(b", first: line ", race.line),
+        Text(b", "),
+    ];
+    put_all(out, Style::Plain, names, &pieces)?;
+    put_raced(out, names, race)?;
     out.extend_from_slice(b"\n")
 }
 
-// Puts how many races a rule takes, and the line of the first of them.
-fn put_count(out: &mut Vec<u8>, race: &KnownRace) -> Result<(), AllocError>
-    ensures { OnOk result (out.new.items ≡ out.old.items ++ count_text race.now) }
-{
-    out.extend_from_slice(b"# races ")?;
-    put_number(out, race.races)?;
-    out.extend_from_slice(b", first: line ")?;
-    put_number(out, race.line)
-}
-
-// Puts who did what to which word.
-fn put_access(out: &mut Vec<u8>, names: &Names, race: &KnownRace) -> Result<(), AllocError>
+// Puts who did what to which word, or gave back which words.
+fn put_raced(out: &mut Vec<u8>, names: &Names, race: &KnownRace) -> Result<(), AllocError>
     requires { IsNamed names.now race.now }
-    ensures { OnOk result (out.new.items ≡ out.old.items ++ access_text names.now race.now) }
+    ensures { OnOk result (out.new.items ≡ out.old.items ++ raced_text names.now race.now.thread race.now.raced) }
 {
-    let pieces = [
-        Thread(b"", race.thread),
-        Verb(b" ", race.kind),
-        Address(b" ", race.word),
-    ];
-    put_all(out, Style::Plain, names, &pieces)
-}
-
-// Puts the rule of a race at the site of this name, or of the word at the missing one.
-fn put_race_rule(out: &mut Vec<u8>, site: Option<&str>, word: Word) -> Result<(), AllocError>
-    ensures { OnOk result (out.new.items ≡ out.old.items ++ target_text (race_target (option_copied site.entry) word)) }
-{
-    match site {
-        Some(name) => put_site(out, name),
-        None => put_run(out, word, word),
+    match race.raced {
+        Raced::Access(kind, word, _) => {
+            let pieces = [
+                Thread(b"", race.thread),
+                Verb(b" ", kind),
+                Address(b" ", word),
+            ];
+            put_all(out, Style::Plain, names, &pieces)
+        }
+        Raced::Reuse(range) => {
+            let pieces = [
+                Thread(b"", race.thread),
+                Address(b" reuse ", range.lo),
+                Number(b" ", bytes_of(&range)),
+            ];
+            put_all(out, Style::Plain, names, &pieces)
+        }
     }
-}
-
-fn put_site(out: &mut Vec<u8>, name: &str) -> Result<(), AllocError>
-    ensures { OnOk result (out.new.items ≡ out.old.items ++ target_text (AtSite (Some name.now))) }
-{
-    out.extend_from_slice(b"site ")?;
-    out.extend_from_slice(name.as_bytes())
 }
 
 // Puts the rule of the words from the first to the last.
@@ -157,23 +148,32 @@ fn put_run(out: &mut Vec<u8>, first: Word, last: Word) -> Result<(), AllocError>
     put_number(out, words * Word::BYTES)
 }
 
-// The count in a place, if the list is that long.
-fn count_at(counts: &[u64], place: usize) -> Option<u64>
-    ensures { result ≡ slice_get counts.now place }
+// Whether the report, if there is one, says that the rule in this place took no race.
+fn took_none(report: &Option<Report>, place: usize) -> bool
+    ensures { result ≡ took_none report.now place }
 {
-    counts.get(place).copied()
+    match report {
+        Some(report) => report.rule_counts.get(place) == Some(&0),
+        None => true,
+    }
 }
 
-// Puts the line of a rule, if it took no race.
+fn is_unused(reports: &Reports, place: usize) -> bool
+    ensures { result ≡ is_unused reports.now place }
+{
+    took_none(&reports.lockset, place) && took_none(&reports.unordered, place)
+}
+
+// Puts the line of the rule of this number, if it took no race.
 fn put_if_unused(
     out: &mut Vec<u8>,
+    unused: bool,
     number: u64,
-    count: Option<u64>,
     rule: &Rule,
 ) -> Result<(), AllocError>
-    ensures { OnOk result (out.new.items ≡ out.old.items ++ unused_line number count (target_of rule.now)) }
+    ensures { OnOk result (out.new.items ≡ out.old.items ++ cond unused (unused_text number (target_of rule.now)) []) }
 {
-    if count != Some(0) {
+    if !unused {
         return Ok(());
     }
     out.extend_from_slice(b"unused suppression ")?;
@@ -188,7 +188,10 @@ pub fn put_rule(out: &mut Vec<u8>, rule: &Rule) -> Result<(), AllocError>
     ensures { OnOk result (out.new.items ≡ out.old.items ++ target_text (target_of rule.now)) }
 {
     match rule {
-        Rule::Site(Some(name)) => put_site(out, name),
+        Rule::Site(Some(name)) => {
+            out.extend_from_slice(b"site ")?;
+            out.extend_from_slice(name.as_bytes())
+        }
         Rule::Site(None) => out.extend_from_slice(b"site -"),
         Rule::Words(Some(WordSpan { first, last })) => put_run(out, *first, *last),
         Rule::Words(None) => out.extend_from_slice(b"words 0 0"),

@@ -1,1 +1,3 @@
 mod NoteLemmas
+mod EndLemmas
+mod DeliverLemmas

@@ -1,43 +1,46 @@
--- The rules are those of the races of all lines.
-use Rattle.std.proofs.Common.{◌≡◌, ◌<◌, ◌≤◌, ◌+◌, ◌^◌, ◌∙◌, [], ◌∷◌, ◌++◌, ap, sym, subst, List, All, length, map, take, arith}
-use Rattle.std.specs.List.{fold}
-use Rattle.std.proofs.lemmas.List.{length-take, take_all, take_more}
-use Rattle.std.proofs.lemmas.List.Sums.{fold_push}
+-- The races of one report behind those of the other are the races of both.
+use Rattle.std.proofs.Common.{◌≡◌, ◌<◌, ◌++◌, ◌^◌, ◌∙◌, [], ap, sym, subst, List, All, length, map, rules, arith, length-append}
+use Rattle.std.proofs.lemmas.List.Sums.{fold-append}
 use Rattle.er_report.specs.declared.report.Line.{Line}
 use Rattle.er_rules.specs.Rules.{Target}
 use Rattle.er_trace.specs.Names.{NameTable}
-use Rattle.er_triage.specs.Known.{IsTaken, rules_of, known_target, with_rule, AreCounts}
+use Rattle.er_triage.specs.Known.{AreCounts, IsTaken, known_target, lines_in, lines_of, race_of, rules_of}
+use Rattle.er_triage.specs.Inner.Counting.{with_race, with_races}
 use Rattle.er_triage.specs.declared.known.KnownRace.{KnownRace}
-use Rattle.er_triage.proofs.CountLemmas.{counted_on}
+use Rattle.er_triage.proofs.CountLemmas.{all_counted, all_rules}
 use Rattle.er_triage.proofs.KnownLemmas.{all_taken}
 use Rattle.er_triage.proofs.known.known_races.Goals as goal
 
+-- what is added in two parts
+both : (names : NameTable) (first second one two : List Line) (none some all : List KnownRace) → none ≡ [] → one ≡ first → two ≡ second
+    → some ≡ with_races names none one → all ≡ with_races names some two → all ≡ with_races names [] (first ++ second)
+both names first second one two none some all start same other some_is all_is =
+    all_is ∙ ap (λ (lines : List Line). with_races names some lines) other
+    ∙ ap (λ (known : List KnownRace). with_races names known second) (some_is ∙ ap (λ (known : List KnownRace). with_races names known one) start ∙ ap (with_races names []) same)
+    ∙ sym (fold-append (λ (known : List KnownRace) (line : Line). with_race names known (race_of line)) [] first second)
+
+whole : (names : NameTable) (lines : List Line) (known : List KnownRace) → known ≡ with_races names [] lines → map (known_target names) known ≡ rules_of names lines
+whole names lines known is = ap (map (known_target names)) is ∙ all_rules names lines []
+
+pub returns-clause-rules : goal.returns-clause-rules
+returns-clause-rules c =
+    let start : c.new-known.result.items ≡ [] = search rules in
+    whole c.args.names.now (lines_of c.args.reports.now) _
+    (both c.args.names.now (lines_in c.args.reports.now.lockset) (lines_in c.args.reports.now.unordered) c.lines_in.result.now c.lines_in-2.result.now _ _ _
+    start c.lines_in.ensures.lines c.lines_in-2.ensures.lines c.in_ok-add_lines.ensures.counted c.in_ok-add_lines-2.ensures.counted)
+
 pub returns-clause-taken : goal.returns-clause-taken
 returns-clause-taken c =
-    let past : length c.args.lines.now ≤ c.loop-line.line-index = omega (arith, c.loop-line-test.false) in
-    let all : map (known_target c.args.names.now) c.loop-line.known.items ≡ rules_of c.args.names.now c.args.lines.now =
-    c.loop-line.invariant.known ∙ c.loop-line.invariant.rules
-    ∙ ap (λ (lines : List Line). fold (with_rule c.args.names.now) [] lines) (take_all c.loop-line.line-index c.args.lines.now past) in
-    subst (λ (rules : List Target). All (IsTaken c.args.names.now rules) c.args.lines.now) (sym all) (all_taken c.args.names.now c.args.lines.now)
+    let lines : List Line = lines_of c.args.reports.now in
+    subst (λ (rules : List Target). All (IsTaken c.args.names.now rules) lines) (sym (returns-clause-rules c)) (all_taken c.args.names.now lines)
 
-pub loop-line-preserved : goal.loop-line-preserved
-loop-line-preserved c =
-    let names : NameTable = c.args.names.now in
-    let lines : List Line = take c.loop-line.line-index c.args.lines.now in
-    let taken : All (IsTaken names (map (known_target names) c.loop-line.known.items)) lines =
-    subst (λ (rules : List Target). All (IsTaken names rules) lines) (sym (c.loop-line.invariant.known ∙ c.loop-line.invariant.rules)) (all_taken names lines) in
-    let few : length lines + 1 < 2 ^ 64 = omega (arith, length-take c.loop-line.line-index c.args.lines.now) in
-    let whole : take (c.loop-line.line-index + 1) c.args.lines.now ≡ lines ++ c.line-item.result ∷ [] =
-    take_more c.args.lines.now c.loop-line.line-index c.line-item.result c.loop-line-test.true ∙ ap (λ (line : Line). lines ++ line ∷ []) (sym c.line-item.is) in
-    record {
-      known = c.in_ok-add_line.ensures.known;
-      rules = c.in_ok-add_line.ensures.rules
-          ∙ ap (λ (rules : List Target). with_rule c.args.names.now rules c.line-item.result) c.loop-line.invariant.rules
-          ∙ sym (fold_push (with_rule c.args.names.now) [] lines c.line-item.result)
-          ∙ ap (λ (line : Line). fold (with_rule c.args.names.now) [] (lines ++ line ∷ [])) c.line-item.is
-          ∙ ap (fold (with_rule c.args.names.now) []) (sym (take_more c.args.lines.now c.loop-line.line-index c.line-item.result c.loop-line-test.true));
-      counted = subst (λ (gone : List Line). AreCounts names gone c.add_line.new.known.items) (sym whole)
-          (subst (λ (known : List KnownRace). AreCounts names (lines ++ c.line-item.result ∷ []) known) (sym c.in_ok-add_line.ensures.counted)
-          (counted_on names c.loop-line.known.items lines c.line-item.result taken few c.loop-line.invariant.counted));
-      named = c.in_ok-add_line.ensures.named c.loop-line.invariant.named;
-    }
+pub returns-clause-counted : goal.returns-clause-counted
+returns-clause-counted c =
+    let lines : List Line = lines_of c.args.reports.now in
+    let few : length lines < 2 ^ 64 =
+    omega (arith, length-append (lines_in c.args.reports.now.lockset) (lines_in c.args.reports.now.unordered), c.lines_in.ensures.few, c.lines_in-2.ensures.few) in
+    let start : c.new-known.result.items ≡ [] = search rules in
+    subst (λ (known : List KnownRace). AreCounts c.args.names.now lines known)
+    (sym (both c.args.names.now (lines_in c.args.reports.now.lockset) (lines_in c.args.reports.now.unordered) c.lines_in.result.now c.lines_in-2.result.now _ _ _
+    start c.lines_in.ensures.lines c.lines_in-2.ensures.lines c.in_ok-add_lines.ensures.counted c.in_ok-add_lines-2.ensures.counted))
+    (all_counted c.args.names.now lines few)

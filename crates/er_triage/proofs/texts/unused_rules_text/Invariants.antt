@@ -6,4 +6,4 @@ use Rattle.er_triage.proofs.texts.unused_rules_text.Given as goal
 
 abbrev pub invariant-loop-place : goal.invariant-loop-place
 invariant-loop-place l =
-    l.text.items ++ unused_from l.place l.rule_counts (map target_of (drop l.place l.suppressions.rules.items)) ≡ unused_from 0 l.rule_counts (targets_of l.suppressions)
+    l.text.items ++ unused_from l.place l.reports (map target_of (drop l.place l.suppressions.rules.items)) ≡ unused_from 0 l.reports (targets_of l.suppressions)

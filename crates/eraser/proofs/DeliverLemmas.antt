@@ -1,0 +1,106 @@
+-- What was delivered is what was asked for.
+use Rattle.std.proofs.Common.{◌≡◌, ◌-◌, ◌∙◌, ℕ, Bool, is_some, List, [], length, take, Option, None, IsSome, IfOk, IfErr, Result, Ok, Err, refl, sym, subst}
+use Rattle.std.specs.Io.KnownBytes.{Appends, Keeps}
+use Rattle.er_exit.specs.declared.faults.Fault.{Fault}
+use Rattle.er_exit.specs.declared.faults.Fault.TheVariants as fault
+use Rattle.er_forms.specs.Forms.{IsForm}
+use Rattle.er_html.specs.declared.excerpts.Excerpt.{Excerpt}
+use Rattle.er_places.specs.Places.{PlaceTable}
+use Rattle.er_print.specs.Written.{WritesReport}
+use Rattle.er_print.specs.declared.fault.WriteFault.{WriteFault}
+use Rattle.er_print.specs.declared.fault.WriteFault.TheVariants as writing
+use Rattle.er_report.specs.Reports.{asks_locks, asks_order}
+use Rattle.er_report.specs.declared.reports.Reports.{Reports}
+use Rattle.er_request.specs.declared.request.Replay.{Replay}
+use Rattle.er_rules.specs.Rules.{Target}
+use Rattle.er_run.specs.Reports.{AreReportsOfText, IsOrderOfText, is_verdict_of}
+use Rattle.er_text.specs.Ending.{IsEndingOf}
+use Rattle.er_text.specs.declared.endings.Ending.{Ending}
+use Rattle.er_trace.specs.Names.{NameTable}
+use Rattle.er_triage.specs.First.{KeepFirst}
+use Rattle.er_triage.specs.Known.{lines_of}
+use Rattle.er_triage.specs.Notes.{notes_text}
+use Rattle.eraser.specs.Inner.Writes.{WritesSome}
+use Rattle.eraser.specs.Replays.{AreShown, EndsAs, FailsAs, IsOutput, MayHavePlaces, unordered_of, verdict_status}
+use Rattle.eraser.specs.declared.replaying.Ended.{Ended}
+
+-- what is known of reports of a text, and of those of them that are left
+pub record AreTriaged (replay : Replay) (text : List ℕ) (rules : List Target) (names : NameTable) (found left : Reports) : Type 0 where
+  pub reports : AreReportsOfText replay.analysis text replay.byte_limit rules replay.explain names found
+  pub locks : is_some found.lockset ≡ asks_locks replay.analysis
+  pub order : is_some found.unordered ≡ asks_order replay.analysis
+  pub first : KeepFirst replay.max_races found left
+
+abbrev output : {F : Type 0} (remaining : F → Option (List ℕ)) (replay : Replay) (text : List ℕ) (rules : List Target) (names : NameTable) (found left : Reports) (bytes : List ℕ)
+    → AreTriaged replay text rules names found left → AreShown remaining replay names rules left bytes → IsOutput remaining replay text rules bytes
+output remaining replay text rules names found left bytes triaged shown =
+    record { names = names; found = found; left = left; reports = triaged.reports; locks = triaged.locks; order = triaged.order; first = triaged.first; shown = shown }
+
+-- behind the whole output
+pub ends : {F : Type 0} (remaining : F → Option (List ℕ)) (replay : Replay) (text : List ℕ) (rules : List Target) (names : NameTable) (found left : Reports) (ending : Ending) (has_order : Bool) (old new : Option (List ℕ))
+    (notes : List ℕ) (count : ℕ) (result : Result Ended Fault) → AreTriaged replay text rules names found left → ((bytes : List ℕ) × AreShown remaining replay names rules left bytes × Appends old new bytes)
+    → notes ≡ notes_text replay.unused_rules found rules (length (lines_of found) - length (lines_of left)) → count ≡ unordered_of has_order found
+    → IfOk result (λ ended. ended.status ≡ verdict_status (is_verdict_of left)) → IfOk result (λ ended. ended.notes.items ≡ notes)
+    → IfOk result (λ ended. (ended.ending ≡ ending) × (ended.unordered ≡ count)) → IsEndingOf text ending → IsOrderOfText replay.analysis text replay.byte_limit has_order
+    → IfOk result (EndsAs remaining replay text rules old new)
+ends remaining replay text rules names found left ending has_order old new notes count (Err why) triaged written noted counted status same_notes same is order = tt
+ends remaining replay text rules names found left ending has_order old new notes count (Ok ended) triaged (bytes, shown, appended) noted counted status same_notes (same, same_count) is order = record {
+  bytes = bytes;
+  output = output remaining replay text rules names found left bytes triaged shown;
+  written = appended;
+  status = status;
+  ending = subst (λ (e : Ending). IsEndingOf text e) (sym same) is;
+  order = (has_order, (order, same_count ∙ counted));
+  notes = same_notes ∙ noted;
+}
+
+-- without the file of rules
+pub lacks-rules : {F : Type 0} (remaining : F → Option (List ℕ)) (replay : Replay) (text : List ℕ) (rules : List Target) (names : NameTable) (found left : Reports) (old new : Option (List ℕ))
+    (result : Result Ended Fault) → AreTriaged replay text rules names found left → ((bytes : List ℕ) × AreShown remaining replay names rules left bytes × Appends old new bytes)
+    → IfErr result (λ why. (why ≡ fault.WriteRules) × IsSome replay.write_rules) → IfErr result (FailsAs remaining replay text rules old new)
+lacks-rules remaining replay text rules names found left old new (Ok ended) triaged written is = tt
+lacks-rules remaining replay text rules names found left old new (Err why) triaged (bytes, shown, appended) (is, some) =
+    subst (λ (w : Fault). FailsAs remaining replay text rules old new w) (sym is) (some, (bytes, output remaining replay text rules names found left bytes triaged shown, appended))
+
+-- behind a write that failed, or a want of memory
+pub breaks-off : {F : Type 0} (remaining : F → Option (List ℕ)) (replay : Replay) (text : List ℕ) (rules : List Target) (names : NameTable) (found left : Reports) (old new : Option (List ℕ)) (why : Fault)
+    → AreTriaged replay text rules names found left → WritesSome {X = Unit {0}} (AreShown remaining replay names rules left) old new (Err why) → FailsAs remaining replay text rules old new why
+breaks-off remaining replay text rules names found left old new fault.Write triaged (bytes, shown, begun) = (bytes, output remaining replay text rules names found left bytes triaged shown, begun)
+breaks-off remaining replay text rules names found left old new fault.Memory triaged keeps = keeps
+breaks-off remaining replay text rules names found left old new _ triaged none = absurd none
+
+-- a fault of writing as one of the program
+abbrev pub as_fault : {X : Type 0} → Result X WriteFault → Result X Fault
+as_fault (Ok x) = Ok x
+as_fault (Err writing.Memory) = Err fault.Memory
+as_fault (Err writing.Write) = Err fault.Write
+
+-- what was made was written, if it was made
+written : {A E X : Type 0} (Are : List ℕ → Type 0) (old new : Option (List ℕ)) (text : Result A E) (items : A → List ℕ) (result : Result X WriteFault) → IfOk text (λ t. Are (items t))
+    → ((bytes : List ℕ) → IfOk text (λ t. items t ≡ bytes) → WritesReport old new bytes result) → IfErr text (λ e. result ≡ Err writing.Memory) → WritesSome Are old new (as_fault result)
+written Are old new (Ok t) items (Ok x) are wrote memory = (items t, are, wrote (items t) refl)
+written Are old new (Ok t) items (Err writing.Memory) are wrote memory = wrote (items t) refl
+written Are old new (Ok t) items (Err writing.Write) are wrote memory = (items t, are, wrote (items t) refl)
+written Are old new (Err e) items (Ok x) are wrote memory = cc
+written Are old new (Err e) items (Err writing.Memory) are wrote memory = wrote [] tt
+written Are old new (Err e) items (Err writing.Write) are wrote memory = cc
+
+-- a form that was made is what is asked for
+shown_if : {F A E : Type 0} (remaining : F → Option (List ℕ)) (replay : Replay) (names : NameTable) (rules : List Target) (reports : Reports) (table : PlaceTable) (excerpts : List Excerpt) (text : Result A E)
+    (items : A → List ℕ) → MayHavePlaces remaining replay reports table → (replay.source ≡ None → excerpts ≡ []) → IfOk text (λ t. IsForm replay.form names table rules excerpts reports (items t))
+    → IfOk text (λ t. AreShown remaining replay names rules reports (items t))
+shown_if remaining replay names rules reports table excerpts (Ok t) items places sources form = record { table = table; excerpts = excerpts; places = places; sources = sources; form = form }
+shown_if remaining replay names rules reports table excerpts (Err e) items places sources form = tt
+
+pub delivered : {F A E X : Type 0} (remaining : F → Option (List ℕ)) (replay : Replay) (names : NameTable) (rules : List Target) (reports : Reports) (table : PlaceTable) (excerpts : List Excerpt) (old new : Option (List ℕ))
+    (text : Result A E) (items : A → List ℕ) (result : Result X WriteFault) → MayHavePlaces remaining replay reports table → (replay.source ≡ None → excerpts ≡ [])
+    → IfOk text (λ t. IsForm replay.form names table rules excerpts reports (items t)) → ((bytes : List ℕ) → IfOk text (λ t. items t ≡ bytes) → WritesReport old new bytes result)
+    → IfErr text (λ e. result ≡ Err writing.Memory) → WritesSome (AreShown remaining replay names rules reports) old new (as_fault result)
+delivered remaining replay names rules reports table excerpts old new text items result places sources form wrote memory =
+    written (AreShown remaining replay names rules reports) old new text items result (shown_if remaining replay names rules reports table excerpts text items places sources form) wrote memory
+
+-- nothing was, for want of memory
+pub no-memory : {A E X : Type 0} (old new : Option (List ℕ)) (text : Result A E) (items : A → List ℕ) (result : Result X WriteFault) → result ≡ Err writing.Memory
+    → ((bytes : List ℕ) → IfOk text (λ t. items t ≡ bytes) → WritesReport old new bytes result) → Keeps old new
+no-memory old new (Ok t) items result is wrote = rw is at (wrote (items t) refl)
+no-memory old new (Err e) items result is wrote = rw is at (wrote [] tt)
