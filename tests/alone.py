@@ -60,10 +60,13 @@ def each_refused(library, folder, run):
 OUTCOMES = {"whole", "stopped", "out of memory"}
 
 
-def outcome_of(found, whole, is_stopped):
-    """The outcome of a run, or None if it is none of them. `is_stopped` says whether a text is that of a report that stopped."""
+def outcome_of(found, whole, is_stopped, bare=None):
+    """The outcome of a run, or None if it is none of them. `is_stopped` says whether a text is that of a report that stopped. `bare` is the run whose
+    reasons have no places, as memory was refused to the second reading."""
     if found == whole:
         return "whole"
+    if found == bare:
+        return "bare"
     if found == (b"", b"out of memory\n", 3):
         return "out of memory"
     return "stopped" if found[1:] == (b"", 3) and is_stopped(found[0]) else None

@@ -121,13 +121,26 @@ def placed(reason, places):
     return {**reason, "site": None if site == "-" else site, "held": [lock for lock, _ in locks], "held_to_read": [lock for lock, writes in locks if not writes]}
 
 
+def wanted_lines(races):
+    """The lines whose places are looked up: those of the first race of each site and kind and of its reasons, and those of the reasons of reuses."""
+    known = set()
+    for race in races:
+        sort = (race.get("reuse", race.get("site")), race.get("kind"), race["line"] if "reuse" in race else None)
+        if sort not in known:
+            known.add(sort)
+            yield from [] if "reuse" in race else [race["line"]]
+            yield from (reason["line"] for reason in race["reasons"])
+
+
 def documents_of(text, rules, explain, analysis="lockset", is_file=False):
     """The documents of a text that has no fault. Reasons have places if it is a file, which can be read twice."""
-    documents, places = [], places_in(text) if is_file else {}
+    documents = []
     if analysis != "happens-before":
         documents.append(document_of(reference.replay(text, rules or b"", explain=explain)[0]))
     if analysis != "lockset":
         documents.append(document_of(unordered_report(text, reference.rules_of(rules or b""), explain)[0], holds_of(text)))
+    wanted = {str(line) for document in documents for line in wanted_lines(document["races"])}
+    places = {line: place for line, place in (places_in(text) if is_file else {}).items() if line in wanted}
     for race in [race for document in documents for race in document["races"]]:
         race["reasons"] = [placed(reason, places) for reason in race["reasons"]]
     return documents
@@ -301,15 +314,15 @@ def refusal_tests(record, schema, preloaded):
     with tempfile.TemporaryDirectory() as folder:
         library, met = preloaded(folder, "refuse"), set()
         words = ["replay", "--explain", "--format", "json", str(TOP / "examples/explained.trace")]
-        whole = run(words)
+        whole, bare = run(words), run([*words[:-1], "-"], (TOP / "examples/explained.trace").read_bytes())
         for nth, found, was_refused in each_refused(library, folder, lambda env: run(words, env=env)):
-            outcome = outcome_of(found, whole, lambda text: is_stopped(text, schema))
+            outcome = outcome_of(found, whole, lambda text: is_stopped(text, schema), bare)
             met.add(outcome)
             if was_refused:
                 record(f"JSON without allocation {nth}", outcome, f"{found}")
             else:
                 record("JSON with all allocations", outcome == "whole" and nth > 20, f"{nth}")
-        record("JSON without an allocation: each outcome", met >= OUTCOMES, f"{met}")
+        record("JSON without an allocation: each outcome", met >= OUTCOMES | {"bare"}, f"{met}")
     with open("/dev/full", "wb") as full:
         done = subprocess.run([str(site_tests.PROGRAM), *words], stdout=full, stderr=subprocess.PIPE, timeout=120)
         record("JSON on a full device", (done.stderr, done.returncode) == (b"write fault\n", 4), f"{done}")
