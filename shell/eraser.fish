@@ -9,7 +9,7 @@ complete -c eraser -n __fish_use_subcommand -a explain -d 'Say why one step is a
 complete -c eraser -n __fish_use_subcommand -a demo -d 'Run threads that call the detector, and print how many steps and races they made'
 complete -c eraser -n __fish_use_subcommand -a help -d 'Print this message or the help of the given subcommand(s)'
 
-complete -c eraser -n '__fish_seen_subcommand_from replay' -l analysis -x -a 'lockset happens-before both' -d 'Report accesses that no lock protects, accesses that were not ordered in this run, or both'
+complete -c eraser -n '__fish_seen_subcommand_from replay' -l analysis -x -a 'lockset happens-before both' -d 'Report accesses that no lock protects, accesses and reuses that were not ordered in this run, or both'
 complete -c eraser -n '__fish_seen_subcommand_from replay' -l suppress -r -F -d 'Count the races that this file\'s rules take, and leave their lines out'
 complete -c eraser -n '__fish_seen_subcommand_from replay' -l write-rules -r -F -d 'Write rules to this file that take each race of the report'
 complete -c eraser -n '__fish_seen_subcommand_from replay' -l unused-rules -d 'Name each rule that took no race, on standard error'

@@ -5,7 +5,8 @@
 - the lists of tests/order/worked.txt give a line for each race and for each refused step, and no other
 - random traces give what tests/order_reference.py and tests/reference.py say of them, with suppressions and without: traces of all three
   texts, a quarter of them damaged, and lists of text 3 in which every sort of order stands
-- `both` writes the report of the one analysis, and then that of the other; with `--by-site` the sites of both under two headings
+- `both` writes the report of the one analysis, and then that of the other; with `--by-site` the sites of both under two headings, and by
+  happens-before alone those of the run
 - `--analysis lockset` writes what stands without it
 - `--write-rules`, `--unused-rules` and `--max-races` with happens-before: the rules take all unordered accesses, and so on
 - the two reports of one text under rules are those of the two analyses, with the same counts of rules in each
@@ -27,7 +28,7 @@ import order_reference
 import order_tests
 import reference
 from alone import each_failed, each_refused, program, run_alone
-from site_tests import by_site_of_both, places_in, preloaded, run_file, sites_in
+from site_tests import by_site_of_both, by_site_of_order, places_in, preloaded, run_file, sites_in
 
 TOP = pathlib.Path(__file__).resolve().parent.parent
 PROGRAM = program("eraser")
@@ -192,23 +193,26 @@ def random_traces(record):
 
 
 def by_sites(record):
-    """`both --by-site` beside a second reading of docs/FORMATS.md, made from what the other readings say of the text."""
+    """`--by-site` beside a second reading of docs/FORMATS.md, made from what the other readings say of the text."""
     texts = [(f"random trace {seed}", reference.random_trace(seed), rules) for seed in range(SITE_TRACES) for rules in (None, reference.random_rules(seed))]
     texts += [(f"random list {seed}", order_tests.random_list(seed), None) for seed in range(SITE_TRACES)]
-    texts += [("two headings", TWO_HEADINGS, None), ("order alone", ORDER_ALONE, None), ("order beside", ORDER_BESIDE, None)]
+    texts += [("two headings", TWO_HEADINGS, None), ("order alone", ORDER_ALONE, None), ("order beside", ORDER_BESIDE, None), ("given back", GIVEN_BACK, None)]
     kinds = set()
     for name, text, rules in texts:
+        title = f"{name}{'' if rules is None else ' with suppressions'}"
         output, errors, status = reference.replay(text, rules or b"", explain=True)
-        want = output.encode(), errors.encode(), status
+        errors = errors.encode()
+        wanted = {(analysis, False): (output.encode(), errors, status) for analysis in ("happens-before", "both")}
         if status != 2:
             ordered, ordered_status = unordered_report(text, reference.rules_of(rules or b""), explain=True)
-            want = by_site_of_both(output, ordered, sites_in(text), {}).encode(), errors.encode(), max(status, ordered_status)
-            kinds.add((b"races in this run: none" in want[0], b"no common lock: no further site" in want[0]))
-            placed = by_site_of_both(output, ordered, sites_in(text), places_in(text)).encode(), errors.encode(), max(status, ordered_status)
-            found = run_file(rules, text, *BOTH, "--by-site")
-            record(f"both by site, from a file: {name}{'' if rules is None else ' with suppressions'}", found == placed, f"{found}, not {placed}")
-        found = run_with(rules, text, *BOTH, "--by-site")
-        record(f"both by site: {name}{'' if rules is None else ' with suppressions'}", found == want, f"{found}, not {want}")
+            for is_file, places in ((False, {}), (True, places_in(text))):
+                wanted["happens-before", is_file] = by_site_of_order(ordered, sites_in(text), places).encode(), errors, ordered_status
+                wanted["both", is_file] = by_site_of_both(output, ordered, sites_in(text), places).encode(), errors, max(status, ordered_status)
+            both = wanted["both", False][0]
+            kinds.add((b"races in this run: none" in both, b"no common lock: no further site" in both))
+        for (analysis, is_file), want in wanted.items():
+            found = (run_file if is_file else run_with)(rules, text, "--analysis", analysis, "--by-site")
+            record(f"{analysis} by site{', from a file' if is_file else ''}: {title}", found == want, f"{found}, not {want}")
     record("both by site: each part has sites in some text, and none in another", len(kinds) == 4, f"{kinds}")
     found = run([*BOTH, "--by-site", "-"], TWO_HEADINGS)
     record("both by site: the worked text", found == (TWO_HEADINGS_BY_SITE, b"", 1), f"{found}")

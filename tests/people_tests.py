@@ -234,16 +234,49 @@ def notes(record, folder):
                 more, name = lines + (b"" if feed else NO_LINE_FEED), f"notes: text {version} {end} {bool(feed)}"
                 for options in NOTED:
                     left, words, title = b"races left out: 1\n" if "0" in options else b"", ["replay", *options, "n.trace"], f"{name} {' '.join(options)}"
+                    asks = "--analysis" in options
+                    order, order_too = [reference.order_note_of(text, int(asks), hints).encode() for hints in (False, True)]
                     plain = piped(words, folder)
-                    record(title, (plain[0], plain[2]) == (left + lines, 1), f"{plain}")
-                    record(f"{title} with --hints", with_hints(words, folder) == (left + more, *plain[1:]), f"{with_hints(words, folder)}")
-                    record(f"{title} from standard input", piped([*words[:-1], "-"], folder, text)[0] == left + lines)
+                    record(title, (plain[0], plain[2]) == (left + lines + order, 1), f"{plain}")
+                    record(f"{title} with --hints", with_hints(words, folder) == (left + more + order_too, *plain[1:]), f"{with_hints(words, folder)}")
+                    record(f"{title} from standard input", piped([*words[:-1], "-"], folder, text)[0] == left + lines + order)
                 record(f"{name} on a terminal", shown(["replay", "n.trace"], folder)[0] == more)
                 strict = piped(["replay", "--strict", "n.trace"], folder)
                 record(f"{name} --strict", (b"note" in strict[0], strict[2]) == (False, 2 if lines or not feed else 1), f"{strict}")
+    order_notes(record, folder)
     # The lines before a fault end there, and the text goes on.
     found = piped(["replay", "--until-fault", "-"], folder, b"eraser trace 3\nt1 write 0\nfault\n")
     record("notes: the lines before a fault", found[0] == b"line 3: missing operand\n", f"{found}")
+
+
+# The event lines of a text 3, and how many of its unordered accesses and reuses the note on its order says, if it has that note.
+ORDERS = {
+    "an access": ("t1 write 0,t2 write 0", 1),
+    "two accesses and a reuse": ("t1 write 0,t2 write 0,t1 write 4,t2 write 4,t1 write 8,t2 reuse 8 4", 3),
+    "locks": ("t1 lock m,t1 write 0,t1 unlock m,t2 write 0", 1),
+    "none": ("t1 write 0,t1 write 0", None),
+    "none behind locks": ("t1 lock m,t1 write 0,t1 unlock m,t2 lock m,t2 write 0,t2 unlock m", None),
+    "a start": ("t1 write 0,t1 start t3,t2 write 0", None),
+    "a join": ("t1 write 0,t1 join t3,t2 write 0", None),
+    "a signal": ("t1 write 0,t2 write 0,t1 signal x", None),
+    "an await": ("t1 await x,t1 write 0,t2 write 0", None),
+}
+
+
+def order_notes(record, folder):
+    """The note on a trace that records no order, in each analysis."""
+    for name, (lines, count) in ORDERS.items():
+        text = ("\n".join(["eraser trace 3", *lines.split(","), "end"]) + "\n").encode()
+        note = f"note: this trace records no order: record it with --order; {count} unordered accesses may be ordered\n".encode() if count else b""
+        for options in ([], ["--analysis", "happens-before"], ["--analysis", "both"], ["--analysis", "both", "--format", "sarif"]):
+            found, title = piped(["replay", *options, "-"], folder, text), f"note on order: {name} {' '.join(options)}"
+            record(title, found[0] == (note if options else b"") and found[2] in (0, 1), f"{found}")
+    (folder / "all.rules").write_bytes(b"words 0 64\n")
+    found = piped(["replay", "--analysis", "both", "--suppress", "all.rules", "-"], folder, text := b"eraser trace 3\nt1 write 0\nt2 write 0\nend\n")
+    record("note on order: not of accesses that a rule takes", found[0] == b"", f"{found}")
+    found = piped(["replay", "--analysis", "both", "--until-fault", "-"], folder, text[:-4] + b"fault\n")
+    wanted = b"note: this trace records no order: record it with --order; 1 unordered accesses may be ordered\nline 4: missing operand\n"
+    record("note on order: of the lines before a fault", (found[0], found[2]) == (wanted, 2), f"{found}")
 
 
 def refused(record, folder, build):

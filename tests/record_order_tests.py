@@ -393,9 +393,9 @@ def analysed(folder, findings, program):
     done = command([RUN, "-q", "--report", "-", "--analysis", "happens-before", "--explain", program])
     findings.check("record/run --analysis happens-before --explain", done.returncode == 0 and "\n  unordered with: line " in done.stdout, f"{done}")
     for analysis in ("happens-before", "both"):
-        for more in (*([["--by-site"]] if analysis == "happens-before" else []), ["--format", "json"], ["--strict"]):
-            done = command([RUN, "--analysis", analysis, *more, program])
-            findings.check(f"record/run --analysis {analysis} {more}", (done.returncode, done.stdout) == (125, "") and "--analysis" in done.stderr, f"{done}")
+        for more, part in ((["--by-site"], "words "), (["--format", "json"], '"analysis":"happens-before"'), (["--strict"], ", unordered ")):
+            done = command([RUN, "-q", "--report", "-", "--analysis", analysis, *more, program])
+            findings.check(f"record/run --analysis {analysis} {more}", (done.returncode, done.stderr) == (0, "") and part in done.stdout, f"{done}")
     done = command([RUN, "--analysis", "neither", program])
     findings.check("record/run with another analysis", (done.returncode, done.stdout) == (125, "") and "'neither'" in done.stderr, f"{done}")
 

@@ -164,6 +164,15 @@ def note_of(text):
     return "note: the trace has no end: it may be cut off\n" if words[0][-1] == b"3" and words[-1] != [b"end"] else ""
 
 
+def order_note_of(text, unordered, hints=False):
+    """What standard error gets behind a report by happens-before that has so many lines of races: a note if it has some, and the text, which
+    has no fault, no line of order. Only people get it of a text that has no such verbs."""
+    words = [words for _, words in content_of(text) if words]
+    has_order = any(line[1:2] and line[1] in (b"start", b"join", b"signal", b"await") for line in words[1:])
+    is_noted = unordered > 0 and not has_order and (hints or words[0][-1] == b"3")
+    return f"note: this trace records no order: record it with --order; {unordered} unordered accesses may be ordered\n" if is_noted else ""
+
+
 def rule_of(line, words):
     """A site, or the first and the last word of a run of bytes, which are the wrong way round where it is of no byte."""
     wanted = {b"site": 1, b"words": 2}.get(words[0])

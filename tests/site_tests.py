@@ -245,14 +245,25 @@ def by_site(report, numbers, places):
     return "".join(line + "\n" for line in [*table(rows_of(races, numbers), places), *refused, *rest])
 
 
+def in_run(races, reuses, numbers, places):
+    """What is unordered in the run: the sites of accesses, and then the reuses."""
+    rows = rows_of(races, numbers)
+    sites = ["races in this run"] if reuses and not rows else part("races in this run", "none", rows, places)
+    return [*sites, *(line for reuse in reuses for line in reuse_story(reuse, places))]
+
+
+def by_site_of_order(unordered, numbers, places):
+    """The text for people of an explained report by happens-before."""
+    races, reuses, refused, rest = read_report(unordered)
+    return "".join(line + "\n" for line in [*in_run(races, reuses, numbers, places), *refused, *rest])
+
+
 def by_site_of_both(lockset, unordered, numbers, places):
-    """The same of a trace that was analysed both ways: the sites of unordered accesses, and the other sites of races by locks."""
+    """The same of a trace that was analysed both ways: what is unordered in the run, and the other sites of races by locks."""
     (races, _, refused, rest), (others, reuses, _, more) = read_report(lockset), read_report(unordered)
-    by_locks, by_order = rows_of(races, numbers), rows_of(others, numbers)
-    apart = [row for row in by_locks if row[0] not in dict(by_order)]
-    in_run = ["races in this run"] if reuses and not by_order else part("races in this run", "none", by_order, places)
-    stories = [line for reuse in reuses for line in reuse_story(reuse, places)]
-    lines = [*in_run, *stories, *part("no common lock", "no further site", apart, places)]
+    unordered_sites = dict(rows_of(others, numbers))
+    apart = [row for row in rows_of(races, numbers) if row[0] not in unordered_sites]
+    lines = [*in_run(others, reuses, numbers, places), *part("no common lock", "no further site", apart, places)]
     return "".join(line + "\n" for line in [*lines, *refused, *rest, *more])
 
 
@@ -353,8 +364,9 @@ def tests(record, preloaded):
     output, errors, status = run(["replay", "--by-site", "-"], many.encode())
     record("many sites", (errors, status) == (b"", 1) and output.count(b"\n1         write       1         0         s:") == MANY)
     formats = (TOP / "docs/FORMATS.md").read_text()
-    shown = run(["replay", "--by-site", str(TOP / "examples/explained.trace")])[0].decode()
-    record("the report by site of the formats", shown in formats, shown)
+    for name, *analysis in (("explained",), ("both_analyses", "--analysis", "both"), ("both_analyses", "--analysis", "happens-before"), ("ordered", "--analysis", "happens-before")):
+        shown = run(["replay", "--by-site", *analysis, str(TOP / f"examples/{name}.trace")])[0].decode()
+        record(f"the report by site of the formats: {name} {analysis}", f"```text\n{shown}```" in formats, shown)
     with tempfile.TemporaryDirectory() as folder:
         library = preloaded(folder, "refuse")
         words = ["replay", "--by-site", str(TOP / "examples/explained.trace")]

@@ -199,10 +199,6 @@ void read_options(int count, char **words)
         fputs("record: --by-site and --format are not given together\n", stderr);
         exit(STATUS_FAILED);
     }
-    if (needs_order() && (options.format || options.is_strict || (options.by_site && strcmp(options.analysis, "both") != 0))) {
-        fputs("record: --format and --strict go with --analysis lockset alone, and --by-site with lockset or both\n", stderr);
-        exit(STATUS_FAILED);
-    }
     if (optind == count) {
         print_usage(words[0], stderr);
         exit(STATUS_FAILED);

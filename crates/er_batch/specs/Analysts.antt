@@ -4,6 +4,7 @@ use Rattle.er_batch.specs.Runs.{HasRun}
 use Rattle.er_event.specs.declared.refusals.NoRoom.{NoRoom}
 use Rattle.er_replay.specs.Standing.{Replayed}
 use Rattle.er_report.specs.Builder.{Built}
+use Rattle.er_report.specs.declared.reports.Analysis.{Analysis}
 use Rattle.er_rules.specs.Rules.{Target}
 use Rattle.er_text.specs.Trace.{IsTrace, IsFault}
 use Rattle.er_text.specs.declared.faults.ReadFault.{ReadFault}
@@ -11,11 +12,17 @@ use Rattle.er_text.specs.declared.faults.ReadFault.TheVariants.{Text, Memory, Re
 use Rattle.er_trace.specs.Names.{NameTable}
 use Rattle.er_trace.specs.Trace.{Recording}
 
--- the rules that take races, whether the others are explained, and whether damage is looked for
+-- by which analysis, the rules that take races, whether the others are explained, and whether damage is looked for
 pub record Asked : Type 0 where
+  pub analysis : Analysis
   pub rules : List Target
   pub explain : Bool
   pub strict : Bool
+
+-- what answers is there exactly if it is wanted, and stands so
+pub record StandsIf {A : Type 0} (Stands : A → Type 0) (wanted : Bool) (analyst : Option A) : Type 0 where
+  pub there : is_some analyst ≡ wanted
+  pub stands : IfSome analyst Stands
 
 -- the text is a trace with these names, and this stands for it
 pub record IsAnswered (Stands : Recording → Type 0) (told : Option (List ℕ)) (limit : ℕ) (used : NameTable) : Type 0 where

@@ -1,5 +1,5 @@
 //! What answers the steps of a trace.
-ghost use Rattle.std.specs.Prelude.{◌≡◌, ◌+◌, ◌<◌, ◌^◌, ℕ, List, max, OnOk};
+ghost use Rattle.std.specs.Prelude.{◌≡◌, ◌+◌, ◌<◌, ◌^◌, ℕ, Bool, List, max, OnOk};
 ghost use Rattle.er_batch.specs.Analysts.{Asked};
 ghost use Rattle.er_batch.specs.Runs.{recorded};
 ghost use Rattle.er_event.specs.declared.steps.Step.{Step as Steps};
@@ -18,6 +18,9 @@ use std::alloc::AllocError;
 pub trait Analyst<R> {
     /// It stands for this recording, of which it is asked this.
     ghost stands: { Self → Asked → Recording → Type 0 };
+
+    /// Whether it is wanted by who asks this.
+    ghost wanted: { Asked → Bool };
 
     /// How many steps it has answered.
     ghost answered: { Self → ℕ };
@@ -49,9 +52,11 @@ pub struct Pair<A, B> {
 }
 
 impl<R, A: Analyst<R>, B: Analyst<R>> Analyst<R> for Pair<A, B> {
-    ghost use Rattle.std.specs.Prelude.{◌+◌, max};
+    ghost use Rattle.std.specs.Prelude.{◌+◌, ◌||◌, max};
 
     ghost stands = { λ pair asked r. A.stands pair.first asked r × B.stands pair.second asked r };
+
+    ghost wanted = { λ asked. A.wanted asked || B.wanted asked };
 
     ghost answered = { λ pair. max (A.answered pair.first) (B.answered pair.second) };
 
@@ -68,5 +73,40 @@ impl<R, A: Analyst<R>, B: Analyst<R>> Analyst<R> for Pair<A, B> {
 
     fn races(&self) -> u64 {
         self.first.races().saturating_add(self.second.races())
+    }
+}
+
+/// An analyst that is there exactly if it is wanted. Without one, no step is answered.
+impl<R, A: Analyst<R>> Analyst<R> for Option<A> {
+    ghost use Rattle.std.specs.Option.{option_map_or};
+    ghost use Rattle.er_batch.specs.Analysts.{StandsIf};
+
+    ghost stands = { λ analyst asked r. StandsIf (λ one. A.stands one asked r) (A.wanted asked) analyst };
+
+    ghost wanted = { A.wanted };
+
+    ghost answered = { λ analyst. option_map_or A.answered analyst 0 };
+
+    ghost found = { λ analyst. option_map_or A.found analyst 0 };
+
+    fn answer(&mut self, rt: &R, trace: &Trace) -> Result<(), AllocError> {
+        match self {
+            Some(analyst) => analyst.answer(rt, trace),
+            None => Ok(()),
+        }
+    }
+
+    fn steps(&self) -> u64 {
+        match self {
+            Some(analyst) => analyst.steps(),
+            None => 0,
+        }
+    }
+
+    fn races(&self) -> u64 {
+        match self {
+            Some(analyst) => analyst.races(),
+            None => 0,
+        }
     }
 }

@@ -1,5 +1,5 @@
 //! The lockset rule as an analyst.
-ghost use Rattle.std.specs.Prelude.{◌≡◌, Bool, All, IfOk};
+ghost use Rattle.std.specs.Prelude.{◌≡◌, All, IfOk};
 ghost use Rattle.er_batch.specs.Analysts.{Asked, HasRunFor};
 ghost use Rattle.er_report.specs.Names.{HasNames};
 ghost use Rattle.er_report.specs.Report.{report_of, told};
@@ -42,7 +42,7 @@ impl<'t, 'r> LocksetAnalyst<'t, 'r> {
         explain: bool,
         keys: NameKeys,
     ) -> Result<LocksetAnalyst<'t, 'r>, AllocError>
-        ensures stands { (strict : Bool) → IfOk result (λ analyst. HasRunFor analyst (record { rules = targets_of suppressions.now; explain = explain; strict = strict }) no_steps) }
+        ensures stands { (asked : Asked) → asked.rules ≡ targets_of suppressions.now → asked.explain ≡ explain → IfOk result (λ analyst. HasRunFor analyst asked no_steps) }
     {
         let machine = Machine::keyed(alloc, table, keys)?;
         let builder = match ReportBuilder::explaining_keyed(alloc, suppressions, explain, keys) {
@@ -84,8 +84,11 @@ impl<'t, 'r> LocksetAnalyst<'t, 'r> {
 
 impl<'t, 'r, R: Wait> Analyst<R> for LocksetAnalyst<'t, 'r> {
     ghost use Rattle.er_batch.specs.Analysts.{HasRunFor};
+    ghost use Rattle.er_report.specs.Reports.{asks_locks};
 
     ghost stands = { λ ran asked r. HasRunFor ran asked r };
+
+    ghost wanted = { λ asked. asks_locks asked.analysis };
 
     ghost answered = { λ ran. ran.builder.report.steps };
 

@@ -6,7 +6,7 @@ use Rattle.er_settle.specs.Texts.{text_of as unsettled_text}
 use Rattle.er_text.specs.Faults.{text_of as kind_text}
 use Rattle.er_text.specs.declared.endings.Lost.{Lost}
 use Rattle.er_exit.specs.declared.faults.Fault.{Fault}
-use Rattle.er_exit.specs.declared.faults.Fault.TheVariants.{Arguments, Text, Suppressions, Damaged, NoStep, Memory, TableFull, CountFull, OpenTrace, OpenSuppressions, Read, ReadSuppressions, Write, WriteRules, Refused, WorkerNotStarted, WorkerLost, Unsettled}
+use Rattle.er_exit.specs.declared.faults.Fault.TheVariants.{Arguments, Text, Suppressions, Damaged, NoStep, Memory, TableFull, CountFull, ThreadsFull, OpenTrace, OpenSuppressions, Read, ReadSuppressions, Write, WriteRules, Refused, WorkerNotStarted, WorkerLost, Unsettled}
 
 -- a fault in words
 abbrev pub text_of : Fault → List ℕ
@@ -18,6 +18,7 @@ text_of (NoStep line) = codes "no step"
 text_of Memory = codes "out of memory"
 text_of TableFull = codes "table full"
 text_of CountFull = codes "count full"
+text_of ThreadsFull = codes "too many threads"
 text_of OpenTrace = codes "cannot open trace"
 text_of (OpenSuppressions file) = codes "cannot open suppressions"
 text_of Read = codes "read fault"

@@ -29,6 +29,8 @@ pub enum Fault {
     TableFull,
     /// A thread releases, starts, signals and is joined 2^32 - 1 times or more.
     CountFull,
+    /// Happens-before wanted to know more threads at once than it takes.
+    ThreadsFull,
     /// The trace can't be opened.
     OpenTrace,
     /// The suppressions can't be opened, of several files the one of that number.
@@ -65,6 +67,7 @@ impl Fault {
             Fault::Memory
             | Fault::TableFull
             | Fault::CountFull
+            | Fault::ThreadsFull
             | Fault::Refused(_)
             | Fault::WorkerNotStarted
             | Fault::WorkerLost
@@ -90,6 +93,7 @@ impl Fault {
             Fault::Memory => "out of memory",
             Fault::TableFull => "table full",
             Fault::CountFull => "count full",
+            Fault::ThreadsFull => "too many threads",
             Fault::OpenTrace => "cannot open trace",
             Fault::OpenSuppressions(_) => "cannot open suppressions",
             Fault::Read | Fault::ReadSuppressions(_) => "read fault",

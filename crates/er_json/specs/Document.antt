@@ -1,5 +1,5 @@
--- The JSON of a report: each word here is the text of one value.
-use Rattle.std.specs.Prelude.{ℕ, Bool, true, false, cond, List, [], ◌∷◌, ◌++◌, flat_map, Option, Some, None, codes, decimal}
+-- The JSON of reports: each word here is the text of one value.
+use Rattle.std.specs.Prelude.{ℕ, Bool, true, false, cond, ◌&&◌, is_some, List, [], ◌∷◌, ◌++◌, flat_map, Option, Some, None, codes, decimal}
 use Rattle.er_event.specs.Refusal.{text_of, refusal_of}
 use Rattle.er_event.specs.declared.addresses.PageRange.{PageRange}
 use Rattle.er_event.specs.declared.refusals.NoRoom.{NoRoom}
@@ -17,10 +17,12 @@ use Rattle.er_print.specs.Styles.{lock_in, locks_in, site_in, thread_in}
 use Rattle.er_print.specs.Values.{values_text}
 use Rattle.er_print.specs.declared.styles.Style.TheVariants as style
 use Rattle.er_report.specs.Lines.{LineView, RaceView, ReusedView, RefusedView, ShownView}
-use Rattle.er_report.specs.Report.{Summary}
+use Rattle.er_report.specs.Report.{Summary, told}
 use Rattle.er_report.specs.declared.report.Because.{Because}
 use Rattle.er_report.specs.declared.report.Label.{Label}
 use Rattle.er_report.specs.declared.report.Label.TheVariants as label
+use Rattle.er_report.specs.declared.report.Report.{Report}
+use Rattle.er_report.specs.declared.reports.Reports.{Reports}
 use Rattle.er_trace.specs.Names.{NameTable}
 
 -- objects on lines of their own, with commas between them
@@ -171,13 +173,35 @@ totals_member s = totals_front s ++ lost_text (codes ",\"lost\":") [] s.lost ++ 
 unfoldable pub list_text : List ℕ → List (List ℕ) → List ℕ
 list_text name rows = name ++ rows_text rows
 
--- the lists of the document, each in the order of the report
-unfoldable pub lists_text : NameTable → List LineView → List ℕ
-lists_text names lines =
-    list_text (codes "{\"format\":1,\n\"races\":[") (flat_map (rows_if is_race names) lines)
+-- the lists of a document, each in the order of the report, and the first behind this heading
+unfoldable pub lists_text : List ℕ → NameTable → List LineView → List ℕ
+lists_text heading names lines =
+    list_text heading (flat_map (rows_if is_race names) lines)
     ++ list_text (codes "],\n\"refused\":[") (flat_map (rows_if is_refused names) lines)
     ++ list_text (codes "],\n\"shown\":[") (flat_map (rows_if is_shown names) lines)
 
--- the whole document
-unfoldable pub json_text : NameTable → Summary → List ℕ
-json_text names s = lists_text names s.lines ++ stop_member s.stop ++ counts_member s.rule_counts ++ totals_member s
+-- the document of a report
+unfoldable pub document_text : List ℕ → NameTable → Summary → List ℕ
+document_text heading names s = lists_text heading names s.lines ++ stop_member s.stop ++ counts_member s.rule_counts ++ totals_member s
+
+-- if there is such a report
+abbrev pub document_if : List ℕ → NameTable → Option Report → List ℕ
+document_if heading names None = []
+document_if heading names (Some report) = document_text heading names (told report)
+
+-- what the documents begin with: only that by happens-before names its analysis
+abbrev pub lockset_heading : List ℕ
+lockset_heading = codes "{\"format\":1,\n\"races\":["
+
+abbrev pub order_heading : List ℕ
+order_heading = codes "{\"format\":1,\"analysis\":\"happens-before\",\n\"races\":["
+
+-- a sign that stands around or between the texts of two reports, if there are two
+abbrev pub sign_if : Reports → List ℕ → List ℕ
+sign_if reports sign = cond (is_some reports.lockset && is_some reports.unordered) sign []
+
+-- the document of each report
+unfoldable pub json_reports : NameTable → Reports → List ℕ
+json_reports names reports =
+    sign_if reports (codes "[\n") ++ document_if lockset_heading names reports.lockset
+    ++ sign_if reports (codes ",\n") ++ document_if order_heading names reports.unordered ++ sign_if reports (codes "]\n")

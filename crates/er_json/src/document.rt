@@ -1,54 +1,89 @@
-//! The whole document.
-ghost use Rattle.std.specs.Prelude.{◌≡◌, ◌++◌, ◌&&◌, All, false, flat_map, map, IfOk, OnOk, decimal};
-ghost use Rattle.er_device.specs.Device.{inner_of, has_failed, taken_of};
-ghost use Rattle.er_json.specs.Document.{counts_member, json_text, list_text, lists_text, row_text, rows_text, stop_member, totals_front, totals_member};
-ghost use Rattle.er_json.specs.Inner.Sections.{has_none, heading_text, is_in, next_text, rows_in, separator_text};
+//! The whole text: a document for each report.
+ghost use Rattle.std.specs.Prelude.{◌≡◌, ◌++◌, ◌&&◌, All, false, flat_map, map, IfOk, IfSome, OnOk, decimal};
+ghost use Rattle.er_json.specs.Document.{counts_member, document_if, document_text, json_reports, list_text, lists_text, row_text, rows_text, sign_if, stop_member, totals_front, totals_member};
+ghost use Rattle.er_json.specs.Inner.Sections.{has_none, is_in, next_text, rows_in, separator_text};
 ghost use Rattle.er_print.specs.Values.{values_text};
-ghost use Rattle.er_print.specs.Written.{WritesReport, FailsWriting};
 ghost use Rattle.er_report.specs.Lines.{line_view};
 ghost use Rattle.er_report.specs.Names.{HasNames};
 ghost use Rattle.er_report.specs.Report.{told};
+ghost use Rattle.er_report.specs.Reports.{HaveNames};
 
 use crate::rows::{
     put_event, put_race, put_reasons, put_refused, put_reused, put_shown, put_state,
 };
-use er_device::Device;
 use er_event::NoRoom;
 use er_print::Piece::{Number, Text};
-use er_print::{Style, WriteFault, comma_before, put_all, put_lost, put_number, write_text};
-use er_report::{Line, Report};
+use er_print::{Style, comma_before, put_all, put_lost, put_number};
+use er_report::{Line, Report, Reports};
 use er_trace::Names;
 use std::alloc::{AllocError, Global};
-use std::io::Write;
 
-/// Writes a report as JSON, with these names for its numbers. The document is whole before its first byte is written.
-pub fn write_json<W: Write>(
-    alloc: Global,
-    writer: &mut Device<W>,
-    report: &Report,
-    names: &Names,
-) -> Result<(), WriteFault>
-    requires open { has_failed writer.old ≡ false }
-    requires names { All (HasNames names.now) report.now.lines.items }
-    ensures bytes { WritesReport (W.contents (inner_of writer.old)) (W.contents (inner_of writer.new)) (json_text names.now (told report.now)) result }
-    ensures failed { FailsWriting (has_failed writer.new) result }
-    ensures taken { taken_of writer.new ≡ taken_of writer.old }
-{
-    write_text(writer, json_text(alloc, report, names))
-}
-
-/// The JSON of a report.
-#[tactic(auto, unfolding(crate::specs::Document::json_text))]
-pub fn json_text(alloc: Global, report: &Report, names: &Names) -> Result<Vec<u8>, AllocError>
-    requires { All (HasNames names.now) report.now.lines.items }
-    ensures { IfOk result (λ text. text.items ≡ json_text names.now (told report.now)) }
+/// The JSON of the reports, with these names for their numbers: a document for each report. Two documents are the items of a list, that
+/// of the lockset rule first.
+#[tactic(auto, unfolding(crate::specs::Document::json_reports))]
+pub fn json_text(alloc: Global, reports: &Reports, names: &Names) -> Result<Vec<u8>, AllocError>
+    requires { HaveNames names.now reports.now }
+    ensures { IfOk result (λ text. text.items ≡ json_reports names.now reports.now) }
 {
     let mut text = Vec::new(alloc);
-    put_lists(&mut text, names, &report.lines)?;
-    put_stop(&mut text, names, report.stop)?;
-    put_counts(&mut text, &report.rule_counts)?;
-    put_totals(&mut text, names, report)?;
+    put_sign(&mut text, reports, b"[\n")?;
+    put_document(
+        &mut text,
+        b"{\"format\":1,\n\"races\":[",
+        names,
+        &reports.lockset,
+    )?;
+    put_sign(&mut text, reports, b",\n")?;
+    put_document(
+        &mut text,
+        b"{\"format\":1,\"analysis\":\"happens-before\",\n\"races\":[",
+        names,
+        &reports.unordered,
+    )?;
+    put_sign(&mut text, reports, b"]\n")?;
     Ok(text)
+}
+
+/// Puts a sign that stands around or between the texts of two reports, if there are two.
+pub fn put_sign(out: &mut Vec<u8>, reports: &Reports, sign: &[u8]) -> Result<(), AllocError>
+    ensures { OnOk result (out.new.items ≡ out.old.items ++ sign_if reports.now sign.now) }
+{
+    if reports.lockset.is_some() && reports.unordered.is_some() {
+        out.extend_from_slice(sign)?;
+    }
+    Ok(())
+}
+
+// Puts the document of a report, if there is one. It begins with this heading of its first list.
+fn put_document(
+    out: &mut Vec<u8>,
+    heading: &[u8],
+    names: &Names,
+    report: &Option<Report>,
+) -> Result<(), AllocError>
+    requires { IfSome report.now (λ report. All (HasNames names.now) report.lines.items) }
+    ensures { OnOk result (out.new.items ≡ out.old.items ++ document_if heading.now names.now report.now) }
+{
+    match report {
+        Some(report) => put_report(out, heading, names, report),
+        None => Ok(()),
+    }
+}
+
+#[tactic(auto, unfolding(crate::specs::Document::document_text))]
+fn put_report(
+    out: &mut Vec<u8>,
+    heading: &[u8],
+    names: &Names,
+    report: &Report,
+) -> Result<(), AllocError>
+    requires { All (HasNames names.now) report.now.lines.items }
+    ensures { OnOk result (out.new.items ≡ out.old.items ++ document_text heading.now names.now (told report.now)) }
+{
+    put_lists(out, heading, names, &report.lines)?;
+    put_stop(out, names, report.stop)?;
+    put_counts(out, &report.rule_counts)?;
+    put_totals(out, names, report)
 }
 
 // One of the lists of the document.
@@ -61,39 +96,35 @@ enum Section {
 
 // Puts the three lists, of which the last is still open.
 #[tactic(auto, unfolding(crate::specs::Document::lists_text))]
-fn put_lists(out: &mut Vec<u8>, names: &Names, lines: &[Line]) -> Result<(), AllocError>
+fn put_lists(
+    out: &mut Vec<u8>,
+    heading: &[u8],
+    names: &Names,
+    lines: &[Line],
+) -> Result<(), AllocError>
     requires { All (HasNames names.now) lines.now }
-    ensures { OnOk result (out.new.items ≡ out.old.items ++ lists_text names.now (map line_view lines.now)) }
+    ensures { OnOk result (out.new.items ≡ out.old.items ++ lists_text heading.now names.now (map line_view lines.now)) }
 {
-    put_list(out, names, lines, Section::Races)?;
-    put_list(out, names, lines, Section::Refused)?;
-    put_list(out, names, lines, Section::Shown)?;
+    put_list(out, heading, names, lines, Section::Races)?;
+    put_list(out, b"],\n\"refused\":[", names, lines, Section::Refused)?;
+    put_list(out, b"],\n\"shown\":[", names, lines, Section::Shown)?;
     Ok(())
 }
 
-// Puts a list, and closes the one before it.
+// Puts a list behind its heading, which closes the one before it.
 #[tactic(auto, unfolding(crate::specs::Document::list_text))]
 fn put_list(
     out: &mut Vec<u8>,
+    heading: &[u8],
     names: &Names,
     lines: &[Line],
     section: Section,
 ) -> Result<(), AllocError>
     requires { All (HasNames names.now) lines.now }
-    ensures { OnOk result (out.new.items ≡ out.old.items ++ list_text (heading_text section) (flat_map (rows_in section names.now) (map line_view lines.now))) }
+    ensures { OnOk result (out.new.items ≡ out.old.items ++ list_text heading.now (flat_map (rows_in section names.now) (map line_view lines.now))) }
 {
-    out.extend_from_slice(heading_of(section))?;
+    out.extend_from_slice(heading)?;
     put_rows(out, names, lines, section)
-}
-
-fn heading_of(section: Section) -> &'static [u8]
-    ensures { result.now ≡ heading_text section }
-{
-    match section {
-        Section::Races => b"{\"format\":1,\n\"races\":[".as_slice(),
-        Section::Refused => b"],\n\"refused\":[".as_slice(),
-        Section::Shown => b"],\n\"shown\":[".as_slice(),
-    }
 }
 
 // Puts the objects of a list, each on a line of its own.

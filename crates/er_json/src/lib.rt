@@ -1,18 +1,16 @@
-//! The JSON of a report, for programs.
+//! The JSON of reports, for programs.
 //!
-//! Begin with [`write_json`]. It writes an [`er_report::Report`] on a [`er_device::Device`] as one JSON document: the races, the refused
-//! steps, the words that were shown, the stop, what the suppressions took, and the totals.
+//! Begin with [`json_text`]. It writes a document for each report of [`er_report::Reports`]: the races, the refused steps, the words that
+//! were shown, the stop, what the suppressions took, and the totals. The document by happens-before says so in its first line, and two
+//! documents are the items of a list.
 //!
-//! What it promises, by the names of clauses: what it writes is the report's document and nothing else, or nothing at all for want of
-//! memory, or a prefix of the document if the writer failed (`bytes`). It reports a fault of the writer exactly if the writer failed
-//! (`failed`). `specs/Document` defines the document value by value, and whole as `json_text`.
+//! What it promises: the bytes are those of the reports' documents and nothing else, or nothing at all for want of memory.
+//! `specs/Document` defines a document value by value, one whole as `document_text`, and all of them as `json_reports`.
 //!
-//! The document is whole before its first byte is written. A race, a refused step and a word shown have a line each, so that tools that
-//! read lines can find them too.
+//! A race, a refused step and a word shown have a line each, so that tools that read lines can find them too.
 //!
 //! ```
-//! let mut device = Device::new(Vec::new(alloc));
-//! write_json(alloc, &mut device, &report, trace.names())?;
+//! let text = json_text(alloc, &reports, trace.names())?;
 //! // {"format":1,
 //! // "races":[
 //! // {"line":3,"thread":"t2","kind":"write","address":"0x000000001000","site":null,"held":[],"reasons":[]}],
@@ -24,7 +22,7 @@
 //! ```
 #![tactic(auto)]
 
-pub use document::{json_text, put_separator, write_json};
+pub use document::{json_text, put_separator, put_sign};
 
 mod document;
 mod rows;

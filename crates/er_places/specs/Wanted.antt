@@ -6,6 +6,8 @@ use Rattle.er_event.specs.declared.steps.Kind.TheVariants as kind
 use Rattle.er_report.specs.declared.report.Because.{Because}
 use Rattle.er_report.specs.declared.report.Line.{Line}
 use Rattle.er_report.specs.declared.report.Line.TheVariants.{Race, Reused, Refused, Shown}
+use Rattle.er_report.specs.declared.report.Report.{Report}
+use Rattle.er_report.specs.declared.reports.Reports.{Reports}
 
 -- the line is among these
 abbrev pub is_wanted : List ℕ → ℕ → Bool
@@ -54,3 +56,12 @@ asked_below lines line (suc n) = asked_below lines line n || asks_of (take n lin
 -- one of all lines does
 abbrev pub is_asked : List Line → ℕ → Bool
 is_asked lines line = asked_below lines line (length lines)
+
+-- one of a report's lines does, if there is a report
+abbrev pub asked_in : Option Report → ℕ → Bool
+asked_in None line = false
+asked_in (Some report) line = is_asked report.lines.items line
+
+-- a line of one of the reports does
+abbrev pub are_asked : Reports → ℕ → Bool
+are_asked reports line = asked_in reports.lockset line || asked_in reports.unordered line

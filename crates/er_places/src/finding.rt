@@ -1,10 +1,10 @@
 //! A second look at a trace text, batch by batch.
-ghost use Rattle.std.specs.Prelude.{◌≡◌, ◌<◌, ◌≤◌, ◌+◌, ◌^◌, ◌++◌, ℕ, List, Option, All, false, true, length, IfSome, IfOk, IfErr, OnOk};
+ghost use Rattle.std.specs.Prelude.{◌≡◌, ◌<◌, ◌≤◌, ◌+◌, ◌^◌, ◌++◌, ◌||◌, ℕ, List, Option, All, false, true, length, IfSome, IfOk, IfErr, OnOk};
 ghost use Rattle.er_device.specs.Device.{inner_of, has_failed, taken_of};
 ghost use Rattle.er_event.specs.declared.steps.Step.{Step};
 ghost use Rattle.er_places.specs.Inner.Following.{AreNamed, HasCome, HasEnded, StandsFor};
 ghost use Rattle.er_places.specs.Places.{ArePlaces, IsFaultOf};
-ghost use Rattle.er_places.specs.Wanted.{is_asked, is_wanted};
+ghost use Rattle.er_places.specs.Wanted.{are_asked, asked_in, is_wanted};
 ghost use Rattle.er_text.specs.Lines.{bytes_past_limit};
 ghost use Rattle.er_text.specs.Trace.{HasFailedBy};
 ghost use Rattle.er_text.specs.Inner.Lending.{taken_by};
@@ -13,7 +13,7 @@ ghost use Rattle.er_trace.specs.Trace.{IsNamed};
 use crate::follower::Follower;
 use crate::{Places, Wanted};
 use er_device::Device;
-use er_report::Line;
+use er_report::{Report, Reports};
 use er_text::{Batch, ReadFault, TraceReader};
 use er_trace::{NameKeys, Trace};
 use std::alloc::{AllocError, Global};
@@ -144,22 +144,22 @@ pub fn find_places<D: Read>(
     }
 }
 
-/// The same for the lines that the reasons of a report's first races name. If there is none, nothing is read.
-pub fn places_of_reasons<D: Read>(
+/// The same for the lines that the reasons of each report's first races name. If there is none, nothing is read.
+pub fn places_of_reports<D: Read>(
     alloc: Global,
     reader: &mut Device<D>,
     byte_limit: u64,
     keys: NameKeys,
-    lines: &[Line],
+    reports: &Reports,
 ) -> Result<Places, ReadFault>
     requires open { has_failed reader.old ≡ false }
     requires limit { byte_limit ≤ 2 ^ 62 }
-    ensures found { IfOk result (λ places. IfSome (D.remaining (inner_of reader.old)) (λ text. ArePlaces (is_asked lines.now) text byte_limit places)) }
+    ensures found { IfOk result (λ places. IfSome (D.remaining (inner_of reader.old)) (λ text. ArePlaces (are_asked reports.now) text byte_limit places)) }
     ensures fault { IfErr result (λ why. IsFaultOf (D.remaining (inner_of reader.old)) byte_limit why) }
     ensures failed { HasFailedBy (has_failed reader.new) result }
     ensures taken { taken_of reader.new ≤ taken_of reader.old + byte_limit + bytes_past_limit }
 {
-    let wanted = asked_lines(alloc, keys, lines)?;
+    let wanted = asked_lines(alloc, keys, reports)?;
     if wanted.is_empty() {
         return Ok(Places::new(alloc));
     }
@@ -167,10 +167,21 @@ pub fn places_of_reasons<D: Read>(
 }
 
 // The lines that the reasons name.
-fn asked_lines(alloc: Global, keys: NameKeys, lines: &[Line]) -> Result<Wanted, AllocError>
-    ensures { IfOk result (λ wanted. (line : ℕ) → is_wanted wanted line ≡ is_asked lines.now line) }
+fn asked_lines(alloc: Global, keys: NameKeys, reports: &Reports) -> Result<Wanted, AllocError>
+    ensures { IfOk result (λ wanted. (line : ℕ) → is_wanted wanted line ≡ are_asked reports.now line) }
 {
     let mut wanted = Wanted::new(alloc, keys);
-    wanted.add_reasons(alloc, lines)?;
+    add_asked(alloc, &mut wanted, &reports.lockset)?;
+    add_asked(alloc, &mut wanted, &reports.unordered)?;
     Ok(wanted)
+}
+
+// Adds the lines that the reasons of a report name, if there is one.
+fn add_asked(alloc: Global, wanted: &mut Wanted, report: &Option<Report>) -> Result<(), AllocError>
+    ensures { OnOk result ((line : ℕ) → is_wanted wanted.new line ≡ (is_wanted wanted.old line || asked_in report.now line)) }
+{
+    match report {
+        Some(report) => wanted.add_reasons(alloc, &report.lines),
+        None => Ok(()),
+    }
 }

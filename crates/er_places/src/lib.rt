@@ -1,6 +1,6 @@
 //! Where the accesses on given lines of a trace stood, and which locks their threads held.
 //!
-//! Begin with [`places_of_reasons`]. It reads a trace text once more and gives the [`Places`] of the accesses that the reasons of a report's
+//! Begin with [`places_of_reports`]. It reads a trace text once more and gives the [`Places`] of the accesses that the reasons of the reports'
 //! first races name. [`find_places`] does so for any [`Wanted`] lines. [`Places::of_reason`] is the place of the access that a reason
 //! names.
 //!
@@ -14,7 +14,7 @@
 //!
 //! ```
 //! // The trace is `t1 write 0x1000 main.c:3` on its line 2, and `t2 write 0x1000` on line 3.
-//! let places = places_of_reasons(alloc, &mut again, limit, &report.lines)?;
+//! let places = places_of_reports(alloc, &mut again, limit, keys, &reports)?;
 //! // The first reason of the race on line 3 names the write on line 2.
 //! if let Some(place) = places.of_reason(&explained[0]) {
 //!     // Here the place's site is `main.c:3`, and it has no lock.
@@ -22,7 +22,7 @@
 //! ```
 #![tactic(auto)]
 
-pub use finding::{find_places, places_of_reasons};
+pub use finding::{find_places, places_of_reports};
 pub use place::Place;
 pub use places::Places;
 pub use wanted::Wanted;

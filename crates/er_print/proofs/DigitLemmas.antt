@@ -17,6 +17,10 @@ hex_more (suc k) n some = let e : suc k - 1 ≡ k = omega arith in rw e refl
 pub put_two : (old front new first second : List ℕ) → front ≡ old ++ first → new ≡ front ++ second → new ≡ old ++ (first ++ second)
 put_two old front new first second one two = two ∙ ap (λ (text : List ℕ). text ++ second) one ∙ append_assoc old first second
 
+-- and three
+pub put_three : (old a b c r s t : List ℕ) → a ≡ old ++ r → b ≡ a ++ s → c ≡ b ++ t → c ≡ old ++ (r ++ s ++ t)
+put_three old a b c r s t first second third = rw (third, second, first) (simp append_assoc)
+
 -- and five
 pub put_five : (old a b c d e r s t u v : List ℕ) → a ≡ old ++ r → b ≡ a ++ s → c ≡ b ++ t → d ≡ c ++ u → e ≡ d ++ v
     → e ≡ old ++ (r ++ s ++ t ++ u ++ v)

@@ -5,10 +5,11 @@ use Rattle.er_trace.specs.Names.{NameTable}
 use Rattle.er_report.specs.Lines.{line_view}
 use Rattle.er_report.specs.declared.report.Line.{Line}
 use Rattle.er_print.specs.Printed.{line_text}
+use Rattle.er_print.specs.declared.lines.ReportKind.{ReportKind}
 
-pub told-lines : (names : NameTable) (lines : List Line) → flat_map (λ (line : Line). line_text names (line_view line)) lines ≡ flat_map (line_text names) (map line_view lines)
-told-lines names [] = refl
-told-lines names (line ∷ lines) = ap (λ (rest : List ℕ). line_text names (line_view line) ++ rest) (told-lines names lines)
+pub told-lines : (of : ReportKind) (names : NameTable) (lines : List Line) → flat_map (λ (line : Line). line_text of names (line_view line)) lines ≡ flat_map (line_text of names) (map line_view lines)
+told-lines of names [] = refl
+told-lines of names (line ∷ lines) = ap (λ (rest : List ℕ). line_text of names (line_view line) ++ rest) (told-lines of names lines)
 
 -- the text of one more thing is put behind those before it
 pub one_more : {X : Type 0} (text : X → List ℕ) (xs : List X) (k : ℕ) (d x : X) (old before after : List ℕ) → k < length xs → x ≡ get_or xs k d

@@ -2,7 +2,8 @@
 use Rattle.std.proofs.Common.{◌≡◌, ◌<◌, ℕ, zero, suc, List, [], ◌∷◌, ◌++◌, length, get_or, flat_map, refl, ap, sym, ◌∙◌, append_assoc, arith}
 use Rattle.std.proofs.lemmas.List.{append-nil}
 use Rattle.er_trace.specs.Names.{NameTable}
-use Rattle.er_print.specs.Pieces.{HasPieceName, HavePieceNames, before_of, behind, piece_text, pieces_text, text_behind, value_text}
+use Rattle.er_print.specs.Inner.Joined.{behind, joined_text, text_behind}
+use Rattle.er_print.specs.Pieces.{HasPieceName, HavePieceNames, before_of, piece_text, pieces_text, value_text}
 use Rattle.er_print.specs.declared.pieces.Piece.{Piece}
 use Rattle.er_print.specs.declared.styles.Style.{Style}
 
@@ -27,5 +28,5 @@ all_behind style names front (piece ∷ pieces) =
     ∙ ap (λ (text : List ℕ). text ++ flat_map (piece_text style names) pieces) (sym (append_assoc front before value) ∙ ap (λ (text : List ℕ). text ++ value) (sym (behind_is front before)))
     ∙ all_behind style names (behind front before ++ value) pieces
 
-pub joined : (style : Style) (names : NameTable) (pieces : List Piece) → flat_map (piece_text style names) pieces ≡ pieces_text style names pieces
+pub joined : (style : Style) (names : NameTable) (pieces : List Piece) → pieces_text style names pieces ≡ joined_text style names pieces
 joined style names pieces = all_behind style names [] pieces

@@ -1,3 +1,4 @@
+pub mod Inner
 pub mod Pieces
 pub mod Printed
 pub mod Styles

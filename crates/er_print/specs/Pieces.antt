@@ -1,5 +1,5 @@
 -- The parts of a text.
-use Rattle.std.specs.Prelude.{ℕ, ◌<◌, ◌≤◌, List, [], ◌∷◌, ◌++◌, length, decimal}
+use Rattle.std.specs.Prelude.{ℕ, ◌<◌, ◌≤◌, List, [], ◌∷◌, ◌++◌, flat_map, length, decimal}
 use Rattle.er_print.specs.Printed.{address_text, event_text, kind_text, state_text}
 use Rattle.er_print.specs.Styles.{label_in, lock_in, locks_in, name_in, site_in, thread_in}
 use Rattle.er_print.specs.declared.pieces.Piece.{Piece}
@@ -41,19 +41,9 @@ value_text style names (State before state) = state_text names state.now
 abbrev pub piece_text : Style → NameTable → Piece → List ℕ
 piece_text style names piece = before_of piece ++ value_text style names piece
 
--- a text behind another
-abbrev pub behind : List ℕ → List ℕ → List ℕ
-behind front [] = front
-behind front (byte ∷ more) = front ++ byte ∷ more
-
--- the parts of a list behind a text
-abbrev pub text_behind : Style → NameTable → List ℕ → List Piece → List ℕ
-text_behind style names front [] = front
-text_behind style names front (piece ∷ pieces) = text_behind style names (behind front (before_of piece) ++ value_text style names piece) pieces
-
 -- the parts of a list, one behind another
 abbrev pub pieces_text : Style → NameTable → List Piece → List ℕ
-pieces_text style names pieces = text_behind style names [] pieces
+pieces_text style names pieces = flat_map (piece_text style names) pieces
 
 -- what a part names has a name
 abbrev pub HasPieceName : NameTable → Piece → Type 0

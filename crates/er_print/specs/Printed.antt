@@ -16,12 +16,16 @@ use Rattle.er_event.specs.declared.steps.WordState.{WordState}
 use Rattle.er_event.specs.declared.steps.WordState.TheVariants.{Virgin, Exclusive, Shared, SharedModified}
 use Rattle.er_trace.specs.Trace.{Recording}
 use Rattle.er_journal.specs.declared.answers.Stopped.{Stopped}
-use Rattle.er_report.specs.Report.{Summary, report_of}
+use Rattle.er_report.specs.Report.{Summary, report_of, told}
 use Rattle.er_report.specs.Lines.{LineView, RaceView, ReusedView, RefusedView, ShownView}
 use Rattle.er_report.specs.declared.report.Because.{Because}
 use Rattle.er_report.specs.declared.report.Label.{Label}
+use Rattle.er_report.specs.declared.report.Report.{Report}
+use Rattle.er_report.specs.declared.reports.Reports.{Reports}
 use Rattle.er_rules.specs.Rules.{Target}
 use Rattle.er_print.specs.Styles.{label_in, lock_in, locks_in, site_in}
+use Rattle.er_print.specs.declared.lines.ReportKind.{ReportKind}
+use Rattle.er_print.specs.declared.lines.ReportKind.TheVariants.{Lockset, Unordered}
 use Rattle.er_print.specs.declared.styles.Style.TheVariants as style
 pub use Rattle.er_print.specs.Styles.{name_at}
 
@@ -101,20 +105,30 @@ reason_text names because =
 abbrev pub bytes_between : ℕ → ℕ → ℕ
 bytes_between lo hi = (hi - lo + 1) * 4
 
+-- who accessed what, and with which locks
+abbrev pub access_text : NameTable → ℕ → Kind → ℕ → ℕ → List ℕ → List ℕ
+access_text names thread kind word site held =
+    name_at names.threads thread ++ codes " " ++ kind_text kind ++ codes " " ++ address_text word ++ codes " at " ++ site_text names site
+    ++ codes ", holds " ++ locks_text names held ++ 10 ∷ []
+
 -- who gave back these words, by the address of the first byte and the number of bytes
 abbrev pub reuse_text : NameTable → ℕ → ℕ → ℕ → List ℕ
-reuse_text names thread lo hi = name_at names.threads thread ++ codes " reuse " ++ address_text lo ++ codes " " ++ decimal (bytes_between lo hi)
+reuse_text names thread lo hi = name_at names.threads thread ++ codes " reuse " ++ address_text lo ++ codes " " ++ decimal (bytes_between lo hi) ++ 10 ∷ []
+
+-- what a report calls a race
+abbrev pub race_label : ReportKind → List ℕ
+race_label Lockset = codes "race: "
+race_label Unordered = codes "unordered: "
 
 -- what a line says of its step
-abbrev pub own_text : NameTable → LineView → List ℕ
-own_text names (RaceView number thread kind word site held explained) =
-    place_text number ++ codes "race: " ++ name_at names.threads thread ++ codes " " ++ kind_text kind
-    ++ codes " " ++ address_text word ++ codes " at " ++ site_text names site ++ codes ", holds " ++ locks_text names held ++ 10 ∷ []
-own_text names (ReusedView number thread range held explained) = place_text number ++ codes "race: " ++ reuse_text names thread range.lo range.hi ++ 10 ∷ []
-own_text names (RefusedView number step refusal) =
+abbrev pub own_text : ReportKind → NameTable → LineView → List ℕ
+own_text of names (RaceView number thread kind word site held explained) =
+    place_text number ++ race_label of ++ access_text names thread kind word site held
+own_text of names (ReusedView number thread range held explained) = place_text number ++ race_label of ++ reuse_text names thread range.lo range.hi
+own_text of names (RefusedView number step refusal) =
     place_text number ++ codes "refused: " ++ name_at names.threads step.thread ++ codes " "
     ++ event_text names step.event ++ codes ": " ++ text_of refusal ++ 10 ∷ []
-own_text names (ShownView number word state) =
+own_text of names (ShownView number word state) =
     place_text number ++ codes "state " ++ address_text word ++ codes ": " ++ state_text names state ++ 10 ∷ []
 
 -- and why it is a race
@@ -124,8 +138,8 @@ reasons_text names (ReusedView number thread range held explained) = flat_map (r
 reasons_text names (RefusedView number step refusal) = []
 reasons_text names (ShownView number word state) = []
 
-abbrev pub line_text : NameTable → LineView → List ℕ
-line_text names line = own_text names line ++ reasons_text names line
+abbrev pub line_text : ReportKind → NameTable → LineView → List ℕ
+line_text of names line = own_text of names line ++ reasons_text names line
 
 -- where the run stopped, if it did
 abbrev pub stop_text : Option (ℕ × NoRoom) → List ℕ
@@ -146,14 +160,36 @@ unfoldable pub lost_text : List ℕ → List ℕ → Option ℕ → List ℕ
 lost_text before after None = []
 lost_text before after (Some n) = cond (nat_lt 0 n) (before ++ decimal n ++ after) []
 
-abbrev pub totals_text : Summary → List ℕ
-totals_text s =
-    codes "steps " ++ decimal s.steps ++ codes ", races " ++ decimal s.races ++ codes ", suppressed " ++ decimal s.suppressed
+-- what the totals call races
+abbrev pub races_label : ReportKind → List ℕ
+races_label Lockset = codes ", races "
+races_label Unordered = codes ", unordered "
+
+abbrev pub totals_text : ReportKind → Summary → List ℕ
+totals_text of s =
+    codes "steps " ++ decimal s.steps ++ races_label of ++ decimal s.races ++ codes ", suppressed " ++ decimal s.suppressed
     ++ codes ", refused " ++ decimal s.refused ++ lost_text (codes ", lost ") [] s.lost ++ 10 ∷ []
 
--- the whole text
-unfoldable pub report_text : NameTable → Summary → List ℕ
-report_text names s = flat_map (line_text names) s.lines ++ stop_text s.stop ++ counts_text 1 s.rule_counts ++ totals_text s
+-- what a report ends with
+abbrev pub end_text : ReportKind → Summary → List ℕ
+end_text of s = stop_text s.stop ++ counts_text 1 s.rule_counts ++ totals_text of s
+
+-- the whole text of a report
+unfoldable pub text_of_report : ReportKind → NameTable → Summary → List ℕ
+text_of_report of names s = flat_map (line_text of names) s.lines ++ end_text of s
+
+-- and of one of the lockset rule
+abbrev pub report_text : NameTable → Summary → List ℕ
+report_text names s = text_of_report Lockset names s
+
+-- the text of a report, if it is there
+abbrev pub text_if_there : ReportKind → NameTable → Option Report → List ℕ
+text_if_there of names None = []
+text_if_there of names (Some report) = text_of_report of names (told report)
+
+-- the texts of the reports that there are
+unfoldable pub reports_text : NameTable → Reports → List ℕ
+reports_text names reports = text_if_there Lockset names reports.lockset ++ text_if_there Unordered names reports.unordered
 
 -- the text of the report of a run of the recording's steps under these rules, with reasons or without, which stopped so or not at all
 abbrev pub output_of : Recording → List Target → Bool → Option Stopped → List ℕ

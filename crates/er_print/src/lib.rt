@@ -22,14 +22,11 @@
 #![tactic(auto)]
 
 pub use fault::WriteFault;
-pub use lines::{
-    bytes_of, put_line, put_lost, put_place, put_reasons, put_reuse, put_rule_counts, put_stop,
-    put_totals,
-};
+pub use lines::{ReportKind, bytes_of, put_end, put_lost};
 pub use naming::{order_verb, verb};
 pub use numbers::{put_address, put_number};
 pub use pieces::{Piece, put_all};
-pub use report::{report_text, write_report, write_text};
+pub use report::{report_text, reports_text, write_report, write_text};
 pub use styles::{Style, comma_before, put_escaped, put_short, put_string};
 
 mod fault;

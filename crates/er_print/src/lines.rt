@@ -4,10 +4,12 @@ ghost use Rattle.er_event.specs.Refusal.{text_of};
 ghost use Rattle.er_report.specs.Lines.{line_view};
 ghost use Rattle.er_report.specs.Names.{HasLockNames, HasEventNames, HasNames, HasReasonNames, HasStateNames};
 ghost use Rattle.er_report.specs.Report.{told};
-ghost use Rattle.er_print.specs.Printed.{name_at, site_text, locks_text, kind_text, address_text, event_text, state_text, bytes_between, place_text, reason_text, reuse_text, own_text, line_text, stop_text, count_text, counts_text, lost_text, totals_text};
+ghost use Rattle.er_print.specs.Printed.{name_at, access_text, address_text, event_text, state_text, bytes_between, place_text, race_label, races_label, reason_text, reuse_text, own_text, line_text, stop_text, count_text, counts_text, lost_text, totals_text, end_text};
 
 use crate::numbers::put_number;
-use crate::pieces::Piece::{Address, Event, Label, Locks, Number, Site, State, Text, Thread, Verb};
+use crate::pieces::Piece::{
+    Address, Event, Label, Locks, Name, Number, Site, State, Text, Thread, Verb,
+};
 use crate::pieces::put_all;
 use crate::styles::Style;
 use er_event::{Kind, LockId, NoRoom, PageRange, Refusal, Step, ThreadId, Word, WordState};
@@ -15,12 +17,26 @@ use er_report::{Because, Line, Report};
 use er_trace::Names;
 use std::alloc::AllocError;
 
+/// Which of a trace's reports a text is of. They differ in what they call a race.
+#[derive(Clone, Copy, Debug, PartialEq, Eq, Drop)]
+pub enum ReportKind {
+    /// The report of the lockset rule.
+    Lockset,
+    /// The report by happens-before, in which a race is an unordered access or reuse.
+    Unordered,
+}
+
 /// Puts one line. A race has a further line for each of its reasons.
-pub fn put_line(out: &mut Vec<u8>, names: &Names, line: &Line) -> Result<(), AllocError>
+pub(crate) fn put_line(
+    out: &mut Vec<u8>,
+    of: ReportKind,
+    names: &Names,
+    line: &Line,
+) -> Result<(), AllocError>
     requires { HasNames names.now line.now }
-    ensures { OnOk result (out.new.items ≡ out.old.items ++ line_text names.now (line_view line.now)) }
+    ensures { OnOk result (out.new.items ≡ out.old.items ++ line_text of names.now (line_view line.now)) }
 {
-    put_own_line(out, names, line)?;
+    put_own_line(out, of, names, line)?;
     match line {
         Line::Race { explained, .. } => put_reasons(out, names, explained),
         Line::Reused { explained, .. } => put_reasons(out, names, explained),
@@ -28,12 +44,8 @@ pub fn put_line(out: &mut Vec<u8>, names: &Names, line: &Line) -> Result<(), All
     }
 }
 
-/// Puts the lines of a race's reasons, one for each.
-pub fn put_reasons(
-    out: &mut Vec<u8>,
-    names: &Names,
-    explained: &[Because],
-) -> Result<(), AllocError>
+// Puts the lines of a race's reasons, one for each.
+fn put_reasons(out: &mut Vec<u8>, names: &Names, explained: &[Because]) -> Result<(), AllocError>
     requires { All (HasReasonNames names.now) explained.now }
     ensures { OnOk result (out.new.items ≡ out.old.items ++ flat_map (reason_text names.now) explained.now) }
 {
@@ -44,9 +56,14 @@ pub fn put_reasons(
 }
 
 // Puts what a line says of its step.
-fn put_own_line(out: &mut Vec<u8>, names: &Names, line: &Line) -> Result<(), AllocError>
+fn put_own_line(
+    out: &mut Vec<u8>,
+    of: ReportKind,
+    names: &Names,
+    line: &Line,
+) -> Result<(), AllocError>
     requires { HasNames names.now line.now }
-    ensures { OnOk result (out.new.items ≡ out.old.items ++ own_text names.now (line_view line.now)) }
+    ensures { OnOk result (out.new.items ≡ out.old.items ++ own_text of names.now (line_view line.now)) }
 {
     match line {
         Line::Race {
@@ -59,7 +76,8 @@ fn put_own_line(out: &mut Vec<u8>, names: &Names, line: &Line) -> Result<(), All
             explained: _,
         } => {
             put_place(out, *line)?;
-            put_race(out, names, *thread, *kind, *word, *site, held.as_slice())
+            out.extend_from_slice(race_label(of))?;
+            put_access(out, names, *thread, *kind, *word, *site, held.as_slice())
         }
         Line::Reused {
             line,
@@ -69,9 +87,8 @@ fn put_own_line(out: &mut Vec<u8>, names: &Names, line: &Line) -> Result<(), All
             explained: _,
         } => {
             put_place(out, *line)?;
-            out.extend_from_slice(b"race: ")?;
-            put_reuse(out, names, *thread, range)?;
-            out.extend_from_slice(b"\n")
+            out.extend_from_slice(race_label(of))?;
+            put_reuse(out, names, *thread, range)
         }
         Line::Refused {
             line,
@@ -88,8 +105,18 @@ fn put_own_line(out: &mut Vec<u8>, names: &Names, line: &Line) -> Result<(), All
     }
 }
 
-// Puts a race, with the locks that its thread held.
-fn put_race(
+// What a report of this kind calls a race.
+fn race_label(of: ReportKind) -> &'static [u8]
+    ensures { result.now ≡ race_label of }
+{
+    match of {
+        ReportKind::Lockset => b"race: ".as_slice(),
+        ReportKind::Unordered => b"unordered: ".as_slice(),
+    }
+}
+
+// Puts who accessed what, and with which locks.
+fn put_access(
     out: &mut Vec<u8>,
     names: &Names,
     thread: ThreadId,
@@ -101,10 +128,10 @@ fn put_race(
     requires thread { thread < length names.now.threads }
     requires site { site ≤ length names.now.sites }
     requires locks { HasLockNames names.now held.now }
-    ensures { OnOk result (out.new.items ≡ out.old.items ++ (codes "race: " ++ name_at names.now.threads thread ++ codes " " ++ kind_text kind ++ codes " " ++ address_text word ++ codes " at " ++ site_text names.now site ++ codes ", holds " ++ locks_text names.now held.now ++ 10 ∷ [])) }
+    ensures { OnOk result (out.new.items ≡ out.old.items ++ access_text names.now thread kind word site held.now) }
 {
     let pieces = [
-        Thread(b"race: ", thread),
+        Thread(b"", thread),
         Verb(b" ", kind),
         Address(b" ", word),
         Site(b" at ", site),
@@ -114,8 +141,8 @@ fn put_race(
     put_all(out, Style::Plain, names, &pieces)
 }
 
-/// Puts who gave back which bytes.
-pub fn put_reuse(
+// Puts who gave back which bytes.
+fn put_reuse(
     out: &mut Vec<u8>,
     names: &Names,
     thread: ThreadId,
@@ -128,6 +155,7 @@ pub fn put_reuse(
         Thread(b"", thread),
         Address(b" reuse ", range.lo),
         Number(b" ", bytes_of(range)),
+        Text(b"\n"),
     ];
     put_all(out, Style::Plain, names, &pieces)
 }
@@ -153,8 +181,7 @@ fn put_refused(
     let pieces = [
         Thread(b"refused: ", step.thread),
         Event(b" ", &step.event),
-        Text(b": "),
-        Text(refusal.text().as_bytes()),
+        Name(b": ", refusal.text().as_bytes()),
         Text(b"\n"),
     ];
     put_all(out, Style::Plain, names, &pieces)
@@ -189,8 +216,17 @@ fn put_reason(out: &mut Vec<u8>, names: &Names, because: &Because) -> Result<(),
     put_all(out, Style::Plain, names, &pieces)
 }
 
-/// Puts the line of the stop, if there is one.
-pub fn put_stop(out: &mut Vec<u8>, stop: Option<(u64, NoRoom)>) -> Result<(), AllocError>
+/// Puts what a report ends with: the stop, the rules and the totals.
+pub fn put_end(out: &mut Vec<u8>, of: ReportKind, report: &Report) -> Result<(), AllocError>
+    ensures { OnOk result (out.new.items ≡ out.old.items ++ end_text of (told report.now)) }
+{
+    put_stop(out, report.stop)?;
+    put_rule_counts(out, &report.rule_counts)?;
+    put_totals(out, of, report)
+}
+
+// Puts the line of the stop, if there is one.
+fn put_stop(out: &mut Vec<u8>, stop: Option<(u64, NoRoom)>) -> Result<(), AllocError>
     ensures { OnOk result (out.new.items ≡ out.old.items ++ stop_text stop) }
 {
     let Some((line, cause)) = stop else {
@@ -202,8 +238,8 @@ pub fn put_stop(out: &mut Vec<u8>, stop: Option<(u64, NoRoom)>) -> Result<(), Al
     out.extend_from_slice(b"\n")
 }
 
-/// Puts a line for each rule, with its number, from 1, and how many races it took.
-pub fn put_rule_counts(out: &mut Vec<u8>, rule_counts: &[u64]) -> Result<(), AllocError>
+// Puts a line for each rule, with its number, from 1, and how many races it took.
+fn put_rule_counts(out: &mut Vec<u8>, rule_counts: &[u64]) -> Result<(), AllocError>
     ensures { OnOk result (out.new.items ≡ out.old.items ++ counts_text 1 rule_counts.now) }
 {
     for (k, count) in rule_counts.iter().enumerate() {
@@ -221,16 +257,27 @@ fn put_rule_count(out: &mut Vec<u8>, number: u64, count: u64) -> Result<(), Allo
     Ok(())
 }
 
-/// Puts the line of totals.
-pub fn put_totals(out: &mut Vec<u8>, report: &Report) -> Result<(), AllocError>
-    ensures { OnOk result (out.new.items ≡ out.old.items ++ totals_text (told report.now)) }
+// Puts the line of totals.
+fn put_totals(out: &mut Vec<u8>, of: ReportKind, report: &Report) -> Result<(), AllocError>
+    ensures { OnOk result (out.new.items ≡ out.old.items ++ totals_text of (told report.now)) }
 {
     put_labelled(out, b"steps ", report.steps)?;
-    put_labelled(out, b", races ", report.races)?;
+    put_labelled(out, races_label(of), report.races)?;
     put_labelled(out, b", suppressed ", report.suppressed)?;
     put_labelled(out, b", refused ", report.refused)?;
     put_lost(out, b", lost ", report.lost, b"")?;
-    out.extend_from_slice(b"\n")
+    out.extend_from_slice(b"\n")?;
+    Ok(())
+}
+
+// What its totals call its races.
+fn races_label(of: ReportKind) -> &'static [u8]
+    ensures { result.now ≡ races_label of }
+{
+    match of {
+        ReportKind::Lockset => b", races ".as_slice(),
+        ReportKind::Unordered => b", unordered ".as_slice(),
+    }
 }
 
 /// Puts how many events were lost, between these two texts, or nothing if none was.
@@ -261,8 +308,8 @@ fn put_labelled(out: &mut Vec<u8>, label: &[u8], n: u64) -> Result<(), AllocErro
     put_number(out, n)
 }
 
-/// Puts what a line that tells of a line of the trace begins with.
-pub fn put_place(out: &mut Vec<u8>, line: u64) -> Result<(), AllocError>
+// Puts what a line that tells of a line of the trace begins with.
+fn put_place(out: &mut Vec<u8>, line: u64) -> Result<(), AllocError>
     ensures { OnOk result (out.new.items ≡ out.old.items ++ place_text line) }
 {
     put_labelled(out, b"line ", line)?;

@@ -1,5 +1,6 @@
 //! Texts by their parts.
 ghost use Rattle.std.specs.Prelude.{◌≡◌, ◌++◌, OnOk};
+ghost use Rattle.er_print.specs.Inner.Joined.{joined_text};
 ghost use Rattle.er_print.specs.Pieces.{HasPieceName, HavePieceNames, before_of, piece_text, pieces_text, value_text};
 
 use crate::naming::{put_event, put_state, verb};
@@ -38,7 +39,8 @@ pub enum Piece<'a> {
     State(&'a [u8], &'a WordState),
 }
 
-/// Puts the parts of a text, one behind another.
+/// Puts the parts of a text, one behind another. The two clauses say the same: by the second the prover sees the text of a list of parts at
+/// once.
 pub fn put_all(
     out: &mut Vec<u8>,
     style: Style,
@@ -46,7 +48,8 @@ pub fn put_all(
     pieces: &[Piece<'_>],
 ) -> Result<(), AllocError>
     requires { HavePieceNames names.now pieces.now }
-    ensures { OnOk result (out.new.items ≡ out.old.items ++ pieces_text style names.now pieces.now) }
+    ensures text { OnOk result (out.new.items ≡ out.old.items ++ pieces_text style names.now pieces.now) }
+    ensures joined { OnOk result (out.new.items ≡ out.old.items ++ joined_text style names.now pieces.now) }
 {
     for piece in pieces {
         put_piece(out, style, names, piece)?;
@@ -63,8 +66,19 @@ fn put_piece(
     requires { HasPieceName names.now piece.now }
     ensures { OnOk result (out.new.items ≡ out.old.items ++ piece_text style names.now piece.now) }
 {
-    out.extend_from_slice(before_of(piece))?;
+    put_before(out, before_of(piece))?;
     put_value(out, style, names, piece)
+}
+
+// Puts these bytes, if there are some: a copy of none would cost as much.
+#[inline]
+fn put_before(out: &mut Vec<u8>, before: &[u8]) -> Result<(), AllocError>
+    ensures { OnOk result (out.new.items ≡ out.old.items ++ before.now) }
+{
+    if before.is_empty() {
+        return Ok(());
+    }
+    out.extend_from_slice(before)
 }
 
 fn before_of<'a>(piece: &Piece<'a>) -> &'a [u8]

@@ -1,21 +1,22 @@
 //! Whole reports.
-ghost use Rattle.std.specs.Prelude.{◌≡◌, ℕ, List, All, Err, IfErr, IfOk, false};
+ghost use Rattle.std.specs.Prelude.{◌≡◌, ◌++◌, ℕ, List, All, Err, IfErr, IfOk, IfSome, OnOk, false};
 ghost use Rattle.er_device.specs.Device.{inner_of, has_failed, taken_of};
 ghost use Rattle.er_report.specs.Names.{HasNames};
 ghost use Rattle.er_report.specs.Report.{told};
-ghost use Rattle.er_print.specs.Printed.{report_text};
+ghost use Rattle.er_report.specs.Reports.{HaveNames};
+ghost use Rattle.er_print.specs.Printed.{report_text, reports_text, text_if_there, text_of_report};
 ghost use Rattle.er_print.specs.declared.fault.WriteFault.TheVariants.{Memory};
 ghost use Rattle.er_print.specs.Written.{WritesReport, FailsWriting};
 
 use crate::WriteFault;
-use crate::lines::{put_line, put_rule_counts, put_stop, put_totals};
+use crate::lines::{ReportKind, put_end, put_line};
 use er_device::Device;
-use er_report::Report;
+use er_report::{Report, Reports};
 use er_trace::Names;
 use std::alloc::{AllocError, Global};
 use std::io::Write;
 
-/// Writes a report, with these names for its numbers. The text is whole before its first byte is written.
+/// Writes a report of the lockset rule, with these names for its numbers. The text is whole before its first byte is written.
 pub fn write_report<W: Write>(
     alloc: Global,
     writer: &mut Device<W>,
@@ -51,18 +52,57 @@ pub fn write_text<W: Write>(
     Ok(())
 }
 
-/// The text of a report, with these names for its numbers.
-#[tactic(auto, unfolding(crate::specs::Printed::report_text))]
+/// The text of a report of the lockset rule, with these names for its numbers.
 pub fn report_text(alloc: Global, report: &Report, names: &Names) -> Result<Vec<u8>, AllocError>
     requires { All (HasNames names.now) report.now.lines.items }
     ensures { IfOk result (λ text. text.items ≡ report_text names.now (told report.now)) }
 {
     let mut text = Vec::new(alloc);
-    for line in &report.lines {
-        put_line(&mut text, names, line)?;
-    }
-    put_stop(&mut text, report.stop)?;
-    put_rule_counts(&mut text, &report.rule_counts)?;
-    put_totals(&mut text, report)?;
+    put_report(&mut text, ReportKind::Lockset, report, names)?;
     Ok(text)
+}
+
+/// The texts of the reports that there are, one behind the other, with these names for their numbers.
+#[tactic(auto, unfolding(crate::specs::Printed::reports_text))]
+pub fn reports_text(alloc: Global, reports: &Reports, names: &Names) -> Result<Vec<u8>, AllocError>
+    requires { HaveNames names.now reports.now }
+    ensures { IfOk result (λ text. text.items ≡ reports_text names.now reports.now) }
+{
+    let mut text = Vec::new(alloc);
+    put_if_there(&mut text, ReportKind::Lockset, &reports.lockset, names)?;
+    put_if_there(&mut text, ReportKind::Unordered, &reports.unordered, names)?;
+    Ok(text)
+}
+
+// Puts the text of a report, if it is there.
+fn put_if_there(
+    out: &mut Vec<u8>,
+    of: ReportKind,
+    report: &Option<Report>,
+    names: &Names,
+) -> Result<(), AllocError>
+    requires { IfSome report.now (λ report. All (HasNames names.now) report.lines.items) }
+    ensures { OnOk result (out.new.items ≡ out.old.items ++ text_if_there of names.now report.now) }
+{
+    match report {
+        Some(report) => put_report(out, of, report, names),
+        None => Ok(()),
+    }
+}
+
+// Puts the text of a report.
+#[tactic(auto, unfolding(crate::specs::Printed::text_of_report))]
+fn put_report(
+    out: &mut Vec<u8>,
+    of: ReportKind,
+    report: &Report,
+    names: &Names,
+) -> Result<(), AllocError>
+    requires { All (HasNames names.now) report.now.lines.items }
+    ensures { OnOk result (out.new.items ≡ out.old.items ++ text_of_report of names.now (told report.now)) }
+{
+    for line in &report.lines {
+        put_line(out, of, names, line)?;
+    }
+    put_end(out, of, report)
 }

@@ -2,8 +2,8 @@
 use Rattle.std.specs.Prelude.{ℕ, ◌≡◌, ◌&&◌, Bool, false, List, [], ◌∷◌, None, codes, String, string_bytes}
 use Rattle.std.specs.List.{list_any}
 use Rattle.std.specs.Str.{bytes_eq}
-use Rattle.er_request.specs.declared.request.Analysis.TheVariants.{Lockset}
-use Rattle.er_request.specs.declared.request.Format.TheVariants.{Text}
+use Rattle.er_report.specs.declared.reports.Analysis.TheVariants.{Lockset}
+use Rattle.er_report.specs.declared.reports.Form.TheVariants.{Text}
 use Rattle.er_request.specs.declared.request.Replay.{Replay as Replaying}
 use Rattle.er_request.specs.declared.request.Request.{Request}
 use Rattle.er_request.specs.declared.request.Request.TheVariants.{Replay, Explain, Demo}
@@ -51,12 +51,13 @@ replays_input words = false
 abbrev pub usual_limit : ℕ
 usual_limit = 268435456
 
--- the standard input by locks, its report as text, and nothing more
+-- the standard input by locks and by one worker, its report as text, and nothing more
 pub record IsUsual (replay : Replaying) : Type 0 where
   pub input : replay.trace.now ≡ codes "-"
   pub limit : replay.byte_limit ≡ usual_limit
   pub analysis : replay.analysis ≡ Lockset
-  pub format : replay.format ≡ Text
+  pub form : replay.form ≡ Text
+  pub source : replay.source ≡ None
   pub suppressions : replay.suppressions.items ≡ []
   pub write_rules : replay.write_rules ≡ None
   pub unused_rules : replay.unused_rules ≡ false
@@ -65,6 +66,7 @@ pub record IsUsual (replay : Replaying) : Type 0 where
   pub strict : replay.strict ≡ false
   pub until_fault : replay.until_fault ≡ false
   pub progress : replay.progress ≡ false
+  pub workers : replay.workers ≡ 1
 
 -- it is such a replay, and hints are not asked for
 abbrev pub asks_usual : Request → Type 0

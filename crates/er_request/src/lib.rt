@@ -4,7 +4,7 @@
 //! a crate of its own, below no other but the program, so that the parser is proved while the rest is.
 #![tactic(auto)]
 
-pub use request::{Analysis, Demo, Explain, Format, Replay, Request};
+pub use request::{Demo, Explain, Replay, Request};
 pub use words::read_request;
 
 mod request;

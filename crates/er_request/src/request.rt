@@ -4,6 +4,7 @@ ghost use Rattle.std.specs.Prelude.{◌≡◌, ◌<◌, ◌≤◌, ◌^◌};
 use clap::builder::ValueParser;
 use clap::error::ErrorKind;
 use clap::{Arg, ArgAction, ArgMatches, Command, Error};
+use er_report::{Analysis, Form};
 use std::alloc::{AllocError, Global};
 
 /// What a command line asks for.
@@ -32,9 +33,9 @@ pub struct Replay<'a> {
     pub trace: &'a str,
     /// By which rule accesses are races.
     pub analysis: Analysis,
-    /// How the report is written.
-    pub format: Format,
-    /// The path of the folder that has the source files, if the page is to show lines of them. Given only with [`Format::Html`].
+    /// How the reports are written.
+    pub form: Form,
+    /// The path of the folder that has the source files, if the page is to show lines of them. Given only with [`Form::Html`].
     pub source: Option<&'a str>,
     /// Whether races are explained, as they are by site, as SARIF and as HTML.
     pub explain: bool,
@@ -69,32 +70,6 @@ pub struct Explain<'a> {
     /// How many bytes the trace may have, at most 2^62.
     pub byte_limit: u64,
     pub ghost few_bytes: { byte_limit ≤ 2 ^ 62 },
-}
-
-/// By which rule accesses are races.
-#[derive(Clone, Copy, Debug, PartialEq, Eq, Drop)]
-pub enum Analysis {
-    /// No lock was held at each access of the word.
-    Lockset,
-    /// Two accesses were not ordered in this run.
-    HappensBefore,
-    /// Each of the two, with a report of its own.
-    Both,
-}
-
-/// How a report is written.
-#[derive(Clone, Copy, Debug, PartialEq, Eq, Drop)]
-pub enum Format {
-    /// As text, a line for each race.
-    Text,
-    /// For people: the races by their sites, each site with an example.
-    BySite,
-    /// As one JSON document.
-    Json,
-    /// As a SARIF log.
-    Sarif,
-    /// As a page of HTML.
-    Html,
 }
 
 /// Which of the six workloads to run.
@@ -167,7 +142,7 @@ static REPLAY: [Row; 17] = [
         shape: Shape::Value(Some("lockset")),
         takes: ValueParser::Names(&ANALYSES),
         without: None,
-        help: "Report accesses that no lock protects, accesses that were not ordered in this run, or both",
+        help: "Report accesses that no lock protects, accesses and reuses that were not ordered in this run, or both",
     },
     Row {
         name: "suppress",
@@ -481,20 +456,20 @@ fn analysis_of(name: &str) -> Option<Analysis> {
     }
 }
 
-fn format_of(by_site: bool, form: &str) -> Option<Format> {
+fn form_of(by_site: bool, form: &str) -> Option<Form> {
     match (by_site, form) {
-        (true, _) => Some(Format::BySite),
-        (false, "text") => Some(Format::Text),
-        (false, "json") => Some(Format::Json),
-        (false, "sarif") => Some(Format::Sarif),
-        (false, "html") => Some(Format::Html),
+        (true, _) => Some(Form::BySite),
+        (false, "text") => Some(Form::Text),
+        (false, "json") => Some(Form::Json),
+        (false, "sarif") => Some(Form::Sarif),
+        (false, "html") => Some(Form::Html),
         _ => None,
     }
 }
 
-// Whether races are explained in this format without being asked for.
-fn has_reasons(format: Format) -> bool {
-    matches!(format, Format::BySite | Format::Sarif | Format::Html)
+// Whether races are explained in this form without being asked for.
+fn has_reasons(form: Form) -> bool {
+    matches!(form, Form::BySite | Form::Sarif | Form::Html)
 }
 
 // The values of an option that may be given several times.
@@ -539,12 +514,12 @@ fn limits_of(found: &ArgMatches<'_>) -> Option<Limits> {
     })
 }
 
-// Which trace is replayed, by which analysis, and how its report is written.
+// Which trace is replayed, by which analysis, and how its reports are written.
 #[derive(Clone, Copy)]
 struct Way<'a> {
     trace: &'a str,
     analysis: Analysis,
-    format: Format,
+    form: Form,
     limits: Limits,
 }
 
@@ -552,7 +527,7 @@ fn way_of<'a>(found: &ArgMatches<'a>) -> Option<Way<'a>> {
     Some(Way {
         trace: found.get_str("trace")?,
         analysis: analysis_of(found.get_str("analysis")?)?,
-        format: format_of(found.get_flag("by-site"), found.get_str("format")?)?,
+        form: form_of(found.get_flag("by-site"), found.get_str("format")?)?,
         limits: limits_of(found)?,
     })
 }
@@ -566,9 +541,9 @@ fn replay_of<'a>(found: &ArgMatches<'a>, way: Way<'a>, suppressions: Vec<&'a str
         max_races: found.get_one::<u64>("max-races"),
         trace: way.trace,
         analysis: way.analysis,
-        format: way.format,
+        form: way.form,
         source: found.get_str("source"),
-        explain: has_reasons(way.format) || found.get_flag("explain"),
+        explain: has_reasons(way.form) || found.get_flag("explain"),
         strict: found.get_flag("strict"),
         until_fault: found.get_flag("until-fault"),
         progress: found.get_flag("progress"),
@@ -623,40 +598,7 @@ fn demo_request<'a>(found: &ArgMatches<'a>) -> Option<Request<'a>> {
 // Whether source files are named for a report that shows none.
 fn lacks_page(request: &Request<'_>) -> bool {
     match request {
-        Request::Replay(replay) => replay.source.is_some() && replay.format != Format::Html,
-        Request::Explain(_) | Request::Demo(_) => false,
-    }
-}
-
-// Whether more is asked of a report of unordered accesses than it has.
-fn lacks_form(request: &Request<'_>) -> bool {
-    match request {
-        Request::Replay(replay) => {
-            !has_form(replay.analysis, replay.format)
-                || (replay.strict && replay.analysis != Analysis::Lockset)
-        }
-        Request::Explain(_) | Request::Demo(_) => false,
-    }
-}
-
-// Whether a replay by this analysis can write its report so.
-fn has_form(analysis: Analysis, format: Format) -> bool {
-    match analysis {
-        Analysis::Lockset => true,
-        Analysis::HappensBefore => format == Format::Text,
-        Analysis::Both => matches!(format, Format::Text | Format::BySite),
-    }
-}
-
-// Whether more than two reports is asked for of both analyses.
-fn asks_more_of_both(request: &Request<'_>) -> bool {
-    match request {
-        Request::Replay(replay) => {
-            replay.analysis == Analysis::Both
-                && (replay.write_rules.is_some()
-                    || replay.unused_rules
-                    || replay.max_races.is_some())
-        }
+        Request::Replay(replay) => replay.source.is_some() && replay.form != Form::Html,
         Request::Explain(_) | Request::Demo(_) => false,
     }
 }
@@ -676,14 +618,6 @@ fn overwrites_rules(request: &Request<'_>) -> bool {
 fn conflict_of(request: &Request<'_>) -> Option<&'static str> {
     if lacks_page(request) {
         return Some("--source goes with --format html alone");
-    }
-    if lacks_form(request) {
-        return Some(
-            "--format json, sarif and html and --strict go with --analysis lockset alone, and --by-site with lockset or both",
-        );
-    }
-    if asks_more_of_both(request) {
-        return Some("--write-rules, --unused-rules and --max-races do not go with --analysis both");
     }
     if overwrites_rules(request) {
         return Some("--write-rules would replace a file of --suppress: give it another path");

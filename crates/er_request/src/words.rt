@@ -2,8 +2,9 @@
 ghost use Rattle.std.specs.Prelude.{◌≡◌, false, true, IfOk, IsOk};
 ghost use Rattle.er_request.specs.Words.{IsUsual, asks_hints, asks_progress, asks_until_fault, asks_usual, names, names_hints, names_progress, names_until_fault, replays_input, usual_limit};
 
-use crate::request::{self, Analysis, Format, Replay, Request};
+use crate::request::{self, Replay, Request};
 use clap::Error;
+use er_report::{Analysis, Form};
 use std::alloc::Global;
 
 /// Reads a command line, of which the first word is the program's name. Steps before a fault are asked for only if a word asks for them,
@@ -44,7 +45,7 @@ fn usual_replay<'a>(alloc: Global) -> Replay<'a>
         max_races: None,
         trace: "-",
         analysis: Analysis::Lockset,
-        format: Format::Text,
+        form: Form::Text,
         source: None,
         explain: false,
         strict: false,

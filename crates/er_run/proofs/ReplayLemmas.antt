@@ -1,101 +1,137 @@
 -- From the parts of a replay to the whole: what was read, what its run came to, and what was written of it.
-use Rattle.std.proofs.Common.{◌≡◌, ℕ, nat_lt, Bool, true, false, cond, List, Option, Some, None, Result, Ok, Err, IfSome, IfOk, IfErr, IsFalse, refl, ap, subst, ◌∙◌, take}
+use Rattle.std.proofs.Common.{◌≡◌, ◌||◌, ℕ, nat_lt, Bool, true, false, cond, List, Option, Some, None, Result, Ok, Err, IfSome, IfOk, IfErr, IsFalse, is_some, refl, ap, subst, ◌∙◌, take}
 use Rattle.std.specs.Io.KnownBytes.{Appends, Keeps}
-use Rattle.er_trace.specs.Trace.{Recording}
+use Rattle.er_batch.specs.declared.verdict.Verdict.{Verdict}
+use Rattle.er_batch.specs.declared.verdict.Verdict.TheVariants as verdict
 use Rattle.er_event.specs.declared.refusals.NoRoom.{NoRoom}
 use Rattle.er_journal.specs.declared.answers.Stopped.{Stopped}
 use Rattle.er_print.specs.Printed.{report_text}
-use Rattle.er_trace.specs.Names.{NameTable}
 use Rattle.er_print.specs.declared.fault.WriteFault.TheVariants as writing
 use Rattle.er_report.specs.Report.{told as summary, Summary}
 use Rattle.er_report.specs.declared.report.Report.{Report}
+use Rattle.er_report.specs.declared.reports.Analysis.TheVariants.{Lockset}
+use Rattle.er_report.specs.declared.reports.Reports.{Reports}
 use Rattle.er_rules.specs.Rules.{Target}
-use Rattle.er_run.specs.Inner.Reports.{WritesFound}
-use Rattle.er_run.specs.Replays.{IsReplayed, IsFailed, IsFailedBy, FailsBy, WritesNothing, report_with, verdict_of, verdict_by, is_stopped, is_verdict_of}
-use Rattle.er_run.specs.Reports.{IsReportBy, IsReportOfText, IsFaultOfText}
-use Rattle.er_batch.specs.declared.verdict.Replayed.{Replayed}
+use Rattle.er_run.specs.Faults.{FailsBy, IsFaultOfText}
+use Rattle.er_run.specs.Inner.Written.{WritesFound}
+use Rattle.er_run.specs.Replays.{IsBegun, IsFailed, IsReplayed, WritesNothing, is_stopped, verdict_of}
+use Rattle.er_run.specs.Reports.{AreReportsOfText, IsReportOfRun, has_races, is_verdict_of, report_with, stop_in, verdict_by}
 use Rattle.er_run.specs.declared.fault.RunFault.{RunFault}
-use Rattle.er_run.specs.declared.fault.RunFault.TheVariants.{Read, Write, Replay, Memory, Damaged}
-use Rattle.er_batch.specs.declared.verdict.Verdict.{Verdict}
-use Rattle.er_text.specs.Ending.{IsEndingOf, is_text_3, lost_if, lost_told}
-use Rattle.er_text.specs.declared.endings.Ending.{Ending}
-use Rattle.er_text.specs.declared.endings.Lost.{Lost}
+use Rattle.er_run.specs.declared.fault.RunFault.TheVariants.{Read, Write, Replay, CountFull, Memory, Damaged}
+use Rattle.er_text.specs.Ending.{lost_told}
+use Rattle.er_text.specs.Trace.{IsTrace}
 use Rattle.er_text.specs.declared.faults.ReadFault.TheVariants as reading
-use Rattle.er_batch.specs.declared.verdict.Verdict.TheVariants as verdict
+use Rattle.er_trace.specs.Names.{NameTable}
+use Rattle.er_trace.specs.Trace.{Recording}
 
 -- the verdict by the report's numbers
 verdict_from : (lost : Option ℕ) (recording : Recording) (rules : List Target) (explain : Bool) (stop : Option Stopped) (s : Summary) → s ≡ report_with lost recording rules explain stop
-    → verdict_by s.stop s.races ≡ verdict_of recording rules explain stop
-verdict_from lost recording rules explain None s says = ap (λ (t : Summary). verdict_by t.stop t.races) says
-verdict_from lost recording rules explain (Some stop) s says = ap (λ (t : Summary). verdict_by t.stop t.races) says
+    → verdict_by s.stop (nat_lt 0 s.races) ≡ verdict_of recording rules explain stop
+verdict_from lost recording rules explain None s says = ap (λ (t : Summary). verdict_by t.stop (nat_lt 0 t.races)) says
+verdict_from lost recording rules explain (Some stop) s says = ap (λ (t : Summary). verdict_by t.stop (nat_lt 0 t.races)) says
 
--- the whole report was written
-pub whole : (told : Option (List ℕ)) (limit : ℕ) (rules : List Target) (explain : Bool) (old new : Option (List ℕ)) (names : NameTable) (report : Report) (verdict : Verdict)
-    → IfSome told (λ text. IsReportOfText text limit rules explain names report) → verdict ≡ is_verdict_of report → Appends old new (report_text names (summary report))
-    → IfSome told (λ text. IsReplayed text limit rules explain old new verdict)
-whole None limit rules explain old new names report verdict built says written = tt
-whole (Some text) limit rules explain old new names report verdict built says written = record {
-  recording = built.recording;
-  stop = built.stop;
-  run = built.run;
-  written = subst (λ (s : Summary). Appends old new (report_text built.recording.names s)) built.says
-      (subst (λ (n : NameTable). Appends old new (report_text n (summary report))) built.names written);
-  verdict = says ∙ verdict_from (lost_told text) built.recording rules explain built.stop (summary report) built.says;
-}
+-- the report of the lockset rule alone, of a text
+module _ (limit : ℕ) (rules : List Target) (explain : Bool) (old new : Option (List ℕ)) (names : NameTable) (text : List ℕ) (recording : Recording) (trace : IsTrace text limit recording) (same : names ≡ recording.names) where
+  written-of : (count : List ℕ → List ℕ) (report : Report) → (is : IsReportOfRun false (lost_told text) recording rules explain report) → Appends old new (count (report_text names (summary report)))
+      → Appends old new (count (report_text recording.names (report_with (lost_told text) recording rules explain is.stop)))
+  written-of count report is written =
+      subst (λ (s : Summary). Appends old new (count (report_text recording.names s))) is.says
+      (subst (λ (n : NameTable). Appends old new (count (report_text n (summary report)))) same written)
 
-pub whole-of : (told : Option (List ℕ)) (limit : ℕ) (rules : List Target) (explain : Bool) (old new : Option (List ℕ)) (names : NameTable) (report : Report) (result : Result Replayed RunFault)
-    → IfSome told (λ text. IsReportOfText text limit rules explain names report) → IfOk result (λ replayed. replayed.verdict ≡ is_verdict_of report)
-    → WritesFound old new (report_text names (summary report)) result → IfOk result (λ replayed. IfSome told (λ text. IsReplayed text limit rules explain old new replayed.verdict))
-whole-of told limit rules explain old new names report (Ok replayed) built says written = whole told limit rules explain old new names report replayed.verdict built says written
-whole-of told limit rules explain old new names report (Err why) built says written = tt
+  -- was written
+  whole : (report unordered : Option Report) (verdict : Verdict) → is_some report ≡ true → is_some unordered ≡ false → IfSome report (λ one. IsReportOfRun false (lost_told text) recording rules explain one)
+      → verdict ≡ verdict_by (stop_in report) (has_races unordered || has_races report) → IfSome report (λ one. Appends old new (report_text names (summary one)))
+      → IsReplayed text limit rules explain old new verdict
+  whole None unordered verdict one none is says written = absurd (cc)
+  whole (Some report) (Some other) verdict one none is says written = absurd (cc)
+  whole (Some report) None verdict one none is says written = record {
+    recording = recording;
+    stop = is.stop;
+    run = record { trace = trace; within = is.within; cause = is.cause };
+    written = written-of (λ (bytes : List ℕ). bytes) report is written;
+    verdict = says ∙ verdict_from (lost_told text) recording rules explain is.stop (summary report) is.says;
+  }
 
--- or a beginning of it, or nothing
-pub part : (told : Option (List ℕ)) (limit : ℕ) (rules : List Target) (explain : Bool) (old new : Option (List ℕ)) (names : NameTable) (report : Report) (result : Result Replayed RunFault)
-    → IfSome told (λ text. IsReportOfText text limit rules explain names report) → WritesFound old new (report_text names (summary report)) result
-    → IfErr result (λ why. IsFailed told limit rules explain old new (Err why))
-part told limit rules explain old new names report (Ok replayed) built written = tt
-part told limit rules explain old new names report (Err (Read fault)) built written = absurd written
-part told limit rules explain old new names report (Err (Replay fault)) built written = absurd written
-part told limit rules explain old new names report (Err Memory) built written = absurd written
-part told limit rules explain old new names report (Err (Damaged damage)) built written = absurd written
-part told limit rules explain old new names report (Err (Write writing.Memory)) built written = tt
-part None limit rules explain old new names report (Err (Write writing.Write)) built written = tt
-part (Some text) limit rules explain old new names report (Err (Write writing.Write)) built written = record {
-  recording = built.recording;
-  stop = built.stop;
-  count = written.0;
-  run = built.run;
-  written = subst (λ (s : Summary). Appends old new (take written.0 (report_text built.recording.names s))) built.says
-      (subst (λ (n : NameTable). Appends old new (take written.0 (report_text n (summary report)))) built.names written.1);
-}
+  -- or a beginning of it
+  begun : (report : Option Report) → is_some report ≡ true → IfSome report (λ one. IsReportOfRun false (lost_told text) recording rules explain one)
+      → IfSome report (λ one. (n : ℕ) × Appends old new (take n (report_text names (summary one)))) → IsBegun text limit rules explain old new
+  begun None one is written = absurd (cc)
+  begun (Some report) one is written = record {
+    recording = recording;
+    stop = is.stop;
+    count = written.0;
+    run = record { trace = trace; within = is.within; cause = is.cause };
+    written = written-of (λ (bytes : List ℕ). take written.0 bytes) report is written.1;
+  }
 
-pub nothing : (old new : Option (List ℕ)) (text : List ℕ) (result : Result Replayed RunFault) → WritesFound old new text result → IfErr result (WritesNothing old new)
-nothing old new text (Ok replayed) written = tt
-nothing old new text (Err (Read fault)) written = absurd written
-nothing old new text (Err (Replay fault)) written = absurd written
-nothing old new text (Err Memory) written = absurd written
-nothing old new text (Err (Damaged damage)) written = absurd written
-nothing old new text (Err (Write writing.Memory)) written = written
-nothing old new text (Err (Write writing.Write)) written = tt
+module _ (told : Option (List ℕ)) (limit : ℕ) (rules : List Target) (explain : Bool) (old new : Option (List ℕ)) (names : NameTable) (reports : Reports) (one : is_some reports.lockset ≡ true)
+    (are : IfSome told (λ text. AreReportsOfText Lockset text limit rules explain names reports)) where
+  whole-by : (o : Option (List ℕ)) (verdict : Verdict) → is_some reports.unordered ≡ false → IfSome o (λ text. AreReportsOfText Lockset text limit rules explain names reports)
+      → verdict ≡ is_verdict_of reports → IfSome reports.lockset (λ report. Appends old new (report_text names (summary report))) → IfSome o (λ text. IsReplayed text limit rules explain old new verdict)
+  whole-by None verdict none is says written = tt
+  whole-by (Some text) verdict none is says written =
+      whole limit rules explain old new names text is.recording is.trace is.names reports.lockset reports.unordered verdict one none is.lockset says written
+
+  pub whole-of : (result : Result Verdict RunFault) → is_some reports.unordered ≡ false → IfOk result (λ verdict. verdict ≡ is_verdict_of reports)
+      → IfSome reports.lockset (λ report. WritesFound old new (report_text names (summary report)) result) → IfOk result (λ verdict. IfSome told (λ text. IsReplayed text limit rules explain old new verdict))
+  whole-of (Ok verdict) none says written = whole-by told verdict none are says written
+  whole-of (Err why) none says written = tt
+
+  begun-by : (o : Option (List ℕ)) → IfSome o (λ text. AreReportsOfText Lockset text limit rules explain names reports)
+      → IfSome reports.lockset (λ report. (n : ℕ) × Appends old new (take n (report_text names (summary report)))) → IfSome o (λ text. IsBegun text limit rules explain old new)
+  begun-by None is written = tt
+  begun-by (Some text) is written = begun limit rules explain old new names text is.recording is.trace is.names reports.lockset one is.lockset written
+
+  -- a text of which nothing was written is of no report
+  unwritten-text : (report : Option Report) → is_some report ≡ true → IfSome report (λ _. ⊥) → ⊥
+  unwritten-text None one never = cc
+  unwritten-text (Some report) one never = never
+
+  pub part : (result : Result Verdict RunFault) → IfSome reports.lockset (λ report. WritesFound old new (report_text names (summary report)) result) → IsFailed told limit rules explain old new result
+  part (Ok verdict) written = tt
+  part (Err (Read fault)) written = absurd (unwritten-text reports.lockset one written)
+  part (Err (Replay fault)) written = absurd (unwritten-text reports.lockset one written)
+  part (Err CountFull) written = absurd (unwritten-text reports.lockset one written)
+  part (Err Memory) written = absurd (unwritten-text reports.lockset one written)
+  part (Err (Damaged damage)) written = absurd (unwritten-text reports.lockset one written)
+  part (Err (Write writing.Memory)) written = tt
+  part (Err (Write writing.Write)) written = begun-by told are written
+
+-- or nothing
+nothing-by : (old new : Option (List ℕ)) (text : List ℕ) (result : Result Verdict RunFault) → WritesFound old new text result → IfErr result (WritesNothing old new)
+nothing-by old new text (Ok verdict) written = tt
+nothing-by old new text (Err (Read fault)) written = absurd written
+nothing-by old new text (Err (Replay fault)) written = absurd written
+nothing-by old new text (Err CountFull) written = absurd written
+nothing-by old new text (Err Memory) written = absurd written
+nothing-by old new text (Err (Damaged damage)) written = absurd written
+nothing-by old new text (Err (Write writing.Memory)) written = written
+nothing-by old new text (Err (Write writing.Write)) written = tt
+
+pub nothing : (old new : Option (List ℕ)) (names : NameTable) (report : Option Report) (result : Result Verdict RunFault) → is_some report ≡ true
+    → IfSome report (λ one. WritesFound old new (report_text names (summary one)) result) → IfErr result (WritesNothing old new)
+nothing old new names None result one written = absurd (cc)
+nothing old new names (Some report) result one written = nothing-by old new (report_text names (summary report)) result written
 
 -- a fault before a byte was written
-pub unwritten : (Begins : List ℕ → Type 0) (told : Option (List ℕ)) (limit : ℕ) (why : RunFault) → IsFaultOfText told limit why → IsFailedBy Begins told limit (Err why)
-unwritten Begins told limit (Read (reading.Text fault)) is = is
-unwritten Begins told limit (Read reading.Memory) is = tt
-unwritten Begins told limit (Read reading.Read) is = tt
-unwritten Begins told limit (Write fault) is = absurd is
-unwritten Begins told limit (Replay fault) is = is
-unwritten Begins told limit Memory is = tt
-unwritten Begins told limit (Damaged damage) is = is
+pub unwritten : (told : Option (List ℕ)) (limit : ℕ) (rules : List Target) (explain : Bool) (old new : Option (List ℕ)) (why : RunFault) → IsFaultOfText Lockset told limit why
+    → IsFailed told limit rules explain old new (Err why)
+unwritten told limit rules explain old new (Read fault) is = is
+unwritten told limit rules explain old new (Write fault) is = absurd is
+unwritten told limit rules explain old new (Replay fault) is = is
+unwritten told limit rules explain old new CountFull is = is
+unwritten told limit rules explain old new Memory is = is
+unwritten told limit rules explain old new (Damaged damage) is = is
 
 keeps : (old : Option (List ℕ)) → Keeps old old
 keeps None = tt
 keeps (Some bytes) = refl
 
-pub untouched : (told old : Option (List ℕ)) (limit : ℕ) (why : RunFault) → IsFaultOfText told limit why → WritesNothing old old why
+pub untouched : (told old : Option (List ℕ)) (limit : ℕ) (why : RunFault) → IsFaultOfText Lockset told limit why → WritesNothing old old why
 untouched told old limit (Read fault) is = keeps old
 untouched told old limit (Write fault) is = absurd is
 untouched told old limit (Replay fault) is = keeps old
+untouched told old limit CountFull is = keeps old
 untouched told old limit Memory is = keeps old
 untouched told old limit (Damaged damage) is = keeps old
 
@@ -107,6 +143,7 @@ fails-again X Y read written (Read reading.Read) by = by
 fails-again X Y read written (Write writing.Memory) by = by
 fails-again X Y read written (Write writing.Write) by = by
 fails-again X Y read written (Replay fault) by = by
+fails-again X Y read written CountFull by = by
 fails-again X Y read written Memory by = by
 fails-again X Y read written (Damaged damage) by = by
 
@@ -115,28 +152,11 @@ whole_by true = refl
 whole_by false = refl
 
 -- a report without a stop is of a replay that didn't stop
-pub not_stopped : (stop : Option (ℕ × NoRoom)) (races : ℕ) → stop ≡ None → IsFalse (is_stopped (verdict_by stop races))
-not_stopped stop races none = rw none (whole_by (nat_lt 0 races))
+not_stopped : (report : Option Report) (races : Bool) → IfSome report (λ one. one.stop ≡ None) → IsFalse (is_stopped (verdict_by (stop_in report) races))
+not_stopped None races none = whole_by races
+not_stopped (Some report) races none = rw none (whole_by races)
 
-pub whole-verdict : (report : Report) (result : Result Replayed RunFault) → report.stop ≡ None → IfOk result (λ replayed. replayed.verdict ≡ is_verdict_of report)
-    → IfOk result (λ replayed. IsFalse (is_stopped replayed.verdict))
-whole-verdict report (Ok replayed) none says = rw says (not_stopped report.stop report.races none)
-whole-verdict report (Err why) none says = tt
-
--- the report with the number of lost events that the text says
-pub lost-said : (told : Option (List ℕ)) (limit : ℕ) (rules : List Target) (explain : Bool) (names : NameTable) (report : Report) (lost : Option ℕ)
-    → IfSome told (λ text. IsReportBy None text limit rules explain names report) → IfSome told (λ text. lost ≡ lost_told text)
-    → IfSome told (λ text. IsReportOfText text limit rules explain names (record report { lost = lost }))
-lost-said None limit rules explain names report lost built says = tt
-lost-said (Some text) limit rules explain names report lost built says = record {
-  recording = built.recording;
-  stop = built.stop;
-  run = built.run;
-  says = ap (λ (s : Summary). record s { lost = lost }) built.says ∙ ap (λ (l : Option ℕ). report_with l built.recording rules explain built.stop) says;
-  names = built.names;
-}
-
-pub lost-of : (told : Option (List ℕ)) (ending : Ending) (lost : Option ℕ) → IfSome told (λ text. IsEndingOf text ending) → lost ≡ lost_if ending.is_text_3 ending.lost
-    → IfSome told (λ text. lost ≡ lost_told text)
-lost-of None ending lost is says = tt
-lost-of (Some text) ending lost is says = says ∙ ap (λ (b : Bool). lost_if b ending.lost) is.third ∙ ap (λ (l : Option Lost). lost_if (is_text_3 text) l) is.lost
+pub whole-verdict : (reports : Reports) (result : Result Verdict RunFault) → IfSome reports.lockset (λ report. report.stop ≡ None) → IfOk result (λ verdict. verdict ≡ is_verdict_of reports)
+    → IfOk result (λ verdict. IsFalse (is_stopped verdict))
+whole-verdict reports (Ok verdict) none says = rw says (not_stopped reports.lockset (has_races reports.unordered || has_races reports.lockset) none)
+whole-verdict reports (Err why) none says = tt

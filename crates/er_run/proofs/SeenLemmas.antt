@@ -12,7 +12,7 @@ use Rattle.er_parallel.specs.declared.faults.ReplayFault.{ReplayFault}
 use Rattle.er_parallel.specs.declared.faults.ReplayFault.TheVariants as replaying
 use Rattle.er_run.specs.Faults.{fault_of}
 use Rattle.er_run.specs.Inner.Inspected.{HaveSeen, IsInspected, HasFound}
-use Rattle.er_run.specs.Replays.{IsNoDamage}
+use Rattle.er_run.specs.Faults.{IsNoDamage}
 use Rattle.er_text.specs.Ending.{IsEndingOf}
 use Rattle.er_text.specs.Trace.{IsTrace}
 use Rattle.er_text.specs.declared.endings.Ending.{Ending}

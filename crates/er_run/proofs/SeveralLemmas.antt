@@ -1,5 +1,5 @@
 -- A batch that workers have answered goes on behind the steps that are past.
-use Rattle.std.proofs.Common.{◌≡◌, ◌⊎◌, ◌<◌, ◌≤◌, ◌+◌, ℕ, suc, add-one, true, false, List, [], ◌++◌, length, length-append, slice_get, slice_index, Option, Some, None, IfSome, is_some, Ok, Err, refl, sym, ap, subst, ◌∙◌, inl, inr, arith}
+use Rattle.std.proofs.Common.{◌≡◌, ◌⊎◌, ◌<◌, ◌≤◌, ◌+◌, ◌&&◌, ℕ, suc, add-one, Bool, true, false, List, [], ◌++◌, length, length-append, slice_get, slice_index, Option, Some, None, IfSome, is_some, Ok, Err, refl, sym, ap, subst, ◌∙◌, inl, inr, arith}
 use Rattle.std.specs.List.{All}
 use Rattle.std.proofs.lemmas.List.{append_assoc, append-nil}
 use Rattle.std.proofs.lemmas.List.Elements.{All-append, All-nil}
@@ -12,7 +12,6 @@ use Rattle.er_event.specs.declared.steps.Step.{Step}
 use Rattle.er_event.specs.declared.steps.WordState.{WordState}
 use Rattle.er_explain.proofs.RaceLemmas.{race-is}
 use Rattle.er_explain.specs.Racing.{is_race}
-use Rattle.er_journal.specs.declared.answers.Stopped.{Stopped}
 use Rattle.er_model.proofs.Prefixes.{holdings-front, state-front}
 use Rattle.er_model.specs.Answers.{answer, state_at}
 use Rattle.er_model.specs.Explanations.{word_in, word_of}
@@ -27,12 +26,19 @@ use Rattle.er_parallel.specs.declared.unusual.Unusual.{Unusual}
 use Rattle.er_replay.specs.Wants.{asks_by, is_access}
 use Rattle.er_report.proofs.GrowthLemmas.{reported-on}
 use Rattle.er_report.specs.Builder.{Built, GoesOn, IsReported, IsStepAt, KeepsState, is_plain}
-use Rattle.er_report.specs.Report.{answered_steps, report_of, stop_line, told as summary}
+use Rattle.er_report.specs.Names.{HasNames}
+use Rattle.er_report.specs.Report.{report_of, told as summary}
+use Rattle.er_report.specs.Reports.{asks_locks, asks_order}
 use Rattle.er_report.specs.declared.report.Report.{Report}
+use Rattle.er_report.specs.declared.reports.Analysis.{Analysis}
+use Rattle.er_report.specs.declared.reports.Analysis.TheVariants.{Lockset}
+use Rattle.er_rules.specs.Rules.{Target}
+use Rattle.er_unordered.specs.Reports.{has_order}
+use Rattle.er_batch.specs.Analysts.{Asked}
 use Rattle.er_batch.proofs.BatchLemmas.{all-named, read-part, read-whole}
-use Rattle.er_run.specs.Faults.{fault_of}
+use Rattle.er_run.specs.Faults.{IsFaultOfText, fault_of}
 use Rattle.er_batch.specs.Runs.{recorded}
-use Rattle.er_run.specs.Reports.{IsFaultOfText, IsReportBy}
+use Rattle.er_run.specs.Inner.Outcomes.{AreBuilt}
 use Rattle.er_run.specs.Inner.Several.{AreItems, BeginsWith, HasMore, HasReadAll, HasReadOn, HasReportedAll, IsNext, IsReadFault, Pending}
 use Rattle.er_run.specs.declared.fault.RunFault.TheVariants.{Read}
 use Rattle.er_text.proofs.BatchLaws.{forgotten}
@@ -179,26 +185,26 @@ may-front steps more replaying.WorkerNotStarted may = tt
 may-front steps more replaying.WorkerLost may = may
 
 -- a fault of workers who have answered the first steps of the text
-pub begun-fault : (text : List ℕ) (limit : ℕ) (past : List Step) (why : ReplayFault) → BeginsWith text limit past → MayFail past why → IsFaultOfText (Some text) limit (fault_of why)
+pub begun-fault : (text : List ℕ) (limit : ℕ) (past : List Step) (why : ReplayFault) → BeginsWith text limit past → MayFail past why → IsFaultOfText Lockset (Some text) limit (fault_of why)
 begun-fault text limit past replaying.Memory begins may = tt
 begun-fault text limit past replaying.TableFull begins may =
     record { recording = begins.recording; trace = begins.trace; asks = subst AsksForSet (sym begins.steps) (asks-front past begins.more may) }
 begun-fault text limit past replaying.WorkerNotStarted begins may = (begins.recording, begins.trace)
 begun-fault text limit past replaying.WorkerLost begins may = absurd may
 
-unknown-fault : (limit : ℕ) (past : List Step) (why : ReplayFault) → MayFail past why → IsFaultOfText None limit (fault_of why)
+unknown-fault : (limit : ℕ) (past : List Step) (why : ReplayFault) → MayFail past why → IsFaultOfText Lockset None limit (fault_of why)
 unknown-fault limit past replaying.Memory may = tt
 unknown-fault limit past replaying.TableFull may = tt
 unknown-fault limit past replaying.WorkerNotStarted may = tt
 unknown-fault limit past replaying.WorkerLost may = absurd may
 
 pub of-crew : (told : Option (List ℕ)) (limit : ℕ) (past : List Step) (why : ReplayFault) → IfSome told (λ text. BeginsWith text limit past) → MayFail past why
-    → IsFaultOfText told limit (fault_of why)
+    → IsFaultOfText Lockset told limit (fault_of why)
 of-crew None limit past why begins may = unknown-fault limit past why may
 of-crew (Some text) limit past why begins may = begun-fault text limit past why begins may
 
 -- a fault of the reader
-pub of-reader : (told : Option (List ℕ)) (limit : ℕ) (why : ReadFault) → IfSome told (λ text. IsReadFault text limit why) → IsFaultOfText told limit (Read why)
+pub of-reader : (told : Option (List ℕ)) (limit : ℕ) (why : ReadFault) → IfSome told (λ text. IsReadFault text limit why) → IsFaultOfText Lockset told limit (Read why)
 of-reader None limit (reading.Text f) is = tt
 of-reader (Some text) limit (reading.Text f) is = is
 of-reader told limit reading.Memory is = tt
@@ -369,7 +375,7 @@ module _ (told known rest : Option (List ℕ)) (old new : Reached) (t u : Record
 -- a fault in the text that is being read
 pub turn-fault : (told known rest : Option (List ℕ)) (old new : Reached) (t u : Recording) (past : List Step) (lines : List ℕ) (why : ReadFault) → new.place.limit ≡ old.place.limit
     → ((text : List ℕ) (steps : List Step) (numbers : List ℕ) → HasRead text steps numbers old known t → GivesBatch text steps numbers new rest u (Err why))
-    → IfSome told (λ text. HasRead text past lines old known t) → IsFaultOfText told old.place.limit (Read why)
+    → IfSome told (λ text. HasRead text past lines old known t) → IsFaultOfText Lockset told old.place.limit (Read why)
 turn-fault told known rest old new t u past lines why limit gives read = of-reader told old.place.limit why (by told read)
   where
     by : (o : Option (List ℕ)) → IfSome o (λ text. HasRead text past lines old known t) → IfSome o (λ text. IsReadFault text old.place.limit why)
@@ -406,26 +412,31 @@ module _ (told : Option (List ℕ)) (limit : ℕ) (names : NameTable) (batch : L
       by None read = tt
       by (Some text) read = record { recording = recorded (all.past ++ batch) (all.lines ++ numbers) names; trace = read; more = []; steps = sym (append-nil (all.past ++ batch)) }
 
-  pub all-fault : (why : ReplayFault) → ((past : List Step) → HaveAnswered crew past → MayFail (past ++ batch) why) → IsFaultOfText told limit (fault_of why)
+  pub all-fault : (why : ReplayFault) → ((past : List Step) → HaveAnswered crew past → MayFail (past ++ batch) why) → IsFaultOfText Lockset told limit (fault_of why)
   all-fault why fails = of-crew told limit (all.past ++ batch) why begins (fails all.past all.pending.answered)
 
 -- the report of all steps is that of the text
-pub finished : (told : Option (List ℕ)) (limit : ℕ) (used : NameTable) (builder : Built) (report : Report) → HasReportedAll told limit used builder
-    → ((r : Recording) (stopped : Option Stopped) → IsReported builder r (length (answered_steps r.steps stopped)) → None ≡ stop_line r stopped
-    → summary report ≡ report_of r builder.rules (is_some builder.kept) stopped)
-    → IfSome told (λ text. IsReportBy None text limit builder.rules (is_some builder.kept) used report)
-finished told limit used builder report all says = by told all.read
-  where
-    by : (o : Option (List ℕ)) → IfSome o (λ text. IsTrace text limit all.recording) → IfSome o (λ text. IsReportBy None text limit builder.rules (is_some builder.kept) used report)
-    by None read = tt
-    by (Some text) read =
-        record {
-          recording = all.recording;
-          stop = None;
-          run = record { trace = read; within = tt; cause = tt };
-          says = says all.recording None all.reported refl;
-          names = all.names;
-        }
+pub finished : (asked : Asked) (r : Recording) (builder : Built) (report : Report) → asked.analysis ≡ Lockset → builder.rules ≡ asked.rules → is_some builder.kept ≡ asked.explain
+    → summary report ≡ report_of r builder.rules (is_some builder.kept) None → All (HasNames r.names) report.lines.items → AreBuilt asked r (record { lockset = Some report; unordered = None }) false
+finished asked r builder report alone rules explain says named = record {
+  lockset = record {
+    there = sym (ap asks_locks alone);
+    says = record {
+      stop = None;
+      within = tt;
+      cause = tt;
+      whole = λ orders. refl;
+      says = says ∙ ap (λ (l : List Target). report_of r l (is_some builder.kept) None) rules ∙ ap (λ (b : Bool). report_of r asked.rules b None) explain;
+    };
+    names = named;
+  };
+  unordered = record {
+    there = sym (ap asks_order alone);
+    says = tt;
+    names = tt;
+    order = sym (ap (λ (analysis : Analysis). asks_order analysis && has_order r.steps) alone);
+  };
+}
 
 -- workers that can't be started
 pub start-may : (why : ReplayFault) → (why ≡ replaying.Memory) ⊎ (why ≡ replaying.WorkerNotStarted) → MayFail [] why

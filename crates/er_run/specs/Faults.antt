@@ -1,15 +1,33 @@
--- The faults of a replay in words.
-use Rattle.std.specs.Prelude.{ℕ, List, codes}
+-- The faults of a replay: their words, when each may come, and which of the reader and the writer has failed.
+use Rattle.std.specs.Prelude.{◌≡◌, ℕ, Bool, true, false, IsTrue, List, codes, Option, Some, IfSome, Result, Ok, Err}
+use Rattle.er_batch.specs.Runs.{IsRunOf}
+use Rattle.er_damage.specs.Damaged.{IsDamageOf, has_damage}
+use Rattle.er_damage.specs.declared.damage.Damage.{Damage}
+use Rattle.er_event.specs.declared.refusals.NoRoom.{NoRoom}
+use Rattle.er_event.specs.declared.refusals.NoRoom.TheVariants as room
+use Rattle.er_journal.specs.declared.answers.Stopped.{Stopped}
+use Rattle.er_parallel.specs.Faults.{AsksForSet}
 use Rattle.er_parallel.specs.declared.faults.ReplayFault.{ReplayFault}
 use Rattle.er_parallel.specs.declared.faults.ReplayFault.TheVariants as replaying
+use Rattle.er_print.specs.declared.fault.WriteFault.TheVariants as writing
+use Rattle.er_report.specs.Reports.{asks_order}
+use Rattle.er_report.specs.declared.reports.Analysis.{Analysis}
+use Rattle.er_report.specs.declared.reports.Analysis.TheVariants.{Lockset, HappensBefore, Both}
 use Rattle.er_run.specs.declared.fault.RunFault.{RunFault}
-use Rattle.er_run.specs.declared.fault.RunFault.TheVariants.{Read, Write, Replay, Memory, Damaged}
+use Rattle.er_run.specs.declared.fault.RunFault.TheVariants.{Read, Write, Replay, CountFull, Memory, Damaged}
+use Rattle.er_text.specs.Trace.{IsTrace, IsFault}
+use Rattle.er_text.specs.declared.faults.ReadFault.TheVariants as reading
+use Rattle.er_trace.specs.Trace.{Recording}
+use Rattle.er_unordered.specs.Stops.{OverflowsIn}
+use Rattle.er_unordered.specs.declared.stop.OrderStop.{OrderStop}
+use Rattle.er_unordered.specs.declared.stop.OrderStop.TheVariants as order
 
 -- a fault in words
 abbrev pub text_of : RunFault → List ℕ
 text_of (Read fault) = codes "the trace was not read"
 text_of (Write fault) = codes "the report was not written"
 text_of (Replay fault) = codes "the trace was not replayed"
+text_of CountFull = codes "count full"
 text_of Memory = codes "out of memory"
 text_of (Damaged damage) = codes "the trace is damaged"
 
@@ -19,3 +37,99 @@ fault_of replaying.Memory = Memory
 fault_of replaying.TableFull = Replay replaying.TableFull
 fault_of replaying.WorkerNotStarted = Replay replaying.WorkerNotStarted
 fault_of replaying.WorkerLost = Replay replaying.WorkerLost
+
+-- what a stop of the lockset rule comes to beside another report
+abbrev pub fault_of_room : NoRoom → RunFault
+fault_of_room room.TableFull = Replay replaying.TableFull
+fault_of_room room.JournalFull = Memory
+fault_of_room room.OutOfMemory = Memory
+
+-- what a stop of happens-before comes to
+abbrev pub fault_of_stop : OrderStop → RunFault
+fault_of_stop order.CountFull = CountFull
+fault_of_stop order.Memory = Memory
+
+-- the text is a trace, and some step of it asks the table for a set of locks
+pub record HasStepForSet (text : List ℕ) (limit : ℕ) : Type 0 where
+  pub recording : Recording
+  pub trace : IsTrace text limit recording
+  pub asks : AsksForSet recording.steps
+
+-- the text is a trace, and the lockset rule stops at a step of it that may want this room
+pub record StopsFor (text : List ℕ) (limit : ℕ) (room : NoRoom) : Type 0 where
+  pub recording : Recording
+  pub stop : Stopped
+  pub run : IsRunOf text limit recording (Some stop)
+  pub cause : stop.cause ≡ room
+
+-- the text is a trace, and at one of its steps a count that would rise is the greatest
+pub record Overflows (text : List ℕ) (limit : ℕ) : Type 0 where
+  pub recording : Recording
+  pub trace : IsTrace text limit recording
+  pub full : OverflowsIn recording.steps
+
+-- the table is full: for workers if a step asks it for a set, and beside another report if a step may want a set that it has no room for
+abbrev pub MayFill : Analysis → Option (List ℕ) → ℕ → Type 0
+MayFill Lockset told limit = IfSome told (λ text. HasStepForSet text limit)
+MayFill HappensBefore told limit = ⊥
+MayFill Both told limit = IfSome told (λ text. StopsFor text limit room.TableFull)
+
+-- a worker isn't started: of a text that is a trace, and by the lockset rule alone
+abbrev pub MayNotStart : Analysis → Option (List ℕ) → ℕ → Type 0
+MayNotStart Lockset told limit = IfSome told (λ text. (r : Recording) × IsTrace text limit r)
+MayNotStart HappensBefore told limit = ⊥
+MayNotStart Both told limit = ⊥
+
+-- a fault of the answers to a text that is a trace: a want of memory has a fault of its own, and no worker is lost
+abbrev pub IsReplayFault : Analysis → Option (List ℕ) → ℕ → ReplayFault → Type 0
+IsReplayFault analysis told limit replaying.Memory = ⊥
+IsReplayFault analysis told limit replaying.TableFull = MayFill analysis told limit
+IsReplayFault analysis told limit replaying.WorkerNotStarted = MayNotStart analysis told limit
+IsReplayFault analysis told limit replaying.WorkerLost = ⊥
+
+-- the text is a trace, and this is its damage, of which it has some
+abbrev pub IsFoundDamage : Option (List ℕ) → ℕ → Damage → Type 0
+IsFoundDamage told limit damage = IfSome told (λ text. IsDamageOf text limit damage) × (has_damage damage ≡ true)
+
+-- nothing was written yet: a fault of the text is its first, a full table and a worker that isn't started are as above, a count is full only by
+-- happens-before and at a step of the text, and damage is that of the text
+abbrev pub IsFaultOfText : Analysis → Option (List ℕ) → ℕ → RunFault → Type 0
+IsFaultOfText analysis told limit (Read (reading.Text fault)) = IfSome told (λ text. IsFault text limit fault)
+IsFaultOfText analysis told limit (Read reading.Memory) = Unit {0}
+IsFaultOfText analysis told limit (Read reading.Read) = Unit {0}
+IsFaultOfText analysis told limit (Write fault) = ⊥
+IsFaultOfText analysis told limit (Replay fault) = IsReplayFault analysis told limit fault
+IsFaultOfText analysis told limit CountFull = IsTrue (asks_order analysis) × IfSome told (λ text. Overflows text limit)
+IsFaultOfText analysis told limit Memory = Unit {0}
+IsFaultOfText analysis told limit (Damaged damage) = IsFoundDamage told limit damage
+
+-- the reader failed exactly where a failed read is told, and the writer exactly where a failed write is
+abbrev pub FailsBy : {X : Type 0} → Bool → Bool → Result X RunFault → Type 0
+FailsBy read written (Ok x) = (read ≡ false) × (written ≡ false)
+FailsBy read written (Err (Read (reading.Text fault))) = (read ≡ false) × (written ≡ false)
+FailsBy read written (Err (Read reading.Memory)) = (read ≡ false) × (written ≡ false)
+FailsBy read written (Err (Read reading.Read)) = (read ≡ true) × (written ≡ false)
+FailsBy read written (Err (Write writing.Memory)) = (read ≡ false) × (written ≡ false)
+FailsBy read written (Err (Write writing.Write)) = (read ≡ false) × (written ≡ true)
+FailsBy read written (Err (Replay fault)) = (read ≡ false) × (written ≡ false)
+FailsBy read written (Err CountFull) = (read ≡ false) × (written ≡ false)
+FailsBy read written (Err Memory) = (read ≡ false) × (written ≡ false)
+FailsBy read written (Err (Damaged damage)) = (read ≡ false) × (written ≡ false)
+
+-- the fault is no damage
+abbrev pub IsNoDamage : RunFault → Type 0
+IsNoDamage (Damaged damage) = ⊥
+IsNoDamage (Read fault) = Unit {0}
+IsNoDamage (Write fault) = Unit {0}
+IsNoDamage (Replay fault) = Unit {0}
+IsNoDamage CountFull = Unit {0}
+IsNoDamage Memory = Unit {0}
+
+-- the fault is one of reading: the text wasn't read, it is damaged, or memory was refused
+abbrev pub IsOfReading : RunFault → Type 0
+IsOfReading (Read fault) = Unit {0}
+IsOfReading (Damaged damage) = Unit {0}
+IsOfReading Memory = Unit {0}
+IsOfReading (Write fault) = ⊥
+IsOfReading (Replay fault) = ⊥
+IsOfReading CountFull = ⊥

@@ -1,4 +1,5 @@
 -- What the parts of a replay keep true of one another.
-pub mod Reports
-pub mod Several
 pub mod Inspected
+pub mod Outcomes
+pub mod Several
+pub mod Written

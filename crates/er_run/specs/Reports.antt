@@ -1,63 +1,71 @@
--- A report that was built of a text, before a byte of it is written.
-use Rattle.std.specs.Prelude.{◌≡◌, ◌+◌, ◌≤◌, ℕ, Bool, false, List, All, Option, Result, IfSome, IfOk, IfErr, IsFalse, IsTrue, OnOk}
-use Rattle.er_batch.specs.Analysts.{Asked}
-use Rattle.er_batch.specs.Limits.{bytes_past_limit}
-use Rattle.er_batch.specs.Runs.{IsRunOf}
-use Rattle.er_batch.specs.declared.options.Options.{Options}
-use Rattle.er_damage.specs.Damaged.{IsDamageOf, no_damage}
+-- The reports that were built of a text, before a byte of them is written, and what they come to.
+use Rattle.std.specs.Prelude.{◌≡◌, ◌&&◌, ◌||◌, ℕ, ◌<◌, nat_lt, Bool, true, false, cond, List, length, Option, Some, None, IfSome}
+use Rattle.er_batch.specs.Runs.{MayStopAt}
+use Rattle.er_batch.specs.declared.verdict.Verdict.{Verdict}
+use Rattle.er_batch.specs.declared.verdict.Verdict.TheVariants as verdict
+use Rattle.er_event.specs.declared.refusals.NoRoom.{NoRoom}
 use Rattle.er_journal.specs.declared.answers.Stopped.{Stopped}
-use Rattle.er_report.specs.Names.{HasNames}
-use Rattle.er_report.specs.Report.{told as summary}
+use Rattle.er_report.specs.Report.{Summary, report_of, told as summary}
+use Rattle.er_report.specs.Reports.{asks_order}
 use Rattle.er_report.specs.declared.report.Report.{Report}
+use Rattle.er_report.specs.declared.reports.Analysis.{Analysis}
+use Rattle.er_report.specs.declared.reports.Reports.{Reports}
 use Rattle.er_rules.specs.Rules.{Target}
-use Rattle.er_run.specs.Replays.{report_with, FailsBy, IsNoDamage, IsReplayFault, IsFoundDamage}
-use Rattle.er_run.specs.declared.fault.RunFault.{RunFault}
-use Rattle.er_run.specs.declared.fault.RunFault.TheVariants.{Read, Write, Replay, Memory, Damaged}
-use Rattle.er_run.specs.declared.outcome.ReplayedTrace.{ReplayedTrace}
-use Rattle.er_text.specs.Ending.{lost_told, IsEndingOf}
-use Rattle.er_text.specs.Trace.{IsFault}
-use Rattle.er_text.specs.declared.faults.ReadFault.TheVariants as reading
+use Rattle.er_text.specs.Ending.{lost_told}
+use Rattle.er_text.specs.Trace.{IsTrace}
 use Rattle.er_trace.specs.Names.{NameTable}
 use Rattle.er_trace.specs.Trace.{Recording}
+use Rattle.er_unordered.specs.Reports.{has_order, unordered_report}
 
--- the report of a run of the text's trace under these rules, with so many lost events, and the names of that trace
-pub record IsReportBy (lost : Option ℕ) (text : List ℕ) (limit : ℕ) (rules : List Target) (explain : Bool) (used : NameTable) (report : Report) : Type 0 where
-  pub recording : Recording
+-- the report of a run over these steps, with so many lost events
+abbrev pub report_with : Option ℕ → Recording → List Target → Bool → Option Stopped → Summary
+report_with lost recording rules explain stop = record (report_of recording rules explain stop) { lost = lost }
+
+-- that of their unordered accesses
+abbrev pub unordered_with : Option ℕ → Recording → List Target → Bool → Summary
+unordered_with lost recording rules explain = record (unordered_report recording rules explain) { lost = lost }
+
+-- the report of a run of the recording's steps under these rules, with so many lost events; beside another report the run hasn't stopped
+pub record IsReportOfRun (beside : Bool) (lost : Option ℕ) (recording : Recording) (rules : List Target) (explain : Bool) (report : Report) : Type 0 where
   pub stop : Option Stopped
-  pub run : IsRunOf text limit recording stop
+  pub within : IfSome stop (λ s. s.at < length recording.steps)
+  pub cause : IfSome stop (λ s. MayStopAt recording.steps s)
+  pub whole : beside ≡ true → stop ≡ None
   pub says : summary report ≡ report_with lost recording rules explain stop
+
+-- the reports of the text's trace by this analysis under these rules, with reasons or without, with so many lost events, and the names of that trace
+pub record AreReportsBy (lost : Option ℕ) (analysis : Analysis) (text : List ℕ) (limit : ℕ) (rules : List Target) (explain : Bool) (used : NameTable) (reports : Reports) : Type 0 where
+  pub recording : Recording
+  pub trace : IsTrace text limit recording
   pub names : used ≡ recording.names
+  pub lockset : IfSome reports.lockset (λ report. IsReportOfRun (asks_order analysis) lost recording rules explain report)
+  pub unordered : IfSome reports.unordered (λ report. summary report ≡ unordered_with lost recording rules explain)
 
 -- with those that the text says are lost
-abbrev pub IsReportOfText : List ℕ → ℕ → List Target → Bool → NameTable → Report → Type 0
-IsReportOfText text limit rules explain used report = IsReportBy (lost_told text) text limit rules explain used report
+abbrev pub AreReportsOfText : Analysis → List ℕ → ℕ → List Target → Bool → NameTable → Reports → Type 0
+AreReportsOfText analysis text limit rules explain used reports = AreReportsBy (lost_told text) analysis text limit rules explain used reports
 
--- nothing was written yet: a fault of the text is its first, one of the workers is theirs, and damage is that of the text
-abbrev pub IsFaultOfText : Option (List ℕ) → ℕ → RunFault → Type 0
-IsFaultOfText told limit (Read (reading.Text fault)) = IfSome told (λ text. IsFault text limit fault)
-IsFaultOfText told limit (Read reading.Memory) = Unit {0}
-IsFaultOfText told limit (Read reading.Read) = Unit {0}
-IsFaultOfText told limit (Write fault) = ⊥
-IsFaultOfText told limit (Replay fault) = IsReplayFault told limit fault
-IsFaultOfText told limit Memory = Unit {0}
-IsFaultOfText told limit (Damaged damage) = IsFoundDamage told limit damage
+-- happens-before is asked for, and some step of the text's trace starts or joins a thread, signals or awaits
+pub record IsOrderOfText (analysis : Analysis) (text : List ℕ) (limit : ℕ) (has : Bool) : Type 0 where
+  pub recording : Recording
+  pub trace : IsTrace text limit recording
+  pub says : has ≡ (asks_order analysis && has_order recording.steps)
 
--- what a replay of this text under these wishes may come to, before a byte is written: the text's report and how the text ends, or a fault
-pub record IsOutcomeOf (told : Option (List ℕ)) (limit : ℕ) (asked : Asked) (result : Result ReplayedTrace RunFault) : Type 0 where
-  pub report : IfOk result (λ found. IfSome told (λ text. IsReportOfText text limit asked.rules asked.explain found.trace.names found.report))
-  pub named : IfOk result (λ found. All (HasNames found.trace.names) found.report.lines.items)
-  pub ending : IfOk result (λ found. IfSome told (λ text. IsEndingOf text found.ending))
-  pub fault : IfErr result (λ why. IsFaultOfText told limit why)
-  pub undamaged : IsTrue asked.strict → OnOk result (IfSome told (λ text. IsDamageOf text limit no_damage))
-  pub lenient : IsFalse asked.strict → IfErr result IsNoDamage
+-- where a report says that the run has stopped, if there is one
+abbrev pub stop_in : Option Report → Option (ℕ × NoRoom)
+stop_in None = None
+stop_in (Some report) = report.stop
 
--- what a replay by these options and rules asks for
-abbrev pub asked_by : Options → List Target → Asked
-asked_by options rules = record { rules = rules; explain = options.explain; strict = options.strict }
+-- whether a report has races, if there is one
+abbrev pub has_races : Option Report → Bool
+has_races None = false
+has_races (Some report) = nat_lt 0 report.races
 
--- what a replay of this text by these options and rules may come to; its reader had given so many bytes before, and has given so many now, and it has
--- failed or not
-pub record IsReplayOf (told : Option (List ℕ)) (options : Options) (rules : List Target) (before after : ℕ) (unread : Bool) (result : Result ReplayedTrace RunFault) : Type 0 where
-  pub outcome : IsOutcomeOf told options.byte_limit (asked_by options rules) result
-  pub failed : FailsBy unread false result
-  pub taken : after ≤ before + options.byte_limit + bytes_past_limit
+-- what reports with such a stop and such races come to
+abbrev pub verdict_by : Option (ℕ × NoRoom) → Bool → Verdict
+verdict_by (Some stop) races = verdict.Stopped
+verdict_by None races = cond races verdict.Races verdict.Clean
+
+-- what reports come to: a stop of the lockset rule, or else whether some report has a race
+abbrev pub is_verdict_of : Reports → Verdict
+is_verdict_of reports = verdict_by (stop_in reports.lockset) (has_races reports.unordered || has_races reports.lockset)

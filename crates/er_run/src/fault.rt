@@ -1,25 +1,29 @@
 //! How a replay ends.
 ghost use Rattle.std.specs.Prelude.{◌≡◌, Some};
-ghost use Rattle.er_run.specs.Faults.{text_of, fault_of};
+ghost use Rattle.er_run.specs.Faults.{text_of, fault_of, fault_of_room, fault_of_stop};
 ghost use Rattle.er_run.specs.declared.fault.RunFault.TheVariants.{Read, Write, Memory};
 
 use er_damage::Damage;
+use er_event::NoRoom;
 use er_parallel::ReplayFault;
 use er_print::WriteFault;
 use er_text::ReadFault;
+use er_unordered::OrderStop;
 use std::alloc::AllocError;
 use std::error::Error;
 use std::fmt;
 
-/// Why a replay gave no report, or not all of it.
+/// Why a replay gave no reports, or not all of them.
 #[derive(Clone, Copy, Debug, PartialEq, Eq)]
 pub enum RunFault {
     /// The trace wasn't read.
     Read(ReadFault),
-    /// The report wasn't written.
+    /// The reports weren't written.
     Write(WriteFault),
-    /// Several workers found the table of locksets full, or one of them couldn't be started.
+    /// The table of locksets is full, for several workers or beside a report by happens-before, or a worker couldn't be started.
     Replay(ReplayFault),
+    /// By happens-before: a thread releases, starts, signals and is joined 2^32 - 1 times or more.
+    CountFull,
     /// Memory was refused between the two.
     Memory,
     /// The trace is damaged, and the replay is strict.
@@ -34,6 +38,7 @@ impl fmt::Display for RunFault {
             RunFault::Read(_) => "the trace was not read",
             RunFault::Write(_) => "the report was not written",
             RunFault::Replay(_) => "the trace was not replayed",
+            RunFault::CountFull => "count full",
             RunFault::Memory => "out of memory",
             RunFault::Damaged(_) => "the trace is damaged",
         })
@@ -67,6 +72,28 @@ impl From<ReplayFault> for RunFault {
             ReplayFault::TableFull => RunFault::Replay(ReplayFault::TableFull),
             ReplayFault::WorkerNotStarted => RunFault::Replay(ReplayFault::WorkerNotStarted),
             ReplayFault::WorkerLost => RunFault::Replay(ReplayFault::WorkerLost),
+        }
+    }
+}
+
+impl From<NoRoom> for RunFault {
+    ghost from_gives = { λ cause fault. fault ≡ fault_of_room cause };
+
+    fn from(cause: NoRoom) -> RunFault {
+        match cause {
+            NoRoom::TableFull => RunFault::Replay(ReplayFault::TableFull),
+            NoRoom::JournalFull | NoRoom::OutOfMemory => RunFault::Memory,
+        }
+    }
+}
+
+impl From<OrderStop> for RunFault {
+    ghost from_gives = { λ cause fault. fault ≡ fault_of_stop cause };
+
+    fn from(cause: OrderStop) -> RunFault {
+        match cause {
+            OrderStop::CountFull => RunFault::CountFull,
+            OrderStop::Memory => RunFault::Memory,
         }
     }
 }

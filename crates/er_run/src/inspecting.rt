@@ -50,6 +50,8 @@ impl<R> Analyst<R> for Inspection {
 
     ghost stands = { λ seen asked r. IsInspected seen.inspector asked.strict r };
 
+    ghost wanted = { λ asked. asked.strict };
+
     ghost answered = { λ _. 0 };
 
     ghost found = { λ _. 0 };

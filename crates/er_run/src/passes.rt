@@ -1,68 +1,88 @@
 //! A replay by one worker, in one pass.
-ghost use Rattle.std.specs.Prelude.{◌≡◌, ℕ, Option, List, IfSome, false};
-ghost use Rattle.er_batch.specs.Analysts.{Asked, HasRunFor, IsAnswered};
+ghost use Rattle.std.specs.Prelude.{◌≡◌, ℕ, Option, List, IfSome, IfOk, IfErr, IsOk, Some, None, false, true, is_some};
+ghost use Rattle.er_batch.specs.Analysts.{Asked, HasRunFor, IsAnswered, Ran, StandsIf};
 ghost use Rattle.er_device.specs.Device.{inner_of, has_failed, taken_of};
+ghost use Rattle.er_event.specs.declared.refusals.NoRoom.{NoRoom as Room};
+ghost use Rattle.er_report.specs.Reports.{asks_locks, asks_order};
 ghost use Rattle.er_rules.specs.Rules.{targets_of};
-ghost use Rattle.er_run.specs.Inner.Inspected.{IsInspected};
-ghost use Rattle.er_run.specs.Replays.{FailsBy};
-ghost use Rattle.er_run.specs.Reports.{IsOutcomeOf, IsReplayOf};
+ghost use Rattle.er_run.specs.Faults.{FailsBy, IsFaultOfText, IsNoDamage, IsOfReading};
+ghost use Rattle.er_run.specs.Inner.Outcomes.{AllStand, AreBuilt, IsOrderBuilt, IsOutcomeOf, IsReplayOf, IsRunBuilt};
 ghost use Rattle.er_text.specs.Ending.{IsEndingOf};
+ghost use Rattle.er_text.specs.Trace.{IsTrace};
+ghost use Rattle.er_trace.specs.Trace.{Recording, no_steps};
+ghost use Rattle.er_unordered.specs.Ordered.{HasOrdered, OrderRan};
 
 use crate::inspecting::Inspection;
 use crate::outcome::{ReplayedTrace, with_lost};
 use crate::{Options, RunFault, Watch};
 use er_batch::{Analysed, LocksetAnalyst, Pair, analyse};
 use er_device::Device;
+use er_event::NoRoom;
+use er_report::{Analysis, Report, Reports};
 use er_rules::Suppressions;
 use er_table::LocksetTable;
-use std::alloc::Global;
+use er_unordered::OrderAnalyst;
+use std::alloc::{AllocError, Global};
 use std::io::Read;
 use std::sync::Wait;
 
-/// The report of a replay by one worker that forgets the steps, with reasons if they are asked for.
-pub(crate) fn report_in_batches<R: Wait, D: Read, V: Watch>(
+/// What answers the steps of a request: each rule that is asked for, and what looks for damage.
+type Analysts<'t, 'r> =
+    Pair<Pair<Option<LocksetAnalyst<'t, 'r>>, Option<OrderAnalyst<'r>>>, Inspection>;
+
+/// The reports of a replay by one worker that forgets the steps, with reasons if they are asked for.
+pub(crate) fn reports_in_batches<R: Wait, D: Read, V: Watch>(
     rt: &R,
     alloc: Global,
     reader: &mut Device<D>,
     suppressions: &Suppressions,
     options: &Options,
+    analysis: Analysis,
     watcher: &mut V,
 ) -> Result<ReplayedTrace, RunFault>
     requires reader { has_failed reader.old ≡ false }
-    ensures replay { IsReplayOf (D.remaining (inner_of reader.old)) options.now (targets_of suppressions.now) (taken_of reader.old) (taken_of reader.new) (has_failed reader.new) result }
+    ensures replay { IsReplayOf (D.remaining (inner_of reader.old)) options.now (targets_of suppressions.now) analysis (taken_of reader.old) (taken_of reader.new) (has_failed reader.new) result }
+    ensures alone { asks_order analysis ≡ false → IfErr result IsOfReading }
 {
     let table = LocksetTable::keyed(alloc, options.max_sets, options.keys)?;
-    let found = report_with(rt, alloc, &table, reader, suppressions, options, watcher);
+    let found = reports_over(
+        rt,
+        alloc,
+        &table,
+        reader,
+        suppressions,
+        options,
+        analysis,
+        watcher,
+    );
     drop(table);
+    watcher.end();
     found
 }
 
 // The same over this table. Split for the prover.
-fn report_with<R: Wait, D: Read, V: Watch>(
+fn reports_over<R: Wait, D: Read, V: Watch>(
     rt: &R,
     alloc: Global,
     table: &LocksetTable,
     reader: &mut Device<D>,
     suppressions: &Suppressions,
     options: &Options,
+    analysis: Analysis,
     watcher: &mut V,
 ) -> Result<ReplayedTrace, RunFault>
     requires reader { has_failed reader.old ≡ false }
-    ensures replay { IsReplayOf (D.remaining (inner_of reader.old)) options.now (targets_of suppressions.now) (taken_of reader.old) (taken_of reader.new) (has_failed reader.new) result }
+    ensures replay { IsReplayOf (D.remaining (inner_of reader.old)) options.now (targets_of suppressions.now) analysis (taken_of reader.old) (taken_of reader.new) (has_failed reader.new) result }
+    ensures alone { asks_order analysis ≡ false → IfErr result IsOfReading }
 {
-    let lockset = LocksetAnalyst::new(alloc, table, suppressions, options.explain, options.keys)?;
-    let inspection = Inspection::new(alloc, options.strict);
-    let analyst = Pair {
-        first: lockset,
-        second: inspection,
-    };
+    let analysts = analysts_of(alloc, table, suppressions, options, analysis)?;
     match analyse(
         rt,
         alloc,
         reader,
         options.byte_limit,
         options.keys,
-        analyst,
+        analysts,
         watcher,
     ) {
         Ok(found) => end(found),
@@ -70,10 +90,77 @@ fn report_with<R: Wait, D: Read, V: Watch>(
     }
 }
 
-// The report of the text that was read, or its damage, if the replay is strict and there is any.
-fn end(found: Analysed<Pair<LocksetAnalyst<'_, '_>, Inspection>>) -> Result<ReplayedTrace, RunFault>
-    ensures outcome { (asked : Asked) (told : Option (List ℕ)) (limit : ℕ) → IsAnswered (λ r. HasRunFor found.entry.analyst.first asked r × IsInspected found.entry.analyst.second.inspector asked.strict r) told limit found.entry.trace.names
+// What answers the steps of such a request, before any step.
+fn analysts_of<'t, 'r>(
+    alloc: Global,
+    table: &'t LocksetTable,
+    suppressions: &'r Suppressions,
+    options: &Options,
+    analysis: Analysis,
+) -> Result<Analysts<'t, 'r>, AllocError>
+    ensures stands { (asked : Asked) → asked.analysis ≡ analysis → asked.rules ≡ targets_of suppressions.now → asked.explain ≡ options.now.explain → asked.strict ≡ options.now.strict
+        → IfOk result (λ all. AllStand all.first.first all.first.second all.second.inspector asked no_steps) }
+{
+    let lockset = lockset_if(alloc, table, suppressions, options, analysis)?;
+    let ordering = match ordering_if(alloc, suppressions, options, analysis) {
+        Ok(ordering) => ordering,
+        Err(refused) => {
+            drop(lockset);
+            return Err(refused);
+        }
+    };
+    Ok(Pair {
+        first: Pair {
+            first: lockset,
+            second: ordering,
+        },
+        second: Inspection::new(alloc, options.strict),
+    })
+}
+
+// The lockset rule, if it is asked for.
+fn lockset_if<'t, 'r>(
+    alloc: Global,
+    table: &'t LocksetTable,
+    suppressions: &'r Suppressions,
+    options: &Options,
+    analysis: Analysis,
+) -> Result<Option<LocksetAnalyst<'t, 'r>>, AllocError>
+    ensures stands { (asked : Asked) → asked.analysis ≡ analysis → asked.rules ≡ targets_of suppressions.now → asked.explain ≡ options.now.explain
+        → IfOk result (λ lockset. StandsIf (λ (one : Ran). HasRunFor one asked no_steps) (asks_locks asked.analysis) lockset) }
+{
+    if analysis.asks_locks() {
+        let lockset =
+            LocksetAnalyst::new(alloc, table, suppressions, options.explain, options.keys)?;
+        Ok(Some(lockset))
+    } else {
+        Ok(None)
+    }
+}
+
+// Happens-before, if it is asked for.
+fn ordering_if<'r>(
+    alloc: Global,
+    suppressions: &'r Suppressions,
+    options: &Options,
+    analysis: Analysis,
+) -> Result<Option<OrderAnalyst<'r>>, AllocError>
+    ensures stands { (asked : Asked) → asked.analysis ≡ analysis → asked.rules ≡ targets_of suppressions.now → asked.explain ≡ options.now.explain
+        → IfOk result (λ ordering. StandsIf (λ (one : OrderRan). HasOrdered one asked no_steps) (asks_order asked.analysis) ordering) }
+{
+    if analysis.asks_order() {
+        let ordering = OrderAnalyst::new(alloc, suppressions, options.explain, options.keys)?;
+        Ok(Some(ordering))
+    } else {
+        Ok(None)
+    }
+}
+
+// The reports of the text that was read, or its damage, if the replay is strict and there is any, or why an analysis has stopped.
+fn end(found: Analysed<Analysts<'_, '_>>) -> Result<ReplayedTrace, RunFault>
+    ensures outcome { (asked : Asked) (told : Option (List ℕ)) (limit : ℕ) → IsAnswered (AllStand found.entry.analyst.first.first found.entry.analyst.first.second found.entry.analyst.second.inspector asked) told limit found.entry.trace.names
         → IfSome told (λ text. IsEndingOf text found.entry.ending) → IsOutcomeOf told limit asked result }
+    ensures alone { is_some found.entry.analyst.first.second ≡ false → IfErr result IsOfReading }
     ensures failed { FailsBy false false result }
 {
     let Analysed {
@@ -81,15 +168,118 @@ fn end(found: Analysed<Pair<LocksetAnalyst<'_, '_>, Inspection>>) -> Result<Repl
         trace,
         ending,
     } = found;
-    let Pair { first, second } = analyst;
-    let damage = second.damage(ending);
-    drop(second);
-    match damage {
-        None => Ok(with_lost(first.finish(), trace, ending)),
-        Some(damage) => {
-            drop(first);
+    let Pair {
+        first,
+        second: inspection,
+    } = analyst;
+    let damage = inspection.damage(ending);
+    drop(inspection);
+    if let Some(damage) = damage {
+        drop(first);
+        drop(trace);
+        return Err(RunFault::Damaged(damage));
+    }
+    match reports_of(first) {
+        Ok((reports, has_order)) => Ok(with_lost(reports, has_order, trace, ending)),
+        Err(why) => {
             drop(trace);
-            Err(RunFault::Damaged(damage))
+            Err(why)
         }
+    }
+}
+
+// The reports of the steps that were answered, and whether one of these is an order event, or why they weren't all answered.
+fn reports_of(
+    analysts: Pair<Option<LocksetAnalyst<'_, '_>>, Option<OrderAnalyst<'_>>>,
+) -> Result<(Reports, bool), RunFault>
+    ensures built { (asked : Asked) (r : Recording) → StandsIf (λ (one : Ran). HasRunFor one asked r) (asks_locks asked.analysis) analysts.entry.first → StandsIf (λ (one : OrderRan). HasOrdered one asked r) (asks_order asked.analysis) analysts.entry.second
+        → IfOk result (λ found. AreBuilt asked r found.0 found.1) }
+    ensures fault { (asked : Asked) (told : Option (List ℕ)) (limit : ℕ) (r : Recording) → IfSome told (λ text. IsTrace text limit r)
+        → StandsIf (λ (one : Ran). HasRunFor one asked r) (asks_locks asked.analysis) analysts.entry.first → StandsIf (λ (one : OrderRan). HasOrdered one asked r) (asks_order asked.analysis) analysts.entry.second
+        → IfErr result (λ why. IsFaultOfText asked.analysis told limit why) }
+    ensures alone { is_some analysts.entry.second ≡ false → IsOk result }
+    ensures failed { FailsBy false false result }
+    ensures undamaged { IfErr result IsNoDamage }
+{
+    let Pair {
+        first: lockset,
+        second: ordering,
+    } = analysts;
+    let beside = ordering.is_some();
+    let (unordered, has_order) = match order_report(ordering) {
+        Ok(found) => found,
+        Err(why) => {
+            drop(lockset);
+            return Err(why);
+        }
+    };
+    match run_report(lockset, beside) {
+        Ok(lockset) => Ok((Reports { lockset, unordered }, has_order)),
+        Err(why) => {
+            drop(unordered);
+            Err(why)
+        }
+    }
+}
+
+// The report by happens-before, if it is asked for, and whether some step is an order event.
+fn order_report(ordering: Option<OrderAnalyst<'_>>) -> Result<(Option<Report>, bool), RunFault>
+    ensures built { (asked : Asked) (r : Recording) → StandsIf (λ (one : OrderRan). HasOrdered one asked r) (asks_order asked.analysis) ordering.entry
+        → IfOk result (λ found. IsOrderBuilt asked r found.0 found.1) }
+    ensures fault { (asked : Asked) (told : Option (List ℕ)) (limit : ℕ) (r : Recording) → IfSome told (λ text. IsTrace text limit r)
+        → StandsIf (λ (one : OrderRan). HasOrdered one asked r) (asks_order asked.analysis) ordering.entry → IfErr result (λ why. IsFaultOfText asked.analysis told limit why) }
+    ensures alone { is_some ordering.entry ≡ false → IsOk result }
+    ensures failed { FailsBy false false result }
+    ensures undamaged { IfErr result IsNoDamage }
+{
+    let Some(ordering) = ordering else {
+        return Ok((None, false));
+    };
+    let has_order = ordering.has_order();
+    match ordering.finish() {
+        Ok(report) => Ok((Some(report), has_order)),
+        Err(why) => Err(RunFault::from(why)),
+    }
+}
+
+// The report by the lockset rule, if it is asked for. Beside another report, a run that has stopped is a fault.
+fn run_report(
+    lockset: Option<LocksetAnalyst<'_, '_>>,
+    beside: bool,
+) -> Result<Option<Report>, RunFault>
+    ensures built { (asked : Asked) (r : Recording) → asks_order asked.analysis ≡ beside → StandsIf (λ (one : Ran). HasRunFor one asked r) (asks_locks asked.analysis) lockset.entry
+        → IfOk result (λ report. IsRunBuilt asked r report) }
+    ensures fault { (asked : Asked) (told : Option (List ℕ)) (limit : ℕ) (r : Recording) → IfSome told (λ text. IsTrace text limit r) → asks_order asked.analysis ≡ beside
+        → StandsIf (λ (one : Ran). HasRunFor one asked r) (asks_locks asked.analysis) lockset.entry → IfErr result (λ why. IsFaultOfText asked.analysis told limit why) }
+    ensures alone { beside ≡ false → IsOk result }
+    ensures failed { FailsBy false false result }
+    ensures undamaged { IfErr result IsNoDamage }
+{
+    let Some(lockset) = lockset else {
+        return Ok(None);
+    };
+    match cause_beside(beside, lockset.stop()) {
+        Some(cause) => {
+            drop(lockset);
+            Err(RunFault::from(cause))
+        }
+        None => Ok(Some(lockset.finish())),
+    }
+}
+
+// Why a run has stopped, if it stands beside another report.
+fn cause_beside(beside: bool, stop: Option<(u64, NoRoom)>) -> Option<NoRoom>
+    ensures some { (cause : Room) → result ≡ Some cause → (beside ≡ true) × ((line : ℕ) × (stop ≡ Some (line, cause))) }
+    ensures none { result ≡ None → beside ≡ true → stop ≡ None }
+{
+    match stop {
+        Some((_, cause)) => {
+            if beside {
+                Some(cause)
+            } else {
+                None
+            }
+        }
+        None => None,
     }
 }

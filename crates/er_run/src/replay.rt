@@ -1,38 +1,38 @@
-//! Bytes in, report out.
-ghost use Rattle.std.specs.Prelude.{◌≡◌, ◌+◌, ◌≤◌, ◌<◌, false, All, Err, IfSome, IfOk, IfErr, OnOk, IsTrue, IsFalse, None};
+//! Bytes in, reports out.
+ghost use Rattle.std.specs.Prelude.{◌≡◌, ◌+◌, ◌≤◌, ◌<◌, false, All, IfSome, IfOk, IfErr, OnOk, IsTrue, IsFalse, None, is_some};
 ghost use Rattle.er_damage.specs.Damaged.{IsDamageOf, no_damage};
 ghost use Rattle.er_device.specs.Device.{inner_of, has_failed, taken_of};
 ghost use Rattle.er_print.specs.Printed.{report_text};
 ghost use Rattle.er_report.specs.Names.{HasNames};
 ghost use Rattle.er_report.specs.Report.{told};
+ghost use Rattle.er_report.specs.Reports.{HaveNames, asks_locks, asks_order};
+ghost use Rattle.er_report.specs.declared.reports.Analysis.TheVariants.{Lockset};
 ghost use Rattle.er_rules.specs.Rules.{targets_of};
-ghost use Rattle.er_run.specs.Inner.Reports.{WritesFound};
 ghost use Rattle.er_batch.specs.Limits.{bytes_past_limit};
-ghost use Rattle.er_run.specs.Replays.{IsReplayed, IsFailed, IsNoDamage, WritesNothing, FailsBy, is_stopped, is_verdict_of};
-ghost use Rattle.er_run.specs.Reports.{IsFaultOfText, IsReplayOf, IsReportOfText};
+ghost use Rattle.er_run.specs.Faults.{FailsBy, IsFaultOfText, IsNoDamage, IsOfReading};
+ghost use Rattle.er_run.specs.Inner.Written.{WritesFound};
+ghost use Rattle.er_run.specs.Replays.{IsReplayed, IsFailed, WritesNothing, is_stopped};
+ghost use Rattle.er_run.specs.Reports.{AreReportsOfText, IsOrderOfText, has_races, is_verdict_of, stop_in};
 ghost use Rattle.er_text.specs.Ending.{IsEndingOf};
 
 use crate::outcome::ReplayedTrace;
-use crate::passes::report_in_batches;
+use crate::passes::reports_in_batches;
 use crate::several::report_by_crew;
-use crate::{Options, Replayed, RunFault, Unwatched, Verdict, Watch};
+use crate::{Options, RunFault, Unwatched, Verdict, Watch};
 use er_device::Device;
 use er_print::write_report;
-use er_report::Report;
+use er_report::{Analysis, Report, Reports};
 use er_rules::Suppressions;
 use std::alloc::Global;
 use std::io::{Read, Write};
 use std::sync::Wait;
 use std::thread::Threads;
 
-/// Reads a trace text, replays it, and writes its report, without the races that the rules take.
+/// Reads a trace text, replays it by the lockset rule, and writes its report, without the races that the rules take.
 ///
-/// The text is read to its end and the report built whole before the first byte is written. The steps of each batch of lines are
-/// forgotten once they are answered, so that memory goes by the words, the names and the lines of the report. Several workers answer
-/// one batch while the next is read. With `explain` each race that is printed has its reasons, and each word has a book of the
-/// accesses that a reason may name. One worker stops at a step that is refused for want of room, and the report says so. Several
-/// workers write what one worker writes, and never such a report: they return a fault instead. A strict replay of a damaged trace
-/// returns its damage, and writes nothing.
+/// The text is read to its end and the report built whole before the first byte is written, as by [`replay_reports`]. One worker stops at
+/// a step that is refused for want of room, and the report says so. Several workers write what one worker writes, and never such a report:
+/// they return a fault instead. A strict replay of a damaged trace returns its damage, and writes nothing.
 pub fn replay_text<R, D, W>(
     rt: &R,
     reader: &mut Device<D>,
@@ -55,80 +55,67 @@ where
     ensures taken { taken_of reader.new ≤ taken_of reader.old + options.now.byte_limit + bytes_past_limit }
     ensures whole { 1 < options.now.workers → IfOk result (λ verdict. IsFalse (is_stopped verdict)) }
 {
-    match replay_text_watched(rt, reader, writer, suppressions, options, &mut Unwatched) {
-        Ok(replayed) => Ok(replayed.verdict),
-        Err(why) => Err(why),
-    }
-}
-
-/// The same, seen by a watcher: it is told behind each batch how far the replay has come, and called once more before the report is
-/// written. What it does changes nothing of what is written and returned.
-pub fn replay_text_watched<R, D, W, V>(
-    rt: &R,
-    reader: &mut Device<D>,
-    writer: &mut Device<W>,
-    suppressions: &Suppressions,
-    options: &Options,
-    watcher: &mut V,
-) -> Result<Replayed, RunFault>
-where
-    R: AllocGlobal + Threads + Wait + Sync,
-    D: Read,
-    W: Write,
-    V: Watch,
-    requires reader { has_failed reader.old ≡ false }
-    requires writer { has_failed writer.old ≡ false }
-    ensures report { IfOk result (λ replayed. IfSome (D.remaining (inner_of reader.old)) (λ text. IsReplayed text options.now.byte_limit (targets_of suppressions.now) options.now.explain (W.contents (inner_of writer.old)) (W.contents (inner_of writer.new)) replayed.verdict)) }
-    ensures ending { IfOk result (λ replayed. IfSome (D.remaining (inner_of reader.old)) (λ text. IsEndingOf text replayed.ending)) }
-    ensures fault { IfErr result (λ why. IsFailed (D.remaining (inner_of reader.old)) options.now.byte_limit (targets_of suppressions.now) options.now.explain (W.contents (inner_of writer.old)) (W.contents (inner_of writer.new)) (Err why)) }
-    ensures undamaged { IsTrue options.now.strict → OnOk result (IfSome (D.remaining (inner_of reader.old)) (λ text. IsDamageOf text options.now.byte_limit no_damage)) }
-    ensures lenient { IsFalse options.now.strict → IfErr result IsNoDamage }
-    ensures nothing { IfErr result (λ why. WritesNothing (W.contents (inner_of writer.old)) (W.contents (inner_of writer.new)) why) }
-    ensures failed { FailsBy (has_failed reader.new) (has_failed writer.new) result }
-    ensures taken { taken_of reader.new ≤ taken_of reader.old + options.now.byte_limit + bytes_past_limit }
-    ensures whole { 1 < options.now.workers → IfOk result (λ replayed. IsFalse (is_stopped replayed.verdict)) }
-{
-    let found = report_on(rt, rt.alloc(), reader, suppressions, options, watcher);
-    watcher.end();
-    match found {
+    let alloc = rt.alloc();
+    match replay_reports(
+        rt,
+        alloc,
+        reader,
+        suppressions,
+        options,
+        Analysis::Lockset,
+        &mut Unwatched,
+    ) {
         Ok(found) => {
-            let replayed = write_found(rt.alloc(), writer, &found);
+            let verdict = write_found(alloc, writer, &found);
             drop(found);
-            replayed
+            verdict
         }
         Err(why) => Err(why),
     }
 }
 
-// Writes a report and says what it comes to.
+// Writes the report of the lockset rule, if there is one, and says what the reports come to.
 fn write_found<W: Write>(
     alloc: Global,
     writer: &mut Device<W>,
     found: &ReplayedTrace,
-) -> Result<Replayed, RunFault>
+) -> Result<Verdict, RunFault>
     requires writer { has_failed writer.old ≡ false }
-    requires named { All (HasNames found.now.trace.names) found.now.report.lines.items }
-    ensures verdict { IfOk result (λ replayed. replayed.verdict ≡ is_verdict_of found.now.report) }
-    ensures ending { IfOk result (λ replayed. replayed.ending ≡ found.now.ending) }
-    ensures bytes { WritesFound (W.contents (inner_of writer.old)) (W.contents (inner_of writer.new)) (report_text found.now.trace.names (told found.now.report)) result }
+    requires named { HaveNames found.now.trace.names found.now.reports }
+    ensures verdict { IfOk result (λ verdict. verdict ≡ is_verdict_of found.now.reports) }
+    ensures bytes { IfSome found.now.reports.lockset (λ report. WritesFound (W.contents (inner_of writer.old)) (W.contents (inner_of writer.new)) (report_text found.now.trace.names (told report)) result) }
     ensures failed { FailsBy false (has_failed writer.new) result }
+    ensures undamaged { IfErr result IsNoDamage }
 {
-    match write_report(alloc, writer, &found.report, found.trace.names()) {
-        Ok(()) => Ok(Replayed {
-            verdict: verdict_of(&found.report),
-            ending: found.ending,
-        }),
-        Err(why) => Err(RunFault::Write(why)),
+    match &found.reports.lockset {
+        Some(report) => match write_report(alloc, writer, report, found.trace.names()) {
+            Ok(()) => Ok(verdict_of(&found.reports)),
+            Err(why) => Err(RunFault::Write(why)),
+        },
+        None => Ok(verdict_of(&found.reports)),
     }
 }
 
-/// Reads a trace text and replays it as `replay_text_watched` does, and writes nothing: the report in any other form starts here.
-pub fn replay_report<R, D, V>(
+/// Reads a trace text and replays it by these analyses, in one pass. Nothing is written: what is made of the reports starts here.
+///
+/// The text is read to its end, and the steps of each batch of lines are forgotten once they are answered, so that memory goes by the words,
+/// the names and the lines of the reports. With `explain` each race that is printed has its reasons, and each word has a book of the
+/// accesses that a reason may name. A strict replay of a damaged trace returns its damage. Beside a report by happens-before, that of the
+/// lockset rule is whole: a step that finds no room is a fault. Several workers answer one batch while the next is read, by the lockset rule
+/// alone; by another analysis there is one worker. The watcher is told behind each batch how far the replay has come, and called once more at
+/// the end. What it does changes nothing of what is returned.
+///
+/// # Errors
+/// `Read`: the text has a fault, a read failed, or memory was refused to the reader or to a step. `Replay`: the table of locksets is full, or
+/// a worker couldn't be started. `CountFull`: happens-before can't count a step. `Damaged`: the trace is, and the replay is strict.
+/// `Memory`: memory was refused elsewhere. Never `Write`.
+pub fn replay_reports<R, D, V>(
     rt: &R,
     alloc: Global,
     reader: &mut Device<D>,
     suppressions: &Suppressions,
     options: &Options,
+    analysis: Analysis,
     watcher: &mut V,
 ) -> Result<ReplayedTrace, RunFault>
 where
@@ -136,54 +123,57 @@ where
     D: Read,
     V: Watch,
     requires reader { has_failed reader.old ≡ false }
-    ensures report { IfOk result (λ found. IfSome (D.remaining (inner_of reader.old)) (λ text. IsReportOfText text options.now.byte_limit (targets_of suppressions.now) options.now.explain found.trace.names found.report)) }
-    ensures named { IfOk result (λ found. All (HasNames found.trace.names) found.report.lines.items) }
+    ensures reports { IfOk result (λ found. IfSome (D.remaining (inner_of reader.old)) (λ text. AreReportsOfText analysis text options.now.byte_limit (targets_of suppressions.now) options.now.explain found.trace.names found.reports)) }
+    ensures asked { IfOk result (λ found. (is_some found.reports.lockset ≡ asks_locks analysis) × (is_some found.reports.unordered ≡ asks_order analysis)) }
+    ensures named { IfOk result (λ found. HaveNames found.trace.names found.reports) }
     ensures ending { IfOk result (λ found. IfSome (D.remaining (inner_of reader.old)) (λ text. IsEndingOf text found.ending)) }
-    ensures fault { IfErr result (λ why. IsFaultOfText (D.remaining (inner_of reader.old)) options.now.byte_limit why) }
+    ensures order { IfOk result (λ found. IfSome (D.remaining (inner_of reader.old)) (λ text. IsOrderOfText analysis text options.now.byte_limit found.has_order)) }
+    ensures fault { IfErr result (λ why. IsFaultOfText analysis (D.remaining (inner_of reader.old)) options.now.byte_limit why) }
     ensures undamaged { IsTrue options.now.strict → OnOk result (IfSome (D.remaining (inner_of reader.old)) (λ text. IsDamageOf text options.now.byte_limit no_damage)) }
     ensures lenient { IsFalse options.now.strict → IfErr result IsNoDamage }
     ensures failed { FailsBy (has_failed reader.new) false result }
     ensures taken { taken_of reader.new ≤ taken_of reader.old + options.now.byte_limit + bytes_past_limit }
-    ensures whole { 1 < options.now.workers → IfOk result (λ found. found.report.stop ≡ None) }
+    ensures whole { 1 < options.now.workers → IfOk result (λ found. IfSome found.reports.lockset (λ report. report.stop ≡ None)) }
+    ensures alone { options.now.workers ≡ 1 → analysis ≡ Lockset → IfErr result IsOfReading }
 {
-    let found = report_on(rt, alloc, reader, suppressions, options, watcher);
-    watcher.end();
-    found
-}
-
-// Reads and replays a text, by one worker or by several.
-fn report_on<R, D, V>(
-    rt: &R,
-    alloc: Global,
-    reader: &mut Device<D>,
-    suppressions: &Suppressions,
-    options: &Options,
-    watcher: &mut V,
-) -> Result<ReplayedTrace, RunFault>
-where
-    R: Threads + Wait + Sync,
-    D: Read,
-    V: Watch,
-    requires reader { has_failed reader.old ≡ false }
-    ensures replay { IsReplayOf (D.remaining (inner_of reader.old)) options.now (targets_of suppressions.now) (taken_of reader.old) (taken_of reader.new) (has_failed reader.new) result }
-    ensures whole { 1 < options.now.workers → IfOk result (λ found. found.report.stop ≡ None) }
-{
-    if options.workers > 1 {
+    if analysis.asks_order() {
+        reports_in_batches(rt, alloc, reader, suppressions, options, analysis, watcher)
+    } else if options.workers > 1 {
         report_by_crew(rt, alloc, reader, suppressions, options, watcher)
     } else {
-        report_in_batches(rt, alloc, reader, suppressions, options, watcher)
+        reports_in_batches(rt, alloc, reader, suppressions, options, analysis, watcher)
     }
 }
 
-/// What a report comes to: a stop, or else whether it has a race.
-pub fn verdict_of(report: &Report) -> Verdict
-    ensures { result ≡ is_verdict_of report.now }
+/// What reports come to: `Stopped` if the run of the lockset rule has, and else whether some report has a race.
+pub fn verdict_of(reports: &Reports) -> Verdict
+    ensures { result ≡ is_verdict_of reports.now }
 {
-    if report.stop.is_some() {
+    if has_stopped(&reports.lockset) {
         Verdict::Stopped
-    } else if report.races > 0 {
+    } else if has_races(&reports.unordered) || has_races(&reports.lockset) {
         Verdict::Races
     } else {
         Verdict::Clean
+    }
+}
+
+// Whether there is a report and it says that the run has stopped.
+fn has_stopped(report: &Option<Report>) -> bool
+    ensures { result ≡ is_some (stop_in report.now) }
+{
+    match report {
+        Some(report) => report.stop.is_some(),
+        None => false,
+    }
+}
+
+// Whether there is a report and it has races.
+fn has_races(report: &Option<Report>) -> bool
+    ensures { result ≡ has_races report.now }
+{
+    match report {
+        Some(report) => report.races > 0,
+        None => false,
     }
 }

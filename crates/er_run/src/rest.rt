@@ -3,9 +3,9 @@ ghost use Rattle.std.specs.Prelude.{◌≡◌, ◌+◌, ◌<◌, ◌≤◌, ℕ,
 ghost use Rattle.er_device.specs.Device.{inner_of, has_failed, taken_of};
 ghost use Rattle.er_event.specs.declared.steps.Step.{Step};
 ghost use Rattle.er_parallel.specs.Faults.{MayFail};
-ghost use Rattle.er_run.specs.Inner.Reports.{IsFaultOfText};
+ghost use Rattle.er_report.specs.declared.reports.Analysis.TheVariants.{Lockset};
+ghost use Rattle.er_run.specs.Faults.{IsFaultOfText, IsNoDamage};
 ghost use Rattle.er_run.specs.Inner.Several.{BeginsWith, FailsReader, HasMore, IsReadFault};
-ghost use Rattle.er_run.specs.Replays.{IsNoDamage};
 ghost use Rattle.er_batch.specs.Limits.{bytes_past_limit};
 ghost use Rattle.er_text.specs.Batches.{GivesBatch, HasRead};
 ghost use Rattle.er_text.specs.Inner.Lending.{taken_by};
@@ -86,7 +86,7 @@ pub(crate) fn fault_behind<R: Threads + Sync, D: Read>(
     requires open { has_failed reader.old ≡ false }
     ensures fault { (told : Option (List ℕ)) (past : List Step) (numbers : List ℕ) → MayFail past why
         → IfSome told (λ text. GivesBatch text past numbers lines.old (D.remaining (inner_of reader.old)) trace.old (Ok batch))
-        → IsFaultOfText told lines.old.place.limit result }
+        → IsFaultOfText Lockset told lines.old.place.limit result }
     ensures undamaged { IsNoDamage result }
     ensures limit { lines.new.place.limit ≡ lines.old.place.limit }
     ensures within { lines.old.place.start ≤ lines.old.place.limit → lines.new.place.start ≤ lines.new.place.limit }

@@ -13,10 +13,11 @@ ghost use Rattle.er_batch.specs.Analysts.{Asked, IsAnswered};
 ghost use Rattle.er_batch.specs.Inner.Passes.{HasCome};
 ghost use Rattle.er_batch.specs.Runs.{recorded};
 ghost use Rattle.er_run.specs.Inner.Inspected.{IsInspected};
-ghost use Rattle.er_run.specs.Reports.{IsFaultOfText, IsOutcomeOf, IsReplayOf};
+ghost use Rattle.er_run.specs.Faults.{FailsBy, IsFaultOfText, IsNoDamage};
+ghost use Rattle.er_run.specs.Inner.Outcomes.{IsOutcomeOf, IsReplayOf};
 ghost use Rattle.er_run.specs.Inner.Several.{HasReadAll, HasReadOn, HasReportedAll, Pending};
 ghost use Rattle.er_batch.specs.Limits.{bytes_past_limit, most_bytes};
-ghost use Rattle.er_run.specs.Replays.{FailsBy, IsNoDamage};
+ghost use Rattle.er_report.specs.declared.reports.Analysis.TheVariants.{Lockset};
 ghost use Rattle.er_text.specs.Batches.{HasRead, GivesBatch};
 ghost use Rattle.er_text.specs.Ending.{KnowsEnd, IsEndingOf};
 ghost use Rattle.er_text.specs.Inner.Lending.{taken_by};
@@ -35,7 +36,7 @@ use er_device::Device;
 use er_event::Step;
 use er_parallel::{Crew, ReplayConfig, ReplayFault, Unusual};
 use er_reading::PieceReader;
-use er_report::ReportBuilder;
+use er_report::{ReportBuilder, Reports};
 use er_rules::Suppressions;
 use er_table::LocksetTable;
 use er_text::{Batch, ReadFault};
@@ -131,7 +132,7 @@ impl<'t, 'r> Shared<'t, 'r> {
         ensures seen { IfOk result (λ shared. (told : Option (List ℕ)) → HasCome (IsInspected shared.inspection.inspector options.now.strict) told told shared.lines shared.trace) }
         ensures limit { IfOk result (λ shared. shared.lines.place.limit ≡ options.now.byte_limit) }
         ensures none { IfOk result (λ shared. taken_by shared.lines.place ≡ 0) }
-        ensures fault { IfErr result (λ why. IsFaultOfText (D.remaining (inner_of reader.old)) options.now.byte_limit why) }
+        ensures fault { IfErr result (λ why. IsFaultOfText Lockset (D.remaining (inner_of reader.old)) options.now.byte_limit why) }
         ensures undamaged { IfErr result IsNoDamage }
         ensures failed { FailsBy (has_failed reader.new) false result }
         ensures taken { taken_of reader.new ≤ taken_of reader.old + options.now.byte_limit + bytes_past_limit }
@@ -193,7 +194,7 @@ impl<'t, 'r> Shared<'t, 'r> {
         ensures ended { (told : Option (List ℕ)) → HasReadOn told (D.remaining (inner_of reader.old)) self.old.lines self.old.trace self.old.crew self.old.builder self.old.steps.items self.old.numbers.items
             → IfOk result (λ more. more ≡ false → HasReadAll told self.old.lines.place.limit self.new.trace.names self.new.crew self.new.builder self.new.steps.items self.new.numbers.items) }
         ensures fault { (told : Option (List ℕ)) → HasReadOn told (D.remaining (inner_of reader.old)) self.old.lines self.old.trace self.old.crew self.old.builder self.old.steps.items self.old.numbers.items
-            → IfErr result (λ why. IsFaultOfText told self.old.lines.place.limit why) }
+            → IfErr result (λ why. IsFaultOfText Lockset told self.old.lines.place.limit why) }
         ensures level { OnOk result (length self.new.numbers.items ≡ length self.new.steps.items) }
         ensures named { OnOk result (All (IsNamed self.new.trace.names) self.new.steps.items) }
         ensures rules { OnOk result (self.new.builder.rules ≡ self.old.builder.rules) }
@@ -254,7 +255,7 @@ impl<'t, 'r> Shared<'t, 'r> {
         ensures reported { (told : Option (List ℕ)) (limit : ℕ) → HasReadAll told limit self.old.trace.names self.old.crew self.old.builder self.old.steps.items self.old.numbers.items
             → OnOk result (HasReportedAll told limit self.new.trace.names self.new.builder) }
         ensures fault { (told : Option (List ℕ)) (limit : ℕ) → HasReadAll told limit self.old.trace.names self.old.crew self.old.builder self.old.steps.items self.old.numbers.items
-            → IfErr result (λ why. IsFaultOfText told limit why) }
+            → IfErr result (λ why. IsFaultOfText Lockset told limit why) }
         ensures rules { OnOk result (self.new.builder.rules ≡ self.old.builder.rules) }
         ensures explains { OnOk result (is_some self.new.builder.kept ≡ is_some self.old.builder.kept) }
         ensures same { (self.new.lines ≡ self.old.lines) × (self.new.inspection ≡ self.old.inspection) × (self.new.trace ≡ self.old.trace) }
@@ -292,7 +293,7 @@ impl<'t, 'r> Shared<'t, 'r> {
         ensures reported { (told : Option (List ℕ)) → HasReadOn told (D.remaining (inner_of reader.old)) self.old.lines self.old.trace self.old.crew self.old.builder self.old.steps.items self.old.numbers.items
             → OnOk result (HasReportedAll told self.old.lines.place.limit self.new.trace.names self.new.builder) }
         ensures fault { (told : Option (List ℕ)) → HasReadOn told (D.remaining (inner_of reader.old)) self.old.lines self.old.trace self.old.crew self.old.builder self.old.steps.items self.old.numbers.items
-            → IfErr result (λ why. IsFaultOfText told self.old.lines.place.limit why) }
+            → IfErr result (λ why. IsFaultOfText Lockset told self.old.lines.place.limit why) }
         ensures rules { OnOk result (self.new.builder.rules ≡ self.old.builder.rules) }
         ensures explains { OnOk result (is_some self.new.builder.kept ≡ is_some self.old.builder.kept) }
         ensures seen_all { (strict : Bool) (told : Option (List ℕ)) → HasCome (IsInspected self.old.inspection.inspector strict) told (D.remaining (inner_of reader.old)) self.old.lines self.old.trace
@@ -314,11 +315,11 @@ impl<'t, 'r> Shared<'t, 'r> {
     /// The report of the text that was read, or its damage, if the replay is strict and there is any.
     fn end(self) -> Result<ReplayedTrace, RunFault>
         ensures outcome { (asked : Asked) (told : Option (List ℕ)) (limit : ℕ) → HasReportedAll told limit self.entry.trace.names self.entry.builder
-            → self.entry.builder.rules ≡ asked.rules → is_some self.entry.builder.kept ≡ asked.explain
+            → asked.analysis ≡ Lockset → self.entry.builder.rules ≡ asked.rules → is_some self.entry.builder.kept ≡ asked.explain
             → IsAnswered (IsInspected self.entry.inspection.inspector asked.strict) told limit self.entry.trace.names → IfSome told (λ text. KnowsEnd text self.entry.lines)
             → IsOutcomeOf told limit asked result }
         ensures failed { FailsBy false false result }
-        ensures whole { IfOk result (λ found. found.report.stop ≡ None) }
+        ensures whole { IfOk result (λ found. IfSome found.reports.lockset (λ report. report.stop ≡ None)) }
     {
         let Shared {
             alloc: _,
@@ -335,7 +336,13 @@ impl<'t, 'r> Shared<'t, 'r> {
         let damage = inspection.damage(ending);
         drop(inspection);
         match damage {
-            None => Ok(with_lost(builder.finish_explained(None), trace, ending)),
+            None => {
+                let reports = Reports {
+                    lockset: Some(builder.finish_explained(None)),
+                    unordered: None,
+                };
+                Ok(with_lost(reports, false, trace, ending))
+            }
             Some(damage) => {
                 drop(trace);
                 drop(builder);
@@ -353,7 +360,7 @@ fn close(lines: PieceReader, crew: Crew<'_>, steps: Vec<Step>, numbers: Vec<u64>
     drop(numbers);
 }
 
-/// The report of a replay by several workers, who answer one batch of lines while the next is read.
+/// The report by the lockset rule of a replay by several workers, who answer one batch of lines while the next is read.
 pub(crate) fn report_by_crew<R, D, V>(
     rt: &R,
     alloc: Global,
@@ -367,12 +374,13 @@ where
     D: Read,
     V: Watch,
     requires reader { has_failed reader.old ≡ false }
-    ensures replay { IsReplayOf (D.remaining (inner_of reader.old)) options.now (targets_of suppressions.now) (taken_of reader.old) (taken_of reader.new) (has_failed reader.new) result }
-    ensures whole { IfOk result (λ found. found.report.stop ≡ None) }
+    ensures replay { IsReplayOf (D.remaining (inner_of reader.old)) options.now (targets_of suppressions.now) Lockset (taken_of reader.old) (taken_of reader.new) (has_failed reader.new) result }
+    ensures whole { IfOk result (λ found. IfSome found.reports.lockset (λ report. report.stop ≡ None)) }
 {
     let table = LocksetTable::keyed(alloc, options.max_sets, options.keys)?;
     let found = report_over(rt, alloc, &table, reader, suppressions, options, watcher);
     drop(table);
+    watcher.end();
     found
 }
 
@@ -391,8 +399,8 @@ where
     D: Read,
     V: Watch,
     requires reader { has_failed reader.old ≡ false }
-    ensures replay { IsReplayOf (D.remaining (inner_of reader.old)) options.now (targets_of suppressions.now) (taken_of reader.old) (taken_of reader.new) (has_failed reader.new) result }
-    ensures whole { IfOk result (λ found. found.report.stop ≡ None) }
+    ensures replay { IsReplayOf (D.remaining (inner_of reader.old)) options.now (targets_of suppressions.now) Lockset (taken_of reader.old) (taken_of reader.new) (has_failed reader.new) result }
+    ensures whole { IfOk result (λ found. IfSome found.reports.lockset (λ report. report.stop ≡ None)) }
 {
     let mut shared = match Shared::start(rt, alloc, table, reader, suppressions, options) {
         Ok(shared) => shared,

@@ -1,6 +1,6 @@
 pub mod NameLemmas
 pub mod ExampleLemmas
 pub mod RowLemmas
-pub mod BothLemmas
+pub mod SiteLemmas
 pub mod PutLemmas
 pub mod CountLemmas

@@ -2,5 +2,4 @@ pub mod Inner
 pub mod System
 pub mod Table
 pub mod Text
-pub mod Both
-pub mod Written
+pub mod Sites

@@ -1,4 +1,4 @@
--- The text for people: a table of the sites with races, a race of each site in sentences, and the lines that every report ends with.
+-- The text for people: a table of the sites with races, a race of each site in sentences, and the reuses.
 use Rattle.std.specs.Prelude.{ℕ, zero, suc, ◌==◌, ◌&&◌, ◌||◌, not, Bool, true, false, cond, List, [], ◌∷◌, ◌++◌, length, drop, flat_map, min, reverse, option_and_then, Option, Some, None, codes, decimal, slice_get}
 use Rattle.std.specs.List.{list_any, find}
 use Rattle.er_event.specs.Lockset.{has}
@@ -10,17 +10,15 @@ use Rattle.er_trace.specs.Names.{NameTable}
 use Rattle.er_places.specs.Places.{PlaceTable}
 use Rattle.er_places.specs.Reasons.{access_place, reason_place}
 use Rattle.er_places.specs.declared.place.Place.{Place}
-use Rattle.er_print.specs.Printed.{name_at, address_text, bytes_between, stop_text, counts_text, totals_text}
+use Rattle.er_print.specs.Printed.{name_at, address_text, bytes_between}
 use Rattle.er_print.specs.Styles.{lock_in, short, site_in, thread_in}
 use Rattle.er_print.specs.declared.styles.Style.TheVariants as style
 use Rattle.er_report.specs.Lines.{LineView, RaceView, ReusedView, RefusedView, ShownView, line_view}
-use Rattle.er_report.specs.Report.{told}
 use Rattle.er_report.specs.declared.report.Because.{Because}
 use Rattle.er_report.specs.declared.report.Label.{Label}
 use Rattle.er_report.specs.declared.report.Label.TheVariants as label
 use Rattle.er_report.specs.declared.report.Line.{Line}
 use Rattle.er_report.specs.declared.report.Line.TheVariants.{Race, Reused, Refused, Shown}
-use Rattle.er_report.specs.declared.report.Report.{Report}
 use Rattle.er_sites.specs.Table.{words_of}
 use Rattle.er_sites.specs.declared.row.SiteRow.{SiteRow}
 
@@ -267,8 +265,3 @@ is_refused (Shown number word state) = false
 abbrev pub refused_text : Option Line → List ℕ
 refused_text None = []
 refused_text (Some line) = refusal_text (line_view line)
-
--- the whole text; behind each reason stands where its access was, as far as this table knows
-unfoldable pub sites_text : NameTable → PlaceTable → Report → List SiteRow → List ℕ
-sites_text names table r rows =
-    rows_text names table r.lines.items rows ++ refused_text (find is_refused r.lines.items) ++ stop_text r.stop ++ counts_text 1 r.rule_counts.items ++ totals_text (told r)

@@ -1,73 +1,18 @@
-//! The whole text.
-ghost use Rattle.std.specs.Prelude.{◌≡◌, ◌++◌, ◌≤◌, All, flat_map, false, find, length, option_copied, slice_get, IfOk, OnOk};
-ghost use Rattle.er_device.specs.Device.{inner_of, has_failed, taken_of};
-ghost use Rattle.er_print.specs.Written.{FailsWriting};
+//! The table of sites with its examples, and the first refused step.
+ghost use Rattle.std.specs.Prelude.{◌≡◌, ◌++◌, ◌≤◌, All, flat_map, find, length, option_copied, slice_get, OnOk};
 ghost use Rattle.er_report.specs.Lines.{line_view};
 ghost use Rattle.er_report.specs.Names.{HasNames};
-ghost use Rattle.er_sites.specs.Table.{IsTable};
-ghost use Rattle.er_sites.specs.Text.{blank_text, example_of, heading_text, is_refused, kinds_text, refusal_text, refused_text, row_text, rows_text, sites_text};
-ghost use Rattle.er_sites.specs.Written.{WritesSites};
+ghost use Rattle.er_sites.specs.Text.{blank_text, example_of, heading_text, is_refused, kinds_text, refusal_text, refused_text, row_text, rows_text};
 
 use crate::names::put_column;
 use crate::row::SiteRow;
 use crate::stories::put_example;
-use crate::table::site_rows;
-use er_device::Device;
 use er_places::Places;
 use er_print::Piece::{Site as At, Text};
-use er_print::{Style, WriteFault, put_all, put_number, put_rule_counts, put_stop, put_totals};
-use er_report::{Line, Report};
+use er_print::{Style, put_all, put_number};
+use er_report::Line;
 use er_trace::Names;
-use std::alloc::{AllocError, Global};
-use std::io::Write;
-
-/// Writes the races of a report by their sites, with these names for its numbers. Behind each reason stands where its access was, as far
-/// as the places are known. The text is whole before its first byte is written.
-pub fn write_sites<W: Write>(
-    alloc: Global,
-    writer: &mut Device<W>,
-    report: &Report,
-    names: &Names,
-    places: &Places,
-) -> Result<(), WriteFault>
-    requires open { has_failed writer.old ≡ false }
-    requires names { All (HasNames names.now) report.now.lines.items }
-    ensures bytes { WritesSites (W.contents (inner_of writer.old)) (W.contents (inner_of writer.new)) names.now places.now report.now result }
-    ensures failed { FailsWriting (has_failed writer.new) result }
-    ensures taken { taken_of writer.new ≡ taken_of writer.old }
-{
-    let Ok(rows) = site_rows(alloc, &report.lines, names) else {
-        return Err(WriteFault::Memory);
-    };
-    let Ok(text) = sites_text(alloc, report, names, places, &rows) else {
-        return Err(WriteFault::Memory);
-    };
-    if writer.write_all(&text).is_err() {
-        return Err(WriteFault::Write);
-    }
-    Ok(())
-}
-
-#[tactic(auto, unfolding(crate::specs::Text::sites_text))]
-fn sites_text(
-    alloc: Global,
-    report: &Report,
-    names: &Names,
-    places: &Places,
-    rows: &[SiteRow],
-) -> Result<Vec<u8>, AllocError>
-    requires names { All (HasNames names.now) report.now.lines.items }
-    requires rows { IsTable names.now report.now.lines.items rows.now }
-    ensures { IfOk result (λ text. text.items ≡ sites_text names.now places.now report.now rows.now) }
-{
-    let mut text = Vec::new(alloc);
-    put_rows(&mut text, names, places, &report.lines, rows)?;
-    put_refused(&mut text, first_refused(&report.lines))?;
-    put_stop(&mut text, report.stop)?;
-    put_rule_counts(&mut text, &report.rule_counts)?;
-    put_totals(&mut text, report)?;
-    Ok(text)
-}
+use std::alloc::AllocError;
 
 /// Puts the table, and an example of each of its rows.
 pub(crate) fn put_rows(

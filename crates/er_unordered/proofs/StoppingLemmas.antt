@@ -1,10 +1,11 @@
--- A count that is full at a step is full there whatever steps come behind it, and what a replay that has stopped comes to.
-use Rattle.std.proofs.Common.{◌≡◌, ◌<◌, ◌+◌, ◌∙◌, ◌++◌, ◌∷◌, [], ℕ, Bool, true, false, List, length, slice_get, length-append, take, drop, is_some, Option, Some, None, IfSome, Result, Err, refl, sym, ap, subst, arith}
+-- A count that is full at a step is full there whatever steps come behind it, and an analyst goes on by a batch or stops in it.
+use Rattle.std.proofs.Common.{◌≡◌, ◌<◌, ◌+◌, ◌∙◌, ◌++◌, ◌||◌, ◌∷◌, [], ℕ, Bool, true, false, List, length, slice_get, length-append, take, drop, is_some, Option, Some, None, IfSome, refl, sym, ap, arith}
 use Rattle.std.proofs.lemmas.List.{take-append-drop, length-take-le}
 use Rattle.std.proofs.lemmas.List.Elements.{All-nil}
+use Rattle.std.proofs.lemmas.List.Folds.{list_any-append}
 use Rattle.std.proofs.lemmas.Option.{slice_get_within}
 use Rattle.er_batch.proofs.StepLemmas.{past-next}
-use Rattle.er_batch.specs.Analysts.{Asked, IsFaultOfReading}
+use Rattle.er_batch.specs.Analysts.{Asked}
 use Rattle.er_before.specs.Standing.{IsFullAfter, Ordered, Stands}
 use Rattle.er_clock.specs.declared.clock.NoTick.{NoTick}
 use Rattle.er_clock.specs.declared.clock.NoTick.TheVariants as tick
@@ -16,17 +17,14 @@ use Rattle.er_order.specs.Order.{Act, acts_of}
 use Rattle.er_order.specs.Races.{order_answer}
 use Rattle.er_report.specs.Builder.{IsBuiltBy}
 use Rattle.er_text.specs.Batches.{joined}
-use Rattle.er_text.specs.Trace.{HasFailedBy, IsTrace}
-use Rattle.er_text.specs.declared.faults.ReadFault.{ReadFault}
-use Rattle.er_text.specs.declared.faults.ReadFault.TheVariants as reading
 use Rattle.er_trace.specs.Names.{NameTable, no_names}
 use Rattle.er_trace.specs.Trace.{IsNamed, Recording, no_steps}
-use Rattle.er_unordered.specs.Faults.{FailsBy, IsFaultOf, OverflowsIn, fault_of}
-use Rattle.er_unordered.specs.Inner.Passes.{HasGathered, HasGatheredFor, HasOrdered, IsReasoned, OrderBuilt, OrderRan, recorded}
-use Rattle.er_unordered.specs.Inner.Stopping.{IsStopIn}
-use Rattle.er_unordered.specs.declared.fault.OrderFault.{OrderFault}
-use Rattle.er_unordered.specs.declared.fault.OrderFault.TheVariants.{Read, Write, TableFull, CountFull, Memory}
-use Rattle.er_unordered.specs.declared.replay.Analysis.{Analysis}
+use Rattle.er_unordered.specs.Inner.Passes.{HasGathered, IsReasoned, OrderBuilt, recorded}
+use Rattle.er_unordered.specs.Ordered.{HasGatheredFor, HasOrdered, OrderRan}
+use Rattle.er_unordered.specs.Reports.{has_order, is_order}
+use Rattle.er_unordered.specs.Stops.{IsStopIn, OverflowsIn, stop_of}
+use Rattle.er_unordered.specs.declared.stop.OrderStop.{OrderStop}
+use Rattle.er_unordered.specs.declared.stop.OrderStop.TheVariants.{CountFull, Memory}
 
 -- more steps come behind
 pub overflows-on : (steps more : List Step) → OverflowsIn steps → OverflowsIn (steps ++ more)
@@ -62,21 +60,18 @@ full-here steps n step here full =
     }
 
 -- why a step isn't answered
-pub stop-by : (steps : List Step) (why : NoTick) (fault : OrderFault) → fault ≡ fault_of why → (why ≡ tick.CountFull → OverflowsIn steps) → IsStopIn steps fault
-stop-by steps tick.CountFull fault is full = rw is (full refl)
-stop-by steps tick.OutOfMemory fault is full = rw is tt
+pub stop-by : (steps : List Step) (why : NoTick) (stop : OrderStop) → stop ≡ stop_of why → (why ≡ tick.CountFull → OverflowsIn steps) → IsStopIn steps stop
+stop-by steps tick.CountFull stop is full = rw is (full refl)
+stop-by steps tick.OutOfMemory stop is full = rw is tt
 
 -- why one of the steps can't be answered stays so
-pub stop-on : (steps more : List Step) (why : OrderFault) → IsStopIn steps why → IsStopIn (steps ++ more) why
-stop-on steps more (Read fault) is = absurd is
-stop-on steps more (Write fault) is = absurd is
-stop-on steps more TableFull is = absurd is
+pub stop-on : (steps more : List Step) (why : OrderStop) → IsStopIn steps why → IsStopIn (steps ++ more) why
 stop-on steps more CountFull is = overflows-on steps more is
 stop-on steps more Memory is = tt
 
 -- before any step
 pub begun : (machine : Ordered) (builder : OrderBuilt) (asked : Asked) → Stands machine [] → IsBuiltBy (order_answer []) builder.built no_steps 0 → IsReasoned builder no_steps 0
-    → builder.built.rules ≡ asked.rules → is_some builder.reasons ≡ asked.explain → HasOrdered (record { machine = machine; builder = builder; stop = None }) asked no_steps
+    → builder.built.rules ≡ asked.rules → is_some builder.reasons ≡ asked.explain → HasOrdered (record { machine = machine; builder = builder; stop = None; has_order = false }) asked no_steps
 begun machine builder asked stands built reasoned rules explain = record {
   all = λ none. record {
     gathered = record {
@@ -87,73 +82,52 @@ begun machine builder asked stands built reasoned rules explain = record {
     explain = explain;
   };
   stopped = tt;
+  order = refl;
 }
 
+-- an order event of a batch, or one before it
+order-on : (old new : OrderRan) (past : List Step) (trace : Recording) → new.has_order ≡ (old.has_order || has_order trace.steps) → old.has_order ≡ has_order past
+    → new.has_order ≡ has_order (past ++ trace.steps)
+order-on old new past trace said before =
+    said ∙ ap (λ (b : Bool). b || has_order trace.steps) before ∙ sym (list_any-append is_order past trace.steps)
+
 -- what has stopped stands for whatever comes behind
-pub stopped-on : (ran : OrderRan) (asked : Asked) (past : List Step) (lines : List ℕ) (names : NameTable) (trace : Recording) → is_some ran.stop ≡ true
-    → HasOrdered ran asked (recorded past lines names) → HasOrdered ran asked (joined past lines trace)
-stopped-on ran asked past lines names trace some ordered = record {
-  all = λ none. absurd (let clash = ap (λ (o : Option OrderFault). is_some o) none in cc);
-  stopped = on ran.stop ordered.stopped;
+pub stopped-on : (old new : OrderRan) (asked : Asked) (past : List Step) (lines : List ℕ) (names : NameTable) (trace : Recording) → is_some old.stop ≡ true → new.stop ≡ old.stop
+    → new.has_order ≡ (old.has_order || has_order trace.steps) → HasOrdered old asked (recorded past lines names) → HasOrdered new asked (joined past lines trace)
+stopped-on old new asked past lines names trace some same said ordered = record {
+  all = λ none. absurd (let clash = ap (λ (o : Option OrderStop). is_some o) (sym same ∙ none) in cc);
+  stopped = rw same (on old.stop ordered.stopped);
+  order = order-on old new past trace said ordered.order;
 }
   where
-    on : (o : Option OrderFault) → IfSome o (λ why. IsStopIn past why) → IfSome o (λ why. IsStopIn (past ++ trace.steps) why)
+    on : (o : Option OrderStop) → IfSome o (λ why. IsStopIn past why) → IfSome o (λ why. IsStopIn (past ++ trace.steps) why)
     on None is = tt
     on (Some why) is = stop-on past trace.steps why is
 
-none-by : (o : Option OrderFault) → is_some o ≡ false → o ≡ None
+none-by : (o : Option OrderStop) → is_some o ≡ false → o ≡ None
 none-by None going = refl
 none-by (Some why) going = absurd (cc)
 
 -- what hasn't stopped goes on
 pub goes-on : (old new : OrderRan) (asked : Asked) (past : List Step) (lines : List ℕ) (names : NameTable) (trace : Recording) → is_some old.stop ≡ false → new.stop ≡ old.stop
-    → HasOrdered old asked (recorded past lines names) → (HasGathered old.machine old.builder (recorded past lines names) → HasGathered new.machine new.builder (joined past lines trace))
+    → new.has_order ≡ (old.has_order || has_order trace.steps) → HasOrdered old asked (recorded past lines names) → (HasGathered old.machine old.builder (recorded past lines names) → HasGathered new.machine new.builder (joined past lines trace))
     → new.builder.built.rules ≡ old.builder.built.rules → is_some new.builder.reasons ≡ is_some old.builder.reasons → HasOrdered new asked (joined past lines trace)
-goes-on old new asked past lines names trace going same ordered gathers rules explain =
+goes-on old new asked past lines names trace going same said ordered gathers rules explain =
     let none : old.stop ≡ None = none-by old.stop going in
     let all : HasGatheredFor old asked (recorded past lines names) = ordered.all none in
     record {
       all = λ still. record { gathered = gathers all.gathered; rules = rules ∙ all.rules; explain = explain ∙ all.explain };
       stopped = rw (same ∙ none) tt;
+      order = order-on old new past trace said ordered.order;
     }
 
 -- or stops in a batch
-pub stops : (old new : OrderRan) (asked : Asked) (past : List Step) (lines : List ℕ) (names : NameTable) (trace : Recording) (why : OrderFault) → is_some old.stop ≡ false → new.stop ≡ Some why
-    → HasOrdered old asked (recorded past lines names) → (HasGathered old.machine old.builder (recorded past lines names) → IsStopIn (past ++ trace.steps) why)
+pub stops : (old new : OrderRan) (asked : Asked) (past : List Step) (lines : List ℕ) (names : NameTable) (trace : Recording) (why : OrderStop) → is_some old.stop ≡ false → new.stop ≡ Some why
+    → new.has_order ≡ (old.has_order || has_order trace.steps) → HasOrdered old asked (recorded past lines names) → (HasGathered old.machine old.builder (recorded past lines names) → IsStopIn (past ++ trace.steps) why)
     → HasOrdered new asked (joined past lines trace)
-stops old new asked past lines names trace why going some ordered full =
+stops old new asked past lines names trace why going some said ordered full =
     record {
       all = λ none. absurd (let clash = sym none ∙ some in cc);
       stopped = rw some (full (ordered.all (none-by old.stop going)).gathered);
+      order = order-on old new past trace said ordered.order;
     }
-
--- a fault of the text or of one of its steps
-pub of-stop : (analysis : Analysis) (told : Option (List ℕ)) (limit : ℕ) (r : Recording) (why : OrderFault) → IfSome told (λ text. IsTrace text limit r) → IsStopIn r.steps why → IsFaultOf analysis told limit why
-of-stop analysis told limit r (Read fault) trace is = absurd is
-of-stop analysis told limit r (Write fault) trace is = absurd is
-of-stop analysis told limit r TableFull trace is = absurd is
-of-stop analysis None limit r CountFull trace is = tt
-of-stop analysis (Some text) limit r CountFull trace is = record { recording = r; trace = trace; full = is }
-of-stop analysis told limit r Memory trace is = tt
-
-pub stop-fails : (X : Type 0) (steps : List Step) (failed : Bool) (why : OrderFault) → failed ≡ false → IsStopIn steps why → FailsBy {X = X} failed false (Err why)
-stop-fails X steps failed (Read fault) read is = absurd is
-stop-fails X steps failed (Write fault) read is = absurd is
-stop-fails X steps failed TableFull read is = absurd is
-stop-fails X steps failed CountFull read is = (read, refl)
-stop-fails X steps failed Memory read is = (read, refl)
-
--- a fault of the pass
-pub of-reading : (analysis : Analysis) (told : Option (List ℕ)) (limit : ℕ) (why : ReadFault) → IsFaultOfReading told limit why → IsFaultOf analysis told limit (Read why)
-of-reading analysis told limit (reading.Text fault) is = is
-of-reading analysis told limit reading.Memory is = tt
-of-reading analysis told limit reading.Read is = tt
-
-pub reading-fails : (X Y : Type 0) (failed : Bool) (why : ReadFault) → HasFailedBy {X = X} failed (Err why) → FailsBy {X = Y} failed false (Err (Read why))
-reading-fails X Y failed (reading.Text fault) by = (by, refl)
-reading-fails X Y failed reading.Memory by = (by, refl)
-reading-fails X Y failed reading.Read by = (by, refl)
-
--- the reader hasn't failed
-pub fails-so : (X : Type 0) (failed : Bool) (result : Result X OrderFault) → failed ≡ false → FailsBy {X = X} false false result → FailsBy {X = X} failed false result
-fails-so X failed result none by = subst (λ (b : Bool). FailsBy {X = X} b false result) (sym none) by

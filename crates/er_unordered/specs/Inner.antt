@@ -1,5 +1,3 @@
--- How far a replay has come, and what it leaves in the writer.
+-- How far happens-before has come in the steps of a recording.
 pub mod Passes
 pub mod Reasons
-pub mod Stopping
-pub mod Written

@@ -1,6 +1,5 @@
-pub mod Faults
 pub mod Inner
+pub mod Ordered
 pub mod Reasons
-pub mod Replays
 pub mod Reports
-pub mod Text
+pub mod Stops

@@ -7,10 +7,10 @@ ghost use Rattle.er_text.specs.Batches.{joined};
 ghost use Rattle.er_text.specs.Named.{KeepsNames};
 ghost use Rattle.er_trace.specs.Names.{NameTable};
 ghost use Rattle.er_trace.specs.Trace.{Recording};
-ghost use Rattle.er_unordered.specs.Inner.Passes.{HasAnswered, HasExplained, HasExplainedTo, IsOrderFault, recorded};
-ghost use Rattle.er_unordered.specs.Inner.Stopping.{IsStopIn};
+ghost use Rattle.er_unordered.specs.Inner.Passes.{HasAnswered, HasExplained, HasExplainedTo, recorded};
+ghost use Rattle.er_unordered.specs.Stops.{IsStopIn};
 
-use crate::OrderFault;
+use crate::OrderStop;
 use crate::reasons::Reasons;
 use er_before::OrderMachine;
 use er_event::{Refusal, Reply, Step};
@@ -23,18 +23,17 @@ pub(crate) fn answer_steps(
     machine: &mut OrderMachine,
     trace: &Trace,
     builder: &mut ReportBuilder<'_>,
-) -> Result<(), OrderFault>
+) -> Result<(), OrderStop>
     ensures rules { OnOk result (builder.new.rules ≡ builder.old.rules) }
     ensures run { (past : List Steps) (lines : List ℕ) (names : NameTable) → KeepsNames names trace.now.names → HasAnswered machine.old builder.old (recorded past lines names)
         → OnOk result (HasAnswered machine.new builder.new (joined past lines trace.now)) }
-    ensures fault { IfErr result (λ why. IsOrderFault why) }
     ensures full { (past : List Steps) (lines : List ℕ) (names : NameTable) → KeepsNames names trace.now.names → HasAnswered machine.old builder.old (recorded past lines names)
         → IfErr result (λ why. IsStopIn (past ++ trace.now.steps) why) }
 {
     let steps = trace.steps();
     prove!(steps.len() == trace.lines().len());
     if steps.len() as u64 > u64::MAX - builder.steps() {
-        return Err(OrderFault::Memory);
+        return Err(OrderStop::Memory);
     }
     for (k, step) in steps.iter().enumerate() {
         machine.look_ahead(steps, k);
@@ -55,18 +54,17 @@ pub(crate) fn explain_steps(
     trace: &Trace,
     builder: &mut ReportBuilder<'_>,
     reasons: &mut Reasons,
-) -> Result<(), OrderFault>
+) -> Result<(), OrderStop>
     ensures rules { OnOk result (builder.new.rules ≡ builder.old.rules) }
     ensures run { (past : List Steps) (lines : List ℕ) (names : NameTable) → KeepsNames names trace.now.names → HasExplained machine.old builder.old reasons.old (recorded past lines names)
         → OnOk result (HasExplained machine.new builder.new reasons.new (joined past lines trace.now)) }
-    ensures fault { IfErr result (λ why. IsOrderFault why) }
     ensures full { (past : List Steps) (lines : List ℕ) (names : NameTable) → KeepsNames names trace.now.names → HasExplained machine.old builder.old reasons.old (recorded past lines names)
         → IfErr result (λ why. IsStopIn (past ++ trace.now.steps) why) }
 {
     let steps = trace.steps();
     prove!(steps.len() == trace.lines().len());
     if steps.len() as u64 > u64::MAX - builder.steps() {
-        return Err(OrderFault::Memory);
+        return Err(OrderStop::Memory);
     }
     for (k, step) in steps.iter().enumerate() {
         machine.look_ahead(steps, k);
@@ -90,14 +88,13 @@ fn explain_step(
     step: &Step,
     builder: &mut ReportBuilder<'_>,
     reasons: &mut Reasons,
-) -> Result<(), OrderFault>
+) -> Result<(), OrderStop>
     requires room { builder.old.report.steps + 1 < 2 ^ 64 }
     requires site { HasSiteName names.now step.now.event }
     ensures rules { OnOk result (builder.new.rules ≡ builder.old.rules) }
     ensures steps { OnOk result (builder.new.report.steps ≡ builder.old.report.steps + 1) }
     ensures run { (r : Recording) (k : ℕ) → HasExplainedTo machine.old builder.old reasons.old r k → slice_get r.steps k ≡ Some step.now → line ≡ slice_index r.lines k → names.now ≡ r.names
         → OnOk result (HasExplainedTo machine.new builder.new reasons.new r (k + 1)) }
-    ensures fault { IfErr result (λ why. IsOrderFault why) }
     ensures full { (r : Recording) (k : ℕ) → HasExplainedTo machine.old builder.old reasons.old r k → slice_get r.steps k ≡ Some step.now → IfErr result (λ why. IsStopIn r.steps why) }
 {
     let raced = machine.word_raced(step);

@@ -10,12 +10,12 @@ ghost use Rattle.er_text.specs.Named.{KeepsNames};
 ghost use Rattle.er_trace.specs.Names.{NameTable};
 ghost use Rattle.er_trace.specs.Trace.{Recording, IsNamed};
 ghost use Rattle.er_order.specs.Races.{order_answer};
-ghost use Rattle.er_unordered.specs.Inner.Passes.{HasGathered, IsOrderFault, IsReasoned, recorded};
+ghost use Rattle.er_unordered.specs.Inner.Passes.{HasGathered, IsReasoned, recorded};
 ghost use Rattle.er_unordered.specs.Inner.Reasons.{HasReasons};
-ghost use Rattle.er_unordered.specs.Inner.Stopping.{IsStopIn};
 ghost use Rattle.er_unordered.specs.Reports.{unordered_report};
+ghost use Rattle.er_unordered.specs.Stops.{IsStopIn};
 
-use crate::OrderFault;
+use crate::OrderStop;
 use crate::answering::{answer_steps, explain_steps};
 use crate::reasons::Reasons;
 use er_before::OrderMachine;
@@ -79,12 +79,11 @@ impl<'r> OrderBuilder<'r> {
         &mut self,
         machine: &mut OrderMachine,
         trace: &Trace,
-    ) -> Result<(), OrderFault>
+    ) -> Result<(), OrderStop>
         ensures rules { OnOk result (self.new.built.rules ≡ self.old.built.rules) }
         ensures explains { OnOk result (is_some self.new.reasons ≡ is_some self.old.reasons) }
         ensures run { (past : List Steps) (lines : List ℕ) (names : NameTable) → KeepsNames names trace.now.names → HasGathered machine.old self.old (recorded past lines names)
             → OnOk result (HasGathered machine.new self.new (joined past lines trace.now)) }
-        ensures fault { IfErr result (λ why. IsOrderFault why) }
         ensures full { (past : List Steps) (lines : List ℕ) (names : NameTable) → KeepsNames names trace.now.names → HasGathered machine.old self.old (recorded past lines names)
             → IfErr result (λ why. IsStopIn (past ++ trace.now.steps) why) }
     {

@@ -1,1 +1,2 @@
 mod NoteLemmas
+mod EndLemmas

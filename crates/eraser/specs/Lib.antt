@@ -1,4 +1,5 @@
 pub mod Faults
+pub mod Inner
 pub mod Notes
 pub mod Replays
 pub mod Stories

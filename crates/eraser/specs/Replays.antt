@@ -1,29 +1,40 @@
 -- What a replay leaves, and its exit status.
-use Rattle.std.specs.Prelude.{◌≡◌, ◌≤◌, ℕ, Bool, false, List, [], Option, Some, None, Result, Ok, Err}
-use Rattle.std.specs.Io.KnownBytes.{Keeps}
+use Rattle.std.specs.Prelude.{◌≡◌, ◌⊎◌, ◌&&◌, ℕ, Bool, true, false, not, cond, List, [], length, ◌-◌, take, codes, Option, Some, None, IsSome, is_some, IsFalse, Result, Ok, Err}
+use Rattle.std.specs.Io.KnownBytes.{Appends, Keeps}
+use Rattle.std.specs.Str.{bytes_eq}
+use Rattle.er_batch.specs.declared.options.Options.{Options}
+use Rattle.er_batch.specs.declared.verdict.Verdict.{Verdict}
+use Rattle.er_batch.specs.declared.verdict.Verdict.TheVariants.{Clean, Races, Stopped}
 use Rattle.er_exit.specs.Lines.{fault_line}
+use Rattle.er_exit.specs.Statuses.{fault_status}
 use Rattle.er_exit.specs.Writes.{GetsLine}
 use Rattle.er_exit.specs.declared.faults.Fault.{Fault}
 use Rattle.er_exit.specs.declared.faults.Fault.TheVariants as fault
-use Rattle.er_request.specs.declared.request.Analysis.{Analysis}
-use Rattle.er_request.specs.declared.request.Analysis.TheVariants as asked
-use Rattle.er_request.specs.declared.request.Format.TheVariants.{Text}
+use Rattle.er_forms.specs.Forms.{IsForm}
+use Rattle.er_html.specs.declared.excerpts.Excerpt.{Excerpt}
+use Rattle.er_places.specs.Places.{PlaceTable, place_at}
+use Rattle.er_report.specs.declared.report.Report.{Report}
+use Rattle.er_report.specs.declared.reports.Form.{Form}
+use Rattle.er_report.specs.declared.reports.Form.TheVariants as form
+use Rattle.er_report.specs.declared.reports.Reports.{Reports}
 use Rattle.er_request.specs.declared.request.Replay.{Replay}
 use Rattle.er_request.specs.Words.{usual_limit}
 use Rattle.er_rules.specs.Rules.{Target}
-use Rattle.er_run.specs.Replays.{IsReplayed, HasStepForSet}
+use Rattle.er_run.specs.Replays.{IsBegun, IsNoDamage, IsReplayed, is_verdict_of}
+use Rattle.er_report.specs.Reports.{asks_locks, asks_order}
+use Rattle.er_run.specs.Reports.{AreReportsOfText, IsFaultOfText, RecordsOrder}
+use Rattle.er_run.specs.declared.fault.RunFault.{RunFault}
 use Rattle.er_text.specs.Ending.{IsEndingOf}
 use Rattle.er_text.specs.Trace.{IsTrace, IsFault}
 use Rattle.er_text.specs.declared.endings.Ending.{Ending}
-use Rattle.er_text.specs.declared.faults.TextFault.{TextFault}
+use Rattle.er_trace.specs.Names.{NameTable}
 use Rattle.er_trace.specs.Trace.{Recording}
-use Rattle.er_batch.specs.declared.verdict.Verdict.{Verdict}
-use Rattle.er_batch.specs.declared.verdict.Verdict.TheVariants.{Clean, Races, Stopped}
-use Rattle.er_unordered.specs.Replays.{IsReplayedBy}
-use Rattle.er_unordered.specs.declared.replay.Analysis.{Analysis as Order}
-use Rattle.er_unordered.specs.declared.replay.Analysis.TheVariants as order
+use Rattle.er_triage.specs.First.{KeepFirst}
+use Rattle.er_triage.specs.Known.{lines_of}
+use Rattle.er_triage.specs.Notes.{notes_text}
+use Rattle.eraser.specs.Faults.{replay_fault}
 use Rattle.eraser.specs.Notes.{AddsNotesOn}
-use Rattle.eraser.specs.declared.sorting.Ended.{Ended}
+use Rattle.eraser.specs.declared.replaying.Ended.{Ended}
 use Rattle.eraser.specs.declared.until.Cut.{Cut}
 
 -- behind a replay: no race is printed, some race is, or the replay stopped for want of room
@@ -32,68 +43,126 @@ verdict_status Clean = 0
 verdict_status Races = 1
 verdict_status Stopped = 3
 
--- the analysis that knows order, if one is asked for
-abbrev pub order_of : Analysis → Option Order
-order_of asked.Lockset = None
-order_of asked.HappensBefore = Some order.HappensBefore
-order_of asked.Both = Some order.Both
+-- the forms that tell where accesses stood
+abbrev pub tells_places : Form → Bool
+tells_places form.Text = false
+tells_places form.BySite = true
+tells_places form.Json = false
+tells_places form.Sarif = true
+tells_places form.Html = false
 
--- nothing but the report or the reports of this analysis are asked for, as text
-pub record IsPlainBy (analysis : Order) (replay : Replay) : Type 0 where
-  pub by : order_of replay.analysis ≡ Some analysis
-  pub form : replay.format ≡ Text
-  pub rules : replay.write_rules ≡ None
-  pub unused : replay.unused_rules ≡ false
-  pub all : replay.max_races ≡ None
+-- places are shown, and the trace may be a file that is read whole
+abbrev pub shows_places : Replay → Bool
+shows_places replay = replay.explain && tells_places replay.form && not replay.until_fault && not (bytes_eq replay.trace.now (codes "-"))
 
--- nothing but the report by locks is asked for, as its text
-pub record IsPlain (replay : Replay) : Type 0 where
-  pub by : order_of replay.analysis ≡ None
-  pub form : replay.format ≡ Text
-  pub rules : replay.write_rules ≡ None
-  pub unused : replay.unused_rules ≡ false
-  pub all : replay.max_races ≡ None
+-- no place is known
+abbrev pub HasNoPlace : PlaceTable → Type 0
+HasNoPlace table = (line : ℕ) → place_at table line ≡ None
 
--- the text, of at most so many bytes, was replayed under these rules, with reasons or without, and the status is that of its verdict
-abbrev pub EndsAs : List ℕ → ℕ → List Target → Bool → Option (List ℕ) → Option (List ℕ) → ℕ → Type 0
-EndsAs text limit rules explain old new status = (verdict : Verdict) × IsReplayed text limit rules explain old new verdict × (status ≡ verdict_status verdict)
+-- these bytes are the form of these reports that is asked for, under these names and rules, with places and lines of source files only if they are shown
+pub record AreShown (replay : Replay) (names : NameTable) (rules : List Target) (reports : Reports) (bytes : List ℕ) : Type 0 where
+  pub table : PlaceTable
+  pub excerpts : List Excerpt
+  pub places : shows_places replay ≡ false → HasNoPlace table
+  pub sources : replay.source ≡ None → excerpts ≡ []
+  pub form : IsForm replay.form names table rules excerpts reports bytes
 
--- the same under no rules
-abbrev pub ReplaysTo : List ℕ → ℕ → Bool → Option (List ℕ) → Option (List ℕ) → ℕ → Type 0
-ReplaysTo text limit explain old new status = EndsAs text limit [] explain old new status
+-- the text is a trace, and these bytes are the form of its reports by the analysis that is asked for, under these rules, and with the lines of the first
+-- races alone if their number is limited
+pub record IsOutput (replay : Replay) (text : List ℕ) (rules : List Target) (bytes : List ℕ) : Type 0 where
+  pub names : NameTable
+  pub found : Reports
+  pub left : Reports
+  pub reports : AreReportsOfText replay.analysis text replay.byte_limit rules replay.explain names found
+  pub locks : is_some found.lockset ≡ asks_locks replay.analysis
+  pub order : is_some found.unordered ≡ asks_order replay.analysis
+  pub first : KeepFirst replay.max_races found left
+  pub shown : AreShown replay names rules left bytes
 
--- the text was replayed by this analysis under these rules, and the status is that of its verdict
-abbrev pub EndsBy : Order → List ℕ → ℕ → List Target → Bool → Option (List ℕ) → Option (List ℕ) → ℕ → Type 0
-EndsBy analysis text limit rules explain old new status = (verdict : Verdict) × IsReplayedBy analysis text limit rules explain old new verdict × (status ≡ verdict_status verdict)
+-- how many accesses and reuses a report by happens-before has
+abbrev pub races_in : Option Report → ℕ
+races_in None = 0
+races_in (Some report) = report.races
+
+-- the same if nothing orders the threads, and else 0
+abbrev pub unordered_of : Bool → Reports → ℕ
+unordered_of has_order reports = cond has_order 0 (races_in reports.unordered)
+
+-- what a replay leaves that ends so: the whole output, the status of its verdict, and what is noted
+pub record EndsAs (replay : Replay) (text : List ℕ) (rules : List Target) (old new : Option (List ℕ)) (ended : Ended) : Type 0 where
+  pub bytes : List ℕ
+  pub output : IsOutput replay text rules bytes
+  pub written : Appends old new bytes
+  pub status : ended.status ≡ verdict_status (is_verdict_of output.left)
+  pub ending : IsEndingOf text ended.ending
+  pub order : (has_order : Bool) × (RecordsOrder replay.analysis text replay.byte_limit has_order × (ended.unordered ≡ unordered_of has_order output.found))
+  pub notes : ended.notes.items ≡ notes_text replay.unused_rules output.found rules (length (lines_of output.found) - length (lines_of output.left))
+
+-- the fault of a replay, before a byte is written
+pub record IsFoundFault (replay : Replay) (text : List ℕ) (why : Fault) : Type 0 where
+  pub found : RunFault
+  pub says : why ≡ replay_fault found
+  pub cause : IsFaultOfText replay.analysis (Some text) replay.byte_limit found
+  pub lenient : IsFalse replay.strict → IsNoDamage found
+
+-- why a replay has not all that was asked for, and what it leaves: a beginning of the output if a write failed, all of it if only the file of rules
+-- is missing, and else nothing
+abbrev pub FailsAs : Replay → List ℕ → List Target → Option (List ℕ) → Option (List ℕ) → Fault → Type 0
+FailsAs replay text rules old new fault.Write = (bytes : List ℕ) × IsOutput replay text rules bytes × ((n : ℕ) × Appends old new (take n bytes))
+FailsAs replay text rules old new fault.WriteRules = IsSome replay.write_rules × ((bytes : List ℕ) × IsOutput replay text rules bytes × Appends old new bytes)
+FailsAs replay text rules old new fault.Memory = Keeps old new
+FailsAs replay text rules old new other = IsFoundFault replay text other × Keeps old new
+
+-- by these options a replay is run as it is asked for
+pub record AreOptionsOf (replay : Replay) (options : Options) : Type 0 where
+  pub bytes : options.byte_limit ≡ replay.byte_limit
+  pub explain : options.explain ≡ replay.explain
+  pub strict : options.strict ≡ replay.strict
+  pub workers : options.workers ≡ replay.workers
 
 -- A replay of the standard input with no option
 
--- why it has no report: the text's first fault, a step that asks a full table for a set, a worker that can't be started, or what no text decides
-abbrev pub IsUsualFault : List ℕ → ℕ → Fault → Type 0
-IsUsualFault text limit (fault.Text why) = IsFault text limit why
-IsUsualFault text limit fault.TableFull = HasStepForSet text limit
-IsUsualFault text limit fault.WorkerNotStarted = (r : Recording) × IsTrace text limit r
-IsUsualFault text limit fault.Memory = Unit {0}
-IsUsualFault text limit fault.Read = Unit {0}
-IsUsualFault text limit fault.Write = Unit {0}
-IsUsualFault text limit other = ⊥
+-- the whole report of the text was written, and the status is that of its verdict
+abbrev pub ReplaysTo : List ℕ → Option (List ℕ) → Option (List ℕ) → ℕ → Type 0
+ReplaysTo text old new status = (verdict : Verdict) × IsReplayed text usual_limit [] false old new verdict × (status ≡ verdict_status verdict)
+
+-- why there is no report: the text's first fault, or what no text decides
+abbrev pub IsUsualFault : List ℕ → Fault → Type 0
+IsUsualFault text (fault.Text why) = IsFault text usual_limit why
+IsUsualFault text fault.Memory = Unit {0}
+IsUsualFault text fault.Read = Unit {0}
+IsUsualFault text fault.Write = Unit {0}
+IsUsualFault text other = ⊥
+
+-- what the output has then: a beginning of the report if a write failed, and else nothing
+abbrev pub LeavesUsually : List ℕ → Option (List ℕ) → Option (List ℕ) → Fault → Type 0
+LeavesUsually text old new fault.Write = IsBegun text usual_limit [] false old new
+LeavesUsually text old new other = Keeps old new
 
 -- before its notes or its fault are written: the whole report of the text, or why there is none
 abbrev pub EndsUsually : List ℕ → Option (List ℕ) → Option (List ℕ) → Result Ended Cut → Type 0
-EndsUsually text old new (Ok ended) = ReplaysTo text usual_limit false old new ended.status × (IsEndingOf text ended.ending × ((ended.unordered ≡ 0) × (ended.notes.items ≡ [])))
-EndsUsually text old new (Err cut) = IsUsualFault text usual_limit cut.fault × ((cut.notes.items ≡ []) × (cut.damage ≡ None))
+EndsUsually text old new (Ok ended) = ReplaysTo text old new ended.status × (IsEndingOf text ended.ending × ((ended.unordered ≡ 0) × (ended.notes.items ≡ [])))
+EndsUsually text old new (Err cut) = IsUsualFault text cut.fault × (LeavesUsually text old new cut.fault × ((cut.notes.items ≡ []) × (cut.damage ≡ None)))
 
 -- the errors got the notes on the text alone
 abbrev pub GetsNotesOn : Bool → List ℕ → Option (List ℕ) → Option (List ℕ) → Bool → Type 0
 GetsNotesOn people text old new failed = (ending : Ending) × IsEndingOf text ending × AddsNotesOn people ending 0 [] old new failed
 
--- the text has a first fault, and unless it is for people the errors got its line alone
-abbrev pub GetsFirstFault : Bool → List ℕ → Option (List ℕ) → Option (List ℕ) → Bool → Type 0
-GetsFirstFault people text old new failed = (why : TextFault) × IsFault text usual_limit why × (people ≡ false → GetsLine old new (fault_line (fault.Text why)) failed)
+-- it has reported: the output got the whole report and the errors the notes on the text; the status says whether the report has a race (1), or stops for
+-- want of room as it says itself (3)
+pub record HasReported (people : Bool) (text : List ℕ) (old new : Option (List ℕ)) (errors_old errors_new : Option (List ℕ)) (failed : Bool) (status : ℕ) : Type 0 where
+  pub report : ReplaysTo text old new status
+  pub notes : GetsNotesOn people text errors_old errors_new failed
 
--- what it leaves on the output and the errors, and its exit status: with 0 or 1 the whole report of the text, of which 1 says that it has a race; with 2 the text's first fault
-pub record ComesTo (people : Bool) (text : List ℕ) (old new : Option (List ℕ)) (errors_old errors_new : Option (List ℕ)) (failed : Bool) (status : ℕ) : Type 0 where
-  pub report : status ≤ 1 → ReplaysTo text usual_limit false old new status
-  pub notes : status ≤ 1 → GetsNotesOn people text errors_old errors_new failed
-  pub fault : status ≡ 2 → GetsFirstFault people text errors_old errors_new failed
-  pub nothing : status ≡ 2 → Keeps old new
+-- it has a fault, whose status it ends with; unless it is for people the errors got the line of the fault alone
+pub record HasFailed (people : Bool) (text : List ℕ) (old new : Option (List ℕ)) (errors_old errors_new : Option (List ℕ)) (failed : Bool) (status : ℕ) : Type 0 where
+  pub why : Fault
+  pub cause : IsUsualFault text why
+  pub ends : status ≡ fault_status why
+  pub output : LeavesUsually text old new why
+  pub line : people ≡ false → GetsLine errors_old errors_new (fault_line why) failed
+
+-- what it leaves on the output and the errors, and its exit status
+abbrev pub ComesTo : Bool → List ℕ → Option (List ℕ) → Option (List ℕ) → Option (List ℕ) → Option (List ℕ) → Bool → ℕ → Type 0
+ComesTo people text old new errors_old errors_new failed status =
+    HasReported people text old new errors_old errors_new failed status ⊎ HasFailed people text old new errors_old errors_new failed status

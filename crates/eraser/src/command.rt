@@ -2,36 +2,28 @@
 ghost use Rattle.std.specs.Prelude.{◌≡◌, ◌≢◌, ◌≤◌, ◌||◌, [], false, true, None, codes, IfOk, IfErr, IfSome};
 ghost use Rattle.std.specs.Io.KnownBytes.{Keeps};
 ghost use Rattle.er_device.specs.Device.{inner_of, has_failed};
-ghost use Rattle.er_rules.specs.Rules.{targets_of};
-ghost use Rattle.er_exit.specs.Writes.{LeavesOutput};
-ghost use Rattle.er_request.specs.declared.request.Format.TheVariants.{Text};
+ghost use Rattle.er_exit.specs.Lines.{fault_line};
+ghost use Rattle.er_exit.specs.Statuses.{fault_status};
+ghost use Rattle.er_exit.specs.Writes.{GetsLine, LeavesOutput};
 ghost use Rattle.er_request.specs.Words.{IsUsual, asks_hints, asks_progress, asks_until_fault, asks_usual, names_hints, names_progress, names_until_fault, replays_input};
-ghost use Rattle.er_run.specs.Replays.{IsReplayed};
-ghost use Rattle.er_text.specs.Ending.{IsEndingOf};
 ghost use Rattle.er_triage.specs.Notes.{AreNotes};
-ghost use Rattle.eraser.specs.Notes.{AddsNotesOn, GetsNotes, GetsTextNotes, IsSilent};
-ghost use Rattle.er_unordered.specs.declared.replay.Analysis.{Analysis as Order};
-ghost use Rattle.eraser.specs.Replays.{ComesTo, EndsAs, EndsBy, EndsUsually, IsPlain, IsPlainBy, IsUsualFault, ReplaysTo, order_of};
+ghost use Rattle.eraser.specs.Notes.{AddsNotesOn, GetsNotes, IsSilent};
+ghost use Rattle.eraser.specs.Replays.{AreOptionsOf, ComesTo, EndsAs, EndsUsually, FailsAs};
 
 use crate::advice::trace_path;
-use crate::again::replay_form;
-use crate::analyses::{order_of, replay_by_order};
-use crate::faults::fault_of;
 use crate::meter::Meter;
 use crate::notes::notes_of;
+use crate::replaying::{Ended, Job};
 use crate::rules::suppressions_of;
-use crate::sorting::{Ended, asks_more, replay_and_sort, status_of};
 use crate::sources::size_of;
 use crate::stories::explain_step;
 use crate::until::{Cut, cut_by, replay_trace, report_cut};
 use clap::error::ErrorKind;
 use er_device::Device;
 use er_exit::{Fault, put, report_fault, run_demo};
-use er_formats::Form;
 use er_load::Workload;
-use er_request::{Demo, Explain, Format, Replay, Request, read_request};
-use er_rules::Suppressions;
-use er_run::{Options, Replayed, Watch, replay_text_watched};
+use er_request::{Demo, Explain, Replay, Request, read_request};
+use er_run::Options;
 use er_trace::NameKeys;
 use std::alloc::Global;
 use std::io::{Read, Write};
@@ -64,8 +56,9 @@ where
     requires errors { has_failed errors.old ≡ false }
     ensures status { result ≤ 4 }
 
-    // If `replay -` ends with 0 or 1, it has written the report that the definitions give of the input's text, and 1 says that the report has
-    // a race. If it ends with 2, the text has a fault, and nothing was written but the line of its first one.
+    // `replay -` has written the report that the definitions give of the input's text, and its status says whether the report has a race or
+    // stops for want of room. Or there is a fault: 2 is the text's first one, 3 a want of memory, and 4 a failed read or write. Then the output
+    // has nothing, or a beginning of the report if a write failed.
     ensures usual { replays_input words.now ≡ true → IfSome (I.remaining (inner_of input.old)) (λ text. ComesTo on_terminal text (O.contents (inner_of output.old)) (O.contents (inner_of output.new)) (E.contents (inner_of errors.old)) (E.contents (inner_of errors.new)) (has_failed errors.new) result) }
 
     // With a result nothing goes to the errors but the notes that were asked for and those on the text, and with wrong arguments or a
@@ -115,7 +108,8 @@ where
     match request {
         Request::Replay(replay) => {
             let asked = with_hints(replay, on_terminal);
-            let status = end_replay(rt, &asked, input, output, errors, progress, on_terminal);
+            let replayed = run_replay(rt, &asked, input, output, progress, on_terminal);
+            let status = end_replay(rt, &asked, replayed, errors);
             drop(asked);
             status
         }
@@ -137,44 +131,8 @@ fn with_hints(mut replay: Replay<'_>, on_terminal: bool) -> Replay<'_>
     replay
 }
 
-// Runs a replay, and writes its notes, or its fault and what helps people.
-fn end_replay<R, I, O, E, P>(
-    rt: &R,
-    replay: &Replay<'_>,
-    input: &mut Device<I>,
-    output: &mut Device<O>,
-    errors: &mut Device<E>,
-    progress: &mut Device<P>,
-    on_terminal: bool,
-) -> u8
-where
-    R: Files + Clock + RandomSource + AllocGlobal + Threads + Wait + Sync,
-    I: Read,
-    O: Write,
-    E: Write,
-    P: Write,
-    requires input { has_failed input.old ≡ false }
-    requires output { has_failed output.old ≡ false }
-    requires errors { has_failed errors.old ≡ false }
-    ensures status { result ≤ 4 }
-    ensures usual { IsUsual replay.now → IfSome (I.remaining (inner_of input.old)) (λ text. ComesTo replay.now.hints text (O.contents (inner_of output.old)) (O.contents (inner_of output.new)) (E.contents (inner_of errors.old)) (E.contents (inner_of errors.new)) (has_failed errors.new) result) }
-    ensures quiet { result ≤ 1 → GetsNotes replay.now.hints (E.contents (inner_of errors.old)) (E.contents (inner_of errors.new)) (has_failed errors.new) }
-    ensures silent { replay.now.unused_rules ≡ false → replay.now.max_races ≡ None → result ≤ 1 → GetsTextNotes replay.now.hints (E.contents (inner_of errors.old)) (E.contents (inner_of errors.new)) (has_failed errors.new) }
-    ensures refused { replay.now.until_fault ≡ false → result ≡ 2 → Keeps (O.contents (inner_of output.old)) (O.contents (inner_of output.new)) }
-    ensures unwatched { replay.now.progress ≡ false → Keeps (P.contents (inner_of progress.old)) (P.contents (inner_of progress.new)) }
-{
-    match run_shown(rt, replay, input, output, progress, on_terminal) {
-        Ok(ended) => note(rt.alloc(), ended, replay.hints, errors),
-        Err(cut) => {
-            let status = report_cut(rt, replay, &cut, errors);
-            drop(cut);
-            status
-        }
-    }
-}
-
-// Runs a replay, and shows how far it has come if that is asked for.
-fn run_shown<R, I, O, P>(
+// Runs a replay, and shows how far it has come if that is asked for. The suppressions are opened and read before the trace is opened.
+fn run_replay<R, I, O, P>(
     rt: &R,
     replay: &Replay<'_>,
     input: &mut Device<I>,
@@ -193,19 +151,59 @@ where
     ensures usual { IsUsual replay.now → IfSome (I.remaining (inner_of input.old)) (λ text. EndsUsually text (O.contents (inner_of output.old)) (O.contents (inner_of output.new)) result) }
     ensures notes { IfOk result (λ ended. AreNotes ended.notes.items) }
     ensures silent { replay.now.unused_rules ≡ false → replay.now.max_races ≡ None → IfOk result (λ ended. ended.notes.items ≡ []) }
+    ensures ends { replay.now.trace.now ≡ codes "-" → replay.now.suppressions.items ≡ [] → IfOk result (λ ended. IfSome (I.remaining (inner_of input.old)) (λ text. EndsAs replay.now text [] (O.contents (inner_of output.old)) (O.contents (inner_of output.new)) ended)) }
+    ensures fails { replay.now.trace.now ≡ codes "-" → replay.now.suppressions.items ≡ [] → replay.now.until_fault ≡ false → IfErr result (λ cut. IfSome (I.remaining (inner_of input.old)) (λ text. FailsAs replay.now text [] (O.contents (inner_of output.old)) (O.contents (inner_of output.new)) cut.fault)) }
     ensures nothing { replay.now.until_fault ≡ false → IfErr result (λ cut. LeavesOutput (O.contents (inner_of output.old)) (O.contents (inner_of output.new)) cut.fault) }
     ensures unwatched { replay.now.progress ≡ false → Keeps (P.contents (inner_of progress.old)) (P.contents (inner_of progress.new)) }
 {
+    let options = options_of(replay, keys_from(rt));
+    let suppressions = match suppressions_of(rt, &replay.suppressions, options.byte_limit) {
+        Ok(suppressions) => suppressions,
+        Err(fault) => return Err(cut_by(rt.alloc(), fault)),
+    };
+    let job = Job {
+        replay,
+        suppressions: &suppressions,
+        options: &options,
+    };
     if replay.progress {
         let mut meter = Meter::new(rt, progress, on_terminal, size_of_trace(rt, replay));
-        return run_replay(rt, replay, input, output, &mut meter);
+        return replay_trace(rt, job, input, output, &mut meter);
     }
     let mut meter: Meter<'_, R, P> = Meter::off(rt);
-    run_replay(rt, replay, input, output, &mut meter)
+    replay_trace(rt, job, input, output, &mut meter)
 }
 
 fn size_of_trace<R: Files>(rt: &R, replay: &Replay<'_>) -> Option<u64> {
     size_of(rt, trace_path(replay)?)
+}
+
+// Writes the notes of a replay, or its fault and what helps people.
+fn end_replay<R, E>(
+    rt: &R,
+    replay: &Replay<'_>,
+    replayed: Result<Ended, Cut>,
+    errors: &mut Device<E>,
+) -> u8
+where
+    R: Files + AllocGlobal,
+    E: Write,
+    requires errors { has_failed errors.old ≡ false }
+    requires notes { IfOk replayed (λ ended. AreNotes ended.notes.items) }
+    ensures status { IfOk replayed (λ ended. result ≡ ended.status) }
+    ensures fault { IfErr replayed (λ cut. (result ≡ fault_status cut.fault) × ((2 ≤ result) × (result ≤ 4))) }
+    ensures notes { IfOk replayed (λ ended. GetsNotes replay.now.hints (E.contents (inner_of errors.old)) (E.contents (inner_of errors.new)) (has_failed errors.new)) }
+    ensures silent { IfOk replayed (λ ended. ended.notes.items ≡ [] → AddsNotesOn replay.now.hints ended.ending ended.unordered [] (E.contents (inner_of errors.old)) (E.contents (inner_of errors.new)) (has_failed errors.new)) }
+    ensures line { IfErr replayed (λ cut. cut.notes.items ≡ [] → cut.damage ≡ None → replay.now.hints ≡ false → GetsLine (E.contents (inner_of errors.old)) (E.contents (inner_of errors.new)) (fault_line cut.fault) (has_failed errors.new)) }
+{
+    match replayed {
+        Ok(ended) => note(rt.alloc(), ended, replay.hints, errors),
+        Err(cut) => {
+            let status = report_cut(rt, replay, &cut, errors);
+            drop(cut);
+            status
+        }
+    }
 }
 
 // Writes the story of a step, or why there is none.
@@ -277,164 +275,12 @@ pub(crate) fn keys_from<R: RandomSource>(rt: &R) -> NameKeys {
 
 /// How the trace is to be replayed.
 pub(crate) fn options_of(replay: &Replay<'_>, keys: NameKeys) -> Options
-    ensures explain { result.explain ≡ replay.now.explain }
-    ensures bytes { result.byte_limit ≡ replay.now.byte_limit }
-    ensures strict { result.strict ≡ replay.now.strict }
+    ensures { AreOptionsOf replay.now result }
 {
     let options = Options::usual().with_explain(replay.explain);
     let options = options.with_strict(replay.strict).with_keys(keys);
     let options = options.with_byte_limit(replay.byte_limit).unwrap();
     options.with_workers(replay.shards, replay.workers).unwrap()
-}
-
-// The suppressions are opened and read before the trace is opened.
-fn run_replay<R, I, O, V>(
-    rt: &R,
-    replay: &Replay<'_>,
-    input: &mut Device<I>,
-    output: &mut Device<O>,
-    watcher: &mut V,
-) -> Result<Ended, Cut>
-where
-    R: Files + RandomSource + AllocGlobal + Threads + Wait + Sync,
-    I: Read,
-    O: Write,
-    V: Watch,
-    requires input { has_failed input.old ≡ false }
-    requires output { has_failed output.old ≡ false }
-    ensures status { IfOk result (λ ended. (ended.status ≤ 4) × (ended.status ≢ 2)) }
-    ensures usual { IsUsual replay.now → IfSome (I.remaining (inner_of input.old)) (λ text. EndsUsually text (O.contents (inner_of output.old)) (O.contents (inner_of output.new)) result) }
-    ensures notes { IfOk result (λ ended. AreNotes ended.notes.items) }
-    ensures silent { replay.now.unused_rules ≡ false → replay.now.max_races ≡ None → IfOk result (λ ended. ended.notes.items ≡ []) }
-    ensures report { IsPlain replay.now → replay.now.suppressions.items ≡ [] → replay.now.trace.now ≡ codes "-" → IfOk result (λ ended. IfSome (I.remaining (inner_of input.old)) (λ text. ReplaysTo text replay.now.byte_limit replay.now.explain (O.contents (inner_of output.old)) (O.contents (inner_of output.new)) ended.status)) }
-    ensures report_by { (analysis : Order) → IsPlainBy analysis replay.now → replay.now.suppressions.items ≡ [] → replay.now.trace.now ≡ codes "-" → IfOk result (λ ended. IfSome (I.remaining (inner_of input.old)) (λ text. EndsBy analysis text replay.now.byte_limit [] replay.now.explain (O.contents (inner_of output.old)) (O.contents (inner_of output.new)) ended.status)) }
-    ensures text { replay.now.trace.now ≡ codes "-" → IfOk result (λ ended. IfSome (I.remaining (inner_of input.old)) (λ text. IsEndingOf text ended.ending)) }
-    ensures locks { order_of replay.now.analysis ≡ None → IfOk result (λ ended. ended.unordered ≡ 0) }
-    ensures nothing { replay.now.until_fault ≡ false → IfErr result (λ cut. LeavesOutput (O.contents (inner_of output.old)) (O.contents (inner_of output.new)) cut.fault) }
-{
-    let options = options_of(replay, keys_from(rt));
-    match suppressions_of(rt, &replay.suppressions, options.byte_limit) {
-        Ok(suppressions) => {
-            let ended = replay_trace(rt, replay, &suppressions, &options, input, output, watcher);
-            drop(suppressions);
-            ended
-        }
-        Err(fault) => Err(cut_by(rt.alloc(), fault)),
-    }
-}
-
-/// Replays what the reader gives, and writes what was asked for.
-pub(crate) fn replay_from<R, D, O, V>(
-    rt: &R,
-    replay: &Replay<'_>,
-    source: &mut Device<D>,
-    output: &mut Device<O>,
-    suppressions: &Suppressions,
-    options: &Options,
-    watcher: &mut V,
-) -> Result<Ended, Fault>
-where
-    R: Files + AllocGlobal + Threads + Wait + Sync,
-    D: Read,
-    O: Write,
-    V: Watch,
-    requires source { has_failed source.old ≡ false }
-    requires output { has_failed output.old ≡ false }
-    ensures status { IfOk result (λ ended. (ended.status ≤ 4) × (ended.status ≢ 2)) }
-    ensures notes { IfOk result (λ ended. AreNotes ended.notes.items) }
-    ensures silent { replay.now.unused_rules ≡ false → replay.now.max_races ≡ None → IfOk result (λ ended. ended.notes.items ≡ []) }
-    ensures report { IsPlain replay.now → IfOk result (λ ended. IfSome (D.remaining (inner_of source.old)) (λ text. EndsAs text options.now.byte_limit (targets_of suppressions.now) options.now.explain (O.contents (inner_of output.old)) (O.contents (inner_of output.new)) ended.status)) }
-    ensures report_by { (analysis : Order) → IsPlainBy analysis replay.now → IfOk result (λ ended. IfSome (D.remaining (inner_of source.old)) (λ text. EndsBy analysis text options.now.byte_limit (targets_of suppressions.now) options.now.explain (O.contents (inner_of output.old)) (O.contents (inner_of output.new)) ended.status)) }
-    ensures text { IfOk result (λ ended. IfSome (D.remaining (inner_of source.old)) (λ text. IsEndingOf text ended.ending)) }
-    ensures locks { order_of replay.now.analysis ≡ None → IfOk result (λ ended. ended.unordered ≡ 0) }
-    ensures fault { IsPlain replay.now → options.now.strict ≡ false → IfErr result (λ why. IfSome (D.remaining (inner_of source.old)) (λ text. IsUsualFault text options.now.byte_limit why)) }
-    ensures nothing { IfErr result (LeavesOutput (O.contents (inner_of output.old)) (O.contents (inner_of output.new))) }
-{
-    if let Some(analysis) = order_of(replay.analysis) {
-        return replay_by_order(
-            rt,
-            replay,
-            analysis,
-            source,
-            output,
-            suppressions,
-            options,
-            watcher,
-        );
-    }
-    if asks_more(replay) || shows_sources(replay) {
-        return replay_and_sort(rt, replay, source, output, suppressions, options, watcher);
-    }
-    match replay_in(rt, replay, source, output, suppressions, options, watcher) {
-        Ok(Replayed { verdict, ending }) => Ok(Ended {
-            status: status_of(verdict),
-            notes: Vec::new(rt.alloc()),
-            ending,
-            unordered: 0,
-        }),
-        Err(fault) => Err(fault),
-    }
-}
-
-// Whether the page that is asked for shows lines of source files.
-fn shows_sources(replay: &Replay<'_>) -> bool
-    ensures { replay.now.format ≡ Text → result ≡ false }
-{
-    matches!(replay.format, Format::Html) && replay.source.is_some()
-}
-
-// Replays what the reader gives, and writes the report in the format that was asked for.
-fn replay_in<R, D, O, V>(
-    rt: &R,
-    replay: &Replay<'_>,
-    source: &mut Device<D>,
-    output: &mut Device<O>,
-    suppressions: &Suppressions,
-    options: &Options,
-    watcher: &mut V,
-) -> Result<Replayed, Fault>
-where
-    R: Files + AllocGlobal + Threads + Wait + Sync,
-    D: Read,
-    O: Write,
-    V: Watch,
-    requires source { has_failed source.old ≡ false }
-    requires output { has_failed output.old ≡ false }
-    ensures report { replay.now.format ≡ Text → IfOk result (λ replayed. IfSome (D.remaining (inner_of source.old)) (λ text. IsReplayed text options.now.byte_limit (targets_of suppressions.now) options.now.explain (O.contents (inner_of output.old)) (O.contents (inner_of output.new)) replayed.verdict)) }
-    ensures ending { IfOk result (λ replayed. IfSome (D.remaining (inner_of source.old)) (λ text. IsEndingOf text replayed.ending)) }
-    ensures fault { replay.now.format ≡ Text → options.now.strict ≡ false → IfErr result (λ why. IfSome (D.remaining (inner_of source.old)) (λ text. IsUsualFault text options.now.byte_limit why)) }
-    ensures nothing { IfErr result (LeavesOutput (O.contents (inner_of output.old)) (O.contents (inner_of output.new))) }
-{
-    let replayed = match form_of(replay.format) {
-        None => replay_text_watched(rt, source, output, suppressions, options, watcher),
-        Some(form) => replay_form(
-            rt,
-            replay,
-            form,
-            source,
-            output,
-            suppressions,
-            options,
-            watcher,
-        ),
-    };
-    match replayed {
-        Ok(replayed) => Ok(replayed),
-        Err(why) => Err(fault_of(why)),
-    }
-}
-
-// The form that is another than the text.
-fn form_of(format: Format) -> Option<Form>
-    ensures { format ≡ Text → result ≡ None }
-{
-    match format {
-        Format::Text => None,
-        Format::BySite => Some(Form::BySite),
-        Format::Json => Some(Form::Json),
-        Format::Sarif => Some(Form::Sarif),
-        Format::Html => Some(Form::Html),
-    }
 }
 
 // Help goes to the output and every other text of the parser to the errors.

@@ -1,15 +1,14 @@
 //! The faults of a replay as those of the program.
 ghost use Rattle.std.specs.Prelude.{◌≡◌};
-ghost use Rattle.eraser.specs.Faults.{order_fault, replay_fault};
+ghost use Rattle.eraser.specs.Faults.{replay_fault};
 
 use er_exit::Fault;
 use er_parallel::ReplayFault;
 use er_print::WriteFault;
 use er_run::RunFault;
-use er_unordered::OrderFault;
 
 /// What stands for a fault of a replay.
-pub fn fault_of(fault: RunFault) -> Fault
+pub(crate) fn fault_of(fault: RunFault) -> Fault
     ensures { result ≡ replay_fault fault }
 {
     match fault {
@@ -21,19 +20,8 @@ pub fn fault_of(fault: RunFault) -> Fault
         RunFault::Replay(ReplayFault::TableFull) => Fault::TableFull,
         RunFault::Replay(ReplayFault::WorkerNotStarted) => Fault::WorkerNotStarted,
         RunFault::Replay(ReplayFault::WorkerLost) => Fault::WorkerLost,
+        RunFault::CountFull => Fault::CountFull,
+        RunFault::ThreadsFull => Fault::ThreadsFull,
         RunFault::Damaged(damage) => Fault::Damaged(damage),
-    }
-}
-
-/// What stands for a fault of a replay by happens-before, alone or beside the lockset rule.
-pub(crate) fn order_fault_of(fault: OrderFault) -> Fault
-    ensures { result ≡ order_fault fault }
-{
-    match fault {
-        OrderFault::Read(fault) => Fault::of_trace(fault),
-        OrderFault::Write(WriteFault::Memory) | OrderFault::Memory => Fault::Memory,
-        OrderFault::Write(WriteFault::Write) => Fault::Write,
-        OrderFault::TableFull => Fault::TableFull,
-        OrderFault::CountFull => Fault::CountFull,
     }
 }

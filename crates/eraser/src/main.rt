@@ -5,14 +5,13 @@
 #![tactic(auto)]
 
 mod advice;
-mod again;
-mod analyses;
 mod command;
 mod faults;
 mod meter;
 mod notes;
+mod places;
+mod replaying;
 mod rules;
-mod sorting;
 mod sources;
 mod stories;
 mod until;

@@ -3,7 +3,7 @@ ghost use Rattle.std.specs.Prelude.{◌≡◌};
 ghost use Rattle.er_exit.specs.Notes.{HasAdded};
 ghost use Rattle.eraser.specs.Notes.{notes_on};
 
-use crate::sorting::Ended;
+use crate::replaying::Ended;
 use er_exit::{TextNotes, add_notes};
 use er_text::Ending;
 use std::alloc::Global;

@@ -1,11 +1,12 @@
 //! Lines of source files, for a report as a page.
-ghost use Rattle.std.specs.Prelude.{◌≡◌, ◌<◌, ◌≤◌, All, length, IfErr};
+ghost use Rattle.std.specs.Prelude.{◌≡◌, ◌<◌, ◌≤◌, [], All, None, length, IfErr, IfOk, IfSome};
 ghost use Rattle.er_exit.specs.declared.faults.Fault.TheVariants.{Memory};
 ghost use Rattle.er_report.specs.Names.{HasNames};
+ghost use Rattle.er_report.specs.Reports.{HaveNames};
 
 use er_exit::Fault;
 use er_html::Excerpt;
-use er_report::{Line, Report};
+use er_report::{Line, Report, Reports};
 use er_trace::Names;
 use std::alloc::{AllocError, Global};
 use std::collections::HashSet;
@@ -26,22 +27,23 @@ const LINES_AROUND: u64 = 5;
 // How many bytes of a line are shown.
 const MOST_COLUMNS: usize = 400;
 
-/// The lines around the sites of a report's races, of each file that is found below the folder. Without a folder there are none.
+/// The lines around the sites of the reports' races, of each file that is found below the folder. Without a folder there are none.
 pub(crate) fn excerpts_of<R>(
     rt: &R,
     folder: Option<&str>,
-    report: &Report,
+    reports: &Reports,
     names: &Names,
 ) -> Result<Vec<Excerpt>, Fault>
 where
     R: Files + AllocGlobal,
-    requires named { All (HasNames names.now) report.now.lines.items }
+    requires named { HaveNames names.now reports.now }
+    ensures none { folder ≡ None → IfOk result (λ excerpts. excerpts.items ≡ []) }
     ensures fault { IfErr result (λ fault. fault ≡ Memory) }
 {
     let Some(folder) = folder else {
         return Ok(Vec::new(rt.alloc()));
     };
-    match excerpts_below(rt, folder, &report.lines, names) {
+    match excerpts_below(rt, folder, reports, names) {
         Ok(excerpts) => Ok(excerpts),
         Err(_) => Err(Fault::Memory),
     }
@@ -50,40 +52,51 @@ where
 fn excerpts_below<R>(
     rt: &R,
     folder: &str,
-    lines: &[Line],
+    reports: &Reports,
     names: &Names,
 ) -> Result<Vec<Excerpt>, AllocError>
 where
     R: Files + AllocGlobal,
-    requires { All (HasNames names.now) lines.now }
+    requires { HaveNames names.now reports.now }
 {
     let mut tried: HashSet<u32> = HashSet::new(rt.alloc());
     let mut excerpts = Vec::new(rt.alloc());
-    let put = put_excerpts(rt, folder, lines, names, &mut tried, &mut excerpts);
-    drop(tried);
-    match put {
-        Ok(()) => Ok(excerpts),
-        Err(refused) => {
-            drop(excerpts);
-            Err(refused)
-        }
-    }
+    put_excerpts(
+        rt,
+        folder,
+        &reports.lockset,
+        names,
+        &mut tried,
+        &mut excerpts,
+    )?;
+    put_excerpts(
+        rt,
+        folder,
+        &reports.unordered,
+        names,
+        &mut tried,
+        &mut excerpts,
+    )?;
+    Ok(excerpts)
 }
 
-// Puts the lines around each site that has not been tried before.
+// Puts the lines around each site of a report, if there is one, that has not been tried before.
 fn put_excerpts<R>(
     rt: &R,
     folder: &str,
-    lines: &[Line],
+    report: &Option<Report>,
     names: &Names,
     tried: &mut HashSet<u32>,
     excerpts: &mut Vec<Excerpt>,
 ) -> Result<(), AllocError>
 where
     R: Files + AllocGlobal,
-    requires { All (HasNames names.now) lines.now }
+    requires { IfSome report.now (λ report. All (HasNames names.now) report.lines.items) }
 {
-    for line in lines {
+    let Some(report) = report else {
+        return Ok(());
+    };
+    for line in &report.lines {
         if tried.len() >= MOST_SITES {
             break;
         }

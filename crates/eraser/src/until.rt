@@ -8,23 +8,19 @@ ghost use Rattle.er_exit.specs.Statuses.{fault_status};
 ghost use Rattle.er_exit.specs.Lines.{fault_line};
 ghost use Rattle.er_exit.specs.Writes.{GetsLine, LeavesOutput};
 ghost use Rattle.er_rules.specs.Rules.{targets_of};
-ghost use Rattle.er_text.specs.Ending.{IsEndingOf};
 ghost use Rattle.er_triage.specs.Notes.{AreNotes};
-ghost use Rattle.er_unordered.specs.declared.replay.Analysis.{Analysis as Order};
-ghost use Rattle.eraser.specs.Replays.{EndsAs, EndsBy, IsPlain, IsPlainBy, IsUsualFault, order_of};
+ghost use Rattle.eraser.specs.Replays.{AreOptionsOf, EndsAs, FailsAs};
 
 use crate::advice::report_replay_fault;
-use crate::command::replay_from;
 use crate::notes::notes_of;
-use crate::sorting::Ended;
+use crate::replaying::{Ended, Job, replay_from};
 use crate::sources::is_ordinary;
 use er_damage::Damage;
 use er_device::Device;
 use er_exit::{Fault, put, report_fault};
 use er_prefix::{Keeping, Prefix};
 use er_request::Replay;
-use er_rules::Suppressions;
-use er_run::{Options, Watch};
+use er_run::Watch;
 use er_text::TextFault;
 use std::alloc::Global;
 use std::fs::File;
@@ -90,9 +86,7 @@ pub(crate) fn cut_by(alloc: Global, fault: Fault) -> Cut
 /// Replays the trace, up to its first faulty line if that is asked for.
 pub(crate) fn replay_trace<R, I, O, V>(
     rt: &R,
-    replay: &Replay<'_>,
-    suppressions: &Suppressions,
-    options: &Options,
+    job: Job<'_>,
     input: &mut Device<I>,
     output: &mut Device<O>,
     watcher: &mut V,
@@ -106,67 +100,46 @@ where
     requires output { has_failed output.old ≡ false }
     ensures status { IfOk result (λ ended. (ended.status ≤ 4) × (ended.status ≢ 2)) }
     ensures notes { IfOk result (λ ended. AreNotes ended.notes.items) }
-    ensures silent { replay.now.unused_rules ≡ false → replay.now.max_races ≡ None → IfOk result (λ ended. ended.notes.items ≡ []) }
-    ensures report { IsPlain replay.now → replay.now.trace.now ≡ codes "-" → IfOk result (λ ended. IfSome (I.remaining (inner_of input.old)) (λ text. EndsAs text options.now.byte_limit (targets_of suppressions.now) options.now.explain (O.contents (inner_of output.old)) (O.contents (inner_of output.new)) ended.status)) }
-    ensures report_by { (analysis : Order) → IsPlainBy analysis replay.now → replay.now.trace.now ≡ codes "-" → IfOk result (λ ended. IfSome (I.remaining (inner_of input.old)) (λ text. EndsBy analysis text options.now.byte_limit (targets_of suppressions.now) options.now.explain (O.contents (inner_of output.old)) (O.contents (inner_of output.new)) ended.status)) }
-    ensures text { replay.now.trace.now ≡ codes "-" → IfOk result (λ ended. IfSome (I.remaining (inner_of input.old)) (λ text. IsEndingOf text ended.ending)) }
-    ensures locks { order_of replay.now.analysis ≡ None → IfOk result (λ ended. ended.unordered ≡ 0) }
-    ensures fault { IsPlain replay.now → replay.now.trace.now ≡ codes "-" → replay.now.until_fault ≡ false → options.now.strict ≡ false → IfErr result (λ cut. IfSome (I.remaining (inner_of input.old)) (λ text. IsUsualFault text options.now.byte_limit cut.fault)) }
-    ensures alone { replay.now.until_fault ≡ false → IfErr result (λ cut. (cut.notes.items ≡ []) × (cut.damage ≡ None)) }
-    ensures nothing { replay.now.until_fault ≡ false → IfErr result (λ cut. LeavesOutput (O.contents (inner_of output.old)) (O.contents (inner_of output.new)) cut.fault) }
+    ensures silent { job.replay.now.unused_rules ≡ false → job.replay.now.max_races ≡ None → IfOk result (λ ended. ended.notes.items ≡ []) }
+    ensures ends { job.replay.now.trace.now ≡ codes "-" → AreOptionsOf job.replay.now job.options.now → IfOk result (λ ended. IfSome (I.remaining (inner_of input.old)) (λ text. EndsAs job.replay.now text (targets_of job.suppressions.now) (O.contents (inner_of output.old)) (O.contents (inner_of output.new)) ended)) }
+    ensures fails { job.replay.now.trace.now ≡ codes "-" → job.replay.now.until_fault ≡ false → AreOptionsOf job.replay.now job.options.now → IfErr result (λ cut. IfSome (I.remaining (inner_of input.old)) (λ text. FailsAs job.replay.now text (targets_of job.suppressions.now) (O.contents (inner_of output.old)) (O.contents (inner_of output.new)) cut.fault)) }
+    ensures alone { job.replay.now.until_fault ≡ false → IfErr result (λ cut. (cut.notes.items ≡ []) × (cut.damage ≡ None)) }
+    ensures nothing { job.replay.now.until_fault ≡ false → IfErr result (λ cut. LeavesOutput (O.contents (inner_of output.old)) (O.contents (inner_of output.new)) cut.fault) }
 {
+    let replay = job.replay;
     if replay.trace == "-" {
-        return replay_once(rt, replay, input, output, suppressions, options, watcher);
+        if replay.until_fault {
+            return replay_keeping(rt, job, input, output, watcher);
+        }
+        return match replay_from(rt, job, input, output, watcher) {
+            Ok(ended) => Ok(ended),
+            Err(fault) => Err(cut_by(rt.alloc(), fault)),
+        };
     }
     let Ok(file) = File::open(rt, replay.trace) else {
         return Err(cut_by(rt.alloc(), Fault::OpenTrace));
     };
     let mut source = Device::new(file);
-    if !replay.until_fault || !is_ordinary(rt, replay.trace) {
-        return replay_once(
-            rt,
-            replay,
-            &mut source,
-            output,
-            suppressions,
-            options,
-            watcher,
-        );
+    if replay.until_fault && !is_ordinary(rt, replay.trace) {
+        return replay_keeping(rt, job, &mut source, output, watcher);
     }
-    match replay_from(
-        rt,
-        replay,
-        &mut source,
-        output,
-        suppressions,
-        options,
-        watcher,
-    ) {
+    match replay_from(rt, job, &mut source, output, watcher) {
         Ok(ended) => Ok(ended),
-        Err(fault) => {
+        Err(fault) if replay.until_fault => {
             let again = Again::File(replay.trace);
-            Err(replay_before(
-                rt,
-                replay,
-                fault,
-                again,
-                output,
-                suppressions,
-                options,
-                watcher,
-            ))
+            Err(replay_before(rt, job, fault, again, output, watcher))
         }
+        Err(fault) => Err(cut_by(rt.alloc(), fault)),
     }
 }
 
-// Replays what is read only once. It is kept if the lines before a fault may be asked for.
-fn replay_once<R, D, O, V>(
+// Replays what is read only once, and keeps it for the lines before a fault. Without memory to keep it, a fault of the text becomes a want
+// of memory.
+fn replay_keeping<R, D, O, V>(
     rt: &R,
-    replay: &Replay<'_>,
+    job: Job<'_>,
     source: &mut Device<D>,
     output: &mut Device<O>,
-    suppressions: &Suppressions,
-    options: &Options,
     watcher: &mut V,
 ) -> Result<Ended, Cut>
 where
@@ -178,94 +151,36 @@ where
     requires output { has_failed output.old ≡ false }
     ensures status { IfOk result (λ ended. (ended.status ≤ 4) × (ended.status ≢ 2)) }
     ensures notes { IfOk result (λ ended. AreNotes ended.notes.items) }
-    ensures silent { replay.now.unused_rules ≡ false → replay.now.max_races ≡ None → IfOk result (λ ended. ended.notes.items ≡ []) }
-    ensures report { IsPlain replay.now → IfOk result (λ ended. IfSome (D.remaining (inner_of source.old)) (λ text. EndsAs text options.now.byte_limit (targets_of suppressions.now) options.now.explain (O.contents (inner_of output.old)) (O.contents (inner_of output.new)) ended.status)) }
-    ensures report_by { (analysis : Order) → IsPlainBy analysis replay.now → IfOk result (λ ended. IfSome (D.remaining (inner_of source.old)) (λ text. EndsBy analysis text options.now.byte_limit (targets_of suppressions.now) options.now.explain (O.contents (inner_of output.old)) (O.contents (inner_of output.new)) ended.status)) }
-    ensures text { IfOk result (λ ended. IfSome (D.remaining (inner_of source.old)) (λ text. IsEndingOf text ended.ending)) }
-    ensures locks { order_of replay.now.analysis ≡ None → IfOk result (λ ended. ended.unordered ≡ 0) }
-    ensures fault { IsPlain replay.now → replay.now.until_fault ≡ false → options.now.strict ≡ false → IfErr result (λ cut. IfSome (D.remaining (inner_of source.old)) (λ text. IsUsualFault text options.now.byte_limit cut.fault)) }
-    ensures alone { replay.now.until_fault ≡ false → IfErr result (λ cut. (cut.notes.items ≡ []) × (cut.damage ≡ None)) }
-    ensures nothing { replay.now.until_fault ≡ false → IfErr result (λ cut. LeavesOutput (O.contents (inner_of output.old)) (O.contents (inner_of output.new)) cut.fault) }
+    ensures silent { job.replay.now.unused_rules ≡ false → job.replay.now.max_races ≡ None → IfOk result (λ ended. ended.notes.items ≡ []) }
+    ensures ends { AreOptionsOf job.replay.now job.options.now → IfOk result (λ ended. IfSome (D.remaining (inner_of source.old)) (λ text. EndsAs job.replay.now text (targets_of job.suppressions.now) (O.contents (inner_of output.old)) (O.contents (inner_of output.new)) ended)) }
 {
-    if !replay.until_fault {
-        return match replay_from(rt, replay, source, output, suppressions, options, watcher) {
-            Ok(ended) => Ok(ended),
-            Err(fault) => Err(cut_by(rt.alloc(), fault)),
-        };
-    }
     let mut keeping = Device::new(Keeping::new(rt.alloc(), source));
-    let first = replay_from(
-        rt,
-        replay,
-        &mut keeping,
-        output,
-        suppressions,
-        options,
-        watcher,
-    );
+    let first = replay_from(rt, job, &mut keeping, output, watcher);
     let kept = keeping.into_inner().into_kept();
-    match first {
-        Ok(ended) => {
+    match (first, kept) {
+        (Ok(ended), kept) => {
             drop(kept);
             Ok(ended)
         }
-        Err(fault) => Err(replay_kept_before(
-            rt,
-            replay,
-            fault,
-            kept,
-            output,
-            suppressions,
-            options,
-            watcher,
-        )),
+        (Err(fault), Some(text)) => {
+            let again = Again::Kept(&text);
+            let cut = replay_before(rt, job, fault, again, output, watcher);
+            drop(text);
+            Err(cut)
+        }
+        (Err(Fault::Text(_)), None) => Err(cut_by(rt.alloc(), Fault::Memory)),
+        (Err(fault), None) => Err(cut_by(rt.alloc(), fault)),
     }
-}
-
-// Replays the lines before a fault from the text that was kept. Without memory to keep it, a fault of the text becomes a want of memory.
-fn replay_kept_before<R, O, V>(
-    rt: &R,
-    replay: &Replay<'_>,
-    fault: Fault,
-    kept: Option<Vec<u8>>,
-    output: &mut Device<O>,
-    suppressions: &Suppressions,
-    options: &Options,
-    watcher: &mut V,
-) -> Cut
-where
-    R: Files + AllocGlobal + Threads + Wait + Sync,
-    O: Write,
-    V: Watch,
-{
-    let Some(text) = kept else {
-        let is_of_text = matches!(fault, Fault::Text(_));
-        return cut_by(rt.alloc(), if is_of_text { Fault::Memory } else { fault });
-    };
-    let cut = replay_before(
-        rt,
-        replay,
-        fault,
-        Again::Kept(&text),
-        output,
-        suppressions,
-        options,
-        watcher,
-    );
-    drop(text);
-    cut
 }
 
 // If the fault is one of the text, replays the lines before it. A text that ends there may lack its line `end`: that is no damage of these
 // lines, so if it is all that a strict replay finds, they have their report.
 fn replay_before<R, O, V>(
     rt: &R,
-    replay: &Replay<'_>,
+    job: Job<'_>,
     fault: Fault,
     again: Again<'_>,
     output: &mut Device<O>,
-    suppressions: &Suppressions,
-    options: &Options,
     watcher: &mut V,
 ) -> Cut
 where
@@ -277,43 +192,29 @@ where
         return cut_by(rt.alloc(), fault);
     };
     let lines = first.line.saturating_sub(1);
-    let second = replay_lines(
-        rt,
-        replay,
-        lines,
-        again,
-        output,
-        suppressions,
-        options,
-        watcher,
-    );
+    let hints = job.replay.hints;
+    let second = replay_lines(rt, job, lines, again, output, watcher);
     if !lacks_end_alone(&second) {
-        return cut_at(rt.alloc(), replay.hints, first, second);
+        return cut_at(rt.alloc(), hints, first, second);
     }
     drop(second);
-    let options = options.with_strict(false);
-    let third = replay_lines(
-        rt,
-        replay,
-        lines,
-        again,
-        output,
-        suppressions,
-        &options,
-        watcher,
-    );
-    cut_at(rt.alloc(), replay.hints, first, third)
+    let options = job.options.with_strict(false);
+    let lenient = Job {
+        replay: job.replay,
+        suppressions: job.suppressions,
+        options: &options,
+    };
+    let third = replay_lines(rt, lenient, lines, again, output, watcher);
+    cut_at(rt.alloc(), hints, first, third)
 }
 
 // Replays the first lines of a text that is read again. A failed write is final.
 fn replay_lines<R, O, V>(
     rt: &R,
-    replay: &Replay<'_>,
+    job: Job<'_>,
     lines: u64,
     again: Again<'_>,
     output: &mut Device<O>,
-    suppressions: &Suppressions,
-    options: &Options,
     watcher: &mut V,
 ) -> Result<Ended, Fault>
 where
@@ -330,27 +231,11 @@ where
                 return Err(Fault::OpenTrace);
             };
             let mut source = Device::new(Prefix::new(file, lines));
-            replay_from(
-                rt,
-                replay,
-                &mut source,
-                output,
-                suppressions,
-                options,
-                watcher,
-            )
+            replay_from(rt, job, &mut source, output, watcher)
         }
         Again::Kept(text) => {
             let mut source = Device::new(Prefix::new(text, lines));
-            replay_from(
-                rt,
-                replay,
-                &mut source,
-                output,
-                suppressions,
-                options,
-                watcher,
-            )
+            replay_from(rt, job, &mut source, output, watcher)
         }
     }
 }

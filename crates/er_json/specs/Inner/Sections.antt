@@ -20,12 +20,6 @@ rows_in s = rows_if (is_in s)
 abbrev pub separator_text : Bool → List ℕ
 separator_text is_first = cond is_first (codes "\n") (codes ",\n")
 
--- a list's name, behind the end of the list before it
-abbrev pub heading_text : Section → List ℕ
-heading_text section.Races = codes "{\"format\":1,\n\"races\":["
-heading_text section.Refused = codes "],\n\"refused\":["
-heading_text section.Shown = codes "],\n\"shown\":["
-
 -- there are no objects
 abbrev pub has_none : List (List ℕ) → Bool
 has_none [] = true

@@ -4,7 +4,7 @@ use Rattle.er_damage.specs.Damaged.{IsDamageOf, no_damage}
 use Rattle.er_damage.specs.Standing.{Inspected, StandsFor}
 use Rattle.er_damage.specs.declared.damage.Damage.{Damage}
 use Rattle.er_event.specs.declared.steps.Step.{Step}
-use Rattle.er_run.specs.Replays.{IsFoundDamage}
+use Rattle.er_run.specs.Faults.{IsFoundDamage}
 use Rattle.er_trace.specs.Trace.{Recording}
 
 -- an inspector, if there is one, stands for these steps and their lines

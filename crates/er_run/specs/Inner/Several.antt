@@ -5,7 +5,7 @@ use Rattle.er_parallel.specs.Crews.{Crewed, AreNoted, AreUnusual, HaveAnswered}
 use Rattle.er_parallel.specs.declared.unusual.Unusual.{Unusual}
 use Rattle.er_report.specs.Builder.{Built, IsReported}
 use Rattle.er_batch.specs.Runs.{recorded}
-use Rattle.er_run.specs.Replays.{FailsBy}
+use Rattle.er_run.specs.Faults.{FailsBy}
 use Rattle.er_run.specs.declared.fault.RunFault.{RunFault}
 use Rattle.er_batch.specs.declared.verdict.Verdict.{Verdict}
 use Rattle.er_text.specs.Batches.{HasRead}

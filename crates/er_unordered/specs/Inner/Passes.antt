@@ -1,6 +1,5 @@
 -- How far happens-before has come in the steps of a recording.
-use Rattle.std.specs.Prelude.{◌≡◌, ℕ, All, List, length, take, is_some, Option, None, IfSome}
-use Rattle.er_batch.specs.Analysts.{Asked}
+use Rattle.std.specs.Prelude.{◌≡◌, ℕ, All, List, length, take, Option, IfSome}
 use Rattle.er_before.specs.Standing.{Ordered, Stands}
 use Rattle.er_event.specs.declared.steps.Step.{Step}
 use Rattle.er_report.specs.Builder.{Built, IsBuiltBy}
@@ -8,9 +7,6 @@ use Rattle.er_trace.specs.Names.{NameTable}
 use Rattle.er_trace.specs.Trace.{Recording, IsNamed}
 use Rattle.er_order.specs.Races.{order_answer}
 use Rattle.er_unordered.specs.Inner.Reasons.{HasReasons, Reasoned}
-use Rattle.er_unordered.specs.Inner.Stopping.{IsStopIn}
-use Rattle.er_unordered.specs.declared.fault.OrderFault.{OrderFault}
-use Rattle.er_unordered.specs.declared.fault.OrderFault.TheVariants.{Read, Write, TableFull, CountFull, Memory}
 
 -- these steps and their lines, under these names
 abbrev pub recorded : List Step → List ℕ → NameTable → Recording
@@ -51,28 +47,3 @@ pub record HasExplained (machine : Ordered) (builder : Built) (kept : Reasoned) 
 pub record HasGathered (machine : Ordered) (builder : OrderBuilt) (r : Recording) : Type 0 where
   pub answered : HasAnswered machine builder.built r
   pub reasoned : IsReasoned builder r (length r.steps)
-
--- what happens-before keeps of the steps so far: its machine, what is built for a report, and why it has stopped
-pub record OrderRan : Type 0 where
-  pub machine : Ordered
-  pub builder : OrderBuilt
-  pub stop : Option OrderFault
-
--- all of the recording's steps were answered, under the rules that are asked for
-pub record HasGatheredFor (ran : OrderRan) (asked : Asked) (r : Recording) : Type 0 where
-  pub gathered : HasGathered ran.machine ran.builder r
-  pub rules : ran.builder.built.rules ≡ asked.rules
-  pub explain : is_some ran.builder.reasons ≡ asked.explain
-
--- or one of them can't be answered
-pub record HasOrdered (ran : OrderRan) (asked : Asked) (r : Recording) : Type 0 where
-  pub all : ran.stop ≡ None → HasGatheredFor ran asked r
-  pub stopped : IfSome ran.stop (λ why. IsStopIn r.steps why)
-
--- the steps weren't answered: not a fault of the text
-abbrev pub IsOrderFault : OrderFault → Type 0
-IsOrderFault (Read fault) = ⊥
-IsOrderFault (Write fault) = ⊥
-IsOrderFault TableFull = ⊥
-IsOrderFault CountFull = Unit {0}
-IsOrderFault Memory = Unit {0}

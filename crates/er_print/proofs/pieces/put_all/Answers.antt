@@ -18,7 +18,10 @@ loop-piece-preserved c =
     one_more (piece_text c.args.style c.args.names.now) c.args.pieces.now _ _ c.piece-item.result _ _ _ c.loop-piece-test.true c.piece-item.is
     c.loop-piece.invariant c.in_ok-put_piece.ensures
 
-pub returns : goal.returns
-returns c =
+pub returns-clause-text : goal.returns-clause-text
+returns-clause-text c = no_more (piece_text c.args.style c.args.names.now) _ _ c.args.pieces.now _ c.loop-piece-test.false c.loop-piece.invariant
+
+pub returns-clause-joined : goal.returns-clause-joined
+returns-clause-joined c =
     no_more (piece_text c.args.style c.args.names.now) _ _ c.args.pieces.now _ c.loop-piece-test.false c.loop-piece.invariant
     ∙ ap (λ (text : List ℕ). c.args.out.now.items ++ text) (joined c.args.style c.args.names.now c.args.pieces.now)

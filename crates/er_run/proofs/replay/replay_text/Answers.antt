@@ -1,8 +1,33 @@
--- A fault says by itself which of the two failed.
-use Rattle.er_batch.specs.declared.verdict.Replayed.{Replayed}
+-- What was built of the text is written, and a fault before that leaves the writer alone.
 use Rattle.er_batch.specs.declared.verdict.Verdict.{Verdict}
-use Rattle.er_run.proofs.ReplayLemmas.{fails-again}
+use Rattle.er_device.specs.Device.{inner_of}
+use Rattle.er_rules.specs.Rules.{targets_of}
+use Rattle.er_run.specs.declared.outcome.ReplayedTrace.{ReplayedTrace}
+use Rattle.er_run.proofs.ReplayLemmas.{fails-again, nothing, part, untouched, unwritten, whole-of, whole-verdict}
 use Rattle.er_run.proofs.replay.replay_text.Goals as goal
 
+pub returns-in-Ok-clause-report : goal.returns-in-Ok-clause-report
+returns-in-Ok-clause-report g c =
+    whole-of (g.D.Read.remaining (inner_of c.args.reader.now)) c.args.options.now.byte_limit (targets_of c.args.suppressions.now) c.args.options.now.explain _ _ c.in-Ok.found.trace.names c.in-Ok.found.reports
+    c.in-Ok.ensures.asked.0 c.in-Ok.ensures.reports c.write_found-verdict.result c.in-Ok.ensures.asked.1 c.write_found-verdict.ensures.verdict c.write_found-verdict.ensures.bytes
+
+pub returns-in-Ok-clause-fault : goal.returns-in-Ok-clause-fault
+returns-in-Ok-clause-fault g c =
+    part (g.D.Read.remaining (inner_of c.args.reader.now)) c.args.options.now.byte_limit (targets_of c.args.suppressions.now) c.args.options.now.explain _ _ c.in-Ok.found.trace.names c.in-Ok.found.reports
+    c.in-Ok.ensures.asked.0 c.in-Ok.ensures.reports c.write_found-verdict.result c.write_found-verdict.ensures.bytes
+
+pub returns-in-Ok-clause-nothing : goal.returns-in-Ok-clause-nothing
+returns-in-Ok-clause-nothing g c = nothing _ _ c.in-Ok.found.trace.names c.in-Ok.found.reports.lockset c.write_found-verdict.result c.in-Ok.ensures.asked.0 c.write_found-verdict.ensures.bytes
+
+pub returns-in-Ok-clause-whole : goal.returns-in-Ok-clause-whole
+returns-in-Ok-clause-whole g c = λ several. whole-verdict c.in-Ok.found.reports c.write_found-verdict.result (c.in-Ok.ensures.whole several) c.write_found-verdict.ensures.verdict
+
+pub returns-in-Err-clause-fault : goal.returns-in-Err-clause-fault
+returns-in-Err-clause-fault g c =
+    unwritten (g.D.Read.remaining (inner_of c.args.reader.now)) c.args.options.now.byte_limit (targets_of c.args.suppressions.now) c.args.options.now.explain _ _ c.in-Err.why c.in-Err.ensures.fault
+
+pub returns-in-Err-clause-nothing : goal.returns-in-Err-clause-nothing
+returns-in-Err-clause-nothing g c = untouched (g.D.Read.remaining (inner_of c.args.reader.now)) _ c.args.options.now.byte_limit c.in-Err.why c.in-Err.ensures.fault
+
 pub returns-in-Err-clause-failed : goal.returns-in-Err-clause-failed
-returns-in-Err-clause-failed g c = fails-again Replayed Verdict _ _ c.in-Err.why c.in-Err.ensures.failed
+returns-in-Err-clause-failed g c = fails-again ReplayedTrace Verdict _ _ c.in-Err.why c.in-Err.ensures.failed

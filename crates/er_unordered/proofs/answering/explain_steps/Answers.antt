@@ -8,7 +8,7 @@ use Rattle.er_batch.proofs.BatchLemmas.{number-behind}
 use Rattle.er_text.specs.Batches.{joined}
 use Rattle.er_trace.specs.Trace.{Recording}
 use Rattle.er_unordered.specs.Inner.Passes.{HasExplainedTo}
-use Rattle.er_unordered.specs.Inner.Stopping.{IsStopIn}
+use Rattle.er_unordered.specs.Stops.{IsStopIn}
 use Rattle.er_unordered.proofs.PassLemmas.{start-explained, whole-explained}
 use Rattle.er_unordered.proofs.answering.explain_steps.Goals as goal
 

@@ -11,7 +11,8 @@ use Rattle.er_batch.proofs.PassLemmas.{part, whole, ends-by}
 use Rattle.er_batch.specs.Analysts.{Asked, IsAnswered}
 use Rattle.er_batch.specs.Inner.Passes.{HasCome}
 use Rattle.er_run.specs.Inner.Inspected.{IsInspected}
-use Rattle.er_run.specs.Reports.{IsFaultOfText}
+use Rattle.er_report.specs.declared.reports.Analysis.TheVariants.{Lockset}
+use Rattle.er_run.specs.Faults.{IsFaultOfText}
 use Rattle.er_text.specs.Batches.{GivesBatch}
 use Rattle.er_text.specs.Ending.{KnowsEnd}
 use Rattle.er_text.specs.Named.{Grows}
@@ -30,7 +31,7 @@ returns-in-Err-answers-clause-fault g c = λ told state.
     let may : MayFail (state.past ++ c.as_slice.result.now) c.in-Err-answers.why =
     subst (λ (r : Result _ ReplayFault). IfErr r (λ why. MayFail (state.past ++ c.as_slice.result.now) why)) c.in-Err-answers.is
     (c.answer_and_read-answers.ensures.workers_fault state.past state.pending.answered) in
-    subst (λ (n : ℕ). IsFaultOfText told n c.fault_behind.result) c.answer_and_read-answers.ensures.limit
+    subst (λ (n : ℕ). IsFaultOfText Lockset told n c.fault_behind.result) c.answer_and_read-answers.ensures.limit
     (c.fault_behind.ensures.fault told (state.past ++ steps) (state.lines ++ c.args.self.now.numbers.items)
     (subst (λ (batch : List Step). MayFail (state.past ++ batch) c.in-Err-answers.why) c.as_slice.ensures.value may)
     (given-of told known rest c.args.self.now.lines c.answer_and_read-answers.new.lines c.args.self.now.trace u _ _ c.in-Ok.batch
@@ -100,7 +101,7 @@ returns-in-More-clause-seen g c = λ strict told come more.
     let t : Recording = c.args.self.now.trace in
     let u : Recording = c.answer_and_read-answers.new.trace in
     let grows : Grows t u = subst (λ (r : Result Batch ReadFault). OnOk r (Grows t u)) c.in-Ok.is c.answer_and_read-answers.ensures.grows in
-    let asked : Asked = record { rules = []; explain = false; strict = strict } in
+    let asked : Asked = record { analysis = Lockset; rules = []; explain = false; strict = strict } in
     subst (λ (trace : Recording). HasCome (IsInspected c.answer.new.self.inspector strict) told rest c.answer_and_read-answers.new.lines trace) (sym c.take_steps.ensures.trace)
     (part (IsInspected c.args.self.now.inspection.inspector strict) (IsInspected c.answer.new.self.inspector strict) told c.args.self.now.lines c.answer_and_read-answers.new.lines known rest
     t u c.in-Ok.batch come
@@ -115,7 +116,7 @@ returns-clause-seen_all g c = λ strict told come ended.
     let t : Recording = c.args.self.now.trace in
     let u : Recording = c.answer_and_read-answers.new.trace in
     let grows : Grows t u = subst (λ (r : Result Batch ReadFault). OnOk r (Grows t u)) c.in-Ok.is c.answer_and_read-answers.ensures.grows in
-    let asked : Asked = record { rules = []; explain = false; strict = strict } in
+    let asked : Asked = record { analysis = Lockset; rules = []; explain = false; strict = strict } in
     subst (λ (trace : Recording). IsAnswered (IsInspected c.answer.new.self.inspector strict) told c.args.self.now.lines.place.limit trace.names) (sym c.take_steps.ensures.trace)
     (whole (IsInspected c.args.self.now.inspection.inspector strict) (IsInspected c.answer.new.self.inspector strict) told c.args.self.now.lines c.answer_and_read-answers.new.lines known rest
     t u c.in-Ok.batch come

@@ -1,0 +1,7 @@
+use Rattle.std.proofs.Common.{sym, subst}
+use Rattle.er_run.proofs.passes.analysts_of.Goals as goal
+
+pub returns : goal.returns
+returns c = record {
+  stands = λ asked same rules explain strict. ((c.in_ok-lockset.ensures.stands asked same rules explain, c.in-Ok.ensures.stands asked same rules explain), rw strict c.new.ensures);
+}

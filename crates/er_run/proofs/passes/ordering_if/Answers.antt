@@ -1,0 +1,13 @@
+use Rattle.std.proofs.Common.{◌∙◌, ap, sym}
+use Rattle.er_report.specs.Reports.{asks_order}
+use Rattle.er_run.proofs.passes.ordering_if.Goals as goal
+
+pub returns-then-asks_order : goal.returns-then-asks_order
+returns-then-asks_order c = record {
+  stands = λ asked same rules explain. record { there = sym (ap asks_order same ∙ sym c.asks_order.ensures ∙ c.if-asks_order.true); stands = c.in_ok-ordering.ensures.stands asked rules explain };
+}
+
+pub returns-else-asks_order : goal.returns-else-asks_order
+returns-else-asks_order c = record {
+  stands = λ asked same rules explain. record { there = sym (ap asks_order same ∙ sym c.asks_order.ensures ∙ c.if-asks_order.false); stands = tt };
+}

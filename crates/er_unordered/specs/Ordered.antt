@@ -1,0 +1,28 @@
+-- What happens-before keeps of the steps so far.
+use Rattle.std.specs.Prelude.{◌≡◌, Bool, is_some, Option, None, IfSome}
+use Rattle.er_batch.specs.Analysts.{Asked}
+use Rattle.er_before.specs.Standing.{Ordered}
+use Rattle.er_trace.specs.Trace.{Recording}
+use Rattle.er_unordered.specs.Inner.Passes.{HasGathered, OrderBuilt}
+use Rattle.er_unordered.specs.Reports.{has_order}
+use Rattle.er_unordered.specs.Stops.{IsStopIn}
+use Rattle.er_unordered.specs.declared.stop.OrderStop.{OrderStop}
+
+-- its machine, what is built for a report, why it has stopped, and whether a step was an order event
+pub record OrderRan : Type 0 where
+  pub machine : Ordered
+  pub builder : OrderBuilt
+  pub stop : Option OrderStop
+  pub has_order : Bool
+
+-- all of the recording's steps were answered, under the rules that are asked for
+pub record HasGatheredFor (ran : OrderRan) (asked : Asked) (r : Recording) : Type 0 where
+  pub gathered : HasGathered ran.machine ran.builder r
+  pub rules : ran.builder.built.rules ≡ asked.rules
+  pub explain : is_some ran.builder.reasons ≡ asked.explain
+
+-- or one of them can't be answered
+pub record HasOrdered (ran : OrderRan) (asked : Asked) (r : Recording) : Type 0 where
+  pub all : ran.stop ≡ None → HasGatheredFor ran asked r
+  pub stopped : IfSome ran.stop (λ why. IsStopIn r.steps why)
+  pub order : ran.has_order ≡ has_order r.steps

@@ -1,6 +1,0 @@
--- A replay of which nothing more is asked for has no notes.
-use Rattle.eraser.proofs.NoteLemmas.{nothing}
-use Rattle.eraser.proofs.command.replay_from.Goals as goal
-
-pub returns-in-Ok-clause-notes : goal.returns-in-Ok-clause-notes
-returns-in-Ok-clause-notes g c = nothing c.new.result.items c.new.ensures.items

@@ -1,0 +1,2 @@
+-- What the parts of a replay leave. No public clause cites it.
+pub mod Writes

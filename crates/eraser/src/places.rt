@@ -1,0 +1,60 @@
+//! A second look at a trace, for the places of the accesses that reasons name.
+ghost use Rattle.std.specs.Prelude.{◌≡◌, false, None, IfSome};
+ghost use Rattle.er_device.specs.Device.{has_failed};
+ghost use Rattle.eraser.specs.Replays.{HasNoPlace, shows_places, tells_places};
+
+use crate::replaying::Job;
+use crate::sources::is_ordinary;
+use er_device::Device;
+use er_places::{Places, places_of_reports};
+use er_report::{Form, Reports};
+use er_request::Replay;
+use std::fs::File;
+use std::rt::Files;
+
+/// The places of the accesses that the reports' reasons name. None is known if they aren't shown, and if the trace can't be read again.
+pub(crate) fn places_of<R>(rt: &R, job: Job<'_>, reports: &Reports) -> Places
+where
+    R: Files + AllocGlobal,
+    ensures { shows_places job.replay.now ≡ false → HasNoPlace result }
+{
+    let alloc = rt.alloc();
+    let Some(mut again) = open_again(rt, job.replay) else {
+        return Places::new(alloc);
+    };
+    let options = job.options;
+    let found = places_of_reports(alloc, &mut again, options.byte_limit, options.keys, reports);
+    drop(again);
+    match found {
+        Ok(places) => places,
+        Err(_) => Places::new(alloc),
+    }
+}
+
+// The trace once more, if its reports have reasons whose places are shown. What is no ordinary file can't be read twice.
+fn open_again<R: Files>(rt: &R, replay: &Replay<'_>) -> Option<Device<R::File>>
+    ensures open { IfSome result (λ again. has_failed again ≡ false) }
+    ensures shown { shows_places replay.now ≡ false → result ≡ None }
+{
+    if !shows_places(replay) || !is_ordinary(rt, replay.trace) {
+        return None;
+    }
+    match File::open(rt, replay.trace) {
+        Ok(file) => Some(Device::new(file)),
+        Err(_) => None,
+    }
+}
+
+// Whether places are shown, and the trace may be a file that is read whole.
+fn shows_places(replay: &Replay<'_>) -> bool
+    ensures { result ≡ shows_places replay.now }
+{
+    replay.explain && tells_places(replay.form) && !replay.until_fault && replay.trace != "-"
+}
+
+// Whether a form tells where accesses stood.
+fn tells_places(form: Form) -> bool
+    ensures { result ≡ tells_places form }
+{
+    matches!(form, Form::BySite | Form::Sarif)
+}

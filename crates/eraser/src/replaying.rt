@@ -1,0 +1,260 @@
+//! One replay: a trace in, its reports out as they are asked for.
+ghost use Rattle.std.specs.Prelude.{◌≡◌, ◌≢◌, ◌≤◌, ℕ, Bool, List, [], false, None, IsSome, is_some, IfOk, IfErr, IfSome};
+ghost use Rattle.er_device.specs.Device.{inner_of, has_failed};
+ghost use Rattle.er_exit.specs.declared.faults.Fault.TheVariants.{WriteRules};
+ghost use Rattle.er_exit.specs.Writes.{LeavesOutput};
+ghost use Rattle.er_report.specs.Reports.{HaveNames, asks_locks, asks_order};
+ghost use Rattle.er_rules.specs.Rules.{targets_of};
+ghost use Rattle.er_run.specs.Replays.{is_verdict_of};
+ghost use Rattle.er_run.specs.Reports.{AreReportsOfText, RecordsOrder};
+ghost use Rattle.er_text.specs.Ending.{IsEndingOf};
+ghost use Rattle.er_triage.specs.Notes.{AreNotes};
+ghost use Rattle.eraser.specs.Inner.Writes.{WritesSome};
+ghost use Rattle.eraser.specs.Replays.{AreOptionsOf, AreShown, EndsAs, FailsAs, unordered_of, verdict_status};
+
+use crate::faults::fault_of;
+use crate::places::places_of;
+use crate::rules::write_rules;
+use crate::sources::excerpts_of;
+use er_device::Device;
+use er_exit::Fault;
+use er_forms::render;
+use er_html::Excerpt;
+use er_places::Places;
+use er_print::{WriteFault, write_text};
+use er_report::Reports;
+use er_request::Replay;
+use er_rules::Suppressions;
+use er_run::{Options, ReplayedTrace, Verdict, Watch, replay_reports, verdict_of};
+use er_text::Ending;
+use er_trace::Names;
+use er_triage::{Triaged, Wishes, triage};
+use std::alloc::Global;
+use std::io::{Read, Write};
+use std::rt::Files;
+use std::sync::Wait;
+use std::thread::Threads;
+
+/// What is replayed, under which rules and by which options.
+#[derive(Clone, Copy)]
+pub(crate) struct Job<'a> {
+    pub(crate) replay: &'a Replay<'a>,
+    pub(crate) suppressions: &'a Suppressions,
+    pub(crate) options: &'a Options,
+}
+
+/// What a replay came to that wrote its reports.
+#[derive(Drop)]
+pub(crate) struct Ended {
+    /// The exit status.
+    pub(crate) status: u8,
+    /// Lines for standard error that were asked for.
+    pub(crate) notes: Vec<u8>,
+    /// How the text ended.
+    pub(crate) ending: Ending,
+    /// How many accesses and reuses are unordered, if the trace records no order, and else 0.
+    pub(crate) unordered: u64,
+}
+
+/// Replays what the reader gives, writes the reports as they are asked for, and then the file of rules, unless the replay stopped.
+pub(crate) fn replay_from<R, D, O, V>(
+    rt: &R,
+    job: Job<'_>,
+    source: &mut Device<D>,
+    output: &mut Device<O>,
+    watcher: &mut V,
+) -> Result<Ended, Fault>
+where
+    R: Files + AllocGlobal + Threads + Wait + Sync,
+    D: Read,
+    O: Write,
+    V: Watch,
+    requires source { has_failed source.old ≡ false }
+    requires output { has_failed output.old ≡ false }
+    ensures status { IfOk result (λ ended. (ended.status ≤ 4) × (ended.status ≢ 2)) }
+    ensures notes { IfOk result (λ ended. AreNotes ended.notes.items) }
+    ensures silent { job.replay.now.unused_rules ≡ false → job.replay.now.max_races ≡ None → IfOk result (λ ended. ended.notes.items ≡ []) }
+    ensures ends { AreOptionsOf job.replay.now job.options.now → IfOk result (λ ended. IfSome (D.remaining (inner_of source.old)) (λ text. EndsAs job.replay.now text (targets_of job.suppressions.now) (O.contents (inner_of output.old)) (O.contents (inner_of output.new)) ended)) }
+    ensures fails { AreOptionsOf job.replay.now job.options.now → IfErr result (λ why. IfSome (D.remaining (inner_of source.old)) (λ text. FailsAs job.replay.now text (targets_of job.suppressions.now) (O.contents (inner_of output.old)) (O.contents (inner_of output.new)) why)) }
+    ensures nothing { IfErr result (LeavesOutput (O.contents (inner_of output.old)) (O.contents (inner_of output.new))) }
+{
+    match replay_reports(
+        rt,
+        rt.alloc(),
+        source,
+        job.suppressions,
+        job.options,
+        job.replay.analysis,
+        watcher,
+    ) {
+        Ok(
+            ReplayedTrace {
+                reports,
+                trace,
+                ending,
+                has_order,
+            },
+        ) => {
+            let ended = deliver(rt, job, reports, trace.names(), ending, has_order, output);
+            drop(trace);
+            ended
+        }
+        Err(why) => Err(fault_of(why)),
+    }
+}
+
+// Writes the reports of a trace as they are asked for, and then the file of rules.
+fn deliver<R, O>(
+    rt: &R,
+    job: Job<'_>,
+    reports: Reports,
+    names: &Names,
+    ending: Ending,
+    has_order: bool,
+    output: &mut Device<O>,
+) -> Result<Ended, Fault>
+where
+    R: Files + AllocGlobal,
+    O: Write,
+    requires output { has_failed output.old ≡ false }
+    requires named { HaveNames names.now reports }
+    requires locks { is_some reports.lockset ≡ asks_locks job.replay.now.analysis }
+    requires order { is_some reports.unordered ≡ asks_order job.replay.now.analysis }
+    ensures status { IfOk result (λ ended. (ended.status ≤ 4) × (ended.status ≢ 2)) }
+    ensures notes { IfOk result (λ ended. AreNotes ended.notes.items) }
+    ensures silent { job.replay.now.unused_rules ≡ false → job.replay.now.max_races ≡ None → IfOk result (λ ended. ended.notes.items ≡ []) }
+    ensures ends { (text : List ℕ) → AreReportsOfText job.replay.now.analysis text job.replay.now.byte_limit (targets_of job.suppressions.now) job.replay.now.explain names.now reports
+        → IsEndingOf text ending → RecordsOrder job.replay.now.analysis text job.replay.now.byte_limit has_order → IfOk result (EndsAs job.replay.now text (targets_of job.suppressions.now) (O.contents (inner_of output.old)) (O.contents (inner_of output.new))) }
+    ensures fails { (text : List ℕ) → AreReportsOfText job.replay.now.analysis text job.replay.now.byte_limit (targets_of job.suppressions.now) job.replay.now.explain names.now reports
+        → IfErr result (FailsAs job.replay.now text (targets_of job.suppressions.now) (O.contents (inner_of output.old)) (O.contents (inner_of output.new))) }
+    ensures nothing { IfErr result (LeavesOutput (O.contents (inner_of output.old)) (O.contents (inner_of output.new))) }
+{
+    let wishes = wishes_of(job.replay);
+    let Ok(triaged) = triage(rt.alloc(), reports, names, job.suppressions, wishes) else {
+        return Err(Fault::Memory);
+    };
+    let unordered = unordered_of(&triaged.reports, has_order);
+    match write_reports(rt, job, &triaged.reports, names, output) {
+        Ok(()) => finish(rt, job.replay.write_rules, triaged, ending, unordered),
+        Err(fault) => {
+            drop(triaged);
+            Err(fault)
+        }
+    }
+}
+
+fn wishes_of(replay: &Replay<'_>) -> Wishes
+    ensures known { result.known_races ≡ is_some replay.now.write_rules }
+    ensures unused { result.unused_rules ≡ replay.now.unused_rules }
+    ensures most { result.max_races ≡ replay.now.max_races }
+{
+    Wishes {
+        known_races: replay.write_rules.is_some(),
+        unused_rules: replay.unused_rules,
+        max_races: replay.max_races,
+    }
+}
+
+// How many accesses and reuses are unordered, if the trace records no order, and else 0.
+fn unordered_of(reports: &Reports, has_order: bool) -> u64
+    ensures { result ≡ unordered_of has_order reports.now }
+{
+    match &reports.unordered {
+        Some(report) if !has_order => report.races,
+        _ => 0,
+    }
+}
+
+// Writes the reports in the form that is asked for, with the places and the lines of source files that are shown and found.
+fn write_reports<R, O>(
+    rt: &R,
+    job: Job<'_>,
+    reports: &Reports,
+    names: &Names,
+    output: &mut Device<O>,
+) -> Result<(), Fault>
+where
+    R: Files + AllocGlobal,
+    O: Write,
+    requires output { has_failed output.old ≡ false }
+    requires named { HaveNames names.now reports.now }
+    ensures { WritesSome (AreShown job.replay.now names.now (targets_of job.suppressions.now) reports.now) (O.contents (inner_of output.old)) (O.contents (inner_of output.new)) result }
+{
+    let excerpts = excerpts_of(rt, job.replay.source, reports, names)?;
+    let places = places_of(rt, job, reports);
+    let text = render(
+        rt.alloc(),
+        job.replay.form,
+        reports,
+        names,
+        &places,
+        job.suppressions,
+        &excerpts,
+    );
+    drop(places);
+    drop(excerpts);
+    match write_text(output, text) {
+        Ok(()) => Ok(()),
+        Err(WriteFault::Memory) => Err(Fault::Memory),
+        Err(WriteFault::Write) => Err(Fault::Write),
+    }
+}
+
+// Writes the file of rules behind the reports, unless the replay stopped.
+fn finish<R: Files>(
+    rt: &R,
+    path: Option<&str>,
+    triaged: Triaged,
+    ending: Ending,
+    unordered: u64,
+) -> Result<Ended, Fault>
+    ensures status { IfOk result (λ ended. ended.status ≡ verdict_status (is_verdict_of triaged.reports)) }
+    ensures notes { IfOk result (λ ended. ended.notes.items ≡ triaged.notes.items) }
+    ensures text { IfOk result (λ ended. (ended.ending ≡ ending) × (ended.unordered ≡ unordered)) }
+    ensures fault { IfErr result (λ fault. (fault ≡ WriteRules) × IsSome path) }
+{
+    let verdict = verdict_of(&triaged.reports);
+    if let Err(fault) = write_known(rt, path, &triaged, verdict) {
+        drop(triaged);
+        return Err(fault);
+    }
+    let Triaged {
+        reports,
+        known_races,
+        notes,
+    } = triaged;
+    drop(reports);
+    drop(known_races);
+    Ok(Ended {
+        status: status_of(verdict),
+        notes,
+        ending,
+        unordered,
+    })
+}
+
+// Writes the rules for the known races, if there is a file for them and the replay didn't stop. Split for the prover.
+fn write_known<R: Files>(
+    rt: &R,
+    path: Option<&str>,
+    triaged: &Triaged,
+    verdict: Verdict,
+) -> Result<(), Fault>
+    ensures { IfErr result (λ fault. (fault ≡ WriteRules) × IsSome path) }
+{
+    match (path, &triaged.known_races) {
+        (Some(path), Some(text)) if verdict != Verdict::Stopped => write_rules(rt, path, text),
+        _ => Ok(()),
+    }
+}
+
+// The exit status of a replay.
+fn status_of(verdict: Verdict) -> u8
+    ensures { result ≡ verdict_status verdict }
+{
+    match verdict {
+        Verdict::Clean => 0,
+        Verdict::Races => 1,
+        Verdict::Stopped => 3,
+    }
+}
