@@ -1,5 +1,6 @@
 #!/usr/bin/env python3
-"""Compares `eraser replay --format json` with a document made from the report of tests/reference.py, byte for byte, and reads it back.
+"""Compares `eraser replay --format json` with documents made from the reports of tests/reference.py and of tests/analysis_tests.py, byte for byte,
+and reads them back.
 
 `tests/run` calls `tests`. By itself this file runs these tests alone.
 """
@@ -14,17 +15,32 @@ import tempfile
 
 sys.path.insert(0, str(pathlib.Path(__file__).parent))
 sys.dont_write_bytecode = True
+import order_tests
 import reference
 import site_tests
 from alone import OUTCOMES, each_refused, outcome_of, run_alone
-from site_tests import RACE, REASON, TOP, preloaded, run, run_with
+from analysis_tests import unordered_report
+from site_tests import RACE, REASON, REUSE, TOP, preloaded, run, run_with
 
 SCHEMA = TOP / "docs/report.schema.json"
 REFUSED = re.compile(r"line (\d+): refused: (\S+) (\S+)(?: (\S+))?: ([^:]+)")
 SHOWN = re.compile(r"line (\d+): state (0x[0-9a-f]{12}): (\S+?)(?:, candidates (.*)| (\S+))?")
 STOPPED = re.compile(r"line (\d+): stopped: (.*)")
 LOSSY = b"eraser trace 3\nt1 write 0\n# incomplete: 1 events, 30175 lost\nend\n"
-TOTALS = re.compile(r"steps (\d+), races (\d+), suppressed (\d+), refused (\d+)(?:, lost (\d+))?")
+TOTALS = re.compile(r"steps (\d+), (?:races|unordered) (\d+), suppressed (\d+), refused (\d+)(?:, lost (\d+))?")
+ANALYSES = ("lockset", "happens-before", "both")
+# Unordered reuses: one under locks of which one is held to read, and one over two pages.
+REUSED = b"""eraser trace 3
+main start worker
+worker write 0x1ffc pool.c:9
+worker write 0x2000 pool.c:10
+main lock list
+main rlock size
+main reuse 0x1ff0 64
+main unlock list
+main reuse 0x1ff0 64
+end
+"""
 
 
 # ---- The document of a report's text
@@ -33,15 +49,37 @@ def locks_in(text):
     return [] if text == "none" else text.split(" ")
 
 
-def document_of(report):
-    """What the lines of a report say, as the document."""
-    found = {"format": 1, "races": [], "refused": [], "shown": [], "stop": None, "suppressions": [], "totals": None}
+class Holding(reference.Replay):
+    """A replay that notes the locks that the thread of each reuse holds, by the reuse's line. The text of a report doesn't say them."""
+
+    def __init__(self):
+        super().__init__([])
+        self.holds = {}
+
+    def step(self, line, thread, verb, operands):
+        super().step(line, thread, verb, operands)
+        self.holds[str(line)] = self.names(self.cover(thread, b"read"))
+
+
+def holds_of(text):
+    holding = Holding()
+    for line, event in reference.events_of(text):
+        holding.step(line, *event)
+    return holding.holds
+
+
+def document_of(report, holds=()):
+    """What the lines of a report say, as the document. A report by happens-before needs the locks that are held on each line."""
+    is_order = ", unordered " in report.splitlines()[-1]
+    found = {"format": 1, **({"analysis": "happens-before"} if is_order else {}), "races": [], "refused": [], "shown": [], "stop": None, "suppressions": [], "totals": None}
     for line in report.splitlines():
-        race, reason, refused, shown = (pattern.fullmatch(line) for pattern in (RACE, REASON, REFUSED, SHOWN))
+        race, reuse, reason, refused, shown = (pattern.fullmatch(line) for pattern in (RACE, REUSE, REASON, REFUSED, SHOWN))
         stopped, totals = STOPPED.fullmatch(line), TOTALS.fullmatch(line)
         if race:
             site = None if race[5] == "-" else race[5]
             found["races"].append({"line": int(race[1]), "thread": race[2], "kind": race[3], "address": race[4], "site": site, "held": locks_in(race[6]), "reasons": []})
+        elif reuse:
+            found["races"].append({"line": int(reuse[1]), "thread": reuse[2], "reuse": reuse[3], "bytes": int(reuse[4]), "held": locks_in(holds[reuse[1]]), "reasons": []})
         elif reason:
             label, lock = ("not covering", reason[1].removesuffix(" not covering")) if reason[1].endswith(" not covering") else (reason[1], None)
             found["races"][-1]["reasons"].append({"line": int(reason[2]), "thread": reason[3], "kind": reason[4], "label": label, "lock": lock})
@@ -65,17 +103,34 @@ def plain(value):
 
 
 def text_of(document):
-    """The bytes of a document: one line for each member and for each item of its first three lists."""
+    """The bytes of a document: one line for each member and for each item of its first three lists. An analysis stands on the first line."""
     members = []
     for name, value in document.items():
         rows = "[" + ",".join("\n" + plain(row) for row in value) + "]" if name in ("races", "refused", "shown") else plain(value)
         members.append(f'"{name}":{rows}')
+    if "analysis" in document:
+        members[:2] = [",".join(members[:2])]
     return "{" + ",\n".join(members) + "}\n"
 
 
-def expected(text, rules, explain):
+def documents_of(text, rules, explain, analysis="lockset"):
+    """The documents of a text that has no fault."""
+    documents = []
+    if analysis != "happens-before":
+        documents.append(document_of(reference.replay(text, rules or b"", explain=explain)[0]))
+    if analysis != "lockset":
+        documents.append(document_of(unordered_report(text, reference.rules_of(rules or b""), explain)[0], holds_of(text)))
+    return documents
+
+
+def expected(text, rules, explain, analysis="lockset"):
     output, errors, status = reference.replay(text, rules or b"", explain=explain)
-    return (text_of(document_of(output)) if status < 2 else output).encode(), errors.encode(), status
+    if status == 2:
+        return output.encode(), errors.encode(), status
+    documents = documents_of(text, rules, explain, analysis)
+    texts = [text_of(document) for document in documents]
+    output = "[\n" + ",\n".join(texts) + "]\n" if len(texts) > 1 else texts[0]
+    return output.encode(), errors.encode(), 1 if any(document["totals"]["races"] for document in documents) else 0
 
 
 # ---- The schema
@@ -93,9 +148,10 @@ def faults(value, schema, root, where="$"):
     for word, wants in schema.items():
         if word == "$ref":
             yield from faults(value, root["$defs"][wants.removeprefix("#/$defs/")], root, where)
-        elif word == "anyOf":
-            if all(list(faults(value, one, root, where)) for one in wants):
-                yield f"{where}: none of the choices"
+        elif word in ("anyOf", "oneOf"):
+            fits = sum(not list(faults(value, one, root, where)) for one in wants)
+            if not fits or word == "oneOf" and fits > 1:
+                yield f"{where}: {fits} of the choices"
         elif word == "type":
             if not is_of(value, wants):
                 yield f"{where}: no {wants}"
@@ -111,6 +167,12 @@ def faults(value, schema, root, where="$"):
         elif word == "pattern":
             if isinstance(value, str) and not re.search(wants, value):
                 yield f"{where}: not {wants}"
+        elif word == "prefixItems":
+            for place, (item, want) in enumerate(zip(value if isinstance(value, list) else [], wants)):
+                yield from faults(item, want, root, f"{where}[{place}]")
+        elif word in ("minItems", "maxItems"):
+            if isinstance(value, list) and (len(value) < wants if word == "minItems" else len(value) > wants):
+                yield f"{where}: {len(value)} items"
         elif word == "items":
             for place, item in enumerate(value if isinstance(value, list) else []):
                 yield from faults(item, wants, root, f"{where}[{place}]")
@@ -155,8 +217,13 @@ def changed(document):
 def schema_tests(record, schema):
     formats = (TOP / "docs/FORMATS.md").read_text()
     record("the schema of the formats", f"```json\n{SCHEMA.read_text()}```" in formats)
-    shown = run(["replay", "--explain", "--format", "json", str(TOP / "examples/explained.trace")])[0].decode()
+    shown = run(["replay", "--explain", "--format", "json", "-"], (TOP / "examples/explained.trace").read_bytes())[0].decode()
     record("the document of the formats", shown and shown in formats, shown)
+    both = ["replay", "--analysis", "both", "--explain", "--format", "json", "-"]
+    shown = run(both, (TOP / "examples/both_analyses.trace").read_bytes())[0].decode()
+    record("the documents of the formats", shown and shown in formats, shown)
+    for reused in (run(both, REUSED)[0].decode().splitlines() or [""])[-8:-6]:
+        record("the reuses of the formats", '"reuse":' in reused and reused.rstrip("],") in formats, reused)
     rich = b"eraser trace 2\nt1 level 3\nt1 lock a\nt1 lock a\nt1 write 0\nt1 show 0\nt1 show 64\nt2 lock b\nt2 read 0 s:1\nt2 show 0\nt1 ignore-off\nt1 write 0 s:2\nt2 write 0\nt2 show 0\n"
     output, errors, status = run(["replay", "--explain", "--format", "json", "-"], rich)
     document = json.loads(output)
@@ -169,12 +236,24 @@ def schema_tests(record, schema):
         record(f"a document with {lost} lost events is none", list(faults(lossy, schema, schema)))
     for name, other in changed(document):
         record(f"a document with {name} is none", list(faults(other, schema, schema)), f"{other}")
+    pair = json.loads(run(both, REUSED)[0] or b"[]")
+    record("two documents with reuses", len(pair) == 2 and len(pair[1]["races"]) == 2 and not list(faults(pair, schema, schema)), f"{pair}")
+    for name, other in [*changed(pair), ("one alone", pair[:1]), ("three", pair * 2), ("the order", pair[::-1])]:
+        record(f"documents with {name} changed are none", list(faults(other, schema, schema)), f"{other}")
 
 
 # ---- The program
 
 def document_tests(record, schema):
     raced = refused = shown = 0
+    lists = [(f"random list {seed}", order_tests.random_list(seed), None) for seed in range(100)]
+    for name, text, rules in [*site_tests.texts(), *lists, ("reuses", REUSED, None)]:
+        for analysis in ANALYSES[1:]:
+            for options in ([], ["--explain"]):
+                wanted, found = expected(text, rules, bool(options), analysis), run_with(rules, text, "--analysis", analysis, "--format", "json", *options)
+                record(f"{name} as JSON by {analysis} {options}", found == wanted, f"{found}, {wanted}"[:2000])
+                wrong = list(faults(json.loads(found[0] or b"null"), schema, schema)) if wanted[2] < 2 else []
+                record(f"{name} as JSON by {analysis} {options} by the schema", not wrong, f"{wrong}")
     for name, text, rules in site_tests.texts():
         for options in ([], ["--explain"]):
             wanted, found = expected(text, rules, bool(options)), run_with(rules, text, "--format", "json", *options)

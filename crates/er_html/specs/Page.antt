@@ -1,14 +1,14 @@
--- A report as a page: the JSON of the report and that of the excerpts, each in a block of data, between parts that are always the same.
+-- Reports as a page: the JSON of the reports and that of the excerpts, each in a block of data, between parts that are always the same.
 use Rattle.std.specs.Prelude.{◌≢◌, ℕ, ◌==◌, nat_lt, cond, All, List, [], ◌∷◌, ◌++◌, flat_map, codes, decimal, string_bytes}
 use Rattle.er_html.specs.declared.excerpts.Excerpt.{Excerpt}
 use Rattle.er_html.specs.declared.picture.TheConstants.{PICTURE}
 use Rattle.er_html.specs.declared.script.TheConstants.{SCRIPT}
 use Rattle.er_html.specs.declared.shell.TheConstants.{BEFORE_SCRIPT, BETWEEN, BODY, CLOSING, OPENING}
 use Rattle.er_html.specs.declared.style.TheConstants.{STYLE}
-use Rattle.er_json.specs.Document.{json_text}
+use Rattle.er_json.specs.Document.{json_reports}
 use Rattle.er_print.specs.Styles.{escaped, string_text}
 use Rattle.er_print.specs.Values.{values_text}
-use Rattle.er_report.specs.Report.{Summary}
+use Rattle.er_report.specs.declared.reports.Reports.{Reports}
 use Rattle.er_trace.specs.Names.{NameTable}
 
 -- a byte of a block: a less-than sign, which could end the block, is written as JSON's escape of it
@@ -40,7 +40,7 @@ excerpt_text excerpt =
 unfoldable pub excerpts_text : List Excerpt → List ℕ
 excerpts_text excerpts = codes "[" ++ values_text excerpt_text excerpts ++ codes "]"
 
--- what stands before the report
+-- what stands before the reports
 unfoldable pub head_text : List ℕ
 head_text = OPENING.now ++ STYLE.now ++ BODY.now
 
@@ -49,5 +49,5 @@ unfoldable pub tail_text : List ℕ
 tail_text = BEFORE_SCRIPT.now ++ PICTURE.now ++ SCRIPT.now ++ CLOSING.now
 
 -- the whole page
-unfoldable pub html_text : NameTable → Summary → List Excerpt → List ℕ
-html_text names s excerpts = head_text ++ block_text (json_text names s) ++ BETWEEN.now ++ block_text (excerpts_text excerpts) ++ tail_text
+unfoldable pub html_reports : NameTable → Reports → List Excerpt → List ℕ
+html_reports names reports excerpts = head_text ++ block_text (json_reports names reports) ++ BETWEEN.now ++ block_text (excerpts_text excerpts) ++ tail_text

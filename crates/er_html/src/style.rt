@@ -60,6 +60,7 @@ svg .lane, svg .rule { stroke: var(--line); stroke-width: 1; }
 svg .bar { fill: var(--bar); }
 svg .useless { fill: none; stroke: var(--dim); stroke-width: 2; stroke-dasharray: 3 3; }
 svg .cut { stroke: var(--bad); stroke-width: 2.5; }
+svg .broken { stroke: var(--bad); stroke-width: 1.5; stroke-dasharray: 2 4; }
 svg .write { fill: var(--ink); stroke: var(--ink); stroke-width: 2; }
 svg .read { fill: var(--paper); stroke: var(--ink); stroke-width: 2; }
 svg .row-race { fill: var(--bad-fill); }

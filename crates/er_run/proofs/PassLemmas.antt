@@ -1,5 +1,5 @@
 -- The reports of the steps that were answered are those of the text, and a stop of an analysis is a fault at one of its steps.
-use Rattle.std.proofs.Common.{◌≡◌, ◌∙◌, ℕ, Bool, true, false, List, Option, Some, None, IfSome, refl, sym, ap, subst}
+use Rattle.std.proofs.Common.{◌≡◌, ◌∙◌, ℕ, Bool, true, false, List, Option, Some, None, IfSome, Err, refl, sym, ap, subst}
 use Rattle.std.specs.List.{All}
 use Rattle.er_batch.specs.Analysts.{Asked, HasRunFor, IsFaultOfReading, Ran}
 use Rattle.er_event.specs.declared.refusals.NoRoom.{NoRoom}
@@ -11,7 +11,7 @@ use Rattle.er_report.specs.Reports.{asks_locks, asks_order}
 use Rattle.er_report.specs.declared.report.Report.{Report}
 use Rattle.er_report.specs.declared.reports.Analysis.{Analysis}
 use Rattle.er_report.specs.declared.reports.Analysis.TheVariants.{Lockset, HappensBefore, Both}
-use Rattle.er_run.specs.Faults.{IsFaultOfText, StopsFor, fault_of_room, fault_of_stop}
+use Rattle.er_run.specs.Faults.{FailsBy, IsFaultOfText, IsNoDamage, StopsFor, fault_of_room, fault_of_stop}
 use Rattle.er_run.specs.Inner.Outcomes.{IsRunBuilt}
 use Rattle.er_run.specs.declared.fault.RunFault.TheVariants.{Read}
 use Rattle.er_text.specs.Trace.{IsTrace}
@@ -89,6 +89,16 @@ pub order-fault : (analysis : Analysis) (told : Option (List ℕ)) (limit : ℕ)
 order-fault analysis None limit r order.CountFull orders trace is = (orders, tt)
 order-fault analysis (Some text) limit r order.CountFull orders trace is = (orders, record { recording = r; trace = trace; full = is })
 order-fault analysis told limit r order.Memory orders trace is = tt
+
+-- neither is a failed read or write, nor damage
+pub stop-told : (X : Type 0) (why : OrderStop) → FailsBy {X = X} false false (Err (fault_of_stop why)) × IsNoDamage (fault_of_stop why)
+stop-told X order.CountFull = ((refl, refl), tt)
+stop-told X order.Memory = ((refl, refl), tt)
+
+pub room-told : (X : Type 0) (cause : NoRoom) → FailsBy {X = X} false false (Err (fault_of_room cause)) × IsNoDamage (fault_of_room cause)
+room-told X room.TableFull = ((refl, refl), tt)
+room-told X room.JournalFull = ((refl, refl), tt)
+room-told X room.OutOfMemory = ((refl, refl), tt)
 
 -- a fault of the pass is one of the replay
 pub of-reading : (analysis : Analysis) (told : Option (List ℕ)) (limit : ℕ) (why : ReadFault) → IsFaultOfReading told limit why → IsFaultOfText analysis told limit (Read why)

@@ -11,6 +11,7 @@ use Rattle.er_report.specs.declared.report.Line.{Line}
 use Rattle.er_report.specs.declared.report.Line.TheVariants.{Race, Reused, Refused, Shown}
 use Rattle.er_sarif.specs.Document.{races_like, results_below, results_of}
 use Rattle.er_sarif.specs.Inner.Results.{count_like}
+use Rattle.er_sarif.specs.declared.cause.Cause.{Cause}
 use Rattle.er_sites.specs.Table.{reads_at, writes_at}
 use Rattle.er_trace.specs.Names.{NameTable}
 
@@ -28,26 +29,26 @@ like reads writes lines read written (Reused number thread range held explained)
 like reads writes lines read written (Refused number step refusal) = refl
 like reads writes lines read written (Shown number word state) = refl
 
-pub results_next : (names : NameTable) (table : PlaceTable) (lines : List Line) (k : ℕ) (line : Line) (before count : ℕ) → slice_get lines k ≡ Some line → before ≡ races_like (take k lines) line
-    → count ≡ races_like lines line → results_below names table lines (k + 1) ≡ results_below names table lines k ++ results_of names table before count line
+pub results_next : (cause : Cause) (names : NameTable) (table : PlaceTable) (lines : List Line) (k : ℕ) (line : Line) (before count : ℕ) → slice_get lines k ≡ Some line → before ≡ races_like (take k lines) line
+    → count ≡ races_like lines line → results_below cause names table lines (k + 1) ≡ results_below cause names table lines k ++ results_of cause names table before count line
 unfolding results_below
-results_next names table lines k line before count here seen all = rw (add-one k, here, seen, all) refl
+results_next cause names table lines k line before count here seen all = rw (add-one k, here, seen, all) refl
 
 one_more : (b : Bool) (row : List ℕ) (rows : List (List ℕ)) → rows_text (rows ++ cond b (row ∷ []) []) ≡ rows_text rows ++ next_text (has_none rows) (cond b (row ∷ []) [])
 one_more true row rows = row_more rows row
 one_more false row rows = simp append-nil
 
-results_more : (names : NameTable) (table : PlaceTable) (before count : ℕ) (line : Line) (rows : List (List ℕ))
-    → rows_text (rows ++ results_of names table before count line) ≡ rows_text rows ++ next_text (has_none rows) (results_of names table before count line)
-results_more names table before count (Race number thread kind word site held explained) rows = one_more (before == 0) _ rows
-results_more names table before count (Reused number thread range held explained) rows = simp append-nil
-results_more names table before count (Refused number step refusal) rows = simp append-nil
-results_more names table before count (Shown number word state) rows = simp append-nil
+results_more : (cause : Cause) (names : NameTable) (table : PlaceTable) (before count : ℕ) (line : Line) (rows : List (List ℕ))
+    → rows_text (rows ++ results_of cause names table before count line) ≡ rows_text rows ++ next_text (has_none rows) (results_of cause names table before count line)
+results_more cause names table before count (Race number thread kind word site held explained) rows = one_more (before == 0) _ rows
+results_more cause names table before count (Reused number thread range held explained) rows = row_more rows _
+results_more cause names table before count (Refused number step refusal) rows = simp append-nil
+results_more cause names table before count (Shown number word state) rows = simp append-nil
 
 -- and their text
-pub text_next : (names : NameTable) (table : PlaceTable) (before count : ℕ) (line : Line) (rows : List (List ℕ)) (old was now : List ℕ) (is_first : Bool) → is_first ≡ has_none rows
-    → was ≡ old ++ rows_text rows → now ≡ was ++ next_text is_first (results_of names table before count line) → now ≡ old ++ rows_text (rows ++ results_of names table before count line)
-text_next names table before count line rows old was now is_first first so_far put =
-    put ∙ ap (λ (text : List ℕ). text ++ next_text is_first (results_of names table before count line)) so_far
-    ∙ ap (λ (b : Bool). (old ++ rows_text rows) ++ next_text b (results_of names table before count line)) first
-    ∙ append_assoc old (rows_text rows) _ ∙ ap (λ (text : List ℕ). old ++ text) (sym (results_more names table before count line rows))
+pub text_next : (cause : Cause) (names : NameTable) (table : PlaceTable) (before count : ℕ) (line : Line) (rows : List (List ℕ)) (old was now : List ℕ) (is_first : Bool) → is_first ≡ has_none rows
+    → was ≡ old ++ rows_text rows → now ≡ was ++ next_text is_first (results_of cause names table before count line) → now ≡ old ++ rows_text (rows ++ results_of cause names table before count line)
+text_next cause names table before count line rows old was now is_first first so_far put =
+    put ∙ ap (λ (text : List ℕ). text ++ next_text is_first (results_of cause names table before count line)) so_far
+    ∙ ap (λ (b : Bool). (old ++ rows_text rows) ++ next_text b (results_of cause names table before count line)) first
+    ∙ append_assoc old (rows_text rows) _ ∙ ap (λ (text : List ℕ). old ++ text) (sym (results_more cause names table before count line rows))

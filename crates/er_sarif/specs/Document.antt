@@ -1,13 +1,14 @@
--- The SARIF of a report: a result for each site and kind of race, and one for each rule that takes races.
+-- The SARIF of reports: a result for each site and kind of race, one for each reuse that races, and one for each rule that takes races.
 use Rattle.std.specs.Prelude.{ℕ, zero, suc, ◌+◌, ◌==◌, cond, List, [], ◌∷◌, ◌++◌, flat_map, take, drop, length, count_by, slice_get, Option, Some, None, codes, decimal}
 use Rattle.er_event.specs.Lockset.{has}
+use Rattle.er_event.specs.declared.addresses.PageRange.{PageRange}
 use Rattle.er_event.specs.declared.steps.Kind.{Kind}
 use Rattle.er_event.specs.declared.steps.Kind.TheVariants as kind
-use Rattle.er_json.specs.Document.{rows_text}
+use Rattle.er_json.specs.Document.{rows_text, sign_if}
 use Rattle.er_places.specs.Places.{PlaceTable}
 use Rattle.er_places.specs.Reasons.{reason_place}
 use Rattle.er_places.specs.declared.place.Place.{Place}
-use Rattle.er_print.specs.Printed.{address_text, kind_text, lost_text, name_at, site_text}
+use Rattle.er_print.specs.Printed.{address_text, bytes_between, kind_text, lost_text, name_at, site_text}
 use Rattle.er_print.specs.Styles.{escaped_text, label_in, lock_in, locks_in, string_text, thread_in}
 use Rattle.er_print.specs.Values.{values_text}
 use Rattle.er_print.specs.declared.styles.Style.TheVariants as style
@@ -15,9 +16,12 @@ use Rattle.er_report.specs.declared.report.Because.{Because}
 use Rattle.er_report.specs.declared.report.Line.{Line}
 use Rattle.er_report.specs.declared.report.Line.TheVariants.{Race, Reused, Refused, Shown}
 use Rattle.er_report.specs.declared.report.Report.{Report}
+use Rattle.er_report.specs.declared.reports.Reports.{Reports}
 use Rattle.er_rules.specs.Rules.{Target, AtSite, AtWords}
 use Rattle.er_sarif.specs.Places.{file_end}
 use Rattle.er_sarif.specs.Uris.{uri_text}
+use Rattle.er_sarif.specs.declared.cause.Cause.{Cause}
+use Rattle.er_sarif.specs.declared.cause.Cause.TheVariants.{NoLock, NoOrder}
 use Rattle.er_sites.specs.Table.{reads_at, writes_at}
 use Rattle.er_trace.specs.Names.{NameTable}
 use Rattle.er_triage.specs.Texts.{target_text}
@@ -26,6 +30,23 @@ use Rattle.er_triage.specs.Texts.{target_text}
 abbrev pub deed_words : Kind → List ℕ
 deed_words kind.Read = codes " read the word at "
 deed_words kind.Write = codes " wrote the word at "
+
+abbrev pub access_deed : Kind → ℕ → List ℕ
+access_deed kind word = deed_words kind ++ address_text word
+
+-- and what a reuse did
+abbrev pub reuse_deed : PageRange → List ℕ
+reuse_deed range = codes " gave back " ++ decimal (bytes_between range.lo range.hi) ++ codes " bytes at " ++ address_text range.lo
+
+-- what the results of a run begin with: the front of a rule
+abbrev pub rule_front : Cause → List ℕ
+rule_front NoLock = codes "{\"ruleId\":\"race/"
+rule_front NoOrder = codes "{\"ruleId\":\"unordered/"
+
+-- why its races are races
+abbrev pub cause_words : Cause → List ℕ
+cause_words NoLock = codes ", and no lock protects it"
+cause_words NoOrder = codes ", and nothing orders this after an earlier access"
 
 -- a site that doesn't end with a line is a name
 unfoldable pub name_member : List ℕ → List ℕ
@@ -87,19 +108,19 @@ reason_text names table because =
     opening_text table.names (reason_place table because) ++ sentence_words names because ++ holding_words table.names (reason_place table because) ++ codes "\"}}"
 
 -- what is wrong, and how often; then comes where
-unfoldable pub front_text : NameTable → ℕ → Kind → ℕ → ℕ → List ℕ
-front_text names thread kind word count =
-    codes "{\"ruleId\":\"race/" ++ kind_text kind ++ codes "\",\"level\":\"error\",\"message\":{\"text\":\"" ++ thread_in style.InString names thread
-    ++ deed_words kind ++ address_text word ++ codes ", and no lock protects it\"},\"occurrenceCount\":" ++ decimal count ++ codes ",\"locations\":["
+unfoldable pub front_text : Cause → NameTable → List ℕ → ℕ → List ℕ → ℕ → List ℕ
+front_text cause names verb thread deed count =
+    rule_front cause ++ verb ++ codes "\",\"level\":\"error\",\"message\":{\"text\":\"" ++ thread_in style.InString names thread
+    ++ deed ++ cause_words cause ++ codes "\"},\"occurrenceCount\":" ++ decimal count ++ codes ",\"locations\":["
 
 -- the same in each run; then come the accesses that make the first race
-unfoldable pub fingerprint_text : List ℕ → Kind → List ℕ
-fingerprint_text site kind =
-    codes "}],\"partialFingerprints\":{\"siteAndKind/v1\":\"" ++ escaped_text site ++ codes " " ++ kind_text kind ++ codes "\"},\"relatedLocations\":["
+unfoldable pub fingerprint_text : List ℕ → List ℕ → List ℕ
+fingerprint_text site verb =
+    codes "}],\"partialFingerprints\":{\"siteAndKind/v1\":\"" ++ escaped_text site ++ codes " " ++ verb ++ codes "\"},\"relatedLocations\":["
 
 -- where it is
-unfoldable pub place_text : List ℕ → Kind → List ℕ
-place_text site kind = open_location site ++ fingerprint_text site kind
+unfoldable pub place_text : List ℕ → List ℕ → List ℕ
+place_text site verb = open_location site ++ fingerprint_text site verb
 
 -- the line of the first race, and the locks that its thread held
 unfoldable pub properties_text : NameTable → ℕ → List ℕ → List ℕ
@@ -109,10 +130,10 @@ properties_text names number held = codes "],\"properties\":{\"line\":" ++ decim
 unfoldable pub back_text : NameTable → PlaceTable → ℕ → List ℕ → List Because → List ℕ
 back_text names table number held explained = values_text (reason_text names table) explained ++ properties_text names number held
 
--- a result: so many races, and the first of them
-unfoldable pub result_text : NameTable → PlaceTable → ℕ → ℕ → ℕ → Kind → ℕ → ℕ → List ℕ → List Because → List ℕ
-result_text names table count number thread kind word site held explained =
-    front_text names thread kind word count ++ place_text (site_text names site) kind ++ back_text names table number held explained
+-- a result: so many races here, and the first of them
+unfoldable pub result_text : Cause → NameTable → PlaceTable → List ℕ → List ℕ → List ℕ → ℕ → ℕ → ℕ → List ℕ → List Because → List ℕ
+result_text cause names table verb deed site count number thread held explained =
+    front_text cause names verb thread deed count ++ place_text site verb ++ back_text names table number held explained
 
 -- how many of the lines are races of the line's site and kind
 abbrev pub races_like : List Line → Line → ℕ
@@ -122,27 +143,28 @@ races_like lines (Reused number thread range held explained) = 0
 races_like lines (Refused number step refusal) = 0
 races_like lines (Shown number word state) = 0
 
--- a race has a result if none like it came before; there are so many like it in all
-abbrev pub results_of : NameTable → PlaceTable → ℕ → ℕ → Line → List (List ℕ)
-results_of names table before count (Race number thread kind word site held explained) =
-    cond (before == 0) (result_text names table count number thread kind word site held explained.items ∷ []) []
-results_of names table before count (Reused number thread range held explained) = []
-results_of names table before count (Refused number step refusal) = []
-results_of names table before count (Shown number word state) = []
+-- an access that races has a result if none like it came before, and there are so many like it in all; a reuse has one by its address
+abbrev pub results_of : Cause → NameTable → PlaceTable → ℕ → ℕ → Line → List (List ℕ)
+results_of cause names table before count (Race number thread kind word site held explained) =
+    cond (before == 0) (result_text cause names table (kind_text kind) (access_deed kind word) (site_text names site) count number thread held explained.items ∷ []) []
+results_of cause names table before count (Reused number thread range held explained) =
+    result_text cause names table (codes "reuse") (reuse_deed range) (address_text range.lo) 1 number thread held explained.items ∷ []
+results_of cause names table before count (Refused number step refusal) = []
+results_of cause names table before count (Shown number word state) = []
 
-abbrev pub results_at : NameTable → PlaceTable → List Line → ℕ → Option Line → List (List ℕ)
-results_at names table lines n None = []
-results_at names table lines n (Some line) = results_of names table (races_like (take n lines) line) (races_like lines line) line
+abbrev pub results_at : Cause → NameTable → PlaceTable → List Line → ℕ → Option Line → List (List ℕ)
+results_at cause names table lines n None = []
+results_at cause names table lines n (Some line) = results_of cause names table (races_like (take n lines) line) (races_like lines line) line
 
 -- the results of the first n lines
-unfoldable pub results_below : NameTable → PlaceTable → List Line → ℕ → List (List ℕ)
-results_below names table lines zero = []
-results_below names table lines (suc n) = results_below names table lines n ++ results_at names table lines n (slice_get lines n)
+unfoldable pub results_below : Cause → NameTable → PlaceTable → List Line → ℕ → List (List ℕ)
+results_below cause names table lines zero = []
+results_below cause names table lines (suc n) = results_below cause names table lines n ++ results_at cause names table lines n (slice_get lines n)
 
 -- the rule of this text, which takes races, and how many
-unfoldable pub taken_text : List ℕ → ℕ → List ℕ
-taken_text rule count =
-    codes "{\"ruleId\":\"race/suppressed\",\"level\":\"error\",\"message\":{\"text\":\"Races that a rule takes: " ++ escaped_text rule
+unfoldable pub taken_text : Cause → List ℕ → ℕ → List ℕ
+taken_text cause rule count =
+    rule_front cause ++ codes "suppressed\",\"level\":\"error\",\"message\":{\"text\":\"Races that a rule takes: " ++ escaped_text rule
     ++ codes "\"},\"occurrenceCount\":" ++ decimal count
 
 -- where they are, if the rule is for a site that has a name
@@ -157,43 +179,35 @@ suppression_text rule number =
     codes ",\"partialFingerprints\":{\"rule/v1\":\"" ++ escaped_text rule ++ codes "\"},\"suppressions\":[{\"kind\":\"external\",\"justification\":\"rule " ++ decimal number ++ codes "\"}]}"
 
 -- the result of a rule that takes races
-unfoldable pub suppressed_text : ℕ → ℕ → Target → List ℕ
-suppressed_text number count target = taken_text (target_text target) count ++ target_location target ++ suppression_text (target_text target) number
+unfoldable pub suppressed_text : Cause → ℕ → ℕ → Target → List ℕ
+suppressed_text cause number count target = taken_text cause (target_text target) count ++ target_location target ++ suppression_text (target_text target) number
 
 -- a rule has a result if it takes a race
-abbrev pub suppressed_of : ℕ → Option ℕ → Target → List (List ℕ)
-suppressed_of number None target = []
-suppressed_of number (Some count) target = cond (count == 0) [] (suppressed_text number count target ∷ [])
+abbrev pub suppressed_of : Cause → ℕ → Option ℕ → Target → List (List ℕ)
+suppressed_of cause number None target = []
+suppressed_of cause number (Some count) target = cond (count == 0) [] (suppressed_text cause number count target ∷ [])
 
-abbrev pub suppressed_at : List ℕ → ℕ → Option Target → List (List ℕ)
-suppressed_at counts k None = []
-suppressed_at counts k (Some target) = suppressed_of (k + 1) (slice_get counts k) target
+abbrev pub suppressed_at : Cause → List ℕ → ℕ → Option Target → List (List ℕ)
+suppressed_at cause counts k None = []
+suppressed_at cause counts k (Some target) = suppressed_of cause (k + 1) (slice_get counts k) target
 
 -- the results of the first n rules, by how many races each rule takes; rules are numbered from 1
-unfoldable pub suppressed_below : List ℕ → List Target → ℕ → List (List ℕ)
-suppressed_below counts targets zero = []
-suppressed_below counts targets (suc n) = suppressed_below counts targets n ++ suppressed_at counts n (slice_get targets n)
+unfoldable pub suppressed_below : Cause → List ℕ → List Target → ℕ → List (List ℕ)
+suppressed_below cause counts targets zero = []
+suppressed_below cause counts targets (suc n) = suppressed_below cause counts targets n ++ suppressed_at cause counts n (slice_get targets n)
 
 -- the results of the lines, and behind them those of the rules
-abbrev pub all_results : NameTable → PlaceTable → List Line → List ℕ → List Target → List (List ℕ)
-all_results names table lines counts targets = results_below names table lines (length lines) ++ suppressed_below counts targets (length targets)
+abbrev pub all_results : Cause → NameTable → PlaceTable → List Line → List ℕ → List Target → List (List ℕ)
+all_results cause names table lines counts targets = results_below cause names table lines (length lines) ++ suppressed_below cause counts targets (length targets)
 
-abbrev pub version_text : List ℕ
-version_text = codes "{\"$schema\":\"https://json.schemastore.org/sarif-2.1.0.json\",\n\"version\":\"2.1.0\",\n\"runs\":[{\n\"tool\":{\"driver\":"
-
--- the rules by which results go
-abbrev pub read_rule_text : List ℕ
-read_rule_text = codes "{\"name\":\"eraser\",\"rules\":[{\"id\":\"race/read\",\"shortDescription\":{\"text\":\"A read that no lock protects\"}},"
-
-abbrev pub write_rule_text : List ℕ
-write_rule_text = codes "{\"id\":\"race/write\",\"shortDescription\":{\"text\":\"A write that no lock protects\"}},"
-
-abbrev pub suppressed_rule_text : List ℕ
-suppressed_rule_text = codes "{\"id\":\"race/suppressed\",\"shortDescription\":{\"text\":\"Races that a rule of suppressions takes\"}}]}},\n\"results\":["
+-- the rules by which results go; the run by happens-before has a name, by which code hosts keep it apart
+abbrev pub rules_text : Cause → List ℕ
+rules_text NoLock = codes "{\"id\":\"race/read\",\"shortDescription\":{\"text\":\"A read that no lock protects\"}},{\"id\":\"race/write\",\"shortDescription\":{\"text\":\"A write that no lock protects\"}},{\"id\":\"race/suppressed\",\"shortDescription\":{\"text\":\"Races that a rule of suppressions takes\"}}]}}"
+rules_text NoOrder = codes "{\"id\":\"unordered/read\",\"shortDescription\":{\"text\":\"A read that nothing orders after an earlier write\"}},{\"id\":\"unordered/write\",\"shortDescription\":{\"text\":\"A write that nothing orders after an earlier access\"}},{\"id\":\"unordered/reuse\",\"shortDescription\":{\"text\":\"A reuse of memory that nothing orders after an earlier access\"}},{\"id\":\"unordered/suppressed\",\"shortDescription\":{\"text\":\"Races that a rule of suppressions takes\"}}]}},\n\"automationDetails\":{\"id\":\"happens-before/\"}"
 
 -- what stands before the results
-unfoldable pub start_text : List ℕ
-start_text = version_text ++ read_rule_text ++ write_rule_text ++ suppressed_rule_text
+unfoldable pub start_text : Cause → List ℕ
+start_text cause = codes "{\n\"tool\":{\"driver\":{\"name\":\"eraser\",\"rules\":[" ++ rules_text cause ++ codes ",\n\"results\":["
 
 -- what is said of the run, between these, if events were lost
 abbrev pub before_lost : List ℕ
@@ -204,8 +218,20 @@ after_lost = codes " events were lost: the report is of a part of the run\"}}]}]
 
 -- what stands after the results
 unfoldable pub end_text : Option ℕ → List ℕ
-end_text lost = codes "]" ++ lost_text before_lost after_lost lost ++ codes "}]}\n"
+end_text lost = codes "]" ++ lost_text before_lost after_lost lost ++ codes "}"
 
--- the whole document; each reason says where its access was, as far as this table knows
-unfoldable pub sarif_text : NameTable → PlaceTable → Report → List Target → List ℕ
-sarif_text names table r targets = start_text ++ rows_text (all_results names table r.lines.items r.rule_counts.items targets) ++ end_text r.lost
+-- the run of a report; each reason says where its access was, as far as this table knows
+unfoldable pub run_text : Cause → NameTable → PlaceTable → List Target → Report → List ℕ
+run_text cause names table targets r =
+    start_text cause ++ rows_text (all_results cause names table r.lines.items r.rule_counts.items targets) ++ end_text r.lost
+
+-- if there is such a report
+abbrev pub run_if : Cause → NameTable → PlaceTable → List Target → Option Report → List ℕ
+run_if cause names table targets None = []
+run_if cause names table targets (Some r) = run_text cause names table targets r
+
+-- the whole log
+unfoldable pub sarif_reports : NameTable → PlaceTable → List Target → Reports → List ℕ
+sarif_reports names table targets reports =
+    codes "{\"$schema\":\"https://json.schemastore.org/sarif-2.1.0.json\",\n\"version\":\"2.1.0\",\n\"runs\":[" ++ run_if NoLock names table targets reports.lockset
+    ++ sign_if reports (codes ",") ++ run_if NoOrder names table targets reports.unordered ++ codes "]}\n"

@@ -1,19 +1,30 @@
 //! The members of a result, one behind another.
-ghost use Rattle.std.specs.Prelude.{◌≡◌, ◌++◌, ◌+◌, ◌<◌, length, All, OnOk};
+ghost use Rattle.std.specs.Prelude.{◌≡◌, ◌++◌, ◌+◌, ◌<◌, length, All, IfOk, OnOk};
 ghost use Rattle.er_print.specs.Values.{values_text};
 ghost use Rattle.er_report.specs.Names.{HasLockNames, HasReasonNames};
-ghost use Rattle.er_sarif.specs.Document.{deed_words, file_member, fingerprint_text, front_text, location_member, name_member, open_location, properties_text, reason_text, sentence_words};
+ghost use Rattle.er_sarif.specs.Document.{access_deed, deed_words, file_member, fingerprint_text, front_text, location_member, name_member, open_location, properties_text, reason_text, reuse_deed, sentence_words};
 
+use crate::cause::{Cause, cause_words, rule_front};
 use crate::places::file_end;
 use crate::standing::{put_holding, put_opening};
 use crate::uris::put_uri;
-use er_event::{Kind, LockId, ThreadId, Word};
+use er_event::{Kind, LockId, PageRange, ThreadId, Word};
 use er_places::Places;
-use er_print::Piece::{Address, Label, Locks, Name, Number, Text, Thread, Verb};
-use er_print::{Style, comma_before, put_all, put_string};
+use er_print::Piece::{Label, Locks, Name, Number, Text, Thread, Verb};
+use er_print::{Style, bytes_of, comma_before, put_address, put_all, put_number, put_string};
 use er_report::Because;
 use er_trace::Names;
-use std::alloc::AllocError;
+use std::alloc::{AllocError, Global};
+
+/// What an access did to the word of a race.
+pub(crate) fn access_deed(alloc: Global, kind: Kind, word: Word) -> Result<Vec<u8>, AllocError>
+    ensures { IfOk result (λ deed. deed.items ≡ access_deed kind word) }
+{
+    let mut deed = Vec::new(alloc);
+    deed.extend_from_slice(deed_words(kind))?;
+    put_address(&mut deed, word)?;
+    Ok(deed)
+}
 
 fn deed_words(kind: Kind) -> &'static [u8]
     ensures { result.now ≡ deed_words kind }
@@ -24,25 +35,39 @@ fn deed_words(kind: Kind) -> &'static [u8]
     }
 }
 
-/// Opens a result: what the first race is, and how many there are.
+/// What a reuse did.
+pub(crate) fn reuse_deed(alloc: Global, range: &PageRange) -> Result<Vec<u8>, AllocError>
+    ensures { IfOk result (λ deed. deed.items ≡ reuse_deed range.now) }
+{
+    let mut deed = Vec::new(alloc);
+    deed.extend_from_slice(b" gave back ")?;
+    put_number(&mut deed, bytes_of(range))?;
+    deed.extend_from_slice(b" bytes at ")?;
+    put_address(&mut deed, range.lo)?;
+    Ok(deed)
+}
+
+/// Opens a result: what its first race is, and how many there are.
 #[tactic(auto, unfolding(crate::specs::Document::front_text))]
-pub(crate) fn put_front(
+pub(crate) fn put_front<'a>(
     out: &mut Vec<u8>,
+    cause: Cause,
     names: &Names,
+    verb: &'a [u8],
     thread: ThreadId,
-    kind: Kind,
-    word: Word,
+    deed: &'a [u8],
     count: u64,
 ) -> Result<(), AllocError>
     requires { thread < length names.now.threads }
-    ensures { OnOk result (out.new.items ≡ out.old.items ++ front_text names.now thread kind word count) }
+    ensures { OnOk result (out.new.items ≡ out.old.items ++ front_text cause names.now verb.now thread deed.now count) }
 {
     let pieces = [
-        Verb(b"{\"ruleId\":\"race/", kind),
+        Text(rule_front(cause)),
+        Text(verb),
         Thread(b"\",\"level\":\"error\",\"message\":{\"text\":\"", thread),
-        Text(deed_words(kind)),
-        Address(b"", word),
-        Number(b", and no lock protects it\"},\"occurrenceCount\":", count),
+        Text(deed),
+        Text(cause_words(cause)),
+        Number(b"\"},\"occurrenceCount\":", count),
         Text(b",\"locations\":["),
     ];
     put_all(out, Style::InString, names, &pieces)
@@ -95,17 +120,18 @@ fn put_file(out: &mut Vec<u8>, site: &[u8], place: usize) -> Result<(), AllocErr
 
 /// Puts what is the same in each run, and opens the array of reasons.
 #[tactic(auto, unfolding(crate::specs::Document::fingerprint_text))]
-pub(crate) fn put_fingerprint(
+pub(crate) fn put_fingerprint<'a>(
     out: &mut Vec<u8>,
     names: &Names,
-    site: &[u8],
-    kind: Kind,
+    site: &'a [u8],
+    verb: &'a [u8],
 ) -> Result<(), AllocError>
-    ensures { OnOk result (out.new.items ≡ out.old.items ++ fingerprint_text site.now kind) }
+    ensures { OnOk result (out.new.items ≡ out.old.items ++ fingerprint_text site.now verb.now) }
 {
     let pieces = [
         Name(b"}],\"partialFingerprints\":{\"siteAndKind/v1\":\"", site),
-        Verb(b" ", kind),
+        Text(b" "),
+        Text(verb),
         Text(b"\"},\"relatedLocations\":["),
     ];
     put_all(out, Style::InString, names, &pieces)

@@ -1,10 +1,11 @@
--- The four parts, one behind another.
-use Rattle.er_sarif.proofs.PutLemmas.{put_four}
-use Rattle.er_sarif.specs.Document.{read_rule_text, start_text, suppressed_rule_text, version_text, write_rule_text}
+-- The three parts, one behind another.
+use Rattle.std.proofs.Common.{codes}
+use Rattle.er_json.proofs.PutLemmas.{put_three}
+use Rattle.er_sarif.specs.Document.{rules_text, start_text}
 use Rattle.er_sarif.proofs.document.put_start.Goals as goal
 
 pub returns : goal.returns
 unfolding start_text
 returns c =
-    put_four _ _ _ _ _ version_text read_rule_text write_rule_text suppressed_rule_text c.in_ok-extend_from_slice.ensures.items c.in_ok-extend_from_slice-2.ensures.items
-    c.in_ok-extend_from_slice-3.ensures.items c.in_ok-extend_from_slice-4.ensures.items
+    put_three _ _ _ _ (codes "{\n\"tool\":{\"driver\":{\"name\":\"eraser\",\"rules\":[") (rules_text c.args.cause) (codes ",\n\"results\":[") c.in_ok-extend_from_slice.ensures.items
+    (rw c.rules_text.ensures at c.in_ok-extend_from_slice-2.ensures.items) c.in_ok-extend_from_slice-3.ensures.items

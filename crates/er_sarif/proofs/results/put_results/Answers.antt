@@ -30,13 +30,13 @@ loop-line-preserved c =
     let all = rw (c.deref-in-loop-line-2.ensures.value, c.deref-in-loop-line-3.ensures.value) at c.count_like-count.ensures in
     let before : c.count_like-before.result ≡ races_like (take k lines) line = seen ∙ like _ _ (take k lines) c.loop-line.invariant.reads c.loop-line.invariant.writes line in
     let count : c.count_like-count.result ≡ races_like lines line = all ∙ like _ _ lines c.requires.total.reads c.requires.total.writes line in
-    let rows : List (List ℕ) = results_below names table lines k in
-    let more : List (List ℕ) = results_of names table c.count_like-before.result c.count_like-count.result line in
-    let next : results_below names table lines (k + 1) ≡ rows ++ more = results_next names table lines k line _ _ here before count in
+    let rows : List (List ℕ) = results_below c.args.cause names table lines k in
+    let more : List (List ℕ) = results_of c.args.cause names table c.count_like-before.result c.count_like-count.result line in
+    let next : results_below c.args.cause names table lines (k + 1) ≡ rows ++ more = results_next c.args.cause names table lines k line _ _ here before count in
     record {
       reads = λ s. c.in_ok-count_line.ensures.reads s ∙ ap (λ (n : ℕ). n + cond (reads_at s line) 1 0) (c.loop-line.invariant.reads s) ∙ sym (count_next (reads_at s) lines k line within c.line-item.is);
       writes = λ s. c.in_ok-count_line.ensures.writes s ∙ ap (λ (n : ℕ). n + cond (writes_at s line) 1 0) (c.loop-line.invariant.writes s) ∙ sym (count_next (writes_at s) lines k line within c.line-item.is);
       first = c.in_ok-is_first.ensures.first ∙ ap (λ (b : Bool). b && has_none more) c.loop-line.invariant.first ∙ sym (none_more rows more) ∙ ap has_none (sym next);
-      text = text_next names table _ _ line rows _ _ _ c.loop-line.is_first c.loop-line.invariant.first c.loop-line.invariant.text c.in_ok-is_first.ensures.text
+      text = text_next c.args.cause names table _ _ line rows _ _ _ c.loop-line.is_first c.loop-line.invariant.first c.loop-line.invariant.text c.in_ok-is_first.ensures.text
           ∙ ap (λ (all : List (List ℕ)). c.args.out.now.items ++ rows_text all) (sym next);
     }

@@ -10,6 +10,6 @@ abbrev pub invariant-loop-line : goal.invariant-loop-line
 invariant-loop-line l = record {
   reads : (s : ℕ) → slice_index l.reads.items s ≡ count_by (reads_at s) (take l.line-index l.lines);
   writes : (s : ℕ) → slice_index l.writes.items s ≡ count_by (writes_at s) (take l.line-index l.lines);
-  first : l.is_first ≡ has_none (results_below l.names l.places l.lines l.line-index);
-  text : l.out.items ≡ l.fn.out.items ++ rows_text (results_below l.names l.places l.lines l.line-index);
+  first : l.is_first ≡ has_none (results_below l.cause l.names l.places l.lines l.line-index);
+  text : l.out.items ≡ l.fn.out.items ++ rows_text (results_below l.cause l.names l.places l.lines l.line-index);
 }
