@@ -1,5 +1,5 @@
 #!/usr/bin/env python3
-"""Compares `eraser replay --format sarif` with a log made from the explained report of tests/reference.py, byte for byte, and reads it back.
+"""Compares `eraser replay --format sarif` with a log made from the documents of tests/json_tests.py, byte for byte, and reads it back.
 
 `tests/run` calls `tests`. By itself this file runs these tests alone.
 """
@@ -14,14 +14,18 @@ import urllib.parse
 
 sys.path.insert(0, str(pathlib.Path(__file__).parent))
 sys.dont_write_bytecode = True
+import order_tests
 import reference
 import site_tests
 from alone import each_refused, run_alone
-from json_tests import document_of, plain
+from json_tests import ANALYSES, REUSED, documents_of, plain
 from site_tests import DID, PLACED, TOP, places_in, preloaded, run, run_fifo, run_file, run_with
 
-RULES = [{"id": f"race/{kind}", "shortDescription": {"text": f"A {kind} that no lock protects"}} for kind in ("read", "write")]
-RULES.append({"id": "race/suppressed", "shortDescription": {"text": "Races that a rule of suppressions takes"}})
+# What differs between the runs: what the rules begin with, what they say of each kind, why a race is one, and the name of the run.
+BY_LOCKS = ("race/", {"read": "A read that no lock protects", "write": "A write that no lock protects"}, "no lock protects it", {})
+BY_ORDER = ("unordered/", {"read": "A read that nothing orders after an earlier write", "write": "A write that nothing orders after an earlier access",
+                           "reuse": "A reuse of memory that nothing orders after an earlier access"}, "nothing orders this after an earlier access",
+            {"automationDetails": {"id": "happens-before/"}})
 # Sites, with the file and the line that they name.
 PLACES = {
     "pool.c:8": ("pool.c", 8),
@@ -64,17 +68,24 @@ def reason(found, places):
     return {**({} if site == "-" else location(site)), "message": {"text": f"{text}, holding {held}"}}
 
 
+def words_of(document):
+    """What differs between the runs, of the run of this document."""
+    return BY_ORDER if "analysis" in document else BY_LOCKS
+
+
 def results_of(document, places):
-    """The results, each with the first race of its site and kind."""
+    """The results, each with the first race of its site and kind. Each reuse is one of its own, at its address."""
+    front, _, why, _ = words_of(document)
     sorts = {}
     for race in document["races"]:
-        sorts.setdefault((race["site"] or "-", race["kind"]), []).append(race)
-    for (site, kind), races in sorts.items():
+        sorts.setdefault((race["line"], race["reuse"], "reuse") if "reuse" in race else (race["site"] or "-", race["kind"]), []).append(race)
+    for (*_, site, kind), races in sorts.items():
         race = races[0]
+        deed = f"gave back {race['bytes']} bytes at {race['reuse']}" if kind == "reuse" else f"{DID[kind]} the word at {race['address']}"
         yield {
-            "ruleId": f"race/{kind}",
+            "ruleId": front + kind,
             "level": "error",
-            "message": {"text": f"{race['thread']} {DID[kind]} the word at {race['address']}, and no lock protects it"},
+            "message": {"text": f"{race['thread']} {deed}, and {why}"},
             "occurrenceCount": len(races),
             "locations": [location(site)],
             "partialFingerprints": {"siteAndKind/v1": f"{site} {kind}"},
@@ -90,14 +101,14 @@ def rule_text(rule):
     return f"words 0x{4 * first:012x} {4 * (last + 1 - first)}" if first <= last else "words 0 0"
 
 
-def suppressed_of(rules, counts):
+def suppressed_of(rules, document):
     """The results of the rules that took races."""
-    assert len(rules) == len(counts)
-    for number, (rule, count) in enumerate(zip(rules, counts), 1):
+    assert len(rules) == len(document["suppressions"])
+    for number, (rule, count) in enumerate(zip(rules, document["suppressions"]), 1):
         if count:
             text = rule_text(rule)
             yield {
-                "ruleId": "race/suppressed",
+                "ruleId": words_of(document)[0] + "suppressed",
                 "level": "error",
                 "message": {"text": f"Races that a rule takes: {text}"},
                 "occurrenceCount": count,
@@ -107,21 +118,29 @@ def suppressed_of(rules, counts):
             }
 
 
-def text_of(results, lost=None):
-    driver = plain({"driver": {"name": "eraser", "rules": RULES}})
-    rows = ",".join("\n" + plain(result) for result in results)
-    schema = "https://json.schemastore.org/sarif-2.1.0.json"
-    notice = {"level": "warning", "message": {"text": f"{lost} events were lost: the report is of a part of the run"}}
-    invocations = "" if lost is None else ',\n"invocations":' + plain([{"executionSuccessful": True, "toolExecutionNotifications": [notice]}])
-    return f'{{"$schema":"{schema}",\n"version":"2.1.0",\n"runs":[{{\n"tool":{driver},\n"results":[{rows}]{invocations}}}]}}\n'
+def run_text(document, places, rules):
+    """The run of a document: its races are explained, and these rules took the others."""
+    front, kinds, _, named = words_of(document)
+    kinds = {**kinds, "suppressed": "Races that a rule of suppressions takes"}
+    driver = {"name": "eraser", "rules": [{"id": front + kind, "shortDescription": {"text": text}} for kind, text in kinds.items()]}
+    rows = ",".join("\n" + plain(result) for result in [*results_of(document, places), *suppressed_of(rules, document)])
+    members = [f'"{name}":{plain(value)}' for name, value in {"tool": {"driver": driver}, **named}.items()] + [f'"results":[{rows}]']
+    if "lost" in document["totals"]:
+        notice = {"level": "warning", "message": {"text": f"{document['totals']['lost']} events were lost: the report is of a part of the run"}}
+        members.append('"invocations":' + plain([{"executionSuccessful": True, "toolExecutionNotifications": [notice]}]))
+    return "{\n" + ",\n".join(members) + "}"
 
 
-def expected(text, rules, is_file=False):
+def log_of(runs):
+    return '{"$schema":"https://json.schemastore.org/sarif-2.1.0.json",\n"version":"2.1.0",\n"runs":[' + ",".join(runs) + "]}\n"
+
+
+def expected(text, rules, is_file=False, analysis="lockset"):
     output, errors, status = reference.replay(text, rules or b"", explain=True)
     if status < 2:
-        document = document_of(output)
-        results = [*results_of(document, places_in(text) if is_file else {}), *suppressed_of(reference.rules_of(rules or b""), document["suppressions"])]
-        output = text_of(results, document["totals"].get("lost"))
+        documents = documents_of(text, rules, True, analysis)
+        output = log_of(run_text(document, places_in(text) if is_file else {}, reference.rules_of(rules or b"")) for document in documents)
+        status = 1 if any(document["totals"]["races"] for document in documents) else 0
     return output.encode(), errors.encode(), status
 
 
@@ -180,6 +199,14 @@ def log_tests(record):
             results, doubles, taken = results + len(shown), doubles + sum(count > 1 for count in shown), taken + len(hidden)
             races, suppressed = (int(count) for count in re.search(rb"races (\d+), suppressed (\d+)", run_with(rules, text)[0]).groups())
             record(f"{name} as SARIF has each race once", (sum(shown), sum(hidden)) == (races, suppressed), f"{shown}, {hidden}")
+    lists = [(f"random list {seed}", order_tests.random_list(seed), None) for seed in range(100)]
+    for name, text, rules in [*site_tests.texts(), *lists, ("reuses", REUSED, None)]:
+        for analysis in ANALYSES[1:]:
+            for wanted, found in ((expected(text, rules, False, analysis), run_with(rules, text, "--analysis", analysis, "--format", "sarif")),
+                                  (expected(text, rules, True, analysis), run_file(rules, text, "--analysis", analysis, "--format", "sarif"))):
+                record(f"{name} as SARIF by {analysis}", found == wanted, f"{found}, {wanted}"[:2000])
+                wrong = list(faults(json.loads(found[0] or b"null"))) if wanted[2] < 2 else []
+                record(f"{name} as SARIF by {analysis} by what SARIF requires", not wrong, f"{wrong}")
     record("logs have results, results that stand for several races, and suppressed ones", results > 100 and doubles > 20 and taken > 20, f"{results}, {doubles}, {taken}")
     lines = ["eraser trace 3"] + [f"t{who} write {4 * k} {site}" for who in (1, 2) for k, site in enumerate(PLACES)] + ["end"]
     log = json.loads(run(["replay", "--format", "sarif", "-"], "\n".join(lines).encode())[0])
@@ -194,6 +221,8 @@ def log_tests(record):
     formats = (TOP / "docs/FORMATS.md").read_text()
     shown = run(["replay", "--format", "sarif", str(TOP / "examples/explained.trace")])[0].decode()
     record("the log of the formats", shown and shown in formats, shown)
+    shown = run(["replay", "--analysis", "both", "--format", "sarif", str(TOP / "examples/both_analyses.trace")])[0].decode()
+    record("the log of two runs of the formats", shown and shown in formats, shown)
     output, errors, status = run(["replay", "--format", "sarif", "--by-site", "-"], b"eraser trace 1\n")
     record("SARIF by site is wrong arguments", (output, status) == (b"", 2) and errors.startswith(b"error: "), f"{output}, {errors}, {status}")
     # A pass over the races for each result would take minutes.

@@ -16,7 +16,7 @@ use er_trace::Names;
 use std::alloc::{AllocError, Global};
 
 /// The reports as a page, with these names for their numbers and these excerpts of source files.
-#[tactic(auto, unfolding(crate::specs::Page::html_reports))]
+#[tactic(auto, using(crate::proofs::InertLemmas::inert_block), unfolding(crate::specs::Page::html_reports))]
 pub fn html_text(
     alloc: Global,
     reports: &Reports,
