@@ -40,12 +40,6 @@ ANALYSES = {"lockset": ("races",), "happens-before": ("unordered",), "both": ("r
 FORMS = {"text": ["--format", "text"], "by site": ["--by-site"], "json": ["--format", "json"], "sarif": ["--format", "sarif"], "html": ["--format", "html"]}
 OPTIONS = {"explain": ["--explain"], "strict": ["--strict"], "until fault": ["--until-fault"], "first": ["--max-races"], "unused": ["--unused-rules"], "rules": ["--write-rules"]}
 EXPLAINED = ("by site", "sarif", "html")
-# Why the races of each report are races, and what its run of SARIF says of each kind.
-CAUSES = {
-    "races": ("race", "no lock protects it", {"read": "A read that no lock protects", "write": "A write that no lock protects"}),
-    "unordered": ("unordered", "nothing orders this after an earlier access", {"read": "A read that nothing orders after an earlier write",
-        "write": "A write that nothing orders after an earlier access", "reuse": "A reuse of memory that nothing orders after an earlier access"}),
-}
 
 
 # ---- The reports of a text
@@ -83,55 +77,13 @@ def asked_notes(reports, rules, options, left):
 
 # ---- Forms
 
-def json_text(reports, holds):
-    texts = [json_tests.text_of(json_tests.document_of(report, holds)) for report in reports.values()]
+def json_text(documents):
+    texts = [json_tests.text_of(document) for document in documents]
     return "[\n" + ",\n".join(texts) + "]\n" if len(texts) > 1 else texts[0]
 
 
-def sarif_results(word, document, places):
-    """The results of a report's races: one for each site and kind, and one for each reuse."""
-    rule, why, _ = CAUSES[word]
-    sorts = {}
-    for place, race in enumerate(document["races"]):
-        sorts.setdefault(place if "reuse" in race else (race["site"] or "-", race["kind"]), []).append(race)
-    for races in sorts.values():
-        race = races[0]
-        if "reuse" in race:
-            kind, site, deed = "reuse", race["reuse"], f"gave back {race['bytes']} bytes at {race['reuse']}"
-        else:
-            kind, site, deed = race["kind"], race["site"] or "-", f"{site_tests.DID[race['kind']]} the word at {race['address']}"
-        yield {
-            "ruleId": f"{rule}/{kind}",
-            "level": "error",
-            "message": {"text": f"{race['thread']} {deed}, and {why}"},
-            "occurrenceCount": len(races),
-            "locations": [sarif_tests.location(site)],
-            "partialFingerprints": {"siteAndKind/v1": f"{site} {kind}"},
-            "relatedLocations": [sarif_tests.reason(reason, places) for reason in race["reasons"]],
-            "properties": {"line": race["line"], "held": race["held"]},
-        }
-
-
-def sarif_run(word, document, places, rules):
-    """The run of a report."""
-    rule, _, kinds = CAUSES[word]
-    driver = [{"id": f"{rule}/{kind}", "shortDescription": {"text": text}} for kind, text in kinds.items()]
-    driver.append({"id": f"{rule}/suppressed", "shortDescription": {"text": "Races that a rule of suppressions takes"}})
-    taken = [{**result, "ruleId": f"{rule}/suppressed"} for result in sarif_tests.suppressed_of(reference.rules_of(rules), document["suppressions"])]
-    rows = ",".join("\n" + json_tests.plain(result) for result in [*sarif_results(word, document, places), *taken])
-    members = [f'"tool":{json_tests.plain({"driver": {"name": "eraser", "rules": driver}})}']
-    members += [f'"automationDetails":{json_tests.plain({"id": "happens-before/"})}'] if word == "unordered" else []
-    members.append(f'"results":[{rows}]')
-    lost = document["totals"].get("lost")
-    if lost is not None:
-        notice = {"level": "warning", "message": {"text": f"{lost} events were lost: the report is of a part of the run"}}
-        members.append(f'"invocations":{json_tests.plain([{"executionSuccessful": True, "toolExecutionNotifications": [notice]}])}')
-    return "{\n" + ",\n".join(members) + "}"
-
-
-def sarif_text(reports, holds, places, rules):
-    runs = ",".join(sarif_run(word, json_tests.document_of(report, holds), places, rules) for word, report in reports.items())
-    return f'{{"$schema":"https://json.schemastore.org/sarif-2.1.0.json",\n"version":"2.1.0",\n"runs":[{runs}]}}\n'
+def sarif_text(documents, places, rules):
+    return sarif_tests.log_of(sarif_tests.run_text(document, places, reference.rules_of(rules)) for document in documents)
 
 
 def sites_text(reports, text, places):
@@ -147,10 +99,8 @@ def text_in(form, reports, text, rules, places):
         return "".join(reports.values())
     if form == "by site":
         return sites_text(reports, text, places)
-    holds = json_tests.holds_of(text)
-    if form == "sarif":
-        return sarif_text(reports, holds, places, rules)
-    return json_text(reports, holds)
+    documents = [json_tests.document_of(report, json_tests.holds_of(text)) for report in reports.values()]
+    return sarif_text(documents, places, rules) if form == "sarif" else json_text(documents)
 
 
 # ---- The whole
