@@ -1,13 +1,14 @@
 #!/usr/bin/env python3
 """Texts that were made to take long, or to take much memory: those of `bench/hostile`.
 
-`tests/run` calls `answers` and `costs`. By itself this file runs these tests alone.
+`tests/run` calls `answers`, `costs`, `turns` and `second_looks`. By itself this file runs these tests alone.
 
 - each kind is answered as the references answer it: by locks and by happens-before, with reasons, by several workers, and also if the system gives no
   random bytes to hash by
 - no text takes more than 400 bytes of memory for each of its own, beside 32 MiB, and by happens-before alone no more than 200. The dearest line takes a
   page: 4,096 bytes by locks, and 2,048 by happens-before
 - two of many readers of a word that read it in turn, two million times, take no more than 16 MiB
+- a second look at a file, for the places of reasons, ends behind the last line that a reason names
 - a text that is four times as long takes at most 5.5 times the instructions, as valgrind counts them. What compares each with all others takes up to 16
   times as many, and what keeps all for each does so too
 """
@@ -36,6 +37,8 @@ BYTES_FOR_A_BYTE, BYTES_BY_ORDER, BYTES_BESIDE = 400, 200, 32 << 20
 LONGER, MOST_TIMES = 4, 5.5
 # If half of these reads were kept, they would take more than this memory.
 TURNS, BYTES_OF_TURNS = 1_000_000, 16 << 20
+# Lines that no reason names.
+SEEN_ONCE = 20_000
 # What is replayed of each kind: how many there are in the shorter text, and by which options.
 COSTS = {
     "thread-names": (1000, [[], HAPPENS_BEFORE]),
@@ -46,7 +49,7 @@ COSTS = {
     "meets": (2000, [[]]),
     "threads": (4000, [[]]),
     "lines": (2000, [["--by-site", *EXPLAIN]]),
-    "readers": (2000, [[], EXPLAIN, HAPPENS_BEFORE]),
+    "readers": (2000, [[], EXPLAIN, HAPPENS_BEFORE, [*HAPPENS_BEFORE, *EXPLAIN]]),
     "handed-on": (2000, [[], HAPPENS_BEFORE]),
     "own-locks": (2000, [[], HAPPENS_BEFORE]),
 }
@@ -110,9 +113,9 @@ def limited(size, options):
     resource.setrlimit(resource.RLIMIT_AS, (bytes_of_memory, bytes_of_memory))
 
 
-def instructions(words):
-    """How many instructions a replay takes."""
-    _, errors, _ = run(words, before=COUNTED)
+def instructions(words, text=b""):
+    """How many instructions a replay takes, with this text as its standard input."""
+    errors = run(words, text, before=COUNTED)[1]
     return int(re.search(rb"I +refs: +([\d,]+)", errors)[1].replace(b",", b""))
 
 
@@ -148,10 +151,27 @@ def turns(record):
             record(f"hostile: two of many readers in turn {' '.join(options)}", found == (wanted, b"", 0), f"{found}"[:300])
 
 
+def second_looks(record):
+    """What a file takes beside the same text on standard input, which is read once, with the race's second access in front or at the end."""
+    first, second, rest = b"t1 write 0x1000 a.c:1\n", b"t2 write 0x1000 a.c:2\n", b"t1 read 0x2000 b.c:1\n" * SEEN_ONCE
+    words, times = ["--by-site", *EXPLAIN], {}
+    for name, body in (("front", first + second + rest), ("end", first + rest + second)):
+        text = b"eraser trace 1\n" + body
+        with tempfile.NamedTemporaryFile() as trace:
+            trace.write(text)
+            trace.flush()
+            once, twice = instructions([*words, "-"], text), instructions([*words, trace.name])
+            places = b"a.c:2 and a.c:1:\n" in run([*words, trace.name])[0]
+        times[name] = twice / once
+        record(f"hostile: a second look, with the race at the {name}", places, f"{once} and {twice}")
+    record("hostile: a second look ends behind the last line that a reason names", times["front"] < 1.3 and times["end"] > 1.6, f"{times}")
+
+
 def tests(record, preloaded):
     answers(record, preloaded)
     costs(record)
     turns(record)
+    second_looks(record)
 
 
 if __name__ == "__main__":

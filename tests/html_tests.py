@@ -5,6 +5,7 @@
   of source files that `--source` finds
 - in a headless Chromium the page has the sites of a second reading, its filter and its examples work by keyboard, it loads nothing, and no
   name and no source line is ever markup
+- a page of two reports has two parts, and a picture of two accesses that nothing orders has a broken line and no candidate set
 
 `tests/run` calls `tests`. By itself this file runs these tests alone, or with `--screenshot FILE` makes a picture of a page.
 """
@@ -24,7 +25,7 @@ import browser
 import reference
 import site_tests
 from alone import OUTCOMES, each_refused, outcome_of, run_alone
-from json_tests import LOSSY, document_of
+from json_tests import ANALYSES, LOSSY, REUSED, document_of
 from site_tests import TOP, preloaded, run, run_with
 
 PAGE = re.compile(rb'(.*<script type="application/json" id="report">\n)(.*)(</script>\n<script type="application/json" id="sources">\n)(.*)(\n</script>\n<script>.*)', re.S)
@@ -130,6 +131,12 @@ def page_tests(record):
         wanted = reference.replay(text, rules or b"", explain=True)[0]
         record(f"{name} as a page has the reference's report", json.loads(report) == document_of(wanted), f"{report}")
         raced += status
+        for analysis in ANALYSES[1:]:
+            page, *ended = run_with(rules, text, "--analysis", analysis, "--format", "html")
+            documents, *wanted = run_with(rules, text, "--analysis", analysis, "--format", "json", "--explain")
+            shell, report, _ = blocks_of(page)
+            shells.add(shell)
+            record(f"{name} as a page by {analysis}", report.replace(b"\\u003c", b"<") == documents and ended == wanted, f"{report}, {documents}")
     record("pages have races", raced > 50, f"{raced}")
     record("all pages have one shell", len(shells) == 1, f"{len(shells)}")
     by_workers = run(["replay", "--format", "html", "--workers", "3", "-"], BUSY)
@@ -420,6 +427,45 @@ def lost_tests(record, one, folder):
         record(f"the first line of a page of {lost} lost events", is_calm(one) and (first, is_seen) == (f"{notice}: this page shows a part of the run.", True), f"{first}, {is_seen}, {one.troubles}")
 
 
+def part_tests(record, one, folder):
+    """Pages by happens-before and by both: their parts, and the pictures and sentences of what nothing orders."""
+    example = str(TOP / "examples/both_analyses.trace")
+    parts = "[...document.querySelectorAll('main > section > h2')].map(head => head.textContent)"
+    firsts = "[...document.querySelectorAll('main > section > div > div.wide > table')].map(table => [...table.tBodies[0].rows].map(row => row.cells[4].textContent))"
+    marks = "[...document.querySelectorAll('svg.picture')].map(svg => [svg.querySelectorAll('.cut').length, svg.querySelectorAll('.broken').length, svg.querySelectorAll('rect.write').length])"
+    stories = "[...document.querySelectorAll('ol.story')].map(story => [...story.children].map(line => line.textContent))"
+    opened(run(["replay", "--analysis", "both", "--format", "html", example])[0], folder, one)
+    title = one.value("document.querySelector('h1').textContent")
+    record("the title of two parts", is_calm(one) and title == "1 race in this run at 1 site, 1 further site with no common lock", f"{title}, {one.troubles}")
+    record("two parts have headings", one.value(parts) == ["Sites with races", "Races in this run", "No common lock"], f"{one.value(parts)}")
+    record("each of two parts has its sites", one.value(firsts) == [["job.c:33"], ["job.c:40"]], f"{one.value(firsts)}")
+    record("each of two parts has its totals", one.value("document.querySelectorAll('.totals').length") == 2)
+    pictures = one.value(PICTURES)
+    wanted = [["worker", "main", "trace", "line 14", "write", "line 16", "read: race"],
+              ["main", "worker", "trace", "candidate set", "line 5", "write", "one thread so far", "line 12", "write: race", "empty"]]
+    record("a picture of what nothing orders has no candidate set", pictures == wanted, f"{pictures}")
+    record("a picture of what nothing orders has a broken line with two crosses", one.value(marks) == [[4, 1, 0], [0, 0, 0]], f"{one.value(marks)}")
+    told = one.value(stories)
+    wanted = ["Line 14: worker wrote the word at job.c:42, holding flag.", "Line 16: main read the word, holding no lock. Nothing orders this after the access above: this is the race."]
+    record("what nothing orders in sentences", told[0] == wanted, f"{told}")
+    one.value("document.getElementById('filter').focus()")
+    one.type("job.c:40")
+    count = one.value("document.getElementById('matches').textContent")
+    record("one filter for two parts", (one.value(firsts), count) == ([[], ["job.c:40"]], "1 site of 2"), f"{one.value(firsts)}, {count}")
+    opened(run(["replay", "--analysis", "both", "--format", "html", example])[0], folder, one, "#site-2")
+    record("an example of the second part in the address", one.value("document.getElementById('site-2').querySelector('.name').textContent") == "job.c:40" and is_calm(one))
+    opened(run(["replay", "--analysis", "happens-before", "--format", "html", example])[0], folder, one)
+    found = [one.value("document.querySelector('h1').textContent"), one.value(parts), one.value(firsts)]
+    record("a page by happens-before", is_calm(one) and found == ["1 race in this run at 1 site", ["Sites with races", "An example of each"], [["job.c:33"]]], f"{found}")
+    opened(run(["replay", "--analysis", "both", "--format", "html", "-"], REUSED)[0], folder, one)
+    found = [one.value("document.querySelector('h1').textContent"), one.value(firsts), one.value(marks)]
+    wanted = ["2 races in this run at 2 addresses that were given back, no further site with no common lock", [["0x000000001ff0", "0x000000002000"]], [[4, 1, 1], [4, 1, 1]]]
+    record("a page of reuses", is_calm(one) and found == wanted, f"{found}")
+    told = one.value(stories)
+    wanted = ["Line 3: worker wrote the word.", "Line 7: main gave the memory back, holding list, size. Nothing orders this after the access above: this is the race."]
+    record("a reuse in sentences", told[0] == wanted, f"{told}")
+
+
 def large_tests(record, one, folder):
     """300,000 races: the page groups them, and makes rows and pictures as they are asked for."""
     lines = [f"{thread} write {4 * k} part{k % 2000}.cpp:{k % 700 + 1}" for k in range(300_000) for thread in ("t1", "t2")]
@@ -449,6 +495,7 @@ def browser_tests(record):
         screen_tests(record, one, folder)
         first_races_tests(record, one, folder)
         lost_tests(record, one, folder)
+        part_tests(record, one, folder)
         large_tests(record, one, folder)
 
 

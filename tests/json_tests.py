@@ -20,7 +20,7 @@ import reference
 import site_tests
 from alone import OUTCOMES, each_refused, outcome_of, run_alone
 from analysis_tests import unordered_report
-from site_tests import RACE, REASON, REUSE, TOP, preloaded, run, run_with
+from site_tests import RACE, REASON, REUSE, TOP, places_in, preloaded, run, run_file, run_with
 
 SCHEMA = TOP / "docs/report.schema.json"
 REFUSED = re.compile(r"line (\d+): refused: (\S+) (\S+)(?: (\S+))?: ([^:]+)")
@@ -113,26 +113,40 @@ def text_of(document):
     return "{" + ",\n".join(members) + "}\n"
 
 
-def documents_of(text, rules, explain, analysis="lockset"):
-    """The documents of a text that has no fault."""
-    documents = []
+def placed(reason, places):
+    """A reason with the site of its access and the locks that its thread held, if they are known."""
+    if str(reason["line"]) not in places:
+        return reason
+    site, locks = places[str(reason["line"])]
+    return {**reason, "site": None if site == "-" else site, "held": [lock for lock, _ in locks], "held_to_read": [lock for lock, writes in locks if not writes]}
+
+
+def documents_of(text, rules, explain, analysis="lockset", is_file=False):
+    """The documents of a text that has no fault. Reasons have places if it is a file, which can be read twice."""
+    documents, places = [], places_in(text) if is_file else {}
     if analysis != "happens-before":
         documents.append(document_of(reference.replay(text, rules or b"", explain=explain)[0]))
     if analysis != "lockset":
         documents.append(document_of(unordered_report(text, reference.rules_of(rules or b""), explain)[0], holds_of(text)))
+    for race in [race for document in documents for race in document["races"]]:
+        race["reasons"] = [placed(reason, places) for reason in race["reasons"]]
     return documents
 
 
+<<<<<<< HEAD
 def order_note(text, documents):
     """The note on a trace that records no order, behind these documents of it."""
     return reference.order_note_of(text, sum(document["totals"]["races"] for document in documents if "analysis" in document))
 
 
 def expected(text, rules, explain, analysis="lockset"):
+=======
+def expected(text, rules, explain, analysis="lockset", is_file=False):
+>>>>>>> fbaec9a5ea13f9485799f996b7a95bae7927f04c
     output, errors, status = reference.replay(text, rules or b"", explain=explain)
     if status == 2:
         return output.encode(), errors.encode(), status
-    documents = documents_of(text, rules, explain, analysis)
+    documents = documents_of(text, rules, explain, analysis, is_file)
     texts = [text_of(document) for document in documents]
     output = "[\n" + ",\n".join(texts) + "]\n" if len(texts) > 1 else texts[0]
     return output.encode(), (errors + order_note(text, documents)).encode(), 1 if any(document["totals"]["races"] for document in documents) else 0
@@ -185,6 +199,10 @@ def faults(value, schema, root, where="$"):
             for name in wants:
                 if isinstance(value, dict) and name not in value:
                     yield f"{where}: no {name}"
+        elif word == "dependentRequired":
+            for name, needs in wants.items():
+                if isinstance(value, dict) and name in value and not set(needs) <= set(value):
+                    yield f"{where}: {name} without {needs}"
         elif word == "properties":
             for name, item in (value if isinstance(value, dict) else {}).items():
                 if name in wants:
@@ -225,8 +243,8 @@ def schema_tests(record, schema):
     shown = run(["replay", "--explain", "--format", "json", "-"], (TOP / "examples/explained.trace").read_bytes())[0].decode()
     record("the document of the formats", shown and shown in formats, shown)
     both = ["replay", "--analysis", "both", "--explain", "--format", "json", "-"]
-    shown = run(both, (TOP / "examples/both_analyses.trace").read_bytes())[0].decode()
-    record("the documents of the formats", shown and shown in formats, shown)
+    shown = run([*both[:-1], str(TOP / "examples/both_analyses.trace")])[0].decode()
+    record("the documents of the formats", '"held_to_read":' in shown and shown in formats, shown)
     for reused in (run(both, REUSED)[0].decode().splitlines() or [""])[-8:-6]:
         record("the reuses of the formats", '"reuse":' in reused and reused.rstrip("],") in formats, reused)
     rich = b"eraser trace 2\nt1 level 3\nt1 lock a\nt1 lock a\nt1 write 0\nt1 show 0\nt1 show 64\nt2 lock b\nt2 read 0 s:1\nt2 show 0\nt1 ignore-off\nt1 write 0 s:2\nt2 write 0\nt2 show 0\n"
@@ -241,10 +259,10 @@ def schema_tests(record, schema):
         record(f"a document with {lost} lost events is none", list(faults(lossy, schema, schema)))
     for name, other in changed(document):
         record(f"a document with {name} is none", list(faults(other, schema, schema)), f"{other}")
-    pair = json.loads(run(both, REUSED)[0] or b"[]")
-    record("two documents with reuses", len(pair) == 2 and len(pair[1]["races"]) == 2 and not list(faults(pair, schema, schema)), f"{pair}")
-    for name, other in [*changed(pair), ("one alone", pair[:1]), ("three", pair * 2), ("the order", pair[::-1])]:
-        record(f"documents with {name} changed are none", list(faults(other, schema, schema)), f"{other}")
+    for pair in (json.loads(run(both, REUSED)[0] or b"[]"), json.loads(shown or "[]")):
+        record("two documents", len(pair) == 2 and pair[1]["races"] and not list(faults(pair, schema, schema)), f"{pair}")
+        for name, other in [*changed(pair), ("one alone", pair[:1]), ("four", pair * 2), ("the order", pair[::-1])]:
+            record(f"documents with {name} changed are none", list(faults(other, schema, schema)), f"{other}")
 
 
 # ---- The program
@@ -259,6 +277,11 @@ def document_tests(record, schema):
                 record(f"{name} as JSON by {analysis} {options}", found == wanted, f"{found}, {wanted}"[:2000])
                 wrong = list(faults(json.loads(found[0] or b"null"), schema, schema)) if wanted[2] < 2 else []
                 record(f"{name} as JSON by {analysis} {options} by the schema", not wrong, f"{wrong}")
+        for analysis in ANALYSES:
+            wanted, found = expected(text, rules, True, analysis, True), run_file(rules, text, "--analysis", analysis, "--format", "json", "--explain")
+            record(f"{name} as JSON by {analysis}, from a file", found == wanted, f"{found}, {wanted}"[:2000])
+            wrong = list(faults(json.loads(found[0] or b"null"), schema, schema)) if wanted[2] < 2 else []
+            record(f"{name} as JSON by {analysis}, from a file by the schema", not wrong, f"{wrong}")
     for name, text, rules in site_tests.texts():
         for options in ([], ["--explain"]):
             wanted, found = expected(text, rules, bool(options)), run_with(rules, text, "--format", "json", *options)

@@ -293,6 +293,12 @@ def ways_to_use(folder, findings, counter, queue):
     for words in (["--replay"], ["--suppress", rules], ["--explain"], ["--format", "text"], ["--exit-status", "report"]):
         found = command([RUN, "-o", trace, *words, counter])
         findings.check(f"a trace that is kept, and its report by {words[0]}", found.stdout == "30\n" and "\nsteps " in found.stderr and found.returncode == 3, f"{found}")
+    # A report with places of reasons is made of the whole file.
+    for words in (["--by-site"], ["--analysis", "both", "--by-site"], ["--format", "sarif"]):
+        found = command([RUN, "-q", "-o", trace, "--replay", *words, counter])
+        replayed = command([TOP / "eraser", "replay", *words, trace])
+        is_whole = found.stderr == replayed.stdout and len(re.findall(r'^    at counter.c|"relatedLocations":.*"uri":"counter.c"', replayed.stdout, re.M)) > 0
+        findings.check(f"a trace that is kept, and the places of its report with {words}", is_whole and (found.stdout, found.returncode) == ("30\n", 3), f"{found} {replayed}")
     report = folder / "kept.report"
     found = command([RUN, "-o", trace, "--report", report, counter])
     kept = "\nsteps " in report.read_text() and re.fullmatch(r"record: \d+ events recorded, 0 lost\n", found.stderr)
@@ -413,6 +419,9 @@ def several_programs(folder, findings, made):
     documents = [json.loads((folder / "forms" / f"0{number}-queue-gcc-O0.json").read_text()) for number in (1, 2)]
     sites = [{race["site"] for race in document["races"]} for document in documents]
     findings.check("traces and reports of several programs", sites == 2 * [marked(SOURCES / "queue.cpp", "RACE")] and len(listed(folder / "traces")) == 2, f"{found} {sites}")
+    found = command([RUN, "-q", "-o", "traces/", "--by-site", "--report", "places/", "sh", "-c", f"{racy}; {racy}"], cwd=folder)
+    texts = [(folder / "places" / f"0{number}-queue-gcc-O0.txt").read_text() for number in (1, 2)]
+    findings.check("the places of the reports of several traces", all("\n    at queue.cpp:" in text for text in texts), f"{found} {texts}")
     found = command([RUN, "-q", "--report", "one/", racy], cwd=folder)
     findings.check("a folder for the report of one program", list(listed(folder / "one")) == ["01-queue-gcc-O0.txt"], f"{found}")
     found = command([RUN, "--exit-status", "report", "--report", "-", "sh", "-c", f"{forking}; {right}; exit 7"], cwd=folder)
@@ -516,6 +525,48 @@ def terminal(folder, findings, counter, right, busy):
     status, output, text = on_terminal([RUN, "sh", "-c", f"{counter}; {counter}"], cwd=folder)
     lines = (folder / "eraser.out/02-counter-gcc-O2.txt").read_text()
     findings.check("on a terminal, several programs", "record: 2 programs recorded, 2 with races" in text and lines.startswith("races in this run\n"), f"{status} {text} {lines}")
+
+
+# ---- What a user sees first ----
+
+
+def blocks(report):
+    """The places that each block of a report by site names: those of its head, and those of the accesses below it."""
+    found = re.findall(r"^(\S+(?: and \S+)?:\n(?:  .*\n?)+)", report, re.M)
+    return [re.findall(r"(?:^|^    at |(?<=\d) and )(\S+?:\d+)(?=[:, \n]|$)", block, re.M) for block in found]
+
+
+def default_blocks(program):
+    """The blocks of the report that a user sees on a terminal: those about this run, and those of lines without a common lock."""
+    _, _, text = on_terminal([RUN, program], cwd=program.parent)
+    in_run, _, by_locks = text.partition("\nno common lock")
+    return blocks(in_run), blocks(by_locks)
+
+
+def bugs(source):
+    """The name of the bug of each line that has a mark `RACE name`, by the line's place."""
+    return {f"{source.name}:{number}": name for number, line in enumerate(source.read_text().splitlines(), 1) for name in re.findall(r"\bRACE (\w+)", line)}
+
+
+# What the locks of rw.c order in some runs.
+OFTEN = {"freed", "payload", "uses"}
+
+
+def real_programs(folder, findings):
+    """Each bug of the programs of tests/record/real is in the report, but for those that a run may order. What raced in this run is a bug, and a pointer
+    that is read without its lock, or what a flag is to hand over, stands beside the other side's place."""
+    for source in sorted((SOURCES / "real").glob("*.c*")):
+        program, built = build(folder, source, "gcc", "-O0")
+        findings.check(f"{source.stem} is built", built.returncode == 0, built.stderr)
+        places = bugs(source)
+        for _ in range(min(RUNS, 3)):
+            in_run, by_locks = default_blocks(program)
+            found = {places.get(place) for block in in_run + by_locks for place in block}
+            findings.check(f"each bug of {source.name} is in the default report", found >= set(places.values()) - OFTEN, f"{in_run} {by_locks}")
+            findings.check(f"what raced in a run of {source.name} is a bug", all(set(block) & set(places) for block in in_run), f"{in_run}")
+            for name in ("pointer", "payload"):
+                both = {place for place, bug in places.items() if bug == name}
+                findings.check(f"both sides of {name} of {source.name}", all(both <= set(block) for block in in_run if both & set(block)), f"{in_run}")
 
 
 # ---- Sites ----
@@ -868,6 +919,7 @@ def tests(record):
         large_report(folder, findings, counter)
         several_programs(folder, findings, made)
         terminal(folder, findings, counter, made[SOURCES / "recursive.cpp", "gcc", "-O0"], busy)
+        real_programs(folder, findings)
         sites(folder, findings)
         misuse(folder, findings)
         hangups(folder, findings)

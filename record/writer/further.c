@@ -306,7 +306,7 @@ static void record_further(struct asker *asker, unsigned number)
     recording_make_ring(number);
     recording.has_command_ended = true;
     signals_set(interrupt, interrupt);
-    if (options.replays && !options.is_for_people)
+    if (options.replays && !options.shows_places)
         replay_start(-1, NULL);
     trace_begin(program);
     if (give_ring(asker))
@@ -314,7 +314,7 @@ static void record_further(struct asker *asker, unsigned number)
     is_over = true;
     trace_end(recording_lost());
     trace_close();
-    if (options.replays && options.is_for_people && trace_events && !output.file_error)
+    if (options.replays && options.shows_places && trace_events && !output.file_error)
         kept_replay();
     replay_end();
     end_outcome(outcome, 0);

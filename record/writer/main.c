@@ -295,7 +295,7 @@ int main(int count, char **words)
     if (!options.trace || options.has_trace_folder)
         further_begin();
     signals_set(interrupt, pass_on);
-    replays_later = options.is_for_people && kept_is_readable();
+    replays_later = options.shows_places && kept_is_readable();
     if (options.replays && !replays_later)
         replay_start(-1, NULL);
     start_program(words + optind);

@@ -141,6 +141,13 @@ static void report_for_people(void)
     options.analysis = "both";
 }
 
+/* Whether a trace that is kept gives the report more than one that passes by. */
+static bool has_places(void)
+{
+    bool is_kept = options.trace || options.is_for_people;
+    return is_kept && !options.until_fault && (options.by_site || (options.format && strcmp(options.format, "sarif") == 0));
+}
+
 /* A folder that is not there yet is known by the slash behind it. */
 static bool is_folder(const char *path)
 {
@@ -207,6 +214,7 @@ void read_options(int count, char **words)
     options.has_report_folder = is_folder(options.report);
     options.has_trace_folder = is_folder(options.trace);
     report_for_people();
+    options.shows_places = has_places();
     options.orders |= needs_order();
     set_limit();
 }

@@ -28,6 +28,7 @@ struct options {
     uint64_t limit; /* what --limit says */
     bool has_report_folder, has_trace_folder; /* --report and --output name folders, for files of several programs */
     bool is_for_people; /* nothing says how to report, and the report goes to a terminal: the trace is kept, if only until it is replayed */
+    bool shows_places; /* the report has the places of its reasons, which a file gives: it is replayed when it is whole, and not as it grows */
 };
 extern struct options options;
 

@@ -1,5 +1,5 @@
 -- What one event makes of a machine, and of the list that it stands for.
-use Rattle.std.proofs.Common.{◌≡◌, ◌<◌, ◌≤◌, ◌&&◌, ℕ, zero, suc, nat_le, Bool, true, false, nat_eq, nat_lt, ◌==◌, cond, List, [], ◌∷◌, ◌++◌, length, Option, Some, None, Ok, refl, ap, ap₂, sym, subst, ◌∙◌, arith, Result, Err, IfOk, ⊎_elim}
+use Rattle.std.proofs.Common.{◌≡◌, ◌<◌, ◌≤◌, ◌&&◌, ℕ, zero, suc, nat_le, Bool, true, false, nat_eq, nat_lt, ◌==◌, cond, List, [], ◌∷◌, ◌++◌, length, Option, Some, None, Ok, refl, ap, ap₂, sym, subst, ◌∙◌, arith, Result, Err, IfOk, OnOk, IsOk, IsErrOf, ◌↔◌, ⊎_elim}
 use Rattle.std.proofs.Math.Path.{fun_ext}
 use Rattle.std.specs.Bool.{MatchBool}
 use Rattle.std.proofs.lemmas.Bool.{eqb-true, and_parts, both_ways, leb-true}
@@ -26,7 +26,7 @@ use Rattle.er_order.specs.Reasons.{word_raced, word_raced_by, word_raced_in}
 use Rattle.er_order.proofs.Searches.{least-there}
 use Rattle.er_order.proofs.ReasonLemmas.{word-raced-access, word-raced-reuse}
 use Rattle.er_order.proofs.ReusesGrow.{reuse-grow, in-use-grow}
-use Rattle.er_order.specs.Following.{Kept, act_by, kept_by, kept_at, kept_after, kept_moved, fresh, access_answered, word_reported, reuse_answered}
+use Rattle.er_order.specs.Following.{Kept, act_by, kept_at, fresh, access_answered, word_reported, reuse_answered}
 use Rattle.er_order.specs.Keeping.{Serves, IsKeptBy, IsKeptMoved, IsKeptAfter}
 use Rattle.er_order.proofs.ClockSteps.{local}
 use Rattle.er_order.proofs.StepLemmas.{act-step, clocks-grow, held-front}
@@ -36,9 +36,12 @@ use Rattle.er_order.proofs.Following.{answer-other, kept-none}
 use Rattle.er_held.specs.Held.{nothing_held}
 use Rattle.er_clock.specs.Clock.{Counts}
 use Rattle.er_clocks.specs.Counts.{count_by}
+use Rattle.er_clock.specs.declared.clock.NoTick.{NoTick}
+use Rattle.er_clock.specs.declared.clock.NoTick.TheVariants.{ThreadsFull}
+use Rattle.er_clocks.specs.Crowding.{crowds, crowds_by}
 use Rattle.er_clocks.specs.Standing.{ClockMaps, counts, Moves, StandsForClocksOf, act_flows}
 use Rattle.er_epochs.specs.Words.{AllWords, kept_among, IsLowest}
-use Rattle.er_before.specs.Standing.{Ordered, holding, clock_of, kept_of, Stands, Changes, IsSame, HasFullCount, IsFullAfter, answered_by, holds_alone}
+use Rattle.er_before.specs.Standing.{Ordered, holding, clock_of, kept_of, Stands, Changes, IsSame, HasFullCount, IsFullAfter, is_crowding, crowds_after, answered_by, holds_alone}
 
 -- an accepted event
 module _ (before after : Ordered) (t : ℕ) (e : Event) (accepted : refused_by (holding before t) e ≡ None) where
@@ -51,12 +54,14 @@ module _ (before after : Ordered) (t : ℕ) (e : Event) (accepted : refused_by (
 
   pub changes : ((u : ℕ) → holding after u ≡ cond (nat_eq t u) (changed_by (holding before t) e) (holding before u)) →
       Moves before.clocks (Some (record { thread = t; sync = sync_of e })) after.clocks →
+      crowds_by t (sync_of e) ≡ false →
       ((w : ℕ) → IsKeptMoved (clock_of before t) (kept_of before w) w (marked (holding before t) t e) (kept_of after w)) →
       Changes before (record { thread = t; event = e }) after
-  changes held moves kept =
+  changes held moves room kept =
       record {
         held = λ u. held u ∙ held_changed u (nat_eq t u) refl;
         clocks = λ k u. moves k u ∙ ap (λ o. clocks_after (counts before.clocks) (act_unless o (record { thread = t; event = e })) k u) (sym accepted);
+        room = ap (λ o. crowds (act_unless o (record { thread = t; event = e }))) accepted ∙ room;
         kept = kept;
       }
 
@@ -99,15 +104,15 @@ holds-nothing h t (Sync sync) is = cc
 pub ignored : (before : Ordered) (t w : ℕ) (kind : Kind) → nat_lt 0 (holding before t).depth ≡ true →
     Changes before (record { thread = t; event = Access kind w 0 }) before
 ignored before t w kind ignores =
-    changes before before t (Access kind w 0) refl (held_same before t) (clocks_same before.clocks t Local refl) (λ v. rw ignores refl)
+    changes before before t (Access kind w 0) refl (held_same before t) (clocks_same before.clocks t Local refl) refl (λ v. rw ignores refl)
 
 -- one that is
-pub accessed : (before : Ordered) (words : AllWords) (t w : ℕ) (kind : Kind) (clock : ℕ × Counts) → nat_lt 0 (holding before t).depth ≡ false →
+pub accessed : (before : Ordered) (words : AllWords (Unit {0})) (t w : ℕ) (kind : Kind) (clock : ℕ × Counts) → nat_lt 0 (holding before t).depth ≡ false →
     clock.0 ≡ t → ((u : ℕ) → count_by clock u ≡ clock_of before t u) →
     IsKeptBy (count_by clock) (kept_of before w) clock.0 kind (kept_among words w) → ((v : ℕ) → (w == v) ≡ false → kept_among words v ≡ kept_of before v) →
     Changes before (record { thread = t; event = Access kind w 0 }) (record { holders = before.holders; clocks = before.clocks; words = words })
 accessed before words t w kind clock heeds thread same kept others =
-    changes before (record { holders = before.holders; clocks = before.clocks; words = words }) t (Access kind w 0) refl (held_same before t) (clocks_same before.clocks t Local refl)
+    changes before (record { holders = before.holders; clocks = before.clocks; words = words }) t (Access kind w 0) refl (held_same before t) (clocks_same before.clocks t Local refl) refl
     (λ v. rw heeds (by v (w == v) refl))
   where
     all : count_by clock ≡ clock_of before t
@@ -265,6 +270,30 @@ full-after before past step stands full = (
       ∙ full.1,
   sym (stands.clocks (OfThread full.0) full.0) ∙ full.2,
 )
+
+-- the same of one for which there is no room
+crowds-same : (before : Ordered) (past : List Step) (step : Step) → Stands before past → is_crowding before step ≡ crowds_after past step
+crowds-same before past step stands =
+    ap crowds
+    (ap (λ h. act_by h step) (stands.held step.thread ∙ sym (held-front past (step ∷ []) step.thread (length past) (omega arith)))
+    ∙ sym (act-step (past ++ step ∷ []) (length past) step (get_last past step)))
+
+pub crowded-after : (before : Ordered) (past : List Step) (step : Step) → Stands before past → is_crowding before step ≡ true → crowds_after past step ≡ true
+crowded-after before past step stands crowded = sym (crowds-same before past step stands) ∙ crowded
+
+pub room-after : (before : Ordered) (past : List Step) (step : Step) → Stands before past → is_crowding before step ≡ false → crowds_after past step ≡ false
+room-after before past step stands room = sym (crowds-same before past step stands) ∙ room
+
+-- what isn't refused for a crowd has room
+pub has_room : {T : Type 0} (r : Result T NoTick) (b : Bool) → (IsErrOf r ThreadsFull ↔ (b ≡ true)) → OnOk r (b ≡ false)
+has_room (Ok v) true crowded = let never = crowded.1 refl in cc
+has_room (Ok v) false crowded = refl
+has_room (Err e) b crowded = tt
+
+-- and a fact of what is answered
+pub once_ok : {T E : Type 0} (r : Result T E) (P Q : Type 0) → OnOk r P → (P → Q) → IsOk r → Q
+once_ok (Ok v) P Q p f ok = f p
+once_ok (Err e) P Q p f ok = cc
 
 -- before any step
 pub stands-start : (machine : Ordered) → ((t : ℕ) → holding machine t ≡ nothing_held) → StandsForClocksOf machine.clocks [] → ((w : ℕ) → kept_of machine w ≡ fresh) → Stands machine []

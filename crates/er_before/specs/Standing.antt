@@ -14,6 +14,7 @@ use Rattle.er_order.specs.Order.{acts_of}
 use Rattle.er_order.specs.Races.{reuse_reply}
 use Rattle.er_order.specs.Following.{Kept, act_by, kept_at, reports_at, word_reported}
 use Rattle.er_order.specs.Keeping.{Serves, IsKeptAfter}
+use Rattle.er_clocks.specs.Crowding.{crowds}
 use Rattle.er_clocks.specs.Standing.{ClockMaps, counts, SameCounts, Moves, StandsForClocksOf, act_flows}
 use Rattle.er_epochs.specs.Words.{AllWords, kept_among}
 
@@ -21,7 +22,7 @@ use Rattle.er_epochs.specs.Words.{AllWords, kept_among}
 pub record Ordered : Type 0 where
   pub holders : List (ℕ × Holdings)
   pub clocks : ClockMaps
-  pub words : AllWords
+  pub words : AllWords (Unit {0})
 
 -- thread t's holdings
 abbrev pub holding : Ordered → ℕ → Holdings
@@ -57,10 +58,19 @@ HasFullCount machine step = (t : ℕ) × IsTrue (act_flows (act_by (holding mach
 abbrev pub IsFullAfter : List Step → Step → Type 0
 IsFullAfter steps step = (t : ℕ) × IsTrue (act_flows (acts_of (steps ++ step ∷ []) (length steps)) t) × (own_count (acts_of steps) (length steps) t ≡ 2 ^ 32 - 1)
 
--- they are what the step makes of those before, or what may be kept after it
+-- the step does to the order what clocks have no room for
+abbrev pub is_crowding : Ordered → Step → Bool
+is_crowding machine step = crowds (act_by (holding machine step.thread) step)
+
+-- the same of a step that comes after the list
+abbrev pub crowds_after : List Step → Step → Bool
+crowds_after steps step = crowds (acts_of (steps ++ step ∷ []) (length steps))
+
+-- they are what the step, for which there is room, makes of those before, or what may be kept after it
 pub record Changes (before : Ordered) (step : Step) (after : Ordered) : Type 0 where
   pub held : (t : ℕ) → holding after t ≡ after_step (holding before t) t step
   pub clocks : Moves before.clocks (act_by (holding before step.thread) step) after.clocks
+  pub room : is_crowding before step ≡ false
   pub kept : (w : ℕ) → IsKeptAfter (holding before step.thread) (clock_of before step.thread) (kept_of before w) w step (kept_of after w)
 
 -- they are the same

@@ -65,7 +65,7 @@ impl Holders {
     pub(crate) fn refusal(&self, thread: ThreadId, event: &Event) -> Option<Refusal>
         ensures { result ≡ refused_by (holding_among self.now thread) event.now }
     {
-        refusal(self.get(thread), event)
+        self.get(thread).refusal(*event)
     }
 
     /// What an accepted event makes of its thread's holdings. After an error nothing has changed.
@@ -118,73 +118,6 @@ fn key_of(thread: ThreadId) -> u64
     u64::from(thread.number())
 }
 
-// Why an event of a thread with these holdings is refused, if it is.
-fn refusal(held: &Held, event: &Event) -> Option<Refusal>
-    ensures { result ≡ refused_by held.now event.now }
-{
-    match *event {
-        Event::Acquire(lock, _) => {
-            if lock.is_level_lock() {
-                Some(Refusal::LevelLock)
-            } else if held.held().contains(lock) {
-                Some(Refusal::AlreadyHeld)
-            } else if held.acquired() >= Held::MOST_LOCKS {
-                Some(Refusal::HeldFull)
-            } else {
-                None
-            }
-        }
-        Event::Release(lock, mode) => refusal_of_release(held, lock, mode),
-        Event::IgnoreOn => {
-            if held.depth() == Held::MOST_BRACKETS {
-                Some(Refusal::IgnoreTooDeep)
-            } else {
-                None
-            }
-        }
-        Event::IgnoreOff => {
-            if held.depth() == 0 {
-                Some(Refusal::IgnoreNotOn)
-            } else {
-                None
-            }
-        }
-        Event::Access(..) | Event::Reuse(_) | Event::Show(_) | Event::Level(_) | Event::Sync(_) =>
-            None,
-    }
-}
-
-// The same of a release.
-fn refusal_of_release(held: &Held, lock: LockId, mode: Mode) -> Option<Refusal>
-    ensures { result ≡ refused_by held.now (Event.Release lock mode) }
-{
-    if lock.is_level_lock() {
-        return Some(Refusal::LevelLock);
-    }
-    let is_held = held.held().contains(lock);
-    let is_written = held.write_held().contains(lock);
-    match mode {
-        Mode::Write => {
-            if is_written {
-                None
-            } else if is_held {
-                Some(Refusal::WrongMode)
-            } else {
-                Some(Refusal::NotHeld)
-            }
-        }
-        Mode::Read => {
-            if is_written {
-                Some(Refusal::WrongMode)
-            } else if is_held {
-                None
-            } else {
-                Some(Refusal::NotHeld)
-            }
-        }
-    }
-}
-
 // What an accepted event makes of holdings.
 fn change(held: &mut Held, event: Event) -> Result<(), AllocError>
     requires { refused_by held.old event ≡ None }
@@ -195,13 +128,7 @@ fn change(held: &mut Held, event: Event) -> Result<(), AllocError>
 {
     // What is held in write mode is held.
     let _locks = held.held();
-    match event {
-        Event::IgnoreOff => {
-            let _ = held.ignore_off();
-            Ok(())
-        }
-        _ => held.follow(event),
-    }
+    held.change(event).map_err(|_| AllocError)
 }
 
 // Gives up a lock that is held in this mode.

@@ -1,6 +1,7 @@
 //! The machine: every thread's holdings, the clocks, and what is kept of every word.
-ghost use Rattle.std.specs.Prelude.{◌≡◌, ◌<◌, ℕ, List, ◌++◌, ◌∷◌, [], IfOk, IsErrOf, IsOk, IsTrue, Ok, Err, OnOk, OnErr, Some, None, cond, is_ok, length, true};
+ghost use Rattle.std.specs.Prelude.{◌≡◌, ◌<◌, ℕ, List, ◌++◌, ◌∷◌, [], IfOk, IsErrOf, IsOk, IsTrue, Ok, Err, false, OnOk, OnErr, Some, None, cond, is_ok, length, true};
 ghost use Rattle.er_model.specs.Holdings.{refused_by, holdings_end};
+ghost use Rattle.er_clock.specs.declared.clock.NoTick.{NoTick as Ticks};
 ghost use Rattle.er_event.specs.declared.steps.Step.{Step as Steps};
 ghost use Rattle.er_order.specs.Order.{acts_of};
 ghost use Rattle.er_order.specs.Clocks.{OfThread, clocks_at};
@@ -24,7 +25,7 @@ use std::marker::Model;
 pub struct OrderMachine {
     holders: Holders,
     clocks: Clocks,
-    words: OrderWords,
+    words: OrderWords<()>,
 }
 
 impl Model for OrderMachine {
@@ -36,7 +37,7 @@ impl Model for OrderMachine {
 }
 
 impl OrderMachine {
-    ghost use Rattle.er_before.specs.Standing.{Stands, Changes, IsSame, HasFullCount, IsFullAfter, wants_nothing, holding, clock_of, kept_of, reply_by, answered_by, holds_alone};
+    ghost use Rattle.er_before.specs.Standing.{Stands, Changes, IsSame, HasFullCount, IsFullAfter, is_crowding, crowds_after, wants_nothing, holding, clock_of, kept_of, reply_by, answered_by, holds_alone};
 
     // How many steps are looked at together.
     const AHEAD: usize = 16;
@@ -62,14 +63,17 @@ impl OrderMachine {
     /// Takes one step and says what it is answered: a reply, or why it is refused.
     ///
     /// # Errors
-    /// `CountFull`: a thread's own count would rise, and is the greatest, 2^32 - 1. `OutOfMemory`: memory was refused. The step may be
-    /// tried again. A refused step has neither, nor has an access inside a bracket, a reuse, a show or the end of a bracket.
+    /// `CountFull`: a thread's own count would rise, and is the greatest, 2^32 - 1. `ThreadsFull`: a step that orders threads is by a
+    /// thread whose number is 65,536 or more, or starts or joins one. `OutOfMemory`: memory was refused. The step may be tried again. A
+    /// refused step has none of these, nor has an access inside a bracket, a reuse, a show or the end of a bracket.
     pub fn step(&mut self, step: &Step) -> Result<Result<Reply, Refusal>, NoTick>
         ensures answer { (past : List Steps) → Stands self.old past
             → IfOk result (λ answer. answer ≡ order_answer (past ++ step.now ∷ []) (length past)) }
         ensures goes_on { (past : List Steps) → Stands self.old past → OnOk result (Stands self.new (past ++ step.now ∷ [])) }
         ensures err { (past : List Steps) → Stands self.old past → OnErr result (Stands self.new past) }
         ensures full { (past : List Steps) → Stands self.old past → IsErrOf result NoTick.CountFull → IsFullAfter past step.now }
+        ensures threads { (past : List Steps) → Stands self.old past → IsErrOf result NoTick.ThreadsFull → IsTrue (crowds_after past step.now) }
+        ensures room { (past : List Steps) → Stands self.old past → IsOk result → crowds_after past step.now ≡ false }
 
         // What the definitions refuse is answered so, whatever room there is.
         ensures refused { (why : Refusal) → refused_by (holding self.old step.now.thread) step.now.event ≡ Some why → result ≡ Ok (Err why) }
@@ -80,6 +84,7 @@ impl OrderMachine {
         ensures changes { OnOk result (Changes self.old step.now self.new) }
         ensures same { OnErr result (IsSame self.old self.new) }
         ensures full_count { IsErrOf result NoTick.CountFull → HasFullCount self.old step.now }
+        ensures crowded { IsErrOf result NoTick.ThreadsFull → IsTrue (is_crowding self.old step.now) }
     {
         self.take(step.thread, step.event)
     }
@@ -149,6 +154,7 @@ impl OrderMachine {
         ensures refused { (why : Refusal) → refused_by (holding self.old thread) event ≡ Some why → result ≡ Ok (Err why) }
         ensures free { IsTrue (wants_nothing (holding self.old thread) event) → IsOk result }
         ensures full { IsErrOf result NoTick.CountFull → HasFullCount self.old (record { thread = thread; event = event }) }
+        ensures crowded { IsErrOf result NoTick.ThreadsFull → IsTrue (is_crowding self.old (record { thread = thread; event = event })) }
     {
         // An access is never refused.
         match event {
@@ -172,6 +178,7 @@ impl OrderMachine {
         ensures refused { (why : Refusal) → refused_by (holding self.old thread) event ≡ Some why → result ≡ Ok (Err why) }
         ensures free { IsTrue (wants_nothing (holding self.old thread) event) → IsOk result }
         ensures full { IsErrOf result NoTick.CountFull → HasFullCount self.old (record { thread = thread; event = event }) }
+        ensures crowded { IsErrOf result NoTick.ThreadsFull → IsTrue (is_crowding self.old (record { thread = thread; event = event })) }
     {
         match self.holders.refusal(thread, &event) {
             Some(why) => Ok(Err(why)),
@@ -190,6 +197,7 @@ impl OrderMachine {
         ensures same { OnErr result (IsSame self.old self.new) }
         ensures free { IsTrue (wants_nothing (holding self.old thread) event) → IsOk result }
         ensures full { IsErrOf result NoTick.CountFull → HasFullCount self.old (record { thread = thread; event = event }) }
+        ensures crowded { IsErrOf result NoTick.ThreadsFull → IsTrue (is_crowding self.old (record { thread = thread; event = event })) }
     {
         match event {
             Event::Access(kind, word, _) => self.access(thread, kind, word),
@@ -211,12 +219,13 @@ impl OrderMachine {
         ensures same { OnErr result (IsSame self.old self.new) }
         ensures free { 0 < (holding self.old thread).depth → IsOk result }
         ensures full { IsErrOf result NoTick.CountFull → ⊥ }
+        ensures crowded { IsErrOf result NoTick.ThreadsFull → ⊥ }
     {
         if self.holders.get(thread).ignoring() {
             return Ok(Reply::Ignored);
         }
         let clock = self.clocks.clock(thread);
-        match self.words.access(word, &clock, kind) {
+        match self.words.access(word, &clock, kind, ()) {
             Ok(true) => Ok(Reply::Race),
             Ok(false) => Ok(Reply::Quiet),
             Err(_) => Err(NoTick::OutOfMemory),
@@ -240,11 +249,9 @@ impl OrderMachine {
         ensures changes { OnOk result (Changes self.old (record { thread = thread; event = Event.Acquire lock mode }) self.new) }
         ensures same { OnErr result (IsSame self.old self.new) }
         ensures full { IsErrOf result NoTick.CountFull → HasFullCount self.old (record { thread = thread; event = Event.Acquire lock mode }) }
+        ensures crowded { IsErrOf result NoTick.ThreadsFull → IsTrue (is_crowding self.old (record { thread = thread; event = Event.Acquire lock mode })) }
     {
-        match self.holders.change(thread, Event::Acquire(lock, mode)) {
-            Ok(()) => {}
-            Err(_) => return Err(NoTick::OutOfMemory),
-        }
+        self.holders.change(thread, Event::Acquire(lock, mode))?;
         let step = Step {
             thread,
             event: Event::Acquire(lock, mode),
@@ -264,6 +271,7 @@ impl OrderMachine {
         ensures changes { OnOk result (Changes self.old (record { thread = thread; event = Event.Release lock mode }) self.new) }
         ensures same { OnErr result (IsSame self.old self.new) }
         ensures full { IsErrOf result NoTick.CountFull → HasFullCount self.old (record { thread = thread; event = Event.Release lock mode }) }
+        ensures crowded { IsErrOf result NoTick.ThreadsFull → IsTrue (is_crowding self.old (record { thread = thread; event = Event.Release lock mode })) }
     {
         let step = Step {
             thread,
@@ -283,6 +291,7 @@ impl OrderMachine {
         ensures changes { OnOk result (Changes self.old (record { thread = thread; event = Event.Sync sync }) self.new) }
         ensures same { OnErr result (IsSame self.old self.new) }
         ensures full { IsErrOf result NoTick.CountFull → HasFullCount self.old (record { thread = thread; event = Event.Sync sync }) }
+        ensures crowded { IsErrOf result NoTick.ThreadsFull → IsTrue (is_crowding self.old (record { thread = thread; event = Event.Sync sync })) }
     {
         let step = Step {
             thread,
@@ -299,11 +308,10 @@ impl OrderMachine {
         ensures same { OnErr result (IsSame self.old self.new) }
         ensures free { event ≡ Event.IgnoreOff → IsOk result }
         ensures full { IsErrOf result NoTick.CountFull → ⊥ }
+        ensures crowded { IsErrOf result NoTick.ThreadsFull → ⊥ }
     {
-        match self.holders.change(thread, event) {
-            Ok(()) => Ok(()),
-            Err(_) => Err(NoTick::OutOfMemory),
-        }
+        self.holders.change(thread, event)?;
+        Ok(())
     }
 }
 
@@ -321,7 +329,7 @@ fn reply_to_reuse(ignores: bool, in_use: Option<Word>) -> Reply
 fn done(outcome: Result<(), NoTick>) -> Result<Reply, NoTick>
     ensures same { is_ok result ≡ is_ok outcome }
     ensures reply { IfOk result (λ reply. reply ≡ Reply.Done) }
-    ensures full { IsErrOf result NoTick.CountFull → IsErrOf outcome NoTick.CountFull }
+    ensures same_error { (why : Ticks) → IsErrOf result why → IsErrOf outcome why }
 {
     match outcome {
         Ok(()) => Ok(Reply::Done),

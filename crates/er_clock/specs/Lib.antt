@@ -1,3 +1,4 @@
 pub mod Clock
+pub mod NoTick
 pub mod Table
 pub mod Inner

@@ -1,7 +1,9 @@
 //! One clock.
-ghost use Rattle.std.specs.Prelude.{◌≡◌, ◌↔◌, ◌≤◌, ◌<◌, ◌-◌, ◌^◌, ℕ, max, length, get_or, IsTrue, OnOk, OnErr, IfOk, IsErrOf};
+ghost use Rattle.std.specs.Prelude.{◌≡◌, ◌↔◌, ◌≤◌, ◌<◌, ◌-◌, ◌^◌, ℕ, max, length, get_or, Some, IsTrue, OnOk, OnErr, IfOk, IsErrOf};
 ghost use Rattle.er_order.specs.Clocks.{covers};
 ghost use Rattle.er_clock.specs.Clock.{count_in, IsZero, Stays, Joins, Ticks};
+ghost use Rattle.er_clock.specs.NoTick.{text_of};
+ghost use Rattle.er_clock.specs.declared.clock.NoTick.TheVariants.{OutOfMemory};
 
 use crate::block::Block;
 use crate::rest::Rest;
@@ -41,25 +43,38 @@ impl Model for Clock {
     ghost view = { λ c. c.first ∷ c.rest };
 }
 
-/// Why a clock doesn't tick. It is then as it was.
+/// Why a step doesn't move its clocks. They are then as they were.
 #[derive(Clone, Copy, Debug, PartialEq, Eq)]
 pub enum NoTick {
     /// The thread's count is the greatest, 2^32 - 1.
     CountFull,
+    /// A thread whose number is 65,536 or more takes part in the order of threads. No clock of its own says so.
+    ThreadsFull,
     /// Memory was refused.
     OutOfMemory,
 }
 
 impl fmt::Display for NoTick {
+    ghost output = { λ why. Some (text_of why) };
+
     fn fmt<W: fmt::Write>(&self, f: &mut fmt::Formatter<W>) -> fmt::Result {
-        match self {
-            NoTick::CountFull => f.write_str("count full"),
-            NoTick::OutOfMemory => f.write_str("out of memory"),
-        }
+        f.write_str(match self {
+            NoTick::CountFull => "count full",
+            NoTick::ThreadsFull => "too many threads",
+            NoTick::OutOfMemory => "out of memory",
+        })
     }
 }
 
 impl Error for NoTick {}
+
+impl From<AllocError> for NoTick {
+    ghost from_gives = { λ _ why. why ≡ OutOfMemory };
+
+    fn from(_refused: AllocError) -> NoTick {
+        NoTick::OutOfMemory
+    }
+}
 
 impl Clock {
     /// The clock whose counts are all 0. It takes no memory.
@@ -145,14 +160,13 @@ impl Clock {
         ensures ok { OnOk result (Ticks thread self.old self.new) }
         ensures err { OnErr result (Stays self.old self.new) }
         ensures full { IsErrOf result NoTick.CountFull ↔ (count_in self.old thread ≡ 2 ^ 32 - 1) }
+        ensures threads { IsErrOf result NoTick.ThreadsFull → ⊥ }
     {
         if self.count(thread) == u32::MAX {
             return Err(NoTick::CountFull);
         }
-        match self.raise(thread.number() as usize) {
-            Ok(()) => Ok(()),
-            Err(_) => Err(NoTick::OutOfMemory),
-        }
+        self.raise(thread.number() as usize)?;
+        Ok(())
     }
 
     // Adds one to the count of this number.

@@ -86,6 +86,7 @@ impl ClockTable {
         ensures ok { OnOk result ((n u : ℕ) → known_by self.new n u ≡ cond (number == n) (known_by self.old n u + cond (thread == u) 1 0) (known_by self.old n u)) }
         ensures err { OnErr result ((n u : ℕ) → known_by self.new n u ≡ known_by self.old n u) }
         ensures full { IsErrOf result NoTick.CountFull → known_by self.old number thread ≡ 2 ^ 32 - 1 }
+        ensures threads { IsErrOf result NoTick.ThreadsFull → ⊥ }
     {
         match index_of(&self.clocks, self.places.hint(number), number) {
             Some(index) => {
@@ -95,14 +96,8 @@ impl ClockTable {
             }
             None => {
                 let mut clock = Clock::new(self.alloc);
-                match clock.tick(thread) {
-                    Ok(()) => {}
-                    Err(why) => return Err(why),
-                }
-                match self.places.make_room() {
-                    Ok(()) => {}
-                    Err(_) => return Err(NoTick::OutOfMemory),
-                }
+                clock.tick(thread)?;
+                self.places.make_room()?;
                 self.places.note(number, self.clocks.len());
                 match self.clocks.insert(number, clock) {
                     Ok(_) => Ok(()),

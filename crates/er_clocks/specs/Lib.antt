@@ -1,3 +1,4 @@
 pub mod Counts
+pub mod Crowding
 pub mod Standing
 pub mod Inner

@@ -5,6 +5,7 @@ ghost use Rattle.er_event.specs.declared.steps.Step.{Step as Steps};
 ghost use Rattle.er_order.specs.Order.{Effect, sync_of, effect_of};
 ghost use Rattle.er_order.specs.Clocks.{OfThread};
 ghost use Rattle.er_clocks.specs.Counts.{count_by};
+ghost use Rattle.er_clocks.specs.Crowding.{is_late, crowds, crowds_by};
 
 use crate::takers::Takers;
 use crate::threads::{ThreadClock, ThreadClocks};
@@ -64,6 +65,7 @@ impl Clocks {
     /// step may be tried again.
     ///
     /// # Errors
+    /// `ThreadsFull`: an accepted step that orders threads is by a thread whose number is 65,536 or more, or starts or joins one. Else
     /// `CountFull`: a thread's own count would rise, and is the greatest. `OutOfMemory`: memory was refused.
     pub fn follow(&mut self, step: &Step, accepted: bool) -> Result<(), NoTick>
         ensures goes_on { (steps : List Steps) → StandsForClocksOf self.old steps → accepted ≡ is_accepted steps step.now
@@ -71,11 +73,15 @@ impl Clocks {
         ensures err { OnErr result (SameCounts self.old self.new) }
         ensures full { IsErrOf result NoTick.CountFull
             → (t : ℕ) × IsTrue (act_flows (act_if accepted step.now) t) × (counts self.old (OfThread t) t ≡ 2 ^ 32 - 1) }
+        ensures crowded { IsErrOf result NoTick.ThreadsFull ↔ IsTrue (crowds (act_if accepted step.now)) }
 
         // The same by the clocks' own counts.
         ensures moves { OnOk result (Moves self.old (act_if accepted step.now) self.new) }
     {
         if accepted {
+            if crowds(step.thread, step.event) {
+                return Err(NoTick::ThreadsFull);
+            }
             self.take(step.thread, step.event)
         } else {
             Ok(())
@@ -88,9 +94,13 @@ impl Clocks {
         ensures err { OnErr result (SameCounts self.old self.new) }
         ensures full { IsErrOf result NoTick.CountFull
             → (t : ℕ) × IsTrue (act_flows (Some (record { thread = thread; sync = sync_of event })) t) × (counts self.old (OfThread t) t ≡ 2 ^ 32 - 1) }
+        ensures threads { IsErrOf result NoTick.ThreadsFull → ⊥ }
     {
         match event {
-            Event::Acquire(lock, mode) => want_memory(self.acquire(thread, lock, mode)),
+            Event::Acquire(lock, mode) => {
+                self.acquire(thread, lock, mode)?;
+                Ok(())
+            }
             Event::Release(lock, mode) => self.release(thread, lock, mode),
             Event::Sync(sync) => self.synchronize(thread, sync),
             Event::Access(..)
@@ -108,12 +118,16 @@ impl Clocks {
         ensures err { OnErr result (SameCounts self.old self.new) }
         ensures full { IsErrOf result NoTick.CountFull
             → (t : ℕ) × IsTrue (act_flows (Some (record { thread = thread; sync = effect_of sync })) t) × (counts self.old (OfThread t) t ≡ 2 ^ 32 - 1) }
+        ensures threads { IsErrOf result NoTick.ThreadsFull → ⊥ }
     {
         match sync {
             Sync::Start(started) => self.start(thread, started),
             Sync::Join(joined) => self.join(thread, joined),
             Sync::Signal(object) => self.signal(thread, object),
-            Sync::Await(object) => want_memory(self.await_signals(thread, object)),
+            Sync::Await(object) => {
+                self.await_signals(thread, object)?;
+                Ok(())
+            }
         }
     }
 
@@ -139,6 +153,7 @@ impl Clocks {
         ensures ok { OnOk result (Moves self.old (Some (record { thread = thread; sync = Effect.Released lock mode })) self.new) }
         ensures err { OnErr result (SameCounts self.old self.new) }
         ensures full { IsErrOf result NoTick.CountFull → counts self.old (OfThread thread) thread ≡ 2 ^ 32 - 1 }
+        ensures threads { IsErrOf result NoTick.ThreadsFull → ⊥ }
     {
         match mode {
             Mode::Read => self
@@ -158,6 +173,7 @@ impl Clocks {
         ensures ok { OnOk result (Moves self.old (Some (record { thread = thread; sync = Effect.Started started })) self.new) }
         ensures err { OnErr result (SameCounts self.old self.new) }
         ensures full { IsErrOf result NoTick.CountFull → counts self.old (OfThread thread) thread ≡ 2 ^ 32 - 1 }
+        ensures threads { IsErrOf result NoTick.ThreadsFull → ⊥ }
     {
         self.threads.hand_on(thread, started)
     }
@@ -167,6 +183,7 @@ impl Clocks {
         ensures ok { OnOk result (Moves self.old (Some (record { thread = thread; sync = Effect.Joined joined })) self.new) }
         ensures err { OnErr result (SameCounts self.old self.new) }
         ensures full { IsErrOf result NoTick.CountFull → counts self.old (OfThread joined) joined ≡ 2 ^ 32 - 1 }
+        ensures threads { IsErrOf result NoTick.ThreadsFull → ⊥ }
     {
         self.threads.hand_on(joined, thread)
     }
@@ -176,6 +193,7 @@ impl Clocks {
         ensures ok { OnOk result (Moves self.old (Some (record { thread = thread; sync = Effect.Signalled object })) self.new) }
         ensures err { OnErr result (SameCounts self.old self.new) }
         ensures full { IsErrOf result NoTick.CountFull → counts self.old (OfThread thread) thread ≡ 2 ^ 32 - 1 }
+        ensures threads { IsErrOf result NoTick.ThreadsFull → ⊥ }
     {
         self.threads
             .give(thread, &mut self.objects, object.number(), false)
@@ -190,13 +208,35 @@ impl Clocks {
     }
 }
 
-// A want of memory by its name.
-fn want_memory(outcome: Result<(), AllocError>) -> Result<(), NoTick>
-    ensures same { is_ok result ≡ is_ok outcome }
-    ensures memory { IsErrOf result NoTick.CountFull → ⊥ }
+// Whether clocks lack room for a thread that the event is of.
+fn crowds(thread: ThreadId, event: Event) -> bool
+    ensures { result ≡ crowds_by thread (sync_of event) }
 {
-    match outcome {
-        Ok(()) => Ok(()),
-        Err(_) => Err(NoTick::OutOfMemory),
+    match event {
+        Event::Acquire(..) | Event::Release(..) => is_late(thread),
+        Event::Sync(sync) => crowds_order(thread, sync),
+        Event::Access(..)
+        | Event::Reuse(_)
+        | Event::IgnoreOn
+        | Event::IgnoreOff
+        | Event::Show(_)
+        | Event::Level(_) => false,
     }
+}
+
+// The same of an event that holds no lock.
+fn crowds_order(thread: ThreadId, sync: Sync) -> bool
+    ensures { result ≡ crowds_by thread (effect_of sync) }
+{
+    match sync {
+        Sync::Start(other) | Sync::Join(other) => is_late(thread) || is_late(other),
+        Sync::Signal(_) | Sync::Await(_) => is_late(thread),
+    }
+}
+
+// Whether the thread comes after those that clocks have room for.
+fn is_late(thread: ThreadId) -> bool
+    ensures { result ≡ is_late thread }
+{
+    thread.number() >= 65_536
 }

@@ -134,20 +134,12 @@ impl ThreadClocks {
         ensures ok { OnOk result ((t u : ℕ) → known_to self.new t u ≡ cond (t == to) (max (known_to self.old t u) (known_to self.old from u)) (known_to self.old t u) + cond (t == from && from == u) 1 0) }
         ensures err { OnErr result ((t u : ℕ) → known_to self.new t u ≡ known_to self.old t u) }
         ensures full { IsErrOf result NoTick.CountFull → known_to self.old from from ≡ 2 ^ 32 - 1 }
+        ensures threads { IsErrOf result NoTick.ThreadsFull → ⊥ }
     {
-        match prepare(&mut self.table, &mut self.next, from) {
-            Ok(()) => {}
-            Err(why) => return Err(why),
-        }
+        prepare(&mut self.table, &mut self.next, from)?;
         self.carried.clear();
-        match self.carried.join(self.table.get(from.number())) {
-            Ok(()) => {}
-            Err(_) => return Err(NoTick::OutOfMemory),
-        }
-        match join(&mut self.table, to, &self.carried) {
-            Ok(()) => {}
-            Err(_) => return Err(NoTick::OutOfMemory),
-        }
+        self.carried.join(self.table.get(from.number()))?;
+        join(&mut self.table, to, &self.carried)?;
         self.table.swap(from.number(), &mut self.next);
         Ok(())
     }
@@ -167,15 +159,10 @@ impl ThreadClocks {
         ensures err { OnErr result ((t u : ℕ) → known_to self.new t u ≡ known_to self.old t u) }
         ensures kept { OnErr result ((n u : ℕ) → known_by clocks.new n u ≡ known_by clocks.old n u) }
         ensures full { IsErrOf result NoTick.CountFull → known_to self.old thread thread ≡ 2 ^ 32 - 1 }
+        ensures threads { IsErrOf result NoTick.ThreadsFull → ⊥ }
     {
-        match prepare(&mut self.table, &mut self.next, thread) {
-            Ok(()) => {}
-            Err(why) => return Err(why),
-        }
-        match clocks.join(number, self.table.get(thread.number()), is_covered) {
-            Ok(()) => {}
-            Err(_) => return Err(NoTick::OutOfMemory),
-        }
+        prepare(&mut self.table, &mut self.next, thread)?;
+        clocks.join(number, self.table.get(thread.number()), is_covered)?;
         self.table.swap(thread.number(), &mut self.next);
         Ok(())
     }
@@ -195,16 +182,12 @@ fn prepare(table: &mut ClockTable, next: &mut Clock, thread: ThreadId) -> Result
     ensures begun { OnOk result (0 < known_by table.new thread thread) }
     ensures risen { OnOk result ((u : ℕ) → count_in next.new u ≡ known_by table.new thread u + cond (thread == u) 1 0) }
     ensures full { IsErrOf result NoTick.CountFull → known_to table.old thread thread ≡ 2 ^ 32 - 1 }
+    ensures threads { IsErrOf result NoTick.ThreadsFull → ⊥ }
 {
-    match begin(table, thread) {
-        Ok(()) => {}
-        Err(why) => return Err(why),
-    }
+    begin(table, thread)?;
     next.clear();
-    match next.join(table.get(thread.number())) {
-        Ok(()) => next.tick(thread),
-        Err(_) => Err(NoTick::OutOfMemory),
-    }
+    next.join(table.get(thread.number()))?;
+    next.tick(thread)
 }
 
 // Puts the thread's own count into its clock, where it isn't yet.
@@ -212,6 +195,7 @@ fn begin(table: &mut ClockTable, thread: ThreadId) -> Result<(), NoTick>
     ensures same { (t u : ℕ) → known_to table.new t u ≡ known_to table.old t u }
     ensures begun { OnOk result (0 < known_by table.new thread thread) }
     ensures full { IsErrOf result NoTick.CountFull → known_to table.old thread thread ≡ 2 ^ 32 - 1 }
+    ensures threads { IsErrOf result NoTick.ThreadsFull → ⊥ }
 {
     let number = thread.number();
     let count = table.get(number).count(thread);

@@ -8,8 +8,8 @@ ghost use Rattle.er_trace.specs.Trace.{Recording};
 
 use crate::Damage;
 use crate::counter::Counter;
-use crate::threads::Threads;
 use er_event::{Event, Mode, Step};
+use er_held::ThreadLocks;
 use er_text::Ending;
 use std::alloc::{AllocError, Global};
 use std::marker::Model;
@@ -19,7 +19,7 @@ use std::marker::Model;
 #[derive(Drop)]
 pub struct Inspector {
     alloc: Global,
-    threads: Threads,
+    threads: ThreadLocks,
     holders: Counter,
     writers: Counter,
     refused: Option<u64>,
@@ -45,7 +45,7 @@ impl Inspector {
     {
         Inspector {
             alloc,
-            threads: Threads::new(alloc),
+            threads: ThreadLocks::new(alloc),
             holders: Counter::new(alloc),
             writers: Counter::new(alloc),
             refused: None,

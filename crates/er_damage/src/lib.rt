@@ -22,4 +22,3 @@ mod counter;
 mod damage;
 mod inspector;
 mod laws;
-mod threads;

@@ -1,7 +1,12 @@
 pub mod Blocks
 pub mod Epochs
+pub mod FollowLemmas
+pub mod FoundLemmas
 pub mod Listed
 pub mod Lowest
 pub mod Maps
 pub mod Noted
 pub mod Places
+pub mod ReasonLemmas
+pub mod Serving
+pub mod StepLemmas

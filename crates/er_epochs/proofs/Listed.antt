@@ -1,43 +1,43 @@
 -- The lists of words: one is made, goes on, or goes.
-use Rattle.std.proofs.Common.{◌≡◌, ◌∙◌, ℕ, nat_eq, Bool, true, false, cond, [], Some, None, Result, Ok, Err, IfOk, refl, sym, ap, subst, arith}
+use Rattle.std.proofs.Common.{◌≡◌, ◌∙◌, ℕ, nat_eq, Bool, true, false, cond, List, [], Some, None, Result, Ok, Err, IfOk, refl, sym, ap, subst, arith}
 use Rattle.std.proofs.lemmas.Bool.Decides.{nat_tests}
 use Rattle.std.specs.Map.{lookup}
 use Rattle.std.specs.Option.{unwrap_or}
 use borrow.Author.Tests.{eqb-true}
-use Rattle.er_order.specs.Following.{Kept}
-use Rattle.er_epochs.specs.declared.word.OrderWord.{OrderWord}
-use Rattle.er_epochs.specs.Epochs.{EpochList}
-use Rattle.er_epochs.specs.Words.{WordLists, list_of, kept_in, kept_beside}
 use Rattle.er_epochs.proofs.Maps.{Puts}
+use Rattle.er_epochs.specs.declared.reads.Tagged.{Tagged}
+use Rattle.er_epochs.specs.Epochs.{Stored}
+use Rattle.er_epochs.specs.Words.{Said, WordLists, list_of, stored_with, stored_beside}
 
--- an empty list says what no list says
-pub list_made : (old new : WordLists) (n : ℕ) → lookup (nat_eq n) old ≡ None → Puts old new n [] → (w : ℕ) → list_of new w ≡ list_of old w
-list_made old new n absent puts w = ap (λ o. unwrap_or o []) (puts w) ∙ by (nat_eq n w) refl
-  where
-    by : (same : Bool) → nat_eq n w ≡ same → unwrap_or (cond same (Some []) (lookup (nat_eq w) old)) [] ≡ list_of old w
-    by true e = sym (ap (λ o. unwrap_or o []) (ap (λ q. lookup (nat_eq q) old) (sym (eqb-true n w e)) ∙ absent))
-    by false e = refl
+module _ {A : Type 0} where
+  -- an empty list says what no list says
+  pub list_made : (old new : WordLists A) (n : ℕ) → lookup (nat_eq n) old ≡ None → Puts old new n [] → (w : ℕ) → list_of new w ≡ list_of old w
+  list_made old new n absent puts w = ap (λ o. unwrap_or o []) (puts w) ∙ by (nat_eq n w) refl
+    where
+      by : (same : Bool) → nat_eq n w ≡ same → unwrap_or (cond same (Some []) (lookup (nat_eq w) old)) [] ≡ list_of old w
+      by true e = sym (ap (λ o. unwrap_or o []) (ap (λ q. lookup (nat_eq q) old) (sym (eqb-true n w e)) ∙ absent))
+      by false e = refl
 
--- a list that is found
-pub list_found : (lists : WordLists) (n : ℕ) (reads : EpochList) → Some reads ≡ lookup (nat_eq n) lists → reads ≡ list_of lists n
-list_found lists n reads found = ap (λ o. unwrap_or o []) found
+  -- a list that is found
+  pub list_found : (lists : WordLists A) (n : ℕ) (reads : List (Tagged A)) → Some reads ≡ lookup (nat_eq n) lists → reads ≡ list_of lists n
+  list_found lists n reads found = ap (λ o. unwrap_or o []) found
 
--- one that is put beside a word
-pub list_put : (old new : WordLists) (n : ℕ) (reads : EpochList) → Puts old new n reads → list_of new n ≡ reads
-list_put old new n reads puts = ap (λ o. unwrap_or o []) (puts n) ∙ ap (λ b. unwrap_or (cond b (Some reads) (lookup (nat_eq n) old)) []) here
-  where
-    here : nat_eq n n ≡ true
-    here = grind (arith, nat_tests)
+  -- one that is put beside a word
+  pub list_put : (old new : WordLists A) (n : ℕ) (reads : List (Tagged A)) → Puts old new n reads → list_of new n ≡ reads
+  list_put old new n reads puts = ap (λ o. unwrap_or o []) (puts n) ∙ ap (λ b. unwrap_or (cond b (Some reads) (lookup (nat_eq n) old)) []) here
+    where
+      here : nat_eq n n ≡ true
+      here = grind (arith, nat_tests)
 
--- and the others
-pub list_others : (old new : WordLists) (n : ℕ) (reads : EpochList) → Puts old new n reads → (w : ℕ) → nat_eq n w ≡ false → list_of new w ≡ list_of old w
-list_others old new n reads puts w apart = ap (λ o. unwrap_or o []) (puts w) ∙ ap (λ b. unwrap_or (cond b (Some reads) (lookup (nat_eq w) old)) []) apart
+  -- and the others
+  pub list_others : (old new : WordLists A) (n : ℕ) (reads : List (Tagged A)) → Puts old new n reads → (w : ℕ) → nat_eq n w ≡ false → list_of new w ≡ list_of old w
+  list_others old new n reads puts w apart = ap (λ o. unwrap_or o []) (puts w) ∙ ap (λ b. unwrap_or (cond b (Some reads) (lookup (nat_eq w) old)) []) apart
 
--- a word goes on with its list
-pub goes_on : (old new : WordLists) (n : ℕ) (before after : EpochList) (word next : OrderWord) (R : Kept → Kept → Type 0)
-    → before ≡ list_of old n → list_of new n ≡ after → R (kept_in word before) (kept_in next after) → R (kept_beside old n word) (kept_beside new n next)
-goes_on old new n before after word next R was is on =
-    subst (λ (reads : EpochList). R (kept_beside old n word) (kept_in next reads)) (sym is) (subst (λ (reads : EpochList). R (kept_in word reads) (kept_in next after)) was on)
+  -- a word goes on with its list
+  pub goes_on : (old new : WordLists A) (n : ℕ) (before after : List (Tagged A)) (word next : Said A) (R : Stored A → Stored A → Type 0)
+      → before ≡ list_of old n → list_of new n ≡ after → R (stored_with word before) (stored_with next after) → R (stored_beside old n word) (stored_beside new n next)
+  goes_on old new n before after word next R was is on =
+      subst (λ (reads : List (Tagged A)). R (stored_beside old n word) (stored_with next reads)) (sym is) (subst (λ (reads : List (Tagged A)). R (stored_with word reads) (stored_with next after)) was on)
 
 -- what follows from a fact about the value
 pub if_ok : {T E : Type 0} (r : Result T E) (P Q : T → Type 0) → IfOk r P → ((v : T) → P v → Q v) → IfOk r Q

@@ -1,16 +1,19 @@
 -- The lowest word that a write would be reported on: found place by place in a block, and block by block in a range.
-use Rattle.std.proofs.Common.{◌≡◌, ◌≢◌, ◌∙◌, ℕ, ◌+◌, ◌*◌, ◌<◌, ◌≤◌, ◌/◌, ◌%◌, ◌&&◌, nat_eq, nat_le, nat_lt, Bool, true, false, cond, Option, Some, None, refl, sym, ap, true≢false, arith}
+use Rattle.std.proofs.Common.{◌≡◌, ◌≢◌, ◌∙◌, ℕ, ◌+◌, ◌*◌, ◌<◌, ◌≤◌, ◌/◌, ◌%◌, ◌&&◌, nat_eq, nat_le, nat_lt, Bool, true, false, cond, Option, Some, None, refl, sym, ap, subst, true≢false, arith}
 use Rattle.std.proofs.lemmas.Bool.Decides.{nat_tests}
 use Rattle.std.specs.Option.{option_map, option_or}
 use borrow.Author.Tests.{eqb-true, eqb-false}
 use Rattle.std.specs.Map.{lookup}
+use Rattle.std.proofs.Math.Path.{fun_ext}
+use Rattle.er_order.specs.Following.{reports_at}
 use Rattle.er_event.specs.declared.addresses.PageRange.{PageRange}
 use Rattle.er_event.specs.declared.steps.Kind.TheVariants.{Write}
 use Rattle.er_model.specs.Words.{is_within}
-use Rattle.er_order.specs.Following.{fresh, reports_at}
-use Rattle.er_epochs.specs.Words.{AllWords, BlockWords, IsLowest, is_place_in, kept_among, kept_beside, word_among, word_at, word_in_block}
 use Rattle.er_epochs.proofs.Blocks.{AreResetTo, absent_block}
+use Rattle.er_epochs.proofs.Noted.{plain-raced}
 use Rattle.er_epochs.proofs.Places.{in_block, at_place}
+use Rattle.er_epochs.specs.Epochs.{Accesses, untouched, is_raced}
+use Rattle.er_epochs.specs.Words.{AllWords, BlockWords, IsLowest, is_place_in, kept_among, stored_among, stored_beside, word_among, word_at, word_in_block}
 
 -- none of the places from lo on, below this one, passes
 abbrev pub IsNoneBelow : (ℕ → Bool) → ℕ → ℕ → Type 0
@@ -137,150 +140,157 @@ module _ (number : ℕ) (before here both : ℕ → Bool)
   lowest_of_both None (Some w) none lowest =
       (both_here w (in_here w lowest.0) ∙ lowest.0, λ k below. neither k (none k) (lowest.1 k below))
 
--- a block was found
-pub lowest_in_block : (all : AllWords) (number lo hi : ℕ) (was : BlockWords) (clock : ℕ → ℕ) (place : Option ℕ)
-    → Some was ≡ lookup (nat_eq number) all.blocks → hi < 128
-    → IsLowest (λ i. (nat_le lo i && nat_le i hi) && reports_at clock (kept_beside all.lists (number * 128 + i) (word_at was i)) Write) place
-    → IsLowest (λ w. is_place_in number lo hi w && reports_at clock (kept_among all w) Write) (option_map (λ i. number * 128 + i) place)
-unfolding kept_among
-lowest_in_block all number lo hi was clock place found within lowest =
-    lowest_word number _ _ place short here else lowest
-  where
-    short_by : (i : ℕ) (b : Bool) → ((nat_le lo i && nat_le i hi) && b) ≡ true → i < 128
-    short_by i true e = grind (arith, nat_tests)
-    short_by i false e = grind (arith, nat_tests)
+module _ {A : Type 0} where
+  -- a block was found
+  pub lowest_in_block : (all : AllWords A) (number lo hi : ℕ) (was : BlockWords A) (clock : ℕ → ℕ) (place : Option ℕ)
+      → Some was ≡ lookup (nat_eq number) all.blocks → hi < 128
+      → IsLowest (λ i. (nat_le lo i && nat_le i hi) && is_raced clock (stored_beside all.lists (number * 128 + i) (word_at was i)) Write) place
+      → IsLowest (λ w. is_place_in number lo hi w && is_raced clock (stored_among all w) Write) (option_map (λ i. number * 128 + i) place)
+  unfolding stored_among
+  lowest_in_block all number lo hi was clock place found within lowest =
+      lowest_word number _ _ place short here else lowest
+    where
+      short_by : (i : ℕ) (b : Bool) → ((nat_le lo i && nat_le i hi) && b) ≡ true → i < 128
+      short_by i true e = grind (arith, nat_tests)
+      short_by i false e = grind (arith, nat_tests)
 
-    short : (i : ℕ) → ((nat_le lo i && nat_le i hi) && reports_at clock (kept_beside all.lists (number * 128 + i) (word_at was i)) Write) ≡ true → i < 128
-    short i e = short_by i (reports_at clock (kept_beside all.lists (number * 128 + i) (word_at was i)) Write) e
+      short : (i : ℕ) → ((nat_le lo i && nat_le i hi) && is_raced clock (stored_beside all.lists (number * 128 + i) (word_at was i)) Write) ≡ true → i < 128
+      short i e = short_by i (is_raced clock (stored_beside all.lists (number * 128 + i) (word_at was i)) Write) e
 
-    is_word : (w : ℕ) → number ≡ w / 128 → w ≡ number * 128 + w % 128
-    is_word w at = omega (arith, at)
+      is_word : (w : ℕ) → number ≡ w / 128 → w ≡ number * 128 + w % 128
+      is_word w at = omega (arith, at)
 
-    here_in : (w : ℕ) → number ≡ w / 128 → nat_eq number (w / 128) ≡ true
-    here_in w at = grind (arith, nat_tests)
+      here_in : (w : ℕ) → number ≡ w / 128 → nat_eq number (w / 128) ≡ true
+      here_in w at = grind (arith, nat_tests)
 
-    here : (w : ℕ) → number ≡ w / 128
-        → (is_place_in number lo hi w && reports_at clock (kept_beside all.lists w (word_among all.blocks w)) Write)
-        ≡ ((nat_le lo (w % 128) && nat_le (w % 128) hi) && reports_at clock (kept_beside all.lists (number * 128 + w % 128) (word_at was (w % 128))) Write)
-    here w at =
-        ap (λ b. (b && (nat_le lo (w % 128) && nat_le (w % 128) hi)) && reports_at clock (kept_beside all.lists w (word_among all.blocks w)) Write) (here_in w at)
-        ∙ (λ k. (nat_le lo (w % 128) && nat_le (w % 128) hi) && reports_at clock (kept_beside all.lists (is_word w at k) (word_in_block (same_block w at k) (w % 128))) Write)
-      where
-        same_block : (w : ℕ) → number ≡ w / 128 → lookup (nat_eq (w / 128)) all.blocks ≡ Some was
-        same_block w at = ap (λ q. lookup (nat_eq q) all.blocks) (sym at) ∙ sym found
+      here : (w : ℕ) → number ≡ w / 128
+          → (is_place_in number lo hi w && is_raced clock (stored_beside all.lists w (word_among all.blocks w)) Write)
+          ≡ ((nat_le lo (w % 128) && nat_le (w % 128) hi) && is_raced clock (stored_beside all.lists (number * 128 + w % 128) (word_at was (w % 128))) Write)
+      here w at =
+          ap (λ b. (b && (nat_le lo (w % 128) && nat_le (w % 128) hi)) && is_raced clock (stored_beside all.lists w (word_among all.blocks w)) Write) (here_in w at)
+          ∙ (λ k. (nat_le lo (w % 128) && nat_le (w % 128) hi) && is_raced clock (stored_beside all.lists (is_word w at k) (word_in_block (same_block w at k) (w % 128))) Write)
+        where
+          same_block : (w : ℕ) → number ≡ w / 128 → lookup (nat_eq (w / 128)) all.blocks ≡ Some was
+          same_block w at = ap (λ q. lookup (nat_eq q) all.blocks) (sym at) ∙ sym found
 
-    else : (w : ℕ) → nat_eq number (w / 128) ≡ false → (is_place_in number lo hi w && reports_at clock (kept_beside all.lists w (word_among all.blocks w)) Write) ≡ false
-    else w apart = ap (λ b. (b && (nat_le lo (w % 128) && nat_le (w % 128) hi)) && reports_at clock (kept_beside all.lists w (word_among all.blocks w)) Write) apart
+      else : (w : ℕ) → nat_eq number (w / 128) ≡ false → (is_place_in number lo hi w && is_raced clock (stored_beside all.lists w (word_among all.blocks w)) Write) ≡ false
+      else w apart = ap (λ b. (b && (nat_le lo (w % 128) && nat_le (w % 128) hi)) && is_raced clock (stored_beside all.lists w (word_among all.blocks w)) Write) apart
 
--- or there is none
-pub none_in_absent : (all : AllWords) (number lo hi : ℕ) (clock : ℕ → ℕ) → lookup (nat_eq number) all.blocks ≡ None
-    → (w : ℕ) → (is_place_in number lo hi w && reports_at clock (kept_among all w) Write) ≡ false
-none_in_absent all number lo hi clock absent w = by (is_place_in number lo hi w) refl (absent_block all number lo hi absent w)
-  where
-    by : (b : Bool) → is_place_in number lo hi w ≡ b → kept_among all w ≡ cond (is_place_in number lo hi w) fresh (kept_among all w) → (b && reports_at clock (kept_among all w) Write) ≡ false
-    by true e same = ap (λ kept. reports_at clock kept Write) (same ∙ ap (λ b. cond b fresh (kept_among all w)) e)
-    by false e same = refl
+  -- or there is none
+  pub none_in_absent : (all : AllWords A) (number lo hi : ℕ) (clock : ℕ → ℕ) → lookup (nat_eq number) all.blocks ≡ None
+      → (w : ℕ) → (is_place_in number lo hi w && is_raced clock (stored_among all w) Write) ≡ false
+  none_in_absent all number lo hi clock absent w = by (is_place_in number lo hi w) refl (absent_block all number lo hi absent w)
+    where
+      by : (b : Bool) → is_place_in number lo hi w ≡ b → stored_among all w ≡ cond (is_place_in number lo hi w) (Accesses untouched) (stored_among all w) → (b && is_raced clock (stored_among all w) Write) ≡ false
+      by true e same = ap (λ kept. is_raced clock kept Write) (same ∙ ap (λ b. cond b (Accesses untouched) (stored_among all w)) e)
+      by false e same = refl
 
--- the blocks of a range, one after another
-abbrev pub IsLowestBelow : AllWords → PageRange → (ℕ → ℕ) → ℕ → Option ℕ → Type 0
-IsLowestBelow old range clock number found = IsLowest (λ w. (is_within w range && nat_lt (w / 128) number) && reports_at clock (kept_among old w) Write) found
+  -- the blocks of a range, one after another
+  abbrev pub IsLowestBelow : AllWords A → PageRange → (ℕ → ℕ) → ℕ → Option ℕ → Type 0
+  IsLowestBelow old range clock number found = IsLowest (λ w. (is_within w range && nat_lt (w / 128) number) && is_raced clock (stored_among old w) Write) found
 
-pub lowest_start : (old : AllWords) (range : PageRange) (clock : ℕ → ℕ) (number : ℕ) → number ≡ range.lo / 128 → IsLowestBelow old range clock number None
-lowest_start old range clock number is w = ap (λ b. b && reports_at clock (kept_among old w) Write) none
-  where
-    none : (is_within w range && nat_lt (w / 128) number) ≡ false
-    none = grind (arith, nat_tests)
+  pub lowest_start : (old : AllWords A) (range : PageRange) (clock : ℕ → ℕ) (number : ℕ) → number ≡ range.lo / 128 → IsLowestBelow old range clock number None
+  lowest_start old range clock number is w = ap (λ b. b && is_raced clock (stored_among old w) Write) none
+    where
+      none : (is_within w range && nat_lt (w / 128) number) ≡ false
+      none = grind (arith, nat_tests)
 
-pub lowest_more : (old now : AllWords) (range : PageRange) (clock : ℕ → ℕ) (number lo hi : ℕ) (first second : Option ℕ)
-    → ((w : ℕ) → number ≡ w / 128 → nat_le lo (w % 128) ≡ nat_le range.lo w)
-    → ((w : ℕ) → number ≡ w / 128 → nat_le (w % 128) hi ≡ nat_le w range.hi)
-    → ((w : ℕ) → number ≡ w / 128 → kept_among now w ≡ kept_among old w)
-    → IsLowestBelow old range clock number first
-    → IsLowest (λ w. is_place_in number lo hi w && reports_at clock (kept_among now w) Write) second
-    → IsLowestBelow old range clock (number + 1) (option_or first second)
-lowest_more old now range clock number lo hi first second low high as_before found more =
-    lowest_of_both number _ _ _ before_none both_before both_here both_none here_else first second found more
-  where
-    by_bound : (w : ℕ) (b c : Bool) → nat_lt (w / 128) number ≡ b → b ≡ c → ((is_within w range && nat_lt (w / 128) number) && reports_at clock (kept_among old w) Write) ≡ ((is_within w range && c) && reports_at clock (kept_among old w) Write)
-    by_bound w b c e is = ap (λ b. (is_within w range && b) && reports_at clock (kept_among old w) Write) (e ∙ is)
+  pub lowest_more : (old now : AllWords A) (range : PageRange) (clock : ℕ → ℕ) (number lo hi : ℕ) (first second : Option ℕ)
+      → ((w : ℕ) → number ≡ w / 128 → nat_le lo (w % 128) ≡ nat_le range.lo w)
+      → ((w : ℕ) → number ≡ w / 128 → nat_le (w % 128) hi ≡ nat_le w range.hi)
+      → ((w : ℕ) → number ≡ w / 128 → stored_among now w ≡ stored_among old w)
+      → IsLowestBelow old range clock number first
+      → IsLowest (λ w. is_place_in number lo hi w && is_raced clock (stored_among now w) Write) second
+      → IsLowestBelow old range clock (number + 1) (option_or first second)
+  lowest_more old now range clock number lo hi first second low high as_before found more =
+      lowest_of_both number _ _ _ before_none both_before both_here both_none here_else first second found more
+    where
+      by_bound : (w : ℕ) (b c : Bool) → nat_lt (w / 128) number ≡ b → b ≡ c → ((is_within w range && nat_lt (w / 128) number) && is_raced clock (stored_among old w) Write) ≡ ((is_within w range && c) && is_raced clock (stored_among old w) Write)
+      by_bound w b c e is = ap (λ b. (is_within w range && b) && is_raced clock (stored_among old w) Write) (e ∙ is)
 
-    and_none : (w : ℕ) → ((is_within w range && false) && reports_at clock (kept_among old w) Write) ≡ false
-    and_none w = ap (λ b. b && reports_at clock (kept_among old w) Write) (no_more (is_within w range))
-      where
-        no_more : (b : Bool) → (b && false) ≡ false
-        no_more true = refl
-        no_more false = refl
+      and_none : (w : ℕ) → ((is_within w range && false) && is_raced clock (stored_among old w) Write) ≡ false
+      and_none w = ap (λ b. b && is_raced clock (stored_among old w) Write) (no_more (is_within w range))
+        where
+          no_more : (b : Bool) → (b && false) ≡ false
+          no_more true = refl
+          no_more false = refl
 
-    not_before : (w : ℕ) → number ≤ w / 128 → nat_lt (w / 128) number ≡ false
-    not_before w past = grind (arith, nat_tests)
+      not_before : (w : ℕ) → number ≤ w / 128 → nat_lt (w / 128) number ≡ false
+      not_before w past = grind (arith, nat_tests)
 
-    before_none : (w : ℕ) → number ≤ w / 128 → ((is_within w range && nat_lt (w / 128) number) && reports_at clock (kept_among old w) Write) ≡ false
-    before_none w past = by_bound w false false (not_before w past) refl ∙ and_none w
+      before_none : (w : ℕ) → number ≤ w / 128 → ((is_within w range && nat_lt (w / 128) number) && is_raced clock (stored_among old w) Write) ≡ false
+      before_none w past = by_bound w false false (not_before w past) refl ∙ and_none w
 
-    same_bound : (w : ℕ) → w / 128 < number → nat_lt (w / 128) (number + 1) ≡ nat_lt (w / 128) number
-    same_bound w early = grind (arith, nat_tests)
+      same_bound : (w : ℕ) → w / 128 < number → nat_lt (w / 128) (number + 1) ≡ nat_lt (w / 128) number
+      same_bound w early = grind (arith, nat_tests)
 
-    both_before : (w : ℕ) → w / 128 < number
-        → ((is_within w range && nat_lt (w / 128) (number + 1)) && reports_at clock (kept_among old w) Write) ≡ ((is_within w range && nat_lt (w / 128) number) && reports_at clock (kept_among old w) Write)
-    both_before w early = ap (λ b. (is_within w range && b) && reports_at clock (kept_among old w) Write) (same_bound w early)
+      both_before : (w : ℕ) → w / 128 < number
+          → ((is_within w range && nat_lt (w / 128) (number + 1)) && is_raced clock (stored_among old w) Write) ≡ ((is_within w range && nat_lt (w / 128) number) && is_raced clock (stored_among old w) Write)
+      both_before w early = ap (λ b. (is_within w range && b) && is_raced clock (stored_among old w) Write) (same_bound w early)
 
-    past_bound : (w : ℕ) → number < w / 128 → nat_lt (w / 128) (number + 1) ≡ false
-    past_bound w late = grind (arith, nat_tests)
+      past_bound : (w : ℕ) → number < w / 128 → nat_lt (w / 128) (number + 1) ≡ false
+      past_bound w late = grind (arith, nat_tests)
 
-    both_none : (w : ℕ) → number < w / 128 → ((is_within w range && nat_lt (w / 128) (number + 1)) && reports_at clock (kept_among old w) Write) ≡ false
-    both_none w late = ap (λ b. (is_within w range && b) && reports_at clock (kept_among old w) Write) (past_bound w late) ∙ and_none w
+      both_none : (w : ℕ) → number < w / 128 → ((is_within w range && nat_lt (w / 128) (number + 1)) && is_raced clock (stored_among old w) Write) ≡ false
+      both_none w late = ap (λ b. (is_within w range && b) && is_raced clock (stored_among old w) Write) (past_bound w late) ∙ and_none w
 
-    here_else : (w : ℕ) → nat_eq number (w / 128) ≡ false → (is_place_in number lo hi w && reports_at clock (kept_among now w) Write) ≡ false
-    here_else w apart = ap (λ b. (b && (nat_le lo (w % 128) && nat_le (w % 128) hi)) && reports_at clock (kept_among now w) Write) apart
+      here_else : (w : ℕ) → nat_eq number (w / 128) ≡ false → (is_place_in number lo hi w && is_raced clock (stored_among now w) Write) ≡ false
+      here_else w apart = ap (λ b. (b && (nat_le lo (w % 128) && nat_le (w % 128) hi)) && is_raced clock (stored_among now w) Write) apart
 
-    at_bound : (w : ℕ) → number ≡ w / 128 → nat_lt (w / 128) (number + 1) ≡ true
-    at_bound w at = grind (arith, nat_tests)
+      at_bound : (w : ℕ) → number ≡ w / 128 → nat_lt (w / 128) (number + 1) ≡ true
+      at_bound w at = grind (arith, nat_tests)
 
-    at_number : (w : ℕ) → number ≡ w / 128 → nat_eq number (w / 128) ≡ true
-    at_number w at = grind (arith, nat_tests)
+      at_number : (w : ℕ) → number ≡ w / 128 → nat_eq number (w / 128) ≡ true
+      at_number w at = grind (arith, nat_tests)
 
-    and_true : (b : Bool) → (b && true) ≡ b
-    and_true true = refl
-    and_true false = refl
+      and_true : (b : Bool) → (b && true) ≡ b
+      and_true true = refl
+      and_true false = refl
 
-    both_here : (w : ℕ) → number ≡ w / 128
-        → ((is_within w range && nat_lt (w / 128) (number + 1)) && reports_at clock (kept_among old w) Write) ≡ (is_place_in number lo hi w && reports_at clock (kept_among now w) Write)
-    both_here w at =
-        ap (λ b. b && reports_at clock (kept_among old w) Write) (ap (λ b. is_within w range && b) (at_bound w at) ∙ and_true (is_within w range))
-        ∙ (λ k. (sym (low w at) k && sym (high w at) k) && reports_at clock (sym (as_before w at) k) Write)
-        ∙ ap (λ b. (b && (nat_le lo (w % 128) && nat_le (w % 128) hi)) && reports_at clock (kept_among now w) Write) (sym (at_number w at))
+      both_here : (w : ℕ) → number ≡ w / 128
+          → ((is_within w range && nat_lt (w / 128) (number + 1)) && is_raced clock (stored_among old w) Write) ≡ (is_place_in number lo hi w && is_raced clock (stored_among now w) Write)
+      both_here w at =
+          ap (λ b. b && is_raced clock (stored_among old w) Write) (ap (λ b. is_within w range && b) (at_bound w at) ∙ and_true (is_within w range))
+          ∙ (λ k. (sym (low w at) k && sym (high w at) k) && is_raced clock (sym (as_before w at) k) Write)
+          ∙ ap (λ b. (b && (nat_le lo (w % 128) && nat_le (w % 128) hi)) && is_raced clock (stored_among now w) Write) (sym (at_number w at))
 
--- where the blocks before this one were reset
-pub lowest_next : (old now : AllWords) (range : PageRange) (clock : ℕ → ℕ) (number lo hi : ℕ) (first second : Option ℕ)
-    → ((w : ℕ) → number ≡ w / 128 → nat_le lo (w % 128) ≡ nat_le range.lo w)
-    → ((w : ℕ) → number ≡ w / 128 → nat_le (w % 128) hi ≡ nat_le w range.hi)
-    → AreResetTo old now range number
-    → IsLowestBelow old range clock number first
-    → IsLowest (λ w. is_place_in number lo hi w && reports_at clock (kept_among now w) Write) second
-    → IsLowestBelow old range clock (number + 1) (option_or first second)
-lowest_next old now range clock number lo hi first second low high so_far found more =
-    lowest_more old now range clock number lo hi first second low high as_before found more
-  where
-    not_before : (w : ℕ) → number ≤ w / 128 → nat_lt (w / 128) number ≡ false
-    not_before w past = grind (arith, nat_tests)
+  -- where the blocks before this one were reset
+  pub lowest_next : (old now : AllWords A) (range : PageRange) (clock : ℕ → ℕ) (number lo hi : ℕ) (first second : Option ℕ)
+      → ((w : ℕ) → number ≡ w / 128 → nat_le lo (w % 128) ≡ nat_le range.lo w)
+      → ((w : ℕ) → number ≡ w / 128 → nat_le (w % 128) hi ≡ nat_le w range.hi)
+      → AreResetTo old now range number
+      → IsLowestBelow old range clock number first
+      → IsLowest (λ w. is_place_in number lo hi w && is_raced clock (stored_among now w) Write) second
+      → IsLowestBelow old range clock (number + 1) (option_or first second)
+  lowest_next old now range clock number lo hi first second low high so_far found more =
+      lowest_more old now range clock number lo hi first second low high as_before found more
+    where
+      not_before : (w : ℕ) → number ≤ w / 128 → nat_lt (w / 128) number ≡ false
+      not_before w past = grind (arith, nat_tests)
 
-    as_before : (w : ℕ) → number ≡ w / 128 → kept_among now w ≡ kept_among old w
-    as_before w at = so_far w ∙ ap (λ b. cond b fresh (kept_among old w)) (ap (λ b. is_within w range && b) (not_before w (omega (arith, at))) ∙ no_more (is_within w range))
-      where
-        no_more : (b : Bool) → (b && false) ≡ false
-        no_more true = refl
-        no_more false = refl
+      as_before : (w : ℕ) → number ≡ w / 128 → stored_among now w ≡ stored_among old w
+      as_before w at = so_far w ∙ ap (λ b. cond b (Accesses untouched) (stored_among old w)) (ap (λ b. is_within w range && b) (not_before w (omega (arith, at))) ∙ no_more (is_within w range))
+        where
+          no_more : (b : Bool) → (b && false) ≡ false
+          no_more true = refl
+          no_more false = refl
 
-pub lowest_end : (old : AllWords) (range : PageRange) (clock : ℕ → ℕ) (number : ℕ) (found : Option ℕ) → range.hi / 128 + 1 ≤ number
-    → IsLowestBelow old range clock number found → IsLowest (λ w. is_within w range && reports_at clock (kept_among old w) Write) found
-lowest_end old range clock number found past lowest = by found lowest
-  where
-    all : (w : ℕ) → (is_within w range && nat_lt (w / 128) number) ≡ is_within w range
-    all w = grind (arith, nat_tests)
+  pub lowest_end : (old : AllWords A) (range : PageRange) (clock : ℕ → ℕ) (number : ℕ) (found : Option ℕ) → range.hi / 128 + 1 ≤ number
+      → IsLowestBelow old range clock number found → IsLowest (λ w. is_within w range && is_raced clock (stored_among old w) Write) found
+  lowest_end old range clock number found past lowest = by found lowest
+    where
+      all : (w : ℕ) → (is_within w range && nat_lt (w / 128) number) ≡ is_within w range
+      all w = grind (arith, nat_tests)
 
-    same : (w : ℕ) → (is_within w range && reports_at clock (kept_among old w) Write) ≡ ((is_within w range && nat_lt (w / 128) number) && reports_at clock (kept_among old w) Write)
-    same w = ap (λ b. b && reports_at clock (kept_among old w) Write) (sym (all w))
+      same : (w : ℕ) → (is_within w range && is_raced clock (stored_among old w) Write) ≡ ((is_within w range && nat_lt (w / 128) number) && is_raced clock (stored_among old w) Write)
+      same w = ap (λ b. b && is_raced clock (stored_among old w) Write) (sym (all w))
 
-    by : (found : Option ℕ) → IsLowestBelow old range clock number found → IsLowest (λ w. is_within w range && reports_at clock (kept_among old w) Write) found
-    by (Some w) lowest = (same w ∙ lowest.0, λ k below. same k ∙ lowest.1 k below)
-    by None none = λ w. same w ∙ none w
+      by : (found : Option ℕ) → IsLowestBelow old range clock number found → IsLowest (λ w. is_within w range && is_raced clock (stored_among old w) Write) found
+      by (Some w) lowest = (same w ∙ lowest.0, λ k below. same k ∙ lowest.1 k below)
+      by None none = λ w. same w ∙ none w
+
+  -- the same without the tags
+  pub lowest-plain : (all : AllWords A) (within : ℕ → Bool) (clock : ℕ → ℕ) (found : Option ℕ) → IsLowest (λ w. within w && is_raced clock (stored_among all w) Write) found
+      → IsLowest (λ w. within w && reports_at clock (kept_among all w) Write) found
+  lowest-plain all within clock found lowest =
+      subst (λ (test : ℕ → Bool). IsLowest test found) (fun_ext (λ w. ap (λ b. within w && b) (plain-raced clock (stored_among all w) Write))) lowest

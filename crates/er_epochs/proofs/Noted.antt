@@ -1,113 +1,234 @@
--- The list of reads after one more read may leave out what its thread knows, and what a later read of the same thread replaces.
-use Rattle.std.proofs.Common.{◌≡◌, ◌∙◌, ◌⊎◌, ◌+◌, ℕ, ◌<◌, List, length, get_or, take, Bool, true, false, ◌&&◌, not, nat_le, nat_lt, [], ◌∷◌, ◌++◌, filter, Option, Some, None, refl, sym, ap, ap₂, cond, nat_eq, subst, arith, ⊎_elim, inl, inr}
-use Rattle.std.proofs.lemmas.Bool.{and_from, not-true, not_from_false, eqb-true}
-use Rattle.std.proofs.lemmas.Bool.Decides.{nat_tests}
-use Rattle.std.proofs.lemmas.List.{take_more}
-use Rattle.std.proofs.lemmas.List.Elements.{Contains-append_left, Contains-push, Contains-push_cases}
-use Rattle.std.specs.List.{Contains}
+-- What may be stored of reads after one more: the list may leave out what the reader's clock covers, and what a later read of the same thread replaces.
+use Rattle.std.proofs.Common.{◌≡◌, ◌∙◌, ℕ, zero, suc, ◌≤◌, ◌<◌, ◌+◌, Bool, true, false, ◌&&◌, ◌||◌, not, nat_eq, cond, List, [], ◌∷◌, ◌++◌, filter, length, get_or, take, map, reverse, slice_set, Option, Some, None, refl, sym, ap, ap₂, subst, arith}
+use Rattle.std.specs.List.{list_any}
+use Rattle.std.specs.Option.{option_map, option_or}
+use Rattle.std.proofs.lemmas.Bool.{eqb-true, le-leb, leb-true}
+use Rattle.std.proofs.lemmas.List.{reverse-append, reverse-reverse, take_more}
+use Rattle.std.proofs.lemmas.List.Folds.{find-append}
 use Rattle.er_event.specs.declared.steps.Kind.{Kind}
-use Rattle.er_clock.specs.declared.clock.Epoch.{Epoch as Counted}
+use Rattle.er_event.specs.declared.steps.Kind.TheVariants.{Read as reading, Write as writing}
+use Rattle.er_model.specs.Words.{is_writing}
 use Rattle.er_order.specs.Clocks.{Epoch, covers}
-use Rattle.er_order.specs.Following.{Kept, is_unordered, kept_by}
-use Rattle.er_order.specs.Keeping.{HasNoEarlier, IsNoted, IsKeptBy}
-use Rattle.er_order.proofs.Keeping.{contains-filter, filter-contains, kept-itself}
-use Rattle.er_epochs.specs.Epochs.{EpochList, pair_of, pairs_of, is_replaced}
-use Rattle.er_epochs.proofs.Epochs.{map-push}
+use Rattle.er_order.specs.Following.{Seen, Reported, is_unordered, write_is_unordered, reports_at, seen_by, kept_by}
+use Rattle.er_order.specs.Keeping.{first_apart, IsNoted, IsKeptBy}
+use Rattle.er_order.specs.Keeping.{reads_of as plain_reads, with_reads as with_plain}
+use Rattle.er_order.proofs.Keeping.{found-mapped, behind-read, covered-later, noted-filter}
+use Rattle.er_epochs.specs.declared.reads.Tagged.{Tagged}
+use Rattle.er_epochs.specs.Epochs.{Latest, Stored, Accesses, Told, plain, pair_of, is_apart, some_apart, is_raced, is_replaced, stored_by, latest_by, reads_of, with_reads, IsStoredBy}
 
--- what the definitions keep
-pub kept_exactly : (clock : ℕ → ℕ) (before after : Kept) (t : ℕ) (kind : Kind) → after ≡ kept_by clock before t kind → IsKeptBy clock before t kind after
-kept_exactly clock before after t kind is = subst (λ (k : Kept). IsKeptBy clock before t kind k) (sym is) (kept-itself clock before t kind)
+module _ {A : Type 0} where
+  -- what the definitions make of it may be stored
+  pub stored_exactly : (clock : ℕ → ℕ) (before after : Stored A) (x : Tagged A) (kind : Kind) → after ≡ stored_by clock before x kind → IsStoredBy clock before x kind after
+  stored_exactly clock before after x writing is = is
+  stored_exactly clock before after x reading is = (x ∷ filter (is_apart clock) (reads_of before), is ∙ same before, noted-filter pair_of clock (reads_of before) x)
+    where
+      by_race : (b : Bool) (latest : Latest A) → cond b Told (Accesses latest) ≡ with_reads (cond b Told (Accesses latest)) latest.reads
+      by_race true latest = refl
+      by_race false latest = refl
 
-module _ (clock : ℕ → ℕ) (t : ℕ) (reads : EpochList) where
-  -- the read is there
-  pub noted_already : Contains reads (t, clock t) → IsNoted clock reads t reads
-  noted_already there = record { noted = there; only = λ e at. inr at; others = λ e at apart. (e, at, refl, omega arith) }
+      same : (k : Stored A) → stored_by clock k x reading ≡ with_reads (stored_by clock k x reading) (x ∷ filter (is_apart clock) (reads_of k))
+      same Told = refl
+      same (Accesses latest) = by_race (some_apart clock latest.write || false) (latest_by clock latest x reading)
 
-  -- the list keeps some reads, and the read stands behind them
-  noted_with : (left : EpochList) → ((e : Epoch) → Contains left e → Contains reads e) → ((e : Epoch) → Contains reads e → is_unordered clock e ≡ true → HasNoEarlier left e)
-      → IsNoted clock reads t (left ++ (t, clock t) ∷ [])
-  noted_with left within useful = record {
-    noted = Contains-push left (t, clock t);
-    only = λ e there. ⊎_elim (λ kept. inr (within e kept)) (λ own. inl own) (Contains-push_cases left (t, clock t) e there);
-    others = λ e there apart. let found = useful e there apart in (found.0, Contains-append_left left ((t, clock t) ∷ []) found.0 found.1, found.2, found.3);
+  filter-push : (p : Tagged A → Bool) (xs : List (Tagged A)) (x : Tagged A) → filter p (xs ++ x ∷ []) ≡ filter p xs ++ filter p (x ∷ [])
+  filter-push p [] x = refl
+  filter-push p (y ∷ xs) x = by (p y) (filter-push p xs x)
+    where
+      by : (b : Bool) → filter p (xs ++ x ∷ []) ≡ filter p xs ++ filter p (x ∷ [])
+          → cond b (y ∷ filter p (xs ++ x ∷ [])) (filter p (xs ++ x ∷ [])) ≡ cond b (y ∷ filter p xs) (filter p xs) ++ filter p (x ∷ [])
+      by true rest = ap (λ ys. y ∷ ys) rest
+      by false rest = rest
+
+  filter-turned : (p : Tagged A → Bool) (xs : List (Tagged A)) → reverse (filter p xs) ≡ filter p (reverse xs)
+  filter-turned p [] = refl
+  filter-turned p (x ∷ xs) =
+      by (p x) (filter-turned p xs) ∙ sym (ap (filter p) (reverse-append (x ∷ []) xs) ∙ filter-push p (reverse xs) x)
+    where
+      by : (b : Bool) → reverse (filter p xs) ≡ filter p (reverse xs) → reverse (cond b (x ∷ filter p xs) (filter p xs)) ≡ filter p (reverse xs) ++ cond b (x ∷ []) []
+      by true rest = reverse-append (x ∷ []) (filter p xs) ∙ ap (λ ys. ys ++ x ∷ []) rest
+      by false rest = rest ∙ sym (append_none (filter p (reverse xs)))
+        where
+          append_none : (ys : List (Tagged A)) → ys ++ [] ≡ ys
+          append_none [] = refl
+          append_none (y ∷ ys) = ap (λ rest. y ∷ rest) (append_none ys)
+
+  turned-push : (xs : List (Tagged A)) (x : Tagged A) → reverse (xs ++ x ∷ []) ≡ x ∷ reverse xs
+  turned-push xs x = reverse-append xs (x ∷ [])
+
+  module _ (clock : ℕ → ℕ) (reads : List (Tagged A)) (x : Tagged A) where
+    -- all of them, and the read behind them
+    pub noted_behind : (was after : List (Tagged A)) → reads ≡ was → after ≡ reads ++ x ∷ [] → IsNoted pair_of clock (reverse was) x (reverse after)
+    noted_behind was after same is = rw (← same, is, turned-push reads x) (record { noted = λ later knows. refl })
+
+    -- those that the clock doesn't cover
+    pub noted_few : (was after : List (Tagged A)) → reads ≡ was → after ≡ filter (is_apart clock) reads ++ x ∷ [] → IsNoted pair_of clock (reverse was) x (reverse after)
+    noted_few was after same is = rw (← same, is, turned-push (filter (is_apart clock) reads) x, filter-turned (is_apart clock) reads) (noted-filter pair_of clock (reverse reads) x)
+
+    -- or such that a clock that has all of this one finds the same among them
+    pub noted_many : (turned left after : List (Tagged A)) → turned ≡ reverse reads → ((later : ℕ → ℕ) → ((u : ℕ) → clock u ≤ later u) → first_apart pair_of later left ≡ first_apart pair_of later turned)
+        → after ≡ reverse left ++ x ∷ [] → IsNoted pair_of clock (reverse reads) x (reverse after)
+    noted_many turned left after is_turned same is =
+        rw (is, turned-push (reverse left) x, reverse-reverse left)
+        (record { noted = λ later knows. behind-read pair_of later x left (reverse reads) (λ covered. same later (knows covered) ∙ ap (first_apart pair_of later) is_turned) })
+
+  -- the read in the place of the last one, which is of the same epoch
+  pub noted_over : (clock : ℕ → ℕ) (first : List (Tagged A)) (last x : Tagged A) (before after : List (Tagged A)) → pair_of last ≡ pair_of x → before ≡ first ++ last ∷ [] → after ≡ first ++ x ∷ []
+      → IsNoted pair_of clock (reverse before) x (reverse after)
+  noted_over clock first last x before after own was is = rw (was, is, turned-push first last, turned-push first x)
+      (record {
+        noted = λ later knows. behind-read pair_of later x (reverse first) (last ∷ reverse first)
+            (λ covered. rw (ap (covers later) own ∙ covered) refl);
+      })
+
+-- the last item, and another one in its place
+pub last_over : {X : Type 0} (xs : List X) (n : ℕ) (x y : X) → length xs ≡ suc n → (first : List X) × (xs ≡ first ++ get_or xs n x ∷ []) × (slice_set xs n y ≡ first ++ y ∷ [])
+last_over [] n x y long = absurd (omega (arith, long))
+last_over (z ∷ []) zero x y long = ([], refl, refl)
+last_over (z ∷ []) (suc n) x y long = absurd (omega (arith, long))
+last_over (z ∷ w ∷ xs) zero x y long = absurd (omega (arith, long))
+last_over (z ∷ w ∷ xs) (suc n) x y long =
+    let rest = last_over (w ∷ xs) n x y (omega (arith, long)) in
+    (z ∷ rest.0, ap (λ ys. z ∷ ys) rest.1, ap (λ ys. z ∷ ys) rest.2)
+
+or_none : {X : Type 0} (o p : Option X) → option_or o p ≡ None → (o ≡ None) × (p ≡ None)
+or_none None p none = (refl, none)
+or_none (Some x) p none = cc
+
+-- of the reads so far these are left, and these are the last counts of their threads
+pub record Leaves {A : Type 0} (clock : ℕ → ℕ) (before left : List (Tagged A)) (counts : ℕ → Option ℕ) : Type 0 where
+  pub found : (later : ℕ → ℕ) → ((u : ℕ) → clock u ≤ later u) → first_apart pair_of later left ≡ first_apart pair_of later before
+  pub known : (t n : ℕ) → counts t ≡ Some n → (later : ℕ → ℕ) → first_apart pair_of later left ≡ None → is_unordered later (t, n) ≡ false
+
+module _ {A : Type 0} (clock : ℕ → ℕ) (before left : List (Tagged A)) (counts : ℕ → Option ℕ) (x : Tagged A) (so_far : Leaves clock before left counts) where
+  more : (xs : List (Tagged A)) (later : ℕ → ℕ) → first_apart pair_of later (xs ++ x ∷ []) ≡ option_or (first_apart pair_of later xs) (cond (is_apart later x) (Some x) None)
+  more xs later = find-append (λ read. is_unordered later (pair_of read)) xs (x ∷ [])
+
+  -- one more is left
+  pub leaves_put : (all now : List (Tagged A)) (after : ℕ → Option ℕ) (key : ℕ) → all ≡ before ++ x ∷ [] → now ≡ left ++ x ∷ [] → key ≡ x.epoch.thread
+      → ((q : ℕ) → after q ≡ cond (nat_eq key q) (Some x.epoch.count) (counts q)) → Leaves clock all now after
+  leaves_put all now after key next pushed same put = rw (next, pushed) (record {
+    found = λ later has_all. more left later ∙ ap (λ o. option_or o (cond (is_apart later x) (Some x) None)) (so_far.found later has_all) ∙ sym (more before later);
+    known = λ t n is later none.
+        let parts = or_none (first_apart pair_of later left) (cond (is_apart later x) (Some x) None) (sym (more left later) ∙ none) in
+        by t n later (nat_eq key t) refl is parts.0 (covered later (is_apart later x) refl parts.1);
+  })
+    where
+      covered : (later : ℕ → ℕ) (b : Bool) → is_apart later x ≡ b → cond (is_apart later x) (Some x) None ≡ None → is_apart later x ≡ false
+      covered later true is none = let clash : Some x ≡ None = ap (λ b. cond b (Some x) None) (sym is) ∙ none in cc
+      covered later false is none = is
+
+      by : (t n : ℕ) (later : ℕ → ℕ) (b : Bool) → nat_eq key t ≡ b → after t ≡ Some n → first_apart pair_of later left ≡ None → is_apart later x ≡ false → is_unordered later (t, n) ≡ false
+      by t n later true here is none own =
+          let count : Some x.epoch.count ≡ Some n = sym (put t ∙ ap (λ (b : Bool). cond b (Some x.epoch.count) (counts t)) here) ∙ is in
+          let value : x.epoch.count ≡ n = cc in
+          subst (λ (e : Epoch). is_unordered later e ≡ false) (ap₂ {C = Epoch} (λ a b. (a, b)) (sym same ∙ eqb-true key t here) value) own
+      by t n later false there is none own = so_far.known t n (sym (put t ∙ ap (λ (b : Bool). cond b (Some x.epoch.count) (counts t)) there) ∙ is) later none
+
+  -- or it is of no use
+  pub leaves_out : (is_unordered clock (pair_of x) && not (is_replaced (counts x.epoch.thread) x.epoch.count)) ≡ false → (all : List (Tagged A)) → all ≡ before ++ x ∷ [] → Leaves clock all left counts
+  leaves_out useless all next = rw next (record {
+    found = λ later has_all. by later has_all (first_apart pair_of later left) refl ∙ ap (λ o. option_or o (cond (is_apart later x) (Some x) None)) (so_far.found later has_all) ∙ sym (more before later);
+    known = so_far.known;
+  })
+    where
+      replaced_by : (later : ℕ → ℕ) (o : Option ℕ) → counts x.epoch.thread ≡ o → is_replaced o x.epoch.count ≡ true → first_apart pair_of later left ≡ None → is_apart later x ≡ false
+      replaced_by later None is replaced none = cc
+      replaced_by later (Some n) is replaced none = lower later n (leb-true x.epoch.count n replaced) (so_far.known x.epoch.thread n is later none)
+        where
+          lower : (later : ℕ → ℕ) (n : ℕ) → x.epoch.count ≤ n → is_unordered later (x.epoch.thread, n) ≡ false → is_apart later x ≡ false
+          lower later n low known = ap not (le-leb x.epoch.count (later x.epoch.thread) (omega (arith, low, high)))
+            where
+              not_covered : (b : Bool) → not b ≡ false → b ≡ true
+              not_covered true e = refl
+              not_covered false e = cc
+
+              high : n ≤ later x.epoch.thread
+              high = leb-true n (later x.epoch.thread) (not_covered (covers later (x.epoch.thread, n)) known)
+
+      useless_by : (later : ℕ → ℕ) → ((u : ℕ) → clock u ≤ later u) → (b : Bool) → is_unordered clock (pair_of x) ≡ b → first_apart pair_of later left ≡ None → is_apart later x ≡ false
+      useless_by later has_all false covered none = covered-later (pair_of {A = A}) clock later has_all (pair_of x) covered
+      useless_by later has_all true apart none = replaced_by later (counts x.epoch.thread) refl (not_false (is_replaced (counts x.epoch.thread) x.epoch.count) (sym (ap (λ b. b && not (is_replaced (counts x.epoch.thread) x.epoch.count)) apart) ∙ useless)) none
+        where
+          not_false : (b : Bool) → not b ≡ false → b ≡ true
+          not_false true e = refl
+          not_false false e = cc
+
+      by : (later : ℕ → ℕ) → ((u : ℕ) → clock u ≤ later u) → (o : Option (Tagged A)) → first_apart pair_of later left ≡ o
+          → first_apart pair_of later left ≡ option_or (first_apart pair_of later left) (cond (is_apart later x) (Some x) None)
+      by later has_all (Some y) is = is ∙ sym (ap (λ o. option_or o (cond (is_apart later x) (Some x) None)) is)
+      by later has_all None is =
+          is ∙ sym (ap (λ o. option_or o (cond (is_apart later x) (Some x) None)) is ∙ ap (λ b. cond b (Some x) None) (useless_by later has_all (is_unordered clock (pair_of x)) refl is))
+
+-- the items so far, and the next one
+pub item_next : {X : Type 0} (xs : List X) (k : ℕ) (x : X) → k < length xs → x ≡ get_or xs k x → take (k + 1) xs ≡ take k xs ++ x ∷ []
+item_next xs k x within is = take_more xs k x within ∙ ap (λ y. take k xs ++ y ∷ []) (sym is)
+
+-- nothing so far
+pub leaves_none : {A : Type 0} (clock : ℕ → ℕ) (counts : ℕ → Option ℕ) → ((t : ℕ) → counts t ≡ None) → Leaves {A = A} clock [] [] counts
+leaves_none clock counts empty = record {
+  found = λ later has_all. refl;
+  known = λ t n is later none. let clash : None ≡ Some n = sym (empty t) ∙ is in cc;
+}
+
+-- without the tags
+module _ {A : Type 0} (clock : ℕ → ℕ) where
+  plain_any : (xs : List (Tagged A)) → list_any (is_apart clock) xs ≡ list_any (is_unordered clock) (map pair_of xs)
+  plain_any [] = refl
+  plain_any (x ∷ xs) = ap (λ b. is_apart clock x || b) (plain_any xs)
+
+  plain_write : (o : Option (Tagged A)) → some_apart clock o ≡ write_is_unordered clock (option_map pair_of o)
+  plain_write None = refl
+  plain_write (Some x) = refl
+
+  pub plain-raced : (s : Stored A) (kind : Kind) → is_raced clock s kind ≡ reports_at clock (plain s) kind
+  plain-raced Told kind = refl
+  plain-raced (Accesses latest) kind = ap₂ (λ a b. a || (is_writing kind && b)) (plain_write latest.write) (plain_any latest.reads)
+
+  plain_filter : (xs : List (Tagged A)) → map pair_of (filter (is_apart clock) xs) ≡ filter (is_unordered clock) (map pair_of xs)
+  plain_filter [] = refl
+  plain_filter (x ∷ xs) = by (is_apart clock x) (plain_filter xs)
+    where
+      by : (b : Bool) → map pair_of (filter (is_apart clock) xs) ≡ filter (is_unordered clock) (map pair_of xs)
+          → map pair_of (cond b (x ∷ filter (is_apart clock) xs) (filter (is_apart clock) xs)) ≡ cond b (pair_of x ∷ filter (is_unordered clock) (map pair_of xs)) (filter (is_unordered clock) (map pair_of xs))
+      by true rest = ap (λ ys. pair_of x ∷ ys) rest
+      by false rest = rest
+
+  plain_noted : (before after : List (Tagged A)) (x : Tagged A) → IsNoted pair_of clock before x after → IsNoted (λ e. e) clock (map pair_of before) (pair_of x) (map pair_of after)
+  plain_noted before after x noted = record {
+    noted = λ later knows.
+        found-mapped (is_unordered later) pair_of after
+        ∙ ap (option_map pair_of) (noted.noted later knows)
+        ∙ sym (found-mapped (is_unordered later) pair_of (x ∷ before));
   }
 
-  -- all of them
-  pub noted_behind : IsNoted clock reads t (reads ++ (t, clock t) ∷ [])
-  noted_behind = noted_with reads (λ e there. there) (λ e there apart. (e, there, refl, omega arith))
+  plain_cond : (b : Bool) (s : Stored A) → plain (cond b Told s) ≡ cond b Reported (plain s)
+  plain_cond true s = refl
+  plain_cond false s = refl
 
-  -- those that the thread doesn't know
-  pub noted_few : IsNoted clock reads t (filter (is_unordered clock) reads ++ (t, clock t) ∷ [])
-  noted_few =
-      noted_with (filter (is_unordered clock) reads) (λ e there. (filter-contains (is_unordered clock) reads e there).0)
-      (λ e there apart. (e, contains-filter (is_unordered clock) reads e there apart, refl, omega arith))
+  plain_latest : (latest : Latest A) (x : Tagged A) (t : ℕ) (kind : Kind) → pair_of x ≡ (t, clock t)
+      → plain (Accesses (latest_by clock latest x kind)) ≡ seen_by clock (option_map pair_of latest.write) (map pair_of latest.reads) t kind
+  plain_latest latest x t reading own = ap₂ (λ e rest. Seen (option_map pair_of latest.write) (e ∷ rest)) own (plain_filter latest.reads)
+  plain_latest latest x t writing own = ap (λ e. Seen (Some e) []) own
 
-  -- of these, those that no greater count of their thread replaces
-  module _ (newest : ℕ → Option ℕ) (among : (u n : ℕ) → newest u ≡ Some n → Contains reads (u, n)) where
-    abbrev is_useful : Epoch → Bool
-    is_useful e = is_unordered clock e && not (is_replaced (newest e.0) e.1)
+  pub plain-by : (s : Stored A) (x : Tagged A) (t : ℕ) (kind : Kind) → pair_of x ≡ (t, clock t) → plain (stored_by clock s x kind) ≡ kept_by clock (plain s) t kind
+  plain-by Told x t kind own = refl
+  plain-by (Accesses latest) x t kind own =
+      plain_cond (is_raced clock (Accesses latest) kind) (Accesses (latest_by clock latest x kind))
+      ∙ ap₂ (λ b s. cond b Reported s) (plain-raced (Accesses latest) kind) (plain_latest latest x t kind own)
 
-    unless_replaced : (e : Epoch) → Contains reads e → is_unordered clock e ≡ true → (o : Option ℕ) → newest e.0 ≡ o → (b : Bool) → is_replaced o e.1 ≡ b → HasNoEarlier (filter is_useful reads) e
-    unless_replaced e there apart o at false stays =
-        (e, contains-filter is_useful reads e there (and_from (is_unordered clock e) (not (is_replaced (newest e.0) e.1)) apart (not_from_false (is_replaced (newest e.0) e.1) (ap (λ o. is_replaced o e.1) at ∙ stays))), refl, omega arith)
-    unless_replaced e there apart None at true replaced = let never : false ≡ true = replaced in cc
-    unless_replaced e there apart (Some n) at true replaced =
-        ((e.0, n), contains-filter is_useful reads (e.0, n) (among e.0 n at) (and_from (is_unordered clock (e.0, n)) (not (is_replaced (newest e.0) n)) still (not_from_false (is_replaced (newest e.0) n) (ap (λ o. is_replaced o n) at ∙ not_itself n))), refl, omega (arith, later))
-      where
-        later : e.1 < n
-        later = grind (arith, nat_tests)
+  plain_with : (s : Stored A) (reads : List (Tagged A)) → plain (with_reads s reads) ≡ with_plain (plain s) (map pair_of reads)
+  plain_with Told reads = refl
+  plain_with (Accesses latest) reads = refl
 
-        not_itself : (n : ℕ) → nat_lt n n ≡ false
-        not_itself n = grind (arith, nat_tests)
+  plain_reads_of : (s : Stored A) → map pair_of (reads_of s) ≡ plain_reads (plain s)
+  plain_reads_of Told = refl
+  plain_reads_of (Accesses latest) = refl
 
-        not_known : nat_le e.1 (clock e.0) ≡ false
-        not_known = not-true (covers clock e) apart
-
-        still : not (nat_le n (clock e.0)) ≡ true
-        still = grind (arith, nat_tests)
-
-    pub noted_many : (left : EpochList) → ((e : Epoch) → Contains left e → Contains (filter is_useful reads) e) → ((e : Epoch) → Contains (filter is_useful reads) e → Contains left e)
-        → IsNoted clock reads t (left ++ (t, clock t) ∷ [])
-    noted_many left within all =
-        noted_with left (λ e there. (filter-contains is_useful reads e (within e there)).0)
-        (λ e there apart. let found = unless_replaced e there apart (newest e.0) refl (is_replaced (newest e.0) e.1) refl in (found.0, all found.0 found.1, found.2, found.3))
-
--- the epochs so far are in the list and no others, and it has each thread's last one
-pub record AreDistinct (before left : EpochList) (last : ℕ → Option ℕ) : Type 0 where
-  pub within : (e : Epoch) → Contains left e → Contains before e
-  pub all : (e : Epoch) → Contains before e → Contains left e
-  pub lasts : (t n : ℕ) → last t ≡ Some n → Contains left (t, n)
-
--- the next epoch is put behind the others, or it is its thread's last one already
-pub distinct_put : (before left : EpochList) (last after : ℕ → Option ℕ) (e : Epoch) → AreDistinct before left last
-    → ((t n : ℕ) → after t ≡ Some n → (last t ≡ Some n) ⊎ ◌≡◌ {A = Epoch} e (t, n)) → AreDistinct (before ++ e ∷ []) (left ++ e ∷ []) after
-distinct_put before left last after e so_far put = record {
-  within = λ x there. ⊎_elim (λ old. Contains-append_left before (e ∷ []) x (so_far.within x old)) (λ same. subst (Contains (before ++ e ∷ [])) same (Contains-push before e)) (Contains-push_cases left e x there);
-  all = λ x there. ⊎_elim (λ old. Contains-append_left left (e ∷ []) x (so_far.all x old)) (λ same. subst (Contains (left ++ e ∷ [])) same (Contains-push left e)) (Contains-push_cases before e x there);
-  lasts = λ t n is. ⊎_elim (λ old. Contains-append_left left (e ∷ []) (t, n) (so_far.lasts t n old)) (λ same. subst (Contains (left ++ e ∷ [])) same (Contains-push left e)) (put t n is);
-}
-
--- after an insertion a thread's last epoch is the one that was inserted, or what it was
-pub put_last : (last after : ℕ → Option ℕ) (key thread count : ℕ) → key ≡ thread → ((q : ℕ) → after q ≡ cond (nat_eq key q) (Some count) (last q))
-    → (t n : ℕ) → after t ≡ Some n → (last t ≡ Some n) ⊎ ◌≡◌ {A = Epoch} (thread, count) (t, n)
-put_last last after key thread count same put t n is = by (nat_eq key t) refl
-  where
-    number : Option ℕ → ℕ
-    number None = 0
-    number (Some n) = n
-
-    by : (b : Bool) → nat_eq key t ≡ b → (last t ≡ Some n) ⊎ ◌≡◌ {A = Epoch} (thread, count) (t, n)
-    by true here = let value : Some count ≡ Some n = sym (put t ∙ ap (λ (b : Bool). cond b (Some count) (last t)) here) ∙ is in
-        inr (ap₂ {C = Epoch} (λ a b. (a, b)) (sym same ∙ eqb-true key t here) (ap number value))
-    by false there = inl (sym (put t ∙ ap (λ (b : Bool). cond b (Some count) (last t)) there) ∙ is)
-
-pub distinct_there : (before left : EpochList) (last : ℕ → Option ℕ) (e : Epoch) → AreDistinct before left last → last e.0 ≡ Some e.1 → AreDistinct (before ++ e ∷ []) left last
-distinct_there before left last e so_far there = record {
-  within = λ x is. Contains-append_left before (e ∷ []) x (so_far.within x is);
-  all = λ x is. ⊎_elim (λ old. so_far.all x old) (λ same. subst (Contains left) same (so_far.lasts e.0 e.1 there)) (Contains-push_cases before e x is);
-  lasts = so_far.lasts;
-}
-
--- the epochs so far, and the next one
-pub pairs_next : (xs : List Counted) (k : ℕ) (x : Counted) → k < length xs → x ≡ get_or xs k x → pairs_of (take (k + 1) xs) ≡ pairs_of (take k xs) ++ pair_of x ∷ []
-pairs_next xs k x within is = ap pairs_of (take_more xs k x within ∙ ap (λ y. take k xs ++ y ∷ []) (sym is)) ∙ map-push pair_of (take k xs) x
+  pub plain-stored : (before after : Stored A) (x : Tagged A) (t : ℕ) (kind : Kind) → pair_of x ≡ (t, clock t) → IsStoredBy clock before x kind after → IsKeptBy clock (plain before) t kind (plain after)
+  plain-stored before after x t writing own is = ap plain is ∙ plain-by before x t writing own
+  plain-stored before after x t reading own (noted, is, may) = (
+    map pair_of noted,
+    ap plain is ∙ plain_with (stored_by clock before x reading) noted ∙ ap (λ k. with_plain k (map pair_of noted)) (plain-by before x t reading own),
+    subst (λ (e : Epoch). IsNoted (λ e. e) clock (plain_reads (plain before)) e (map pair_of noted)) own
+        (subst (λ (reads : List Epoch). IsNoted (λ e. e) clock reads (pair_of x) (map pair_of noted)) (plain_reads_of before) (plain_noted (reads_of before) noted x may)),
+  )

@@ -1,18 +1,55 @@
 -- The words at the places of a block.
-use Rattle.std.proofs.Common.{◌≡◌, ◌∙◌, ℕ, zero, suc, ◌+◌, ◌*◌, ◌<◌, ◌≤◌, ◌/◌, ◌%◌, nat_eq, Bool, true, false, List, replicate, refl, sym, ap, arith}
+use Rattle.std.proofs.Common.{◌≡◌, ◌≢◌, ◌∙◌, ◌&&◌, ℕ, zero, suc, ◌+◌, ◌*◌, ◌<◌, ◌≤◌, ◌/◌, ◌%◌, nat_eq, nat_le, nat_lt, cond, Bool, true, false, List, [], ◌∷◌, ◌++◌, get_or, length, map, slice_set, refl, sym, ap, arith}
 use Rattle.std.proofs.lemmas.Bool.Decides.{nat_tests}
-use borrow.Author.Tests.{eqb-true}
+use borrow.Author.Tests.{eqb-true, eqb-false}
 use Rattle.er_epochs.specs.declared.word.OrderWord.{OrderWord}
-use Rattle.er_epochs.specs.Words.{blank, word_at, is_place_in}
+use Rattle.er_epochs.specs.Words.{Said, blank, said, word_at, is_place_in}
 
-blank_at : (n i : ℕ) → word_at (replicate n blank) i ≡ blank
-blank_at zero i = refl
-blank_at (suc n) zero = refl
-blank_at (suc n) (suc i) = blank_at n i
+-- one more word that says nothing
+pub blank_more : {A : Type 0} (words : List (OrderWord A)) (word : OrderWord A) → said word ≡ blank → ((i : ℕ) → word_at (map said words) i ≡ blank)
+    → (i : ℕ) → word_at (map said (words ++ word ∷ [])) i ≡ blank
+blank_more [] word is all zero = is
+blank_more [] word is all (suc i) = refl
+blank_more (w ∷ words) word is all zero = all zero
+blank_more (w ∷ words) word is all (suc i) = blank_more words word is (λ j. all (suc j)) i
 
--- all words are blank
-pub replicated : (words : List OrderWord) → words ≡ replicate 128 blank → (i : ℕ) → word_at words i ≡ blank
-replicated words is i = ap (λ (all : List OrderWord). word_at all i) is ∙ blank_at 128 i
+-- the word at a place
+pub said_at : {A : Type 0} (words : List (OrderWord A)) (i : ℕ) (word : OrderWord A) → i < length words → word ≡ get_or words i word → said word ≡ word_at (map said words) i
+said_at [] i word within is = absurd (omega (arith, within))
+said_at (w ∷ words) zero word within is = ap said is
+said_at (w ∷ words) (suc i) word within is = said_at words i word (omega (arith, within)) is
+
+-- and one that is put there
+pub put_at : {A : Type 0} (words : List (OrderWord A)) (i : ℕ) (word : OrderWord A) → i < length words → word_at (map said (slice_set words i word)) i ≡ said word
+put_at [] i word within = absurd (omega (arith, within))
+put_at (w ∷ words) zero word within = refl
+put_at (w ∷ words) (suc i) word within = put_at words i word (omega (arith, within))
+
+pub put_beside : {A : Type 0} (words : List (OrderWord A)) (place i : ℕ) (word : OrderWord A) → nat_eq place i ≡ false → word_at (map said (slice_set words place word)) i ≡ word_at (map said words) i
+put_beside [] place i word apart = refl
+put_beside (w ∷ words) zero zero word apart = cc
+put_beside (w ∷ words) zero (suc i) word apart = refl
+put_beside (w ∷ words) (suc place) zero word apart = refl
+put_beside (w ∷ words) (suc place) (suc i) word apart = put_beside words place i word (grind (arith, nat_tests, apart))
+
+-- one more place is emptied
+pub emptied_next : {A : Type 0} (old now new : List (Said A)) (start place : ℕ) → start ≤ place
+    → ((i : ℕ) → word_at now i ≡ cond (nat_le start i && nat_lt i place) blank (word_at old i)) → word_at new place ≡ blank
+    → ((i : ℕ) → nat_eq place i ≡ false → word_at new i ≡ word_at now i)
+    → (i : ℕ) → word_at new i ≡ cond (nat_le start i && nat_lt i (place + 1)) blank (word_at old i)
+emptied_next old now new start place low so_far here others i = by (nat_eq place i) refl
+  where
+    within : place ≡ i → (nat_le start i && nat_lt i (place + 1)) ≡ true
+    within e = grind (arith, nat_tests)
+
+    same : place ≢ i → nat_lt i place ≡ nat_lt i (place + 1)
+    same apart = grind (arith, nat_tests)
+
+    by : (b : Bool) → nat_eq place i ≡ b → word_at new i ≡ cond (nat_le start i && nat_lt i (place + 1)) blank (word_at old i)
+    by true e =
+        let at = eqb-true place i e in
+        ap (word_at new) (sym at) ∙ here ∙ sym (ap (λ b. cond b blank (word_at old i)) (within at))
+    by false e = others i e ∙ so_far i ∙ ap (λ b. cond (nat_le start i && b) blank (word_at old i)) (same (eqb-false place i e))
 
 pub in_block : (number place : ℕ) → place < 128 → (number * 128 + place) / 128 ≡ number
 in_block number place within = omega arith

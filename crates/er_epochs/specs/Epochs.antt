@@ -1,29 +1,112 @@
--- The epochs that are kept of a word, as the definitions see them.
-use Rattle.std.specs.Prelude.{ℕ, ◌+◌, ◌^◌, nat_lt, nat_eq, Bool, false, cond, List, [], ◌∷◌, map, Option, Some, None}
-use Rattle.er_clock.specs.declared.clock.Epoch.{Epoch as Kept}
+-- The accesses that are kept of a word, and what one more makes of them.
+use Rattle.std.specs.Prelude.{ℕ, ◌≡◌, ◌+◌, ◌^◌, nat_lt, nat_le, nat_eq, Bool, false, ◌&&◌, ◌||◌, cond, List, [], ◌∷◌, ◌++◌, filter, map, Option, Some, None}
+use Rattle.std.specs.List.{find, list_any}
+use Rattle.std.specs.Option.{option_map, option_to_list}
+use Rattle.er_event.specs.declared.steps.Kind.{Kind}
+use Rattle.er_event.specs.declared.steps.Kind.TheVariants.{Read as reading, Write as writing}
+use Rattle.er_model.specs.Words.{is_writing}
 use Rattle.er_order.specs.Clocks.{Epoch}
+use Rattle.er_order.specs.Following.{Kept, Seen, Reported, is_unordered}
+use Rattle.er_order.specs.Keeping.{IsNoted}
+use Rattle.er_epochs.specs.declared.reads.Tagged.{Tagged}
 
--- a list of epochs
-abbrev pub EpochList : Type 0
-EpochList = List Epoch
+-- of a word's era, the last write and reads since, the last one first
+pub record Latest (A : Type 0) : Type 0 where
+  pub write : Option (Tagged A)
+  pub reads : List (Tagged A)
 
--- the thread and its count
-abbrev pub pair_of : Kept → Epoch
-pair_of epoch = (epoch.thread, epoch.count)
+-- with no access in it
+abbrev pub untouched : {A : Type 0} → Latest A
+untouched = record { write = None; reads = [] }
 
--- those of a list
-abbrev pub pairs_of : List Kept → EpochList
-pairs_of epochs = map pair_of epochs
+-- what is stored of a word: these, or that a race was reported
+pub data Stored (A : Type 0) : Type 0 where
+  Accesses : (latest : Latest A) → Stored A
+  Told : Stored A
+
+-- an access of thread t at this count, with its tag
+abbrev pub tagged : {A : Type 0} → ℕ → ℕ → A → Tagged A
+tagged t n a = record { epoch = record { thread = t; count = n }; tag = a }
+
+-- its thread and its count
+abbrev pub pair_of : {A : Type 0} → Tagged A → Epoch
+pair_of access = (access.epoch.thread, access.epoch.count)
+
+-- what is stored, without the tags
+abbrev pub plain : {A : Type 0} → Stored A → Kept
+plain Told = Reported
+plain (Accesses latest) = Seen (option_map pair_of latest.write) (map pair_of latest.reads)
 
 -- that of a thread's number and its count; from 2^30 on no thread has the number
-abbrev pub epoch_in : ℕ → ℕ → Option Epoch
-epoch_in number count = cond (nat_lt number (2 ^ 30)) (Some (number, count)) None
+abbrev pub access_in : {A : Type 0} → ℕ → ℕ → A → Option (Tagged A)
+access_in number count tag = cond (nat_lt number (2 ^ 30)) (Some (tagged number count tag)) None
 
--- the reads: one, or those of a list, or none
-abbrev pub reads_in : ℕ → ℕ → EpochList → EpochList
-reads_in reader count listed = cond (nat_lt reader (2 ^ 30)) ((reader, count) ∷ []) (cond (nat_eq reader (2 ^ 30 + 1)) listed [])
+-- a word's reads: one or none, or those of a list beside it
+pub data Readers (A : Type 0) : Type 0 where
+  Alone : (read : Option (Tagged A)) → Readers A
+  Listed : Readers A
 
--- a thread's greatest count, if it has one, is greater
+abbrev pub readers_in : {A : Type 0} → ℕ → ℕ → A → Readers A
+readers_in number count tag = cond (nat_eq number (2 ^ 30 + 1)) Listed (Alone (access_in number count tag))
+
+-- the reads, with this list beside the word
+abbrev pub reads_beside : {A : Type 0} → Readers A → List (Tagged A) → List (Tagged A)
+reads_beside (Alone read) listed = option_to_list read
+reads_beside Listed listed = listed
+
+-- the clock doesn't cover the access
+abbrev pub is_apart : {A : Type 0} → (ℕ → ℕ) → Tagged A → Bool
+is_apart clock access = is_unordered clock (pair_of access)
+
+-- the same of one that there may be
+abbrev pub some_apart : {A : Type 0} → (ℕ → ℕ) → Option (Tagged A) → Bool
+some_apart clock None = false
+some_apart clock (Some access) = is_apart clock access
+
+-- an access of this kind, by a thread whose clock this is, is reported
+abbrev pub is_raced : {A : Type 0} → (ℕ → ℕ) → Stored A → Kind → Bool
+is_raced clock Told kind = false
+is_raced clock (Accesses latest) kind = some_apart clock latest.write || (is_writing kind && list_any (is_apart clock) latest.reads)
+
+-- the access in the place of those that the clock covers
+abbrev pub latest_by : {A : Type 0} → (ℕ → ℕ) → Latest A → Tagged A → Kind → Latest A
+latest_by clock before access reading = record { write = before.write; reads = access ∷ filter (is_apart clock) before.reads }
+latest_by clock before access writing = record { write = Some access; reads = [] }
+
+-- what is stored after this access by the thread whose clock this is
+abbrev pub stored_by : {A : Type 0} → (ℕ → ℕ) → Stored A → Tagged A → Kind → Stored A
+stored_by clock Told access kind = Told
+stored_by clock (Accesses latest) access kind = cond (is_raced clock (Accesses latest) kind) Told (Accesses (latest_by clock latest access kind))
+
+-- the reads that are stored
+abbrev pub reads_of : {A : Type 0} → Stored A → List (Tagged A)
+reads_of Told = []
+reads_of (Accesses latest) = latest.reads
+
+-- the same with these reads
+abbrev pub with_reads : {A : Type 0} → Stored A → List (Tagged A) → Stored A
+with_reads Told reads = Told
+with_reads (Accesses latest) reads = Accesses (record { write = latest.write; reads = reads })
+
+-- what may be stored after it
+abbrev pub IsStoredBy : {A : Type 0} → (ℕ → ℕ) → Stored A → Tagged A → Kind → Stored A → Type 0
+IsStoredBy {A} clock before access reading after = (noted : List (Tagged A)) × (after ≡ with_reads (stored_by clock before access reading) noted) × IsNoted pair_of clock (reads_of before) access noted
+IsStoredBy clock before access writing after = after ≡ stored_by clock before access writing
+
+-- those that an access of this kind conflicts with, the last one first
+abbrev pub rivals_of : {A : Type 0} → Latest A → Kind → List (Tagged A)
+rivals_of latest kind = cond (is_writing kind) latest.reads [] ++ option_to_list latest.write
+
+-- the tag of the first one that the clock doesn't cover
+abbrev pub tag_of_first : {A : Type 0} → (ℕ → ℕ) → List (Tagged A) → Option A
+tag_of_first clock accesses = option_map (λ access. access.tag) (find (is_apart clock) accesses)
+
+-- the tag of the last access that one of this kind conflicts with and that the clock doesn't cover
+abbrev pub tag_found : {A : Type 0} → (ℕ → ℕ) → Stored A → Kind → Option A
+tag_found clock Told kind = None
+tag_found clock (Accesses latest) kind = tag_of_first clock (rivals_of latest kind)
+
+-- a count that its thread has, if it has one, is no less
 abbrev pub is_replaced : Option ℕ → ℕ → Bool
 is_replaced None count = false
-is_replaced (Some newest) count = nat_lt count newest
+is_replaced (Some newest) count = nat_le count newest

@@ -1,2 +1,4 @@
 pub mod Epochs
 pub mod Words
+pub mod Standing
+pub mod Inner

@@ -1,64 +1,78 @@
--- What is kept of all words: the words in blocks of 128, and lists of reads beside some of them.
+-- What is stored of all words: the words in blocks of 128, and lists of reads beside some of them.
 use Rattle.std.specs.Prelude.{ℕ, ◌≡◌, ◌<◌, ◌+◌, ◌^◌, ◌/◌, ◌%◌, ◌&&◌, nat_eq, nat_le, Bool, true, false, cond, List, [], slice_index_or, Option, Some, None}
 use Rattle.std.specs.Map.{lookup}
 use Rattle.std.specs.Option.{unwrap_or}
-use Rattle.er_order.specs.Following.{Kept, Seen, Reported}
+use Rattle.er_order.specs.Following.{Kept}
+use Rattle.er_epochs.specs.declared.reads.Tagged.{Tagged}
 use Rattle.er_epochs.specs.declared.word.OrderWord.{OrderWord}
-use Rattle.er_epochs.specs.Epochs.{EpochList, epoch_in, reads_in}
+use Rattle.er_epochs.specs.Epochs.{Stored, Accesses, Told, Readers, Alone, plain, access_in, readers_in, reads_beside}
 
--- what a word says, with these reads; a writer of this number is none: a race was reported
-abbrev pub kept_with : OrderWord → EpochList → Kept
-kept_with word reads = cond (nat_eq word.writer (2 ^ 30 + 1)) Reported (Seen (epoch_in word.writer word.write_count) reads)
+-- what a word says: whether a race was reported, its last write, and its reads
+pub record Said (A : Type 0) : Type 0 where
+  pub told : Bool
+  pub write : Option (Tagged A)
+  pub readers : Readers A
 
--- what it says with the list beside it
-abbrev pub kept_in : OrderWord → EpochList → Kept
-kept_in word listed = kept_with word (reads_in word.reader word.read_count listed)
+-- a writer of this number is none: a race was reported
+abbrev pub said : {A : Type 0} → OrderWord A → Said A
+said word = record { told = nat_eq word.writer (2 ^ 30 + 1); write = access_in word.writer word.write_count word.write_tag; readers = readers_in word.reader word.read_count word.read_tag }
 
 -- a word that says nothing
-abbrev pub blank : OrderWord
-blank = record { writer = 2 ^ 30; write_count = 0; reader = 2 ^ 30; read_count = 0 }
+abbrev pub blank : {A : Type 0} → Said A
+blank = record { told = false; write = None; readers = Alone None }
+
+-- what it says with the list beside it
+abbrev pub stored_with : {A : Type 0} → Said A → List (Tagged A) → Stored A
+stored_with word listed = cond word.told Told (Accesses (record { write = word.write; reads = reads_beside word.readers listed }))
+
+abbrev pub stored_in : {A : Type 0} → OrderWord A → List (Tagged A) → Stored A
+stored_in word listed = stored_with (said word) listed
 
 -- lists by the numbers of their words
-abbrev pub WordLists : Type 0
-WordLists = List (ℕ × EpochList)
+abbrev pub WordLists : Type 0 → Type 0
+WordLists A = List (ℕ × List (Tagged A))
 
 -- the list beside the word of this number
-abbrev pub list_of : WordLists → ℕ → EpochList
+abbrev pub list_of : {A : Type 0} → WordLists A → ℕ → List (Tagged A)
 list_of lists w = unwrap_or (lookup (nat_eq w) lists) []
 
 -- what the word of this number says with these lists
-abbrev pub kept_beside : WordLists → ℕ → OrderWord → Kept
-kept_beside lists w word = kept_in word (list_of lists w)
+abbrev pub stored_beside : {A : Type 0} → WordLists A → ℕ → Said A → Stored A
+stored_beside lists w word = stored_with word (list_of lists w)
 
 -- the words of a block
-abbrev pub BlockWords : Type 0
-BlockWords = List OrderWord
+abbrev pub BlockWords : Type 0 → Type 0
+BlockWords A = List (Said A)
 
 -- the word at a place
-abbrev pub word_at : BlockWords → ℕ → OrderWord
+abbrev pub word_at : {A : Type 0} → BlockWords A → ℕ → Said A
 word_at words place = slice_index_or words place blank
 
 -- where there is no block, words say nothing
-abbrev pub word_in_block : Option BlockWords → ℕ → OrderWord
+abbrev pub word_in_block : {A : Type 0} → Option (BlockWords A) → ℕ → Said A
 word_in_block None place = blank
 word_in_block (Some words) place = word_at words place
 
 -- the blocks that are there, by number
-abbrev pub WordBlocks : Type 0
-WordBlocks = List (ℕ × BlockWords)
+abbrev pub WordBlocks : Type 0 → Type 0
+WordBlocks A = List (ℕ × BlockWords A)
 
 -- the word of this number
-abbrev pub word_among : WordBlocks → ℕ → OrderWord
+abbrev pub word_among : {A : Type 0} → WordBlocks A → ℕ → Said A
 word_among blocks w = word_in_block (lookup (nat_eq (w / 128)) blocks) (w % 128)
 
 -- the blocks and the lists that are there
-pub record AllWords : Type 0 where
-  pub blocks : WordBlocks
-  pub lists : WordLists
+pub record AllWords (A : Type 0) : Type 0 where
+  pub blocks : WordBlocks A
+  pub lists : WordLists A
 
--- what is kept of the word
-unfoldable pub kept_among : AllWords → ℕ → Kept
-kept_among all w = kept_beside all.lists w (word_among all.blocks w)
+-- what is stored of the word
+unfoldable pub stored_among : {A : Type 0} → AllWords A → ℕ → Stored A
+stored_among all w = stored_beside all.lists w (word_among all.blocks w)
+
+-- the same without the tags
+abbrev pub kept_among : {A : Type 0} → AllWords A → ℕ → Kept
+kept_among all w = plain (stored_among all w)
 
 -- the word stands in the block of this number, at one of these places
 abbrev pub is_place_in : ℕ → ℕ → ℕ → ℕ → Bool

@@ -1,9 +1,8 @@
 //! Words that lie side by side.
-ghost use Rattle.std.specs.Prelude.{◌≡◌, ◌+◌, ◌*◌, ◌<◌, ◌≤◌, ◌^◌, ◌&&◌, ℕ, nat_eq, nat_le, nat_lt, cond, false, IfOk, OnOk, OnErr};
-ghost use Rattle.er_order.specs.Following.{reports_at};
-ghost use Rattle.er_order.specs.Keeping.{IsKeptBy};
+ghost use Rattle.std.specs.Prelude.{◌≡◌, ◌+◌, ◌*◌, ◌<◌, ◌≤◌, ◌^◌, ◌&&◌, ℕ, nat_eq, nat_le, nat_lt, cond, false, length, map, IfOk, OnOk, OnErr};
 ghost use Rattle.er_clocks.specs.Counts.{count_by};
-ghost use Rattle.er_epochs.specs.Words.{blank, word_at, list_of, kept_beside, is_place_in, IsLowest};
+ghost use Rattle.er_epochs.specs.Epochs.{is_raced, tag_found, tagged, IsStoredBy};
+ghost use Rattle.er_epochs.specs.Words.{blank, said, word_at, list_of, stored_beside, is_place_in, IsLowest};
 
 use crate::finding::start_of;
 use crate::lists::ReadLists;
@@ -18,26 +17,31 @@ pub(crate) const WORDS: usize = 128;
 
 /// Words that lie side by side. The lists of those that have one stand elsewhere.
 #[derive(Drop)]
-pub(crate) struct Block {
-    words: Box<[OrderWord; WORDS]>,
+pub(crate) struct Block<A> {
+    words: Vec<OrderWord<A>>,
 }
 
-impl Model for Block {
-    ghost use Rattle.er_epochs.specs.Words.{BlockWords};
+impl<A> Model for Block<A> {
+    ghost use Rattle.std.specs.Prelude.{◌≡◌, length, map};
+    ghost use Rattle.er_epochs.specs.Words.{said, BlockWords};
 
-    ghost Value = { BlockWords };
+    ghost Value = { BlockWords A };
 
-    ghost view = { λ b. b.words.value };
+    ghost view = { λ b. map said b.words.items };
+
+    ghost invariant = { λ b. length b.words.items ≡ 128 };
 }
 
-impl Block {
-    /// No word was accessed in its era.
-    pub(crate) fn new(alloc: Global) -> Result<Block, AllocError>
+impl<A: Copy> Block<A> {
+    /// No word was accessed in its era. Any tag will do.
+    pub(crate) fn new(alloc: Global, tag: A) -> Result<Self, AllocError>
         ensures { IfOk result (λ block. (i : ℕ) → word_at block i ≡ blank) }
     {
-        Ok(Block {
-            words: Box::new(alloc, [OrderWord::new(); WORDS])?,
-        })
+        let mut words = Vec::with_capacity(alloc, WORDS)?;
+        for place in 0..WORDS {
+            words.push(OrderWord::new(tag))?;
+        }
+        Ok(Block { words })
     }
 
     /// One counted access of the word of this number, at this place, by the thread whose clock this is. Returns whether it is reported as a
@@ -45,24 +49,26 @@ impl Block {
     #[inline]
     pub(crate) fn access(
         &mut self,
-        lists: &mut ReadLists,
+        lists: &mut ReadLists<A>,
         number: u64,
         place: usize,
         clock: &ThreadClock<'_>,
         kind: Kind,
+        tag: A,
     ) -> Result<bool, AllocError>
         requires { place < 128 }
-        ensures ok { OnOk result (IsKeptBy (count_by clock.now) (kept_beside lists.old number (word_at self.old place)) clock.now.0 kind (kept_beside lists.new number (word_at self.new place))) }
-        ensures reported { IfOk result (λ reported. reported ≡ reports_at (count_by clock.now) (kept_beside lists.old number (word_at self.old place)) kind) }
-        ensures err { OnErr result (kept_beside lists.new number (word_at self.new place) ≡ kept_beside lists.old number (word_at self.old place)) }
+        ensures ok { OnOk result (IsStoredBy (count_by clock.now) (stored_beside lists.old number (word_at self.old place)) (tagged clock.now.0 (count_by clock.now clock.now.0) tag) kind (stored_beside lists.new number (word_at self.new place))) }
+        ensures reported { IfOk result (λ reported. reported ≡ is_raced (count_by clock.now) (stored_beside lists.old number (word_at self.old place)) kind) }
+        ensures err { OnErr result (stored_beside lists.new number (word_at self.new place) ≡ stored_beside lists.old number (word_at self.old place)) }
         ensures places { (i : ℕ) → nat_eq place i ≡ false → word_at self.new i ≡ word_at self.old i }
         ensures lists { (w : ℕ) → nat_eq number w ≡ false → list_of lists.new w ≡ list_of lists.old w }
     {
         let word = get(&self.words, place);
-        if word.is_settled(clock, kind) {
+        if let Some(next) = word.settled(clock, kind, tag) {
+            put(&mut self.words, place, next);
             return Ok(false);
         }
-        let (next, reported) = advance(lists, number, word, clock, kind)?;
+        let (next, reported) = advance(lists, number, word, clock, kind, tag)?;
         put(&mut self.words, place, next);
         Ok(reported)
     }
@@ -75,11 +81,33 @@ impl Block {
         get(&self.words, place).peek()
     }
 
+    /// The tag of the last access of the word of this number, at this place, that one of this kind conflicts with and that doesn't happen before
+    /// what the clock's thread does now.
+    #[inline]
+    pub(crate) fn find(
+        &self,
+        lists: &ReadLists<A>,
+        number: u64,
+        place: usize,
+        clock: &ThreadClock<'_>,
+        kind: Kind,
+    ) -> Option<A>
+        requires { place < 128 }
+        ensures { result ≡ tag_found (count_by clock.now) (stored_beside lists.now number (word_at self.now place)) kind }
+    {
+        let word = get(&self.words, place);
+        if word.has_list() {
+            word.find(clock, kind, lists.find(word.hint(), number, clock))
+        } else {
+            word.find(clock, kind, None)
+        }
+    }
+
     /// The lowest place from `lo` to `hi`, both included, of a word of which a write by the clock's thread would be reported, where this is the
     /// block of this number.
     pub(crate) fn first_in_use(
         &self,
-        lists: &ReadLists,
+        lists: &ReadLists<A>,
         number: u64,
         lo: usize,
         hi: usize,
@@ -87,15 +115,33 @@ impl Block {
     ) -> Option<usize>
         requires hi { hi < 128 }
         requires number { number < 2 ^ 39 }
-        ensures { IsLowest (λ i. (nat_le lo i && nat_le i hi) && reports_at (count_by clock.now) (kept_beside lists.now (number * 128 + i) (word_at self.now i)) Kind.Write) result }
+        ensures { IsLowest (λ i. (nat_le lo i && nat_le i hi) && is_raced (count_by clock.now) (stored_beside lists.now (number * 128 + i) (word_at self.now i)) Kind.Write) result }
     {
         for place in lo..hi + 1 {
-            let word = get(&self.words, place);
-            if refuses_write(lists, number * 128 + place as u64, word, clock) {
+            if self.is_in_use(lists, number * 128 + place as u64, place, clock) {
                 return Some(place);
             }
         }
         None
+    }
+
+    // Whether a write of the word of this number, at this place, by the clock's thread would be reported.
+    #[inline]
+    fn is_in_use(
+        &self,
+        lists: &ReadLists<A>,
+        number: u64,
+        place: usize,
+        clock: &ThreadClock<'_>,
+    ) -> bool
+        requires { place < 128 }
+        ensures { result ≡ is_raced (count_by clock.now) (stored_beside lists.now number (word_at self.now place)) Kind.Write }
+    {
+        if get(&self.words, place).is_blank() {
+            return false;
+        }
+        self.find(lists, number, place, clock, Kind::Write)
+            .is_some()
     }
 
     /// Ends the era of the words from `lo` to `hi`, both included.
@@ -103,15 +149,11 @@ impl Block {
         requires { hi < 128 }
         ensures { (i : ℕ) → word_at self.new i ≡ cond (nat_le lo i && nat_le i hi) blank (word_at self.old i) }
     {
-        if lo == 0 && hi == WORDS - 1 {
-            empty_all(&mut self.words);
-            return;
-        }
         empty(&mut self.words, start_of(lo, hi + 1), hi + 1);
     }
 
     /// Lets go of the lists of the words from `lo` to `hi`, both included, where this is the block of this number.
-    pub(crate) fn forget_lists(&self, lists: &mut ReadLists, number: u64, lo: usize, hi: usize)
+    pub(crate) fn forget_lists(&self, lists: &mut ReadLists<A>, number: u64, lo: usize, hi: usize)
         requires hi { hi < 128 }
         requires number { number < 2 ^ 46 }
         ensures { (w : ℕ) → is_place_in number lo hi w ≡ false → list_of lists.new w ≡ list_of lists.old w }
@@ -130,70 +172,71 @@ impl Block {
 
 // One counted access of the word of this number. Returns the word after it, and whether it is reported as a race.
 #[inline]
-fn advance(
-    lists: &mut ReadLists,
+fn advance<A: Copy>(
+    lists: &mut ReadLists<A>,
     number: u64,
-    word: OrderWord,
+    word: OrderWord<A>,
     clock: &ThreadClock<'_>,
     kind: Kind,
-) -> Result<(OrderWord, bool), AllocError>
-    ensures kept { IfOk result (λ r. IsKeptBy (count_by clock.now) (kept_beside lists.old number word) clock.now.0 kind (kept_beside lists.new number r.0)) }
-    ensures reported { IfOk result (λ r. r.1 ≡ reports_at (count_by clock.now) (kept_beside lists.old number word) kind) }
-    ensures err { OnErr result (kept_beside lists.new number word ≡ kept_beside lists.old number word) }
+    tag: A,
+) -> Result<(OrderWord<A>, bool), AllocError>
+    ensures kept { IfOk result (λ r. IsStoredBy (count_by clock.now) (stored_beside lists.old number (said word)) (tagged clock.now.0 (count_by clock.now clock.now.0) tag) kind (stored_beside lists.new number (said r.0))) }
+    ensures reported { IfOk result (λ r. r.1 ≡ is_raced (count_by clock.now) (stored_beside lists.old number (said word)) kind) }
+    ensures err { OnErr result (stored_beside lists.new number (said word) ≡ stored_beside lists.old number (said word)) }
     ensures others { (w : ℕ) → nat_eq number w ≡ false → list_of lists.new w ≡ list_of lists.old w }
 {
-    match word.access(clock, kind) {
+    match word.access(clock, kind, tag) {
         Some(after) => Ok(after),
-        None => lists.access(number, word, clock, kind),
-    }
-}
-
-// Whether a write of the word of this number by the clock's thread would be reported.
-#[inline]
-fn refuses_write(lists: &ReadLists, number: u64, word: OrderWord, clock: &ThreadClock<'_>) -> bool
-    ensures { result ≡ reports_at (count_by clock.now) (kept_beside lists.now number word) Kind.Write }
-{
-    if word.has_list() {
-        word.refuses_write(clock, lists.has_unordered(word.hint(), number, clock))
-    } else {
-        word.refuses_write(clock, false)
+        None => lists.access(number, word, clock, kind, tag),
     }
 }
 
 // The word at a place.
 #[inline]
-fn get(words: &[OrderWord; WORDS], place: usize) -> OrderWord
-    requires { place < 128 }
-    ensures { result ≡ word_at words.now place }
+fn get<A: Copy>(words: &Vec<OrderWord<A>>, place: usize) -> OrderWord<A>
+    requires long { length words.now.items ≡ 128 }
+    requires place { place < 128 }
+    ensures { said result ≡ word_at (map said words.now.items) place }
 {
     words[place]
 }
 
 // Puts a word at a place.
 #[inline]
-fn put(words: &mut [OrderWord; WORDS], place: usize, word: OrderWord)
-    requires { place < 128 }
-    ensures here { word_at words.new place ≡ word }
-    ensures others { (i : ℕ) → nat_eq place i ≡ false → word_at words.new i ≡ word_at words.old i }
+fn put<A: Copy>(words: &mut Vec<OrderWord<A>>, place: usize, word: OrderWord<A>)
+    requires long { length words.old.items ≡ 128 }
+    requires place { place < 128 }
+    ensures long { length words.new.items ≡ 128 }
+    ensures here { word_at (map said words.new.items) place ≡ said word }
+    ensures others { (i : ℕ) → nat_eq place i ≡ false → word_at (map said words.new.items) i ≡ word_at (map said words.old.items) i }
 {
     words[place] = word;
 }
 
-// Ends the era of all words.
-fn empty_all(words: &mut [OrderWord; WORDS])
-    ensures all { (i : ℕ) → word_at words.new i ≡ blank }
-    ensures past { (i : ℕ) → 128 ≤ i → word_at words.old i ≡ blank }
-{
-    *words = [OrderWord::new(); WORDS];
-}
-
-// Ends the era of the words from `start` to `end`, without the one at `end`.
-fn empty(words: &mut [OrderWord; WORDS], start: usize, end: usize)
+// Ends the era of the words from `start` to `end`, without the one at `end`. It leaves words that say nothing as they are.
+fn empty<A: Copy>(words: &mut Vec<OrderWord<A>>, start: usize, end: usize)
+    requires long { length words.old.items ≡ 128 }
     requires ordered { start ≤ end }
     requires within { end ≤ 128 }
-    ensures { (i : ℕ) → word_at words.new i ≡ cond (nat_le start i && nat_lt i end) blank (word_at words.old i) }
+    ensures long { length words.new.items ≡ 128 }
+    ensures emptied { (i : ℕ) → word_at (map said words.new.items) i ≡ cond (nat_le start i && nat_lt i end) blank (word_at (map said words.old.items) i) }
 {
     for place in start..end {
-        words[place] = OrderWord::new();
+        empty_at(words, place);
+    }
+}
+
+// Ends the era of the word at a place.
+#[inline]
+fn empty_at<A: Copy>(words: &mut Vec<OrderWord<A>>, place: usize)
+    requires long { length words.old.items ≡ 128 }
+    requires place { place < 128 }
+    ensures long { length words.new.items ≡ 128 }
+    ensures here { word_at (map said words.new.items) place ≡ blank }
+    ensures others { (i : ℕ) → nat_eq place i ≡ false → word_at (map said words.new.items) i ≡ word_at (map said words.old.items) i }
+{
+    let word = get(words, place);
+    if !word.is_blank() {
+        put(words, place, word.emptied());
     }
 }

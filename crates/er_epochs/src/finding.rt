@@ -16,20 +16,20 @@ const HINTS: u64 = 4096;
 /// Where the block of a number stood when it was accessed, by the lowest bits of the number. Another block may have the same bits, so
 /// whoever asks must check what it gets, as [`index_of`] does.
 #[derive(Drop)]
-pub struct BlockHints {
+pub(crate) struct BlockHints {
     places: Vec<usize>,
 }
 
 impl BlockHints {
     /// Nothing is noted. It takes no memory.
-    pub fn new(alloc: Global) -> BlockHints {
+    pub(crate) fn new(alloc: Global) -> BlockHints {
         BlockHints {
             places: Vec::new(alloc),
         }
     }
 
     /// Makes room for all hints, unless it is there. Until then none is kept.
-    pub fn make_room(&mut self) -> Result<(), AllocError> {
+    pub(crate) fn make_room(&mut self) -> Result<(), AllocError> {
         if self.places.is_empty() {
             self.places.resize(HINTS as usize, 0)?;
         }
@@ -38,7 +38,7 @@ impl BlockHints {
 
     /// Where the block of this number stands, as a rule.
     #[inline(always)]
-    pub fn hint(&self, number: u64) -> usize {
+    pub(crate) fn hint(&self, number: u64) -> usize {
         match self.places.get((number % HINTS) as usize) {
             Some(&index) => index,
             None => 0,
@@ -47,7 +47,7 @@ impl BlockHints {
 
     /// Notes where the block of this number stands.
     #[inline(always)]
-    pub fn note(&mut self, number: u64, index: usize) {
+    pub(crate) fn note(&mut self, number: u64, index: usize) {
         if let Some(hint) = self.places.get_mut((number % HINTS) as usize) {
             *hint = index;
         }
@@ -70,7 +70,7 @@ pub fn index_of<V>(map: &IndexMap<u64, V, NumberHasher>, hint: usize, number: u6
 
 /// The number of a word's block.
 #[inline]
-pub fn block_of(word: Word) -> u64
+pub(crate) fn block_of(word: Word) -> u64
     ensures value { result ≡ word / 128 }
     ensures within { result < 2 ^ 39 }
 {
@@ -79,7 +79,7 @@ pub fn block_of(word: Word) -> u64
 
 /// Where a word stands in its block.
 #[inline]
-pub fn place_of(word: Word) -> usize
+pub(crate) fn place_of(word: Word) -> usize
     ensures value { result ≡ word % 128 }
     ensures within { result < 128 }
 {
@@ -87,7 +87,7 @@ pub fn place_of(word: Word) -> usize
 }
 
 /// Where the words from `lo` on begin in the block of this number.
-pub fn from_in(number: u64, lo: Word) -> usize
+pub(crate) fn from_in(number: u64, lo: Word) -> usize
     requires { lo / 128 ≤ number }
     ensures { (w : ℕ) → number ≡ w / 128 → nat_le result (w % 128) ≡ nat_le lo w }
 {
@@ -99,7 +99,7 @@ pub fn from_in(number: u64, lo: Word) -> usize
 }
 
 /// Where the words up to `hi` end in the block of this number.
-pub fn to_in(number: u64, hi: Word) -> usize
+pub(crate) fn to_in(number: u64, hi: Word) -> usize
     requires { number ≤ hi / 128 }
     ensures place { (w : ℕ) → number ≡ w / 128 → nat_le (w % 128) result ≡ nat_le w hi }
     ensures within { result < 128 }
@@ -112,7 +112,7 @@ pub fn to_in(number: u64, hi: Word) -> usize
 }
 
 /// Where a pass begins that goes from `lo` to this end, if it goes anywhere.
-pub fn start_of(lo: usize, end: usize) -> usize
+pub(crate) fn start_of(lo: usize, end: usize) -> usize
     ensures ordered { result ≤ end }
     ensures same { (i : ℕ) → (nat_le result i && nat_lt i end) ≡ (nat_le lo i && nat_lt i end) }
 {

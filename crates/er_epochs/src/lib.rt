@@ -1,18 +1,21 @@
-//! What happens-before keeps of each word: the epoch of the last write, and those of the latest reads since.
+//! What happens-before keeps of each word: the last write and the latest reads since, each by its epoch and a tag.
 //!
-//! Begin with [`OrderWords`]. `OrderWord` is one of them, in 16 bytes.
+//! Begin with [`OrderWords`]. `OrderWord` is one of them, in 16 bytes and two tags. Who wants no tags takes `()`, which has no bytes.
 //!
 //! What it promises, by the names of clauses: an access is reported exactly if the definitions report it by what is kept and by its
-//! thread's clock (`reported`), what is then kept is what they keep or serves as well (`ok`), and an error changes nothing (`err`). A
-//! call on one word leaves the others (`others`). A reset says which word of its range was still in use (`in_use`). How a word's block
-//! is found (`block_of`, `index_of` and [`BlockHints`]) serves other stores of words too.
+//! thread's clock (`reported`), what is then kept is what they keep or serves as well (`ok`, `kept`), and an error changes nothing (`err`).
+//! A call on one word leaves the others (`others`). A reset says which word of its range was still in use (`in_use`). With the tags of the
+//! steps of a list it goes on by one step at a time (`goes_on`), and at a race it names the access that the definitions name
+//! (`reason`). How an entry is found without a hash as a rule (`index_of`) serves other maps too. That the last write and the latest reads are enough for this is a law of the definitions (`a_reason_is_found` of `er_order`).
 #![tactic(auto)]
 
-pub use finding::{BlockHints, block_of, from_in, index_of, place_of, start_of, to_in};
+pub use finding::index_of;
+pub use reads::Tagged;
 pub use words::OrderWords;
 
 mod block;
 mod finding;
+mod following;
 mod lists;
 mod reads;
 mod word;

@@ -1,11 +1,9 @@
 //! The lists of reads of the words that have several.
 ghost use Rattle.std.specs.Prelude.{◌≡◌, ◌<◌, ℕ, nat_eq, slice_get, false, Some, [], IsTrue, IfOk, OnErr};
 ghost use Rattle.indexmap.specs.IndexMap.{keys, index_map_len, IsUnique};
-ghost use Rattle.std.specs.List.{list_any};
-ghost use Rattle.er_order.specs.Following.{is_unordered, reports_at};
-ghost use Rattle.er_order.specs.Keeping.{IsKeptBy};
 ghost use Rattle.er_clocks.specs.Counts.{count_by};
-ghost use Rattle.er_epochs.specs.Words.{list_of, kept_beside};
+ghost use Rattle.er_epochs.specs.Epochs.{is_raced, tag_of_first, tagged, IsStoredBy};
+ghost use Rattle.er_epochs.specs.Words.{list_of, said, stored_beside};
 
 use crate::finding::index_of;
 use crate::reads::Reads;
@@ -20,21 +18,21 @@ use std::marker::Model;
 /// The lists of the words that have several reads in no order, by the words' numbers. A word that no longer has such reads gives its list
 /// up, so memory goes by the words that have them now. Contracts see the lists by `list_of`.
 #[derive(Drop)]
-pub(crate) struct ReadLists {
-    lists: IndexMap<u64, Reads, NumberHasher>,
+pub(crate) struct ReadLists<A> {
+    lists: IndexMap<u64, Reads<A>, NumberHasher>,
     keys: HashKeys,
     alloc: Global,
 }
 
-impl Model for ReadLists {
+impl<A> Model for ReadLists<A> {
     ghost use Rattle.er_epochs.specs.Words.{WordLists};
 
-    ghost Value = { WordLists };
+    ghost Value = { WordLists A };
 
     ghost view = { λ l. l.lists.entries };
 }
 
-impl ReadLists {
+impl<A: Copy> ReadLists<A> {
     /// No word has a list. Their numbers are hashed by these keys.
     pub(crate) fn new(alloc: Global, keys: HashKeys) -> Self
         ensures { result ≡ [] }
@@ -58,16 +56,17 @@ impl ReadLists {
     pub(crate) fn access(
         &mut self,
         number: u64,
-        word: OrderWord,
+        word: OrderWord<A>,
         clock: &ThreadClock<'_>,
         kind: Kind,
-    ) -> Result<(OrderWord, bool), AllocError>
-        ensures kept { IfOk result (λ r. IsKeptBy (count_by clock.now) (kept_beside self.old number word) clock.now.0 kind (kept_beside self.new number r.0)) }
-        ensures reported { IfOk result (λ r. r.1 ≡ reports_at (count_by clock.now) (kept_beside self.old number word) kind) }
-        ensures err { OnErr result (kept_beside self.new number word ≡ kept_beside self.old number word) }
+        tag: A,
+    ) -> Result<(OrderWord<A>, bool), AllocError>
+        ensures kept { IfOk result (λ r. IsStoredBy (count_by clock.now) (stored_beside self.old number (said word)) (tagged clock.now.0 (count_by clock.now clock.now.0) tag) kind (stored_beside self.new number (said r.0))) }
+        ensures reported { IfOk result (λ r. r.1 ≡ is_raced (count_by clock.now) (stored_beside self.old number (said word)) kind) }
+        ensures err { OnErr result (stored_beside self.new number (said word) ≡ stored_beside self.old number (said word)) }
         ensures others { (w : ℕ) → nat_eq number w ≡ false → list_of self.new w ≡ list_of self.old w }
     {
-        let (next, reported) = self.advance(number, word, clock, kind)?;
+        let (next, reported) = self.advance(number, word, clock, kind, tag)?;
         if !next.has_list() {
             self.forget(word.hint(), number);
         }
@@ -78,27 +77,28 @@ impl ReadLists {
     fn advance(
         &mut self,
         number: u64,
-        word: OrderWord,
+        word: OrderWord<A>,
         clock: &ThreadClock<'_>,
         kind: Kind,
-    ) -> Result<(OrderWord, bool), AllocError>
-        ensures kept { IfOk result (λ r. IsKeptBy (count_by clock.now) (kept_beside self.old number word) clock.now.0 kind (kept_beside self.new number r.0)) }
-        ensures reported { IfOk result (λ r. r.1 ≡ reports_at (count_by clock.now) (kept_beside self.old number word) kind) }
-        ensures err { OnErr result (kept_beside self.new number word ≡ kept_beside self.old number word) }
+        tag: A,
+    ) -> Result<(OrderWord<A>, bool), AllocError>
+        ensures kept { IfOk result (λ r. IsStoredBy (count_by clock.now) (stored_beside self.old number (said word)) (tagged clock.now.0 (count_by clock.now clock.now.0) tag) kind (stored_beside self.new number (said r.0))) }
+        ensures reported { IfOk result (λ r. r.1 ≡ is_raced (count_by clock.now) (stored_beside self.old number (said word)) kind) }
+        ensures err { OnErr result (stored_beside self.new number (said word) ≡ stored_beside self.old number (said word)) }
         ensures others { (w : ℕ) → nat_eq number w ≡ false → list_of self.new w ≡ list_of self.old w }
     {
         let index = reach(self.alloc, &mut self.lists, word.hint(), number)?;
         let reads = &mut self.lists[index];
-        word.access_listed(reads, index, self.alloc, self.keys, clock, kind)
+        word.access_listed(reads, index, self.alloc, self.keys, clock, kind, tag)
     }
 
-    /// Whether one of the listed reads of the word of this number doesn't happen before what the clock's thread does now.
-    pub(crate) fn has_unordered(&self, hint: usize, number: u64, clock: &ThreadClock<'_>) -> bool
-        ensures { result ≡ list_any (is_unordered (count_by clock.now)) (list_of self.now number) }
+    /// The tag of the last one of the listed reads of the word of this number that doesn't happen before what the clock's thread does now.
+    pub(crate) fn find(&self, hint: usize, number: u64, clock: &ThreadClock<'_>) -> Option<A>
+        ensures { result ≡ tag_of_first (count_by clock.now) (list_of self.now number) }
     {
         match index_of(&self.lists, hint, number) {
-            Some(index) => self.lists[index].has_unordered(clock),
-            None => false,
+            Some(index) => self.lists[index].find(clock),
+            None => None,
         }
     }
 
@@ -113,9 +113,9 @@ impl ReadLists {
 }
 
 // Where the list of the word of this number stands. If there was none, it is made.
-fn reach(
+fn reach<A: Copy>(
     alloc: Global,
-    lists: &mut IndexMap<u64, Reads, NumberHasher>,
+    lists: &mut IndexMap<u64, Reads<A>, NumberHasher>,
     hint: usize,
     number: u64,
 ) -> Result<usize, AllocError>

@@ -1,12 +1,10 @@
 //! The reads of a word since its last write, where several are kept.
-ghost use Rattle.std.specs.Prelude.{◌≡◌, ℕ, [], ◌∷◌, ◌++◌, ◌&&◌, not, filter, nat_eq, Some, IsTrue, IfOk, OnOk, OnErr};
-ghost use Rattle.std.specs.List.{list_any, Contains};
+ghost use Rattle.std.specs.Prelude.{◌≡◌, ◌≤◌, ℕ, ◌∷◌, ◌++◌, ◌&&◌, [], reverse, filter, not, nat_eq, false, IsTrue, IfOk, OnOk, OnErr};
 ghost use Rattle.indexmap.specs.IndexMap.{get};
-ghost use Rattle.er_order.specs.Clocks.{Epoch as Pair};
 ghost use Rattle.er_order.specs.Following.{is_unordered};
-ghost use Rattle.er_order.specs.Keeping.{IsNoted};
+ghost use Rattle.er_order.specs.Keeping.{IsNoted, first_apart};
 ghost use Rattle.er_clocks.specs.Counts.{count_by};
-ghost use Rattle.er_epochs.specs.Epochs.{pair_of, pairs_of, reads_in, is_replaced};
+ghost use Rattle.er_epochs.specs.Epochs.{is_apart, is_replaced, pair_of, readers_in, reads_beside, tag_of_first, tagged};
 
 use crate::word::{NONE, SEVERAL};
 use er_clock::Epoch;
@@ -20,48 +18,59 @@ use std::marker::Model;
 /// Up to so many reads each new one is compared with all.
 const FEW: usize = 16;
 
-/// Epochs of reads of a word since its last write: the latest reads, of which neither happens before another, and earlier ones that nobody
-/// needs any more. The last read stands last.
+/// An access: the epoch of its thread, and the tag that the caller gave it.
+#[derive(Clone, Copy)]
+pub struct Tagged<A> {
+    /// The thread, and its own count at the access.
+    pub epoch: Epoch,
+    /// What the caller calls the access.
+    pub tag: A,
+}
+
+/// Reads of a word since its last write: the latest reads, of which neither happens before another, and earlier ones that nobody needs any more.
+/// Contracts see the last one first.
 ///
 /// Of many reads the useless ones are looked for only once the list is full, and then it gets room for as many again. So on average a read takes the
 /// same time however many threads read the word, and a list has at most about two reads for each of these threads.
 #[derive(Drop)]
-pub(crate) struct Reads {
-    epochs: Vec<Epoch>,
+pub(crate) struct Reads<A> {
+    // The last read stands last.
+    reads: Vec<Tagged<A>>,
 }
 
-impl Model for Reads {
-    ghost use Rattle.er_epochs.specs.Epochs.{EpochList, pairs_of};
+impl<A> Model for Reads<A> {
+    ghost use Rattle.std.specs.Prelude.{List, reverse};
+    ghost use Rattle.er_epochs.specs.declared.reads.Tagged.{Tagged};
 
-    ghost Value = { EpochList };
+    ghost Value = { List (Tagged A) };
 
-    ghost view = { λ r. pairs_of r.epochs.items };
+    ghost view = { λ r. reverse r.reads.items };
 }
 
-impl Reads {
+impl<A: Copy> Reads<A> {
     /// No read. It takes no memory.
     pub(crate) fn new(alloc: Global) -> Self
         ensures { result ≡ [] }
     {
         Reads {
-            epochs: Vec::new(alloc),
+            reads: Vec::new(alloc),
         }
     }
 
-    /// Makes the list what a word says of its reads, by its reader and the reader's count. `AllocError`: memory was refused, and the word
+    /// Makes the list what a word says of its reads, by its reader and the reader's count and tag. `AllocError`: memory was refused, and the word
     /// says what it said.
-    pub(crate) fn gather(&mut self, reader: u32, count: u32) -> Result<(), AllocError>
-        ensures ok { OnOk result (self.new ≡ reads_in reader count self.old) }
-        ensures err { OnErr result (reads_in reader count self.new ≡ reads_in reader count self.old) }
+    pub(crate) fn gather(&mut self, reader: u32, count: u32, tag: A) -> Result<(), AllocError>
+        ensures ok { OnOk result (self.new ≡ reads_beside (readers_in reader count tag) self.old) }
+        ensures err { OnErr result (reads_beside (readers_in reader count tag) self.new ≡ reads_beside (readers_in reader count tag) self.old) }
     {
-        gather(&mut self.epochs, reader, count)
+        gather(&mut self.reads, reader, count, tag)
     }
 
-    /// Whether one of the reads doesn't happen before what the clock's thread does now.
-    pub(crate) fn has_unordered(&self, clock: &ThreadClock<'_>) -> bool
-        ensures { result ≡ list_any (is_unordered (count_by clock.now)) self.now }
+    /// The tag of the last read that doesn't happen before what the clock's thread does now.
+    pub(crate) fn find(&self, clock: &ThreadClock<'_>) -> Option<A>
+        ensures { result ≡ tag_of_first (count_by clock.now) self.now }
     {
-        has_unordered(&self.epochs, clock)
+        find(&self.reads, clock)
     }
 
     /// Notes a read in the clock's epoch. `AllocError`: memory was refused, and the reads are as they were.
@@ -70,184 +79,200 @@ impl Reads {
         alloc: Global,
         keys: HashKeys,
         clock: &ThreadClock<'_>,
+        tag: A,
     ) -> Result<(), AllocError>
-        ensures ok { OnOk result (IsNoted (count_by clock.now) self.old clock.now.0 self.new) }
+        ensures ok { OnOk result (IsNoted pair_of (count_by clock.now) self.old (tagged clock.now.0 (count_by clock.now clock.now.0) tag) self.new) }
         ensures err { OnErr result (self.new ≡ self.old) }
     {
-        note_read(alloc, keys, &mut self.epochs, clock)
+        note_read(alloc, keys, &mut self.reads, clock, tag)
     }
 }
 
 // Makes the list what a word says of its reads.
-fn gather(reads: &mut Vec<Epoch>, reader: u32, count: u32) -> Result<(), AllocError>
-    ensures ok { OnOk result (pairs_of reads.new.items ≡ reads_in reader count (pairs_of reads.old.items)) }
-    ensures err { OnErr result (reads_in reader count (pairs_of reads.new.items) ≡ reads_in reader count (pairs_of reads.old.items)) }
+fn gather<A: Copy>(
+    reads: &mut Vec<Tagged<A>>,
+    reader: u32,
+    count: u32,
+    tag: A,
+) -> Result<(), AllocError>
+    ensures ok { OnOk result (reverse reads.new.items ≡ reads_beside (readers_in reader count tag) (reverse reads.old.items)) }
+    ensures err { OnErr result (reads_beside (readers_in reader count tag) (reverse reads.new.items) ≡ reads_beside (readers_in reader count tag) (reverse reads.old.items)) }
 {
     if reader == SEVERAL {
         return Ok(());
     }
     reads.clear();
     if reader < NONE {
-        reads.push(Epoch {
-            thread: ThreadId::new(reader),
-            count,
+        reads.push(Tagged {
+            epoch: Epoch {
+                thread: ThreadId::new(reader),
+                count,
+            },
+            tag,
         })?;
     }
     Ok(())
 }
 
-// One of the reads doesn't happen before what the clock's thread does now.
-fn has_unordered(reads: &Vec<Epoch>, clock: &ThreadClock<'_>) -> bool
-    ensures { result ≡ list_any (is_unordered (count_by clock.now)) (pairs_of reads.now.items) }
+// The tag of the last read that the clock doesn't cover.
+fn find<A: Copy>(reads: &Vec<Tagged<A>>, clock: &ThreadClock<'_>) -> Option<A>
+    ensures { result ≡ tag_of_first (count_by clock.now) (reverse reads.now.items) }
 {
-    reads.iter().any(|epoch| !clock.covers(*epoch))
+    match reads.iter().rev().find(|read| !clock.covers(read.epoch)) {
+        Some(read) => Some(read.tag),
+        None => None,
+    }
+}
+
+/// An access by the thread whose clock this is.
+#[inline]
+pub(crate) fn access_by<A: Copy>(clock: &ThreadClock<'_>, tag: A) -> Tagged<A>
+    ensures { result ≡ tagged clock.now.0 (count_by clock.now clock.now.0) tag }
+{
+    Tagged {
+        epoch: clock.epoch(),
+        tag,
+    }
 }
 
 // Notes a read in the clock's epoch.
-fn note_read(
+fn note_read<A: Copy>(
     alloc: Global,
     keys: HashKeys,
-    reads: &mut Vec<Epoch>,
+    reads: &mut Vec<Tagged<A>>,
     clock: &ThreadClock<'_>,
+    tag: A,
 ) -> Result<(), AllocError>
-    ensures ok { OnOk result (IsNoted (count_by clock.now) (pairs_of reads.old.items) clock.now.0 (pairs_of reads.new.items)) }
+    ensures ok { OnOk result (IsNoted pair_of (count_by clock.now) (reverse reads.old.items) (tagged clock.now.0 (count_by clock.now clock.now.0) tag) (reverse reads.new.items)) }
     ensures err { OnErr result (reads.new.items ≡ reads.old.items) }
 {
-    if is_last(reads, clock) {
+    if put_over_last(reads, clock, tag) {
         return Ok(());
     }
     if reads.len() < FEW {
-        note_among_few(reads, clock)
+        note_among_few(reads, clock, tag)
     } else if reads.len() < reads.capacity() {
-        reads.push(clock.epoch())?;
+        reads.push(access_by(clock, tag))?;
         Ok(())
     } else {
-        note_among_many(alloc, keys, reads, clock)
+        note_among_many(alloc, keys, reads, clock, tag)
     }
 }
 
-// Whether the last read was in the clock's epoch.
-fn is_last(reads: &Vec<Epoch>, clock: &ThreadClock<'_>) -> bool
-    ensures { IsTrue result → Contains (pairs_of reads.now.items) (clock.now.0, count_by clock.now clock.now.0) }
+// Puts the read in the last one's place, if that was in the clock's epoch.
+fn put_over_last<A: Copy>(reads: &mut Vec<Tagged<A>>, clock: &ThreadClock<'_>, tag: A) -> bool
+    ensures put { IsTrue result → IsNoted pair_of (count_by clock.now) (reverse reads.old.items) (tagged clock.now.0 (count_by clock.now clock.now.0) tag) (reverse reads.new.items) }
+    ensures same { result ≡ false → reads.new.items ≡ reads.old.items }
 {
-    match reads.as_slice().last() {
-        Some(last) => is_own(*last, clock),
-        None => false,
+    if reads.is_empty() {
+        return false;
     }
+    let last = reads.len() - 1;
+    if !is_own(reads[last].epoch, clock) {
+        return false;
+    }
+    reads[last] = access_by(clock, tag);
+    true
 }
 
 // Whether it is the clock's epoch.
 fn is_own(epoch: Epoch, clock: &ThreadClock<'_>) -> bool
-    ensures { IsTrue result → pair_of epoch ≡ (clock.now.0, count_by clock.now clock.now.0) }
+    ensures { IsTrue result → epoch ≡ (record { thread = clock.now.0; count = count_by clock.now clock.now.0 }) }
 {
     let Epoch { thread, count } = clock.epoch();
     epoch.thread == thread && epoch.count == count
 }
 
-// Puts the clock's epoch in the place of the reads that it covers.
-fn note_among_few(reads: &mut Vec<Epoch>, clock: &ThreadClock<'_>) -> Result<(), AllocError>
-    ensures ok { OnOk result (pairs_of reads.new.items ≡ filter (is_unordered (count_by clock.now)) (pairs_of reads.old.items) ++ (clock.now.0, count_by clock.now clock.now.0) ∷ []) }
+// Puts the read in the place of those that the clock covers.
+fn note_among_few<A: Copy>(
+    reads: &mut Vec<Tagged<A>>,
+    clock: &ThreadClock<'_>,
+    tag: A,
+) -> Result<(), AllocError>
+    ensures ok { OnOk result (reads.new.items ≡ filter (is_apart (count_by clock.now)) reads.old.items ++ tagged clock.now.0 (count_by clock.now clock.now.0) tag ∷ []) }
     ensures err { OnErr result (reads.new.items ≡ reads.old.items) }
 {
     reads.reserve(1)?;
-    reads.retain(|epoch| !clock.covers(*epoch));
-    let noted: Result<_, _> = reads.push(clock.epoch());
+    reads.retain(|read| !clock.covers(read.epoch));
+    let noted: Result<_, _> = reads.push(access_by(clock, tag));
     noted.unwrap();
     Ok(())
 }
 
-// Puts the clock's epoch behind those reads that it doesn't cover and that are of their thread's last count, each once, and makes room for as many again.
-fn note_among_many(
+// Puts the read behind those that are still of use, and makes room for as many again.
+fn note_among_many<A: Copy>(
     alloc: Global,
     keys: HashKeys,
-    reads: &mut Vec<Epoch>,
+    reads: &mut Vec<Tagged<A>>,
     clock: &ThreadClock<'_>,
+    tag: A,
 ) -> Result<(), AllocError>
-    ensures ok { OnOk result (IsNoted (count_by clock.now) (pairs_of reads.old.items) clock.now.0 (pairs_of reads.new.items)) }
+    ensures ok { OnOk result (IsNoted pair_of (count_by clock.now) (reverse reads.old.items) (tagged clock.now.0 (count_by clock.now clock.now.0) tag) (reverse reads.new.items)) }
     ensures err { OnErr result (reads.new.items ≡ reads.old.items) }
 {
-    let newest = newest_of(alloc, keys, reads)?;
-    let useful = useful_of(alloc, &newest, reads, clock)?;
-    let mut left = distinct_of(alloc, keys, &useful)?;
-    left.push(clock.epoch())?;
+    let turned = turned(alloc, reads)?;
+    let mut left = useful_of(alloc, keys, &turned, clock)?;
+    left.reserve(left.len())?;
+    turn(&mut left);
+    left.push(access_by(clock, tag))?;
     *reads = left;
     Ok(())
 }
 
-// Of each thread the count of its last read.
-fn newest_of(
+// The same from the last one to the first.
+fn turned<A: Copy>(alloc: Global, reads: &Vec<Tagged<A>>) -> Result<Vec<Tagged<A>>, AllocError>
+    ensures { IfOk result (λ turned. turned.items ≡ reverse reads.now.items) }
+{
+    let mut turned = Vec::new(alloc);
+    turned.extend_from_slice(reads)?;
+    turn(&mut turned);
+    Ok(turned)
+}
+
+// Puts the last one first, and so on.
+fn turn<A: Copy>(reads: &mut Vec<Tagged<A>>)
+    ensures { reads.new.items ≡ reverse reads.old.items }
+{
+    reads.as_mut_slice().reverse();
+}
+
+// Of these, from the last one to the first, those that the clock doesn't cover, and of each thread only the last one.
+fn useful_of<A: Copy>(
     alloc: Global,
     keys: HashKeys,
-    reads: &Vec<Epoch>,
-) -> Result<IndexMap<u64, u32, NumberHasher>, AllocError>
-    ensures { IfOk result (λ newest. (t n : ℕ) → get nat_eq newest t ≡ Some n → Contains (pairs_of reads.now.items) (t, n)) }
-{
-    let mut newest = IndexMap::with_hasher(alloc, NumberHasher::new(keys));
-    for epoch in reads {
-        newest.insert(u64::from(epoch.thread.number()), epoch.count)?;
-    }
-    Ok(newest)
-}
-
-// The reads that the clock doesn't cover and that no later one of their thread replaces.
-fn useful_of(
-    alloc: Global,
-    newest: &IndexMap<u64, u32, NumberHasher>,
-    reads: &Vec<Epoch>,
+    reads: &Vec<Tagged<A>>,
     clock: &ThreadClock<'_>,
-) -> Result<Vec<Epoch>, AllocError>
-    ensures { IfOk result (λ left. pairs_of left.items ≡ filter (λ e. is_unordered (count_by clock.now) e && not (is_replaced (get nat_eq newest.now e.0) e.1)) (pairs_of reads.now.items)) }
+) -> Result<Vec<Tagged<A>>, AllocError>
+    ensures { IfOk result (λ left. (later : ℕ → ℕ) → ((u : ℕ) → count_by clock.now u ≤ later u) → first_apart pair_of later left.items ≡ first_apart pair_of later reads.now.items) }
 {
+    let mut counts = IndexMap::with_hasher(alloc, NumberHasher::new(keys));
     let mut left = Vec::new(alloc);
-    left.extend_from_slice(reads)?;
-    left.retain(|epoch| is_useful(newest, epoch, clock));
-    Ok(left)
-}
-
-// Each of these epochs, and a thread's last one once, with room for as many again.
-fn distinct_of(alloc: Global, keys: HashKeys, epochs: &Vec<Epoch>) -> Result<Vec<Epoch>, AllocError>
-    ensures within { IfOk result (λ left. (e : Pair) → Contains (pairs_of left.items) e → Contains (pairs_of epochs.now.items) e) }
-    ensures all { IfOk result (λ left. (e : Pair) → Contains (pairs_of epochs.now.items) e → Contains (pairs_of left.items) e) }
-{
-    let mut kept = IndexMap::with_hasher(alloc, NumberHasher::new(keys));
-    let mut left = Vec::new(alloc);
-    for epoch in epochs {
-        if !is_kept(&kept, *epoch) {
-            kept.insert(u64::from(epoch.thread.number()), epoch.count)?;
-            left.push(*epoch)?;
+    for read in reads {
+        if is_useful(&counts, &read.epoch, clock) {
+            counts.insert(u64::from(read.epoch.thread.number()), read.epoch.count)?;
+            left.push(*read)?;
         }
     }
-    left.reserve(left.len())?;
     Ok(left)
 }
 
-// Whether it is the last epoch of its thread here.
-fn is_kept(kept: &IndexMap<u64, u32, NumberHasher>, epoch: Epoch) -> bool
-    ensures { IsTrue result → get nat_eq kept.now epoch.thread ≡ Some epoch.count }
-{
-    match kept.get(&u64::from(epoch.thread.number())) {
-        Some(&count) => count == epoch.count,
-        None => false,
-    }
-}
-
-// Whether the clock doesn't cover it, and its thread has no read of a greater count.
+// Whether the clock doesn't cover it, and its thread has no count here that is no less.
 fn is_useful(
-    newest: &IndexMap<u64, u32, NumberHasher>,
+    counts: &IndexMap<u64, u32, NumberHasher>,
     epoch: &Epoch,
     clock: &ThreadClock<'_>,
 ) -> bool
-    ensures { result ≡ (is_unordered (count_by clock.now) (pair_of epoch.now) && not (is_replaced (get nat_eq newest.now epoch.now.thread) epoch.now.count)) }
+    ensures { result ≡ (is_unordered (count_by clock.now) (epoch.now.thread, epoch.now.count) && not (is_replaced (get nat_eq counts.now epoch.now.thread) epoch.now.count)) }
 {
-    !clock.covers(*epoch) && !is_replaced(newest, *epoch)
+    !clock.covers(*epoch) && !is_replaced(counts, *epoch)
 }
 
-// Whether its thread has a read of a greater count.
-fn is_replaced(newest: &IndexMap<u64, u32, NumberHasher>, epoch: Epoch) -> bool
-    ensures { result ≡ is_replaced (get nat_eq newest.now epoch.thread) epoch.count }
+// Whether its thread has a count that is no less.
+fn is_replaced(counts: &IndexMap<u64, u32, NumberHasher>, epoch: Epoch) -> bool
+    ensures { result ≡ is_replaced (get nat_eq counts.now epoch.thread) epoch.count }
 {
-    match newest.get(&u64::from(epoch.thread.number())) {
-        Some(&count) => epoch.count < count,
+    match counts.get(&u64::from(epoch.thread.number())) {
+        Some(&count) => epoch.count <= count,
         None => false,
     }
 }

@@ -1,13 +1,14 @@
-//! What is kept of one word, in 16 bytes.
-ghost use Rattle.std.specs.Prelude.{◌≡◌, ℕ, List, [], ◌∷◌, Some, false, not, IsTrue, IfSome, IfOk, OnErr};
-ghost use Rattle.std.specs.List.{list_any};
-ghost use Rattle.er_order.specs.Keeping.{IsKeptBy};
-ghost use Rattle.er_order.specs.Following.{Seen, Reported, is_unordered, kept_by, reports_at, write_is_unordered};
+//! What is stored of one word, in 16 bytes and two tags.
+ghost use Rattle.std.specs.Prelude.{◌≡◌, ◌^◌, ◌&&◌, List, [], Some, None, cond, false, nat_lt, not, IsTrue, IfSome, IfOk, OnErr};
+ghost use Rattle.std.specs.Option.{option_to_list};
+ghost use Rattle.er_model.specs.Words.{is_writing};
+ghost use Rattle.er_order.specs.Following.{is_unordered};
 ghost use Rattle.er_clocks.specs.Counts.{count_by};
-ghost use Rattle.er_epochs.specs.Epochs.{pair_of, epoch_in, reads_in, EpochList};
-ghost use Rattle.er_epochs.specs.Words.{kept_in, kept_with, blank};
+ghost use Rattle.er_epochs.specs.declared.reads.Tagged.{Tagged as Access};
+ghost use Rattle.er_epochs.specs.Epochs.{access_in, is_raced, reads_beside, readers_in, rivals_of, some_apart, stored_by, tag_found, tag_of_first, tagged, Readers, Told, IsStoredBy};
+ghost use Rattle.er_epochs.specs.Words.{said, blank, stored_in};
 
-use crate::reads::Reads;
+use crate::reads::{Reads, Tagged, access_by};
 use er_clock::Epoch;
 use er_clocks::ThreadClock;
 use er_event::{Kind, ThreadId};
@@ -23,35 +24,62 @@ pub(crate) const SEVERAL: u32 = (1 << 30) + 1;
 /// In the writer's place: a race was reported.
 const TOLD: u32 = (1 << 30) + 1;
 
-/// Of a word's era, the epochs of the last write and of the one latest read since; or that a list beside the word has several such reads; or
-/// that a race was reported. Contracts see it by `kept_in`, with that list.
+/// Of a word's era, the epochs and tags of the last write and of the one latest read since; or that a list beside the word has several such
+/// reads; or that a race was reported. Contracts see it by `stored_in`, with that list.
 #[derive(Clone, Copy)]
-pub(crate) struct OrderWord {
+pub(crate) struct OrderWord<A> {
     writer: u32,
     write_count: u32,
     reader: u32,
     // If a list has the reads, the place where it stood when it was noted: a hint.
     read_count: u32,
+    write_tag: A,
+    read_tag: A,
 }
 
-impl OrderWord {
-    /// A word with no access in its era.
+impl<A: Copy> OrderWord<A> {
+    /// A word with no access in its era. Any tag will do.
     #[inline]
-    pub(crate) fn new() -> OrderWord
-        ensures { result ≡ blank }
+    pub(crate) fn new(tag: A) -> Self
+        ensures { said result ≡ blank }
     {
         OrderWord {
             writer: NONE,
             write_count: 0,
             reader: NONE,
             read_count: 0,
+            write_tag: tag,
+            read_tag: tag,
         }
+    }
+
+    /// The word once its era has ended.
+    #[inline]
+    pub(crate) fn emptied(self) -> Self
+        ensures { said result ≡ blank }
+    {
+        OrderWord {
+            writer: NONE,
+            write_count: 0,
+            reader: NONE,
+            read_count: 0,
+            write_tag: self.write_tag,
+            read_tag: self.read_tag,
+        }
+    }
+
+    /// Whether it had no access in its era. If the answer is no, that may be so all the same.
+    #[inline]
+    pub(crate) fn is_blank(self) -> bool
+        ensures { IsTrue result → said self ≡ blank }
+    {
+        self.writer == NONE && self.reader == NONE
     }
 
     /// Whether a list has its reads. If not, it says the same whatever list is beside it.
     #[inline]
     pub(crate) fn has_list(self) -> bool
-        ensures { result ≡ false → (a b : EpochList) → kept_in self a ≡ kept_in self b }
+        ensures { result ≡ false → (a b : List (Access A)) → stored_in self a ≡ stored_in self b }
     {
         self.reader == SEVERAL
     }
@@ -68,29 +96,40 @@ impl OrderWord {
         self.writer
     }
 
-    /// Whether a race was reported, or the epoch of this access is the word's last one, by the same kind of access. It is then no race, and
-    /// leaves the word as it is. If the answer is no, that may be so all the same.
+    /// The word after a counted access, if a race was reported, or the epoch of this access is the word's last one, by the same kind of access. It
+    /// is then no race, and leaves the word as it is but for the tag. `None` says nothing.
     #[inline]
-    pub(crate) fn is_settled(self, clock: &ThreadClock<'_>, kind: Kind) -> bool
-        ensures same { IsTrue result → (listed : EpochList) → kept_by (count_by clock.now) (kept_in self listed) clock.now.0 kind ≡ kept_in self listed }
-        ensures quiet { IsTrue result → (listed : EpochList) → reports_at (count_by clock.now) (kept_in self listed) kind ≡ false }
+    pub(crate) fn settled(self, clock: &ThreadClock<'_>, kind: Kind, tag: A) -> Option<Self>
+        ensures kept { IfSome result (λ r. (listed : List (Access A)) → stored_in r listed ≡ stored_by (count_by clock.now) (stored_in self listed) (tagged clock.now.0 (count_by clock.now clock.now.0) tag) kind) }
+        ensures quiet { IfSome result (λ r. (listed : List (Access A)) → is_raced (count_by clock.now) (stored_in self listed) kind ≡ false) }
     {
         if self.writer == TOLD {
-            return true;
+            return Some(self);
         }
         let epoch = clock.epoch();
         match kind {
-            Kind::Read => self.is_read_by(epoch) && self.is_written_before(clock),
-            Kind::Write => self.is_written_by(epoch) && self.reader == NONE,
+            Kind::Read if self.is_read_by(epoch) && self.is_written_before(clock) => {
+                Some(OrderWord {
+                    read_tag: tag,
+                    ..self
+                })
+            }
+            Kind::Write if self.is_written_by(epoch) && self.reader == NONE => {
+                Some(OrderWord {
+                    write_tag: tag,
+                    ..self
+                })
+            }
+            _ => None,
         }
     }
 
     /// The word after a counted access by the thread whose clock this is, and whether the access is reported as a race: it is the first of
     /// its era that some conflicting access doesn't happen before. `None`: that depends on the list of reads, or changes it.
     #[inline]
-    pub(crate) fn access(self, clock: &ThreadClock<'_>, kind: Kind) -> Option<(OrderWord, bool)>
-        ensures kept { IfSome result (λ r. (listed : EpochList) → kept_in r.0 listed ≡ kept_by (count_by clock.now) (kept_in self listed) clock.now.0 kind) }
-        ensures reported { IfSome result (λ r. (listed : EpochList) → r.1 ≡ reports_at (count_by clock.now) (kept_in self listed) kind) }
+    pub(crate) fn access(self, clock: &ThreadClock<'_>, kind: Kind, tag: A) -> Option<(Self, bool)>
+        ensures kept { IfSome result (λ r. (listed : List (Access A)) → stored_in r.0 listed ≡ stored_by (count_by clock.now) (stored_in self listed) (tagged clock.now.0 (count_by clock.now clock.now.0) tag) kind) }
+        ensures reported { IfSome result (λ r. (listed : List (Access A)) → r.1 ≡ is_raced (count_by clock.now) (stored_in self listed) kind) }
     {
         if self.reader == SEVERAL {
             return None;
@@ -98,23 +137,23 @@ impl OrderWord {
         if self.writer == TOLD {
             return Some((self, false));
         }
-        if !is_ordered(self.writer, self.write_count, clock) {
-            return Some((told(), true));
+        if !self.is_write_ordered(clock) {
+            return Some((self.told(), true));
         }
-        let is_alone = is_ordered(self.reader, self.read_count, clock);
+        let is_alone = self.is_read_ordered(clock);
         match kind {
             Kind::Read => {
                 if is_alone {
-                    Some((self.read(clock.epoch()), false))
+                    Some((self.read(access_by(clock, tag)), false))
                 } else {
                     None
                 }
             }
             Kind::Write => {
                 if is_alone {
-                    Some((written(clock.epoch()), false))
+                    Some((self.written(access_by(clock, tag)), false))
                 } else {
-                    Some((told(), true))
+                    Some((self.told(), true))
                 }
             }
         }
@@ -124,89 +163,160 @@ impl OrderWord {
     /// says what it said.
     pub(crate) fn access_listed(
         self,
-        reads: &mut Reads,
+        reads: &mut Reads<A>,
         index: usize,
         alloc: Global,
         keys: HashKeys,
         clock: &ThreadClock<'_>,
         kind: Kind,
-    ) -> Result<(OrderWord, bool), AllocError>
-        ensures kept { IfOk result (λ r. IsKeptBy (count_by clock.now) (kept_in self reads.old) clock.now.0 kind (kept_in r.0 reads.new)) }
-        ensures reported { IfOk result (λ r. r.1 ≡ reports_at (count_by clock.now) (kept_in self reads.old) kind) }
-        ensures err { OnErr result (kept_in self reads.new ≡ kept_in self reads.old) }
+        tag: A,
+    ) -> Result<(Self, bool), AllocError>
+        ensures kept { IfOk result (λ r. IsStoredBy (count_by clock.now) (stored_in self reads.old) (tagged clock.now.0 (count_by clock.now clock.now.0) tag) kind (stored_in r.0 reads.new)) }
+        ensures reported { IfOk result (λ r. r.1 ≡ is_raced (count_by clock.now) (stored_in self reads.old) kind) }
+        ensures err { OnErr result (stored_in self reads.new ≡ stored_in self reads.old) }
     {
         if self.writer == TOLD {
             return Ok((self, false));
         }
-        if !is_ordered(self.writer, self.write_count, clock) {
-            return Ok((told(), true));
+        if !self.is_write_ordered(clock) {
+            return Ok((self.told(), true));
         }
-        reads.gather(self.reader, self.read_count)?;
+        reads.gather(self.reader, self.read_count, self.read_tag)?;
         match kind {
             Kind::Read => {
-                reads.note(alloc, keys, clock)?;
+                reads.note(alloc, keys, clock, tag)?;
                 Ok((self.listed(index), false))
             }
-            Kind::Write => {
-                if reads.has_unordered(clock) {
-                    Ok((told(), true))
-                } else {
-                    Ok((written(clock.epoch()), false))
-                }
-            }
+            Kind::Write => match reads.find(clock) {
+                Some(_) => Ok((self.told(), true)),
+                None => Ok((self.written(access_by(clock, tag)), false)),
+            },
         }
     }
 
-    /// Whether a write by the clock's thread would be reported as a race. If a list has the reads, the caller says whether one of them doesn't
-    /// happen before what that thread does now.
+    /// The tag of the last access that one of this kind conflicts with and that doesn't happen before what the clock's thread does now. If a list
+    /// has the reads, the caller says the tag of the last one of it that doesn't.
     #[inline]
-    pub(crate) fn refuses_write(self, clock: &ThreadClock<'_>, is_list_unordered: bool) -> bool
-        ensures { (listed : EpochList) → is_list_unordered ≡ list_any (is_unordered (count_by clock.now)) listed → result ≡ reports_at (count_by clock.now) (kept_in self listed) Kind.Write }
+    pub(crate) fn find(self, clock: &ThreadClock<'_>, kind: Kind, listed: Option<A>) -> Option<A>
+        ensures { (reads : List (Access A)) → listed ≡ tag_of_first (count_by clock.now) reads → result ≡ tag_found (count_by clock.now) (stored_in self reads) kind }
     {
         if self.writer == TOLD {
-            return false;
-        }
-        if !is_ordered(self.writer, self.write_count, clock) {
-            return true;
-        }
-        if self.reader == SEVERAL {
-            is_list_unordered
+            None
         } else {
-            !is_ordered(self.reader, self.read_count, clock)
+            self.find_latest(clock, kind, listed)
         }
+    }
+
+    // The same, if no race was reported.
+    #[inline]
+    fn find_latest(self, clock: &ThreadClock<'_>, kind: Kind, listed: Option<A>) -> Option<A>
+        ensures { (reads : List (Access A)) → listed ≡ tag_of_first (count_by clock.now) reads → result ≡ tag_of_first (count_by clock.now) (rivals_of (record { write = (said self).write; reads = reads_beside (said self).readers reads }) kind) }
+    {
+        // The reads are later than the write.
+        match self.find_read(clock, kind, listed) {
+            Some(tag) => Some(tag),
+            None => unordered(self.writer, self.write_count, self.write_tag, clock),
+        }
+    }
+
+    // The same of the reads alone.
+    #[inline]
+    fn find_read(self, clock: &ThreadClock<'_>, kind: Kind, listed: Option<A>) -> Option<A>
+        ensures { (reads : List (Access A)) → listed ≡ tag_of_first (count_by clock.now) reads → result ≡ tag_of_first (count_by clock.now) (cond (is_writing kind) (reads_beside (said self).readers reads) []) }
+    {
+        match kind {
+            Kind::Read => None,
+            Kind::Write => self.find_any_read(clock, listed),
+        }
+    }
+
+    // The same, whatever the kind is.
+    #[inline]
+    fn find_any_read(self, clock: &ThreadClock<'_>, listed: Option<A>) -> Option<A>
+        ensures { (reads : List (Access A)) → listed ≡ tag_of_first (count_by clock.now) reads → result ≡ tag_of_first (count_by clock.now) (reads_beside (said self).readers reads) }
+    {
+        if self.reader == SEVERAL {
+            listed
+        } else {
+            unordered(self.reader, self.read_count, self.read_tag, clock)
+        }
+    }
+
+    // Whether the last write happens before what the clock's thread does now. It is so if there is none.
+    #[inline]
+    #[tactic(auto, using(crate::proofs::FoundLemmas::apart_in))]
+    fn is_write_ordered(self, clock: &ThreadClock<'_>) -> bool
+        ensures { result ≡ not (some_apart (count_by clock.now) (access_in self.writer self.write_count self.write_tag)) }
+    {
+        is_ordered(self.writer, self.write_count, clock)
+    }
+
+    // The same of the one latest read.
+    #[inline]
+    #[tactic(auto, using(crate::proofs::FoundLemmas::apart_in))]
+    fn is_read_ordered(self, clock: &ThreadClock<'_>) -> bool
+        ensures { result ≡ not (some_apart (count_by clock.now) (access_in self.reader self.read_count self.read_tag)) }
+    {
+        is_ordered(self.reader, self.read_count, clock)
     }
 
     // The word, with this read alone since its last write.
     #[inline]
-    fn read(self, epoch: Epoch) -> OrderWord
-        ensures { (listed : EpochList) → kept_in result listed ≡ kept_with self (pair_of epoch ∷ []) }
+    fn read(self, read: Tagged<A>) -> Self
+        ensures { said result ≡ (record { told = (said self).told; write = (said self).write; readers = Readers.Alone (Some read) }) }
     {
-        let Epoch { thread, count } = epoch;
+        let Tagged { epoch, tag } = read;
         OrderWord {
-            writer: self.writer,
-            write_count: self.write_count,
-            reader: thread.number(),
-            read_count: count,
+            reader: epoch.thread.number(),
+            read_count: epoch.count,
+            read_tag: tag,
+            ..self
         }
     }
 
     // The word, with the reads of the list that stands at this place. The place is noted by its lowest bits: it is a hint.
     #[inline]
-    fn listed(self, index: usize) -> OrderWord
-        ensures { (listed : EpochList) → kept_in result listed ≡ kept_with self listed }
+    fn listed(self, index: usize) -> Self
+        ensures { said result ≡ (record { told = (said self).told; write = (said self).write; readers = Readers.Listed }) }
     {
         OrderWord {
-            writer: self.writer,
-            write_count: self.write_count,
             reader: SEVERAL,
             read_count: (index % (1 << 32)) as u32,
+            ..self
+        }
+    }
+    // The word, once a race was reported.
+    #[inline]
+    fn told(self) -> Self
+        ensures { (listed : List (Access A)) → stored_in result listed ≡ Told }
+    {
+        OrderWord {
+            writer: TOLD,
+            reader: NONE,
+            ..self
+        }
+    }
+
+    // The word, with no access since this write.
+    #[inline]
+    fn written(self, write: Tagged<A>) -> Self
+        ensures { said result ≡ (record { told = false; write = Some write; readers = Readers.Alone None }) }
+    {
+        let Tagged { epoch, tag } = write;
+        OrderWord {
+            writer: epoch.thread.number(),
+            write_count: epoch.count,
+            reader: NONE,
+            read_count: 0,
+            write_tag: tag,
+            read_tag: self.read_tag,
         }
     }
 
     // Whether the latest read is of this epoch.
     #[inline]
     fn is_read_by(self, epoch: Epoch) -> bool
-        ensures { IsTrue result → (listed : EpochList) → reads_in self.reader self.read_count listed ≡ pair_of epoch ∷ [] }
+        ensures { IsTrue result → readers_in self.reader self.read_count self.read_tag ≡ Readers.Alone (Some (record { epoch = epoch; tag = self.read_tag })) }
     {
         let Epoch { thread, count } = epoch;
         self.reader == thread.number() && self.read_count == count
@@ -215,46 +325,20 @@ impl OrderWord {
     // Whether no race was reported, and the last write, if there is one, happens before what the clock's thread does now.
     #[inline]
     fn is_written_before(self, clock: &ThreadClock<'_>) -> bool
-        ensures seen { IsTrue result → (reads : EpochList) → kept_with self reads ≡ Seen (epoch_in self.writer self.write_count) reads }
-        ensures ordered { IsTrue result → write_is_unordered (count_by clock.now) (epoch_in self.writer self.write_count) ≡ false }
+        ensures seen { IsTrue result → (said self).told ≡ false }
+        ensures ordered { IsTrue result → some_apart (count_by clock.now) (said self).write ≡ false }
     {
-        self.writer != TOLD && is_ordered(self.writer, self.write_count, clock)
+        self.writer != TOLD && self.is_write_ordered(clock)
     }
 
     // Whether the last write is of this epoch.
     #[inline]
     fn is_written_by(self, epoch: Epoch) -> bool
-        ensures { IsTrue result → (reads : EpochList) → kept_with self reads ≡ Seen (Some (pair_of epoch)) reads }
+        ensures seen { IsTrue result → (said self).told ≡ false }
+        ensures write { IsTrue result → (said self).write ≡ Some (record { epoch = epoch; tag = self.write_tag }) }
     {
         let Epoch { thread, count } = epoch;
         self.writer == thread.number() && self.write_count == count
-    }
-}
-
-// A word of which a race was reported.
-#[inline]
-fn told() -> OrderWord
-    ensures { (listed : EpochList) → kept_in result listed ≡ Reported }
-{
-    OrderWord {
-        writer: TOLD,
-        write_count: 0,
-        reader: NONE,
-        read_count: 0,
-    }
-}
-
-// A word with no access since this write.
-#[inline]
-fn written(epoch: Epoch) -> OrderWord
-    ensures { (listed : EpochList) → kept_in result listed ≡ Seen (Some (pair_of epoch)) [] }
-{
-    let Epoch { thread, count } = epoch;
-    OrderWord {
-        writer: thread.number(),
-        write_count: count,
-        reader: NONE,
-        read_count: 0,
     }
 }
 
@@ -262,11 +346,24 @@ fn written(epoch: Epoch) -> OrderWord
 // is no such thread.
 #[inline]
 fn is_ordered(number: u32, count: u32, clock: &ThreadClock<'_>) -> bool
-    ensures { result ≡ not (write_is_unordered (count_by clock.now) (epoch_in number count)) }
+    ensures { result ≡ not (nat_lt number (2 ^ 30) && is_unordered (count_by clock.now) (number, count)) }
 {
     if number < NONE {
         count <= clock.count(ThreadId::new(number))
     } else {
         true
+    }
+}
+
+// The tag, if what the thread of this number did in the epoch of this count doesn't happen before what the clock's thread does now.
+#[inline]
+#[tactic(auto, using(crate::proofs::FoundLemmas::found_in))]
+fn unordered<A: Copy>(number: u32, count: u32, tag: A, clock: &ThreadClock<'_>) -> Option<A>
+    ensures { result ≡ tag_of_first (count_by clock.now) (option_to_list (access_in number count tag)) }
+{
+    if is_ordered(number, count, clock) {
+        None
+    } else {
+        Some(tag)
     }
 }

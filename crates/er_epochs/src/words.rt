@@ -1,11 +1,13 @@
 //! What is kept of each word.
-ghost use Rattle.std.specs.Prelude.{◌≡◌, ◌+◌, ◌*◌, ◌<◌, ◌^◌, ◌&&◌, ℕ, ◌==◌, cond, false, OnOk, OnErr, IfOk};
+ghost use Rattle.std.specs.Prelude.{◌≡◌, [], ◌+◌, ◌*◌, ◌<◌, ◌^◌, ◌&&◌, ℕ, ◌==◌, cond, false, OnOk, OnErr, IfOk};
 ghost use Rattle.std.specs.Option.{ForSome, option_map};
 ghost use Rattle.er_model.specs.Words.{is_within};
 ghost use Rattle.er_order.specs.Following.{fresh, reports_at};
 ghost use Rattle.er_order.specs.Keeping.{IsKeptBy};
 ghost use Rattle.er_clocks.specs.Counts.{count_by};
-ghost use Rattle.er_epochs.specs.Words.{kept_among, is_place_in, IsLowest};
+ghost use Rattle.er_epochs.specs.Epochs.{is_raced, tag_found, tagged, untouched, Accesses, IsStoredBy};
+ghost use Rattle.er_epochs.specs.Standing.{Follows};
+ghost use Rattle.er_epochs.specs.Words.{kept_among, stored_among, is_place_in, IsLowest};
 
 use crate::block::Block;
 use crate::finding::{BlockHints, block_of, from_in, index_of, place_of, to_in};
@@ -17,40 +19,35 @@ use indexmap::IndexMap;
 use std::alloc::{AllocError, Global};
 use std::marker::Model;
 
-/// What is kept of each word, 16 bytes in a block of 128 words that is made at the first access of one of them. Contracts see it by
-/// `kept_among`.
+/// What is stored of each word, 16 bytes and two tags in a block of 128 words that is made at the first access of one of them. Contracts see
+/// it by `stored_among`, and without the tags by `kept_among`. Whoever wants no tags takes `()`.
 ///
 /// An access takes one look at its word. Only a word that several threads have read, where neither read happens before the other, has a list
 /// besides, until it is written or reset. A reset takes one look at each block of its range.
 #[derive(Drop)]
-pub struct OrderWords {
-    blocks: IndexMap<u64, Block, NumberHasher>,
+pub struct OrderWords<A> {
+    blocks: IndexMap<u64, Block<A>, NumberHasher>,
     hints: BlockHints,
-    lists: ReadLists,
+    lists: ReadLists<A>,
     // What `look_ahead` has read. Nobody asks for it.
     ahead: u32,
     alloc: Global,
 }
 
-impl Model for OrderWords {
+impl<A> Model for OrderWords<A> {
     ghost use Rattle.er_epochs.specs.Words.{AllWords};
 
-    ghost Value = { AllWords };
+    ghost Value = { AllWords A };
 
     ghost view = { λ w. record { blocks = w.blocks.entries; lists = w.lists } };
 }
 
-impl OrderWords {
-    /// No word was accessed. Whoever chooses the words that are accessed can make it slow: see [`keyed`](OrderWords::keyed).
-    pub fn new(alloc: Global) -> Self
-        ensures { (w : ℕ) → kept_among result w ≡ fresh }
-    {
-        OrderWords::keyed(alloc, HashKeys::KNOWN)
-    }
-
-    /// No word was accessed, and each word will be found by these keys.
+impl<A: Copy> OrderWords<A> {
+    /// No word was accessed, and each word will be found by these keys. If whoever chooses the words knows the keys, that can be slow.
     pub fn keyed(alloc: Global, keys: HashKeys) -> Self
-        ensures { (w : ℕ) → kept_among result w ≡ fresh }
+        ensures stored { (w : ℕ) → stored_among result w ≡ Accesses untouched }
+        ensures kept { (w : ℕ) → kept_among result w ≡ fresh }
+        ensures follows { (tags : ℕ → A) → Follows tags result [] }
     {
         OrderWords {
             blocks: IndexMap::with_hasher(alloc, NumberHasher::new(keys)),
@@ -61,18 +58,39 @@ impl OrderWords {
         }
     }
 
-    /// One counted access of a word by the thread whose clock this is. Returns whether it is reported as a race: it is the first of its
-    /// era that some conflicting access doesn't happen before. `AllocError`: memory was refused, and what is kept is as it was.
+    /// One counted access of a word by the thread whose clock this is, with its tag. Returns whether it is reported as a race: it is the first
+    /// of its era that some conflicting access doesn't happen before. `AllocError`: memory was refused, and what is stored is as it was.
     pub fn access(
         &mut self,
         word: Word,
         clock: &ThreadClock<'_>,
         kind: Kind,
+        tag: A,
     ) -> Result<bool, AllocError>
-        ensures ok { OnOk result (IsKeptBy (count_by clock.now) (kept_among self.old word) clock.now.0 kind (kept_among self.new word)) }
+        ensures ok { OnOk result (IsStoredBy (count_by clock.now) (stored_among self.old word) (tagged clock.now.0 (count_by clock.now clock.now.0) tag) kind (stored_among self.new word)) }
+        ensures raced { IfOk result (λ reported. reported ≡ is_raced (count_by clock.now) (stored_among self.old word) kind) }
+        ensures others { (w : ℕ) → (word == w) ≡ false → stored_among self.new w ≡ stored_among self.old w }
+        ensures err { OnErr result ((w : ℕ) → stored_among self.new w ≡ stored_among self.old w) }
+
+        // The same without the tags.
+        ensures kept { OnOk result (IsKeptBy (count_by clock.now) (kept_among self.old word) clock.now.0 kind (kept_among self.new word)) }
         ensures reported { IfOk result (λ reported. reported ≡ reports_at (count_by clock.now) (kept_among self.old word) kind) }
-        ensures others { (w : ℕ) → (word == w) ≡ false → kept_among self.new w ≡ kept_among self.old w }
-        ensures err { OnErr result ((w : ℕ) → kept_among self.new w ≡ kept_among self.old w) }
+    {
+        self.advance(word, clock, kind, tag)
+    }
+
+    // The same, with the tags.
+    fn advance(
+        &mut self,
+        word: Word,
+        clock: &ThreadClock<'_>,
+        kind: Kind,
+        tag: A,
+    ) -> Result<bool, AllocError>
+        ensures ok { OnOk result (IsStoredBy (count_by clock.now) (stored_among self.old word) (tagged clock.now.0 (count_by clock.now clock.now.0) tag) kind (stored_among self.new word)) }
+        ensures raced { IfOk result (λ reported. reported ≡ is_raced (count_by clock.now) (stored_among self.old word) kind) }
+        ensures others { (w : ℕ) → (word == w) ≡ false → stored_among self.new w ≡ stored_among self.old w }
+        ensures err { OnErr result ((w : ℕ) → stored_among self.new w ≡ stored_among self.old w) }
     {
         let number = block_of(word);
         let place = place_of(word);
@@ -80,16 +98,32 @@ impl OrderWords {
             Some(index) => {
                 self.hints.note(number, index);
                 let block = &mut self.blocks[index];
-                block.access(&mut self.lists, word.number(), place, clock, kind)
+                block.access(&mut self.lists, word.number(), place, clock, kind, tag)
             }
             None => {
-                let mut block = Block::new(self.alloc)?;
-                let reported = block.access(&mut self.lists, word.number(), place, clock, kind)?;
+                let mut block = Block::new(self.alloc, tag)?;
+                let lists = &mut self.lists;
+                let reported = block.access(lists, word.number(), place, clock, kind, tag)?;
                 self.hints.make_room()?;
                 self.hints.note(number, self.blocks.len());
                 self.blocks.insert(number, block)?;
                 Ok(reported)
             }
+        }
+    }
+
+    /// The tag of the last access of the word that one of this kind conflicts with and that doesn't happen before what the clock's thread does
+    /// now.
+    pub fn find(&self, word: Word, clock: &ThreadClock<'_>, kind: Kind) -> Option<A>
+        ensures { result ≡ tag_found (count_by clock.now) (stored_among self.now word) kind }
+    {
+        let number = block_of(word);
+        match index_of(&self.blocks, self.hints.hint(number), number) {
+            Some(index) => {
+                let block = &self.blocks[index];
+                block.find(&self.lists, word.number(), place_of(word), clock, kind)
+            }
+            None => None,
         }
     }
 
@@ -109,7 +143,8 @@ impl OrderWords {
     /// Ends the era of the words of a range, and returns the lowest of them that was still in use: some access of its era doesn't happen before
     /// what the clock's thread does now, and no race of that era was reported. It takes no memory.
     pub fn reset(&mut self, range: PageRange, clock: &ThreadClock<'_>) -> Option<Word>
-        ensures reset { (w : ℕ) → kept_among self.new w ≡ cond (is_within w range) fresh (kept_among self.old w) }
+        ensures reset { (w : ℕ) → stored_among self.new w ≡ cond (is_within w range) (Accesses untouched) (stored_among self.old w) }
+        ensures kept { (w : ℕ) → kept_among self.new w ≡ cond (is_within w range) fresh (kept_among self.old w) }
         ensures in_use { IsLowest (λ w. is_within w range && reports_at (count_by clock.now) (kept_among self.old w) Kind.Write) result }
     {
         let PageRange { lo, hi } = range;
@@ -148,7 +183,7 @@ impl OrderWords {
     ) -> Option<Word>
         requires to { to < 128 }
         requires number { number < 2 ^ 39 }
-        ensures { IsLowest (λ w. is_place_in number from to w && reports_at (count_by clock.now) (kept_among self.now w) Kind.Write) result }
+        ensures { IsLowest (λ w. is_place_in number from to w && is_raced (count_by clock.now) (stored_among self.now w) Kind.Write) result }
     {
         match index_of(&self.blocks, self.hints.hint(number), number) {
             Some(index) => {
@@ -170,8 +205,8 @@ impl OrderWords {
     ) -> Option<Word>
         requires to { to < 128 }
         requires number { number < 2 ^ 39 }
-        ensures reset { (w : ℕ) → kept_among self.new w ≡ cond (is_place_in number from to w) fresh (kept_among self.old w) }
-        ensures in_use { IsLowest (λ w. is_place_in number from to w && reports_at (count_by clock.now) (kept_among self.old w) Kind.Write) result }
+        ensures reset { (w : ℕ) → stored_among self.new w ≡ cond (is_place_in number from to w) (Accesses untouched) (stored_among self.old w) }
+        ensures in_use { IsLowest (λ w. is_place_in number from to w && is_raced (count_by clock.now) (stored_among self.old w) Kind.Write) result }
     {
         match index_of(&self.blocks, self.hints.hint(number), number) {
             Some(index) => {

@@ -1,12 +1,12 @@
 -- How a thread's two sets of locks keep their shape as locks come and go and as the level changes.
 use Rattle.std.proofs.Common.{◌≡◌, ℕ, zero, suc, ◌+◌, ◌-◌, ◌<◌, ◌≤◌, Bool, true, false, not, ◌&&◌, ◌||◌, cond, ◌==◌, nat_lt, List, [], ◌∷◌, ◌++◌, filter, length, get_or, take, drop, refl, ap, sym, ◌∙◌, arith, add-one}
-use Rattle.std.proofs.lemmas.Bool.{eqb-true, eq-eqb, or_left, or_right, and_parts, not-true}
+use Rattle.std.proofs.lemmas.Bool.{eqb-true, eq-eqb, or_left, or_right}
 use Rattle.std.proofs.lemmas.List.Folds.{list_any-append}
 use Rattle.std.specs.List.Sorted.{IsStrictlyIncreasing}
 use Rattle.er_event.specs.Lockset.{has, IsRising, with_lock, without_lock, level_lock, is_level_lock, level_locks, locks_from}
 use Rattle.er_event.proofs.LocksetLemmas.{same-rising, has-with_lock, rising-with_lock, has-filtered, rising-filter, without_absent}
 use Rattle.er_model.specs.Holdings.{acquired_among, at_level}
-use Rattle.er_model.proofs.Levels.{HasNoLevelLock, among-levels, rising-levels, level-rise, level-lower, level-room, level-counted, level-stays, level-insert, level-remove, among_plain}
+use Rattle.er_model.proofs.Levels.{among-levels, rising-levels, level-rise, level-lower, level-room, level-counted, level-stays, level-insert, level-remove, among_plain}
 use Rattle.er_event.proofs.Bools.{itself, first_false, second_false, and_known}
 use Rattle.er_event.proofs.Lists.{length_filter}
 use Rattle.er_held.specs.Inner.Holding.{EndsInLevel, IsHolding}

@@ -1,5 +1,7 @@
 -- What one thread holds, beside the definitions of the model.
-use Rattle.std.specs.Prelude.{ℕ, cond, [], Option, Some, None}
+use Rattle.std.specs.Prelude.{ℕ, Bool, true, false, cond, [], Option, Some, None}
+use Rattle.er_event.specs.declared.steps.Event.{Event}
+use Rattle.er_event.specs.declared.steps.Event.TheVariants.{Acquire, Release, Access, Reuse, IgnoreOn, IgnoreOff, Show, Level, Sync}
 use Rattle.er_event.specs.declared.steps.Mode.{Mode}
 use Rattle.er_event.specs.declared.steps.Mode.TheVariants.{Read, Write}
 use Rattle.er_event.specs.Lockset.{has}
@@ -12,3 +14,15 @@ nothing_held = record { held = []; write_held = []; level = 0; depth = 0 }
 -- the mode in which the lock is held, if it is
 abbrev pub mode_of : Holdings → ℕ → Option Mode
 mode_of h l = cond (has h.write_held l) (Some Write) (cond (has h.held l) (Some Read) None)
+
+-- an event of this sort may take memory to hold more
+abbrev pub takes_memory : Event → Bool
+takes_memory (Acquire lock mode) = true
+takes_memory (Release lock mode) = false
+takes_memory (Access kind word site) = false
+takes_memory (Reuse range) = false
+takes_memory IgnoreOn = false
+takes_memory IgnoreOff = false
+takes_memory (Show word) = false
+takes_memory (Level level) = true
+takes_memory (Sync sync) = false

@@ -1,8 +1,8 @@
 //! `Held`, what one thread holds.
-ghost use Rattle.std.specs.Prelude.{◌≡◌, ◌+◌, ◌-◌, ◌<◌, ◌≤◌, ◌↔◌, ◌++◌, ℕ, IsTrue, IsFalse, IsOk, IfOk, IfErr, IsOkUnless, OnOk, OnErr, length, None, Some};
+ghost use Rattle.std.specs.Prelude.{◌≡◌, ◌+◌, ◌-◌, ◌<◌, ◌≤◌, ◌↔◌, ◌++◌, ℕ, false, IsTrue, IsFalse, IsOk, IfOk, IfErr, IfNone, IsOkUnless, OnOk, OnErr, length, None, Some};
 ghost use Rattle.er_event.specs.Lockset.{has, level_locks, is_level_lock};
 ghost use Rattle.er_model.specs.Holdings.{acquired_among, refused_by, changed_by, changed_unless};
-ghost use Rattle.er_held.specs.Held.{nothing_held, mode_of};
+ghost use Rattle.er_held.specs.Held.{nothing_held, mode_of, takes_memory};
 
 use er_event::{Event, Level, LockId, Lockset, Mode, Refusal};
 use std::alloc::{AllocError, Global};
@@ -97,17 +97,32 @@ impl Held {
         ensures memory { refused_by self.old (Event.Acquire lock mode) ≡ None → IsOkUnless result Refusal.OutOfMemory }
         ensures inline { refused_by self.old (Event.Acquire lock mode) ≡ None → length self.old.held < 8 → IsOk result }
     {
+        match self.refusal_of_acquire(lock, mode) {
+            Some(why) => Err(why),
+            None => {
+                self.add(lock, mode)?;
+                Ok(())
+            }
+        }
+    }
+
+    // Why an acquire of a lock is refused, if it is: in either mode for the same reason.
+    #[inline]
+    fn refusal_of_acquire(&self, lock: LockId, _mode: Mode) -> Option<Refusal>
+        ensures refusal { result ≡ refused_by self.now (Event.Acquire lock _mode) }
+        ensures plain { IfNone result (IsFalse (is_level_lock lock)) }
+        ensures free { IfNone result (IsFalse (has self.now.held lock)) }
+        ensures room { IfNone result (length (acquired_among self.now.held) < 64) }
+    {
         if lock.is_level_lock() {
-            return Err(Refusal::LevelLock);
+            Some(Refusal::LevelLock)
+        } else if self.any_mode.contains(lock) {
+            Some(Refusal::AlreadyHeld)
+        } else if self.acquired() >= Held::MOST_LOCKS {
+            Some(Refusal::HeldFull)
+        } else {
+            None
         }
-        if self.any_mode.contains(lock) {
-            return Err(Refusal::AlreadyHeld);
-        }
-        if self.acquired() >= Held::MOST_LOCKS {
-            return Err(Refusal::HeldFull);
-        }
-        self.add(lock, mode)?;
-        Ok(())
     }
 
     /// How many locks were acquired and are held: the locks of the level don't count.
@@ -147,16 +162,25 @@ impl Held {
         ensures ok { OnOk result (self.new ≡ changed_by self.old (Event.Release lock mode)) }
         ensures err { OnErr result (self.new ≡ self.old) }
     {
+        if let Some(why) = self.refusal_of_release(lock, mode) {
+            return Err(why);
+        }
+        self.remove(lock);
+        Ok(())
+    }
+
+    // Why a release of a lock in this mode is refused, if it is.
+    #[inline]
+    fn refusal_of_release(&self, lock: LockId, mode: Mode) -> Option<Refusal>
+        ensures { result ≡ refused_by self.now (Event.Release lock mode) }
+    {
         if lock.is_level_lock() {
-            return Err(Refusal::LevelLock);
+            return Some(Refusal::LevelLock);
         }
         match (self.mode_of(lock), mode) {
-            (None, _) => Err(Refusal::NotHeld),
-            (Some(Mode::Read), Mode::Read) | (Some(Mode::Write), Mode::Write) => {
-                self.remove(lock);
-                Ok(())
-            }
-            (Some(_), _) => Err(Refusal::WrongMode),
+            (None, _) => Some(Refusal::NotHeld),
+            (Some(Mode::Read), Mode::Read) | (Some(Mode::Write), Mode::Write) => None,
+            (Some(_), _) => Some(Refusal::WrongMode),
         }
     }
 
@@ -227,22 +251,50 @@ impl Held {
         Ok(())
     }
 
-    /// Makes the change of one event, unless the definitions refuse it. An access, a reuse, a show and an order event change nothing.
-    pub fn follow(&mut self, event: Event) -> Result<(), AllocError>
-        ensures ok { OnOk result (self.new ≡ changed_unless (refused_by self.old event) self.old event) }
-        ensures err { OnErr result (self.new ≡ self.old) }
+    /// Why an event is refused to a thread that holds this, if it is.
+    pub fn refusal(&self, event: Event) -> Option<Refusal>
+        ensures { result ≡ refused_by self.now event }
     {
-        let answer = match event {
+        match event {
+            Event::Acquire(lock, mode) => self.refusal_of_acquire(lock, mode),
+            Event::Release(lock, mode) => self.refusal_of_release(lock, mode),
+            Event::IgnoreOn if self.depth == Held::MOST_BRACKETS => Some(Refusal::IgnoreTooDeep),
+            Event::IgnoreOff if self.depth == 0 => Some(Refusal::IgnoreNotOn),
+            _ => None,
+        }
+    }
+
+    /// Makes the change of one event, or refuses it. An access, a reuse, a show and an order event change nothing and are never refused.
+    pub fn change(&mut self, event: Event) -> Result<(), Refusal>
+        ensures refused { (why : Refusal) → refused_by self.old event ≡ Some why → result ≡ Err why }
+        ensures accepted { OnOk result (refused_by self.old event ≡ None) }
+        ensures ok { OnOk result (self.new ≡ changed_by self.old event) }
+        ensures err { OnErr result (self.new ≡ self.old) }
+
+        // Only a new lock or a higher level may want memory.
+        ensures memory { refused_by self.old event ≡ None → IsOkUnless result Refusal.OutOfMemory }
+        ensures free { refused_by self.old event ≡ None → takes_memory event ≡ false → IsOk result }
+    {
+        match event {
             Event::Acquire(lock, mode) => self.acquire(lock, mode),
             Event::Release(lock, mode) => self.release(lock, mode),
             Event::IgnoreOn => self.ignore_on(),
             Event::IgnoreOff => self.ignore_off(),
             Event::Level(level) => self.set_level(level),
             Event::Access(..) | Event::Reuse(_) | Event::Show(_) | Event::Sync(_) => Ok(()),
-        };
-        match answer {
+        }
+    }
+
+    /// Makes the change of one event, unless the definitions refuse it, and says why they do.
+    pub fn follow(&mut self, event: Event) -> Result<Option<Refusal>, AllocError>
+        ensures refused { IfOk result (λ refused. refused ≡ refused_by self.old event) }
+        ensures ok { OnOk result (self.new ≡ changed_unless (refused_by self.old event) self.old event) }
+        ensures err { OnErr result (self.new ≡ self.old) }
+    {
+        match self.change(event) {
+            Ok(()) => Ok(None),
             Err(Refusal::OutOfMemory) => Err(AllocError),
-            _ => Ok(()),
+            Err(why) => Ok(Some(why)),
         }
     }
 

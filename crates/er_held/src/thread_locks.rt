@@ -1,10 +1,10 @@
 //! `ThreadLocks`, what each thread holds as steps go by. A refused step changes nothing, so what a thread holds follows from its
 //! steps alone.
-ghost use Rattle.std.specs.Prelude.{◌≡◌, ◌<◌, ℕ, nat_lt, [], length, OnOk, IfOk};
+ghost use Rattle.std.specs.Prelude.{◌≡◌, ◌<◌, ℕ, nat_lt, [], length, is_some, OnOk, IfOk};
 ghost use Rattle.er_event.specs.Lockset.{has};
 ghost use Rattle.er_held.specs.ThreadLocks.{held_by, changes_holdings};
 ghost use Rattle.er_model.specs.Following.{locks_for};
-ghost use Rattle.er_model.specs.Holdings.{after_step};
+ghost use Rattle.er_model.specs.Holdings.{after_step, refused_by};
 
 use crate::Held;
 use er_event::{Event, Kind, LockId, Lockset, Step, ThreadId};
@@ -86,16 +86,18 @@ impl ThreadLocks {
         }
     }
 
-    /// Goes on by one step.
-    pub fn follow(&mut self, alloc: Global, step: &Step) -> Result<(), AllocError>
-        ensures { OnOk result ((t : ℕ) → held_by self.new t ≡ after_step (held_by self.old t) t step.now) }
+    /// Makes the change of one step, unless it is refused, and says whether it is.
+    pub fn follow(&mut self, alloc: Global, step: &Step) -> Result<bool, AllocError>
+        ensures refused { IfOk result (λ refused. refused ≡ is_some (refused_by (held_by self.old step.now.thread) step.now.event)) }
+        ensures threads { OnOk result ((t : ℕ) → held_by self.new t ≡ after_step (held_by self.old t) t step.now) }
     {
         if !changes_holdings(step.event) {
-            return Ok(());
+            return Ok(false);
         }
         let place = step.thread.number() as usize;
         reach(alloc, &mut self.by_thread, place)?;
-        self.by_thread[place].follow(step.event)
+        let refused = self.by_thread[place].follow(step.event)?;
+        Ok(refused.is_some())
     }
 }
 
@@ -110,7 +112,7 @@ fn reach(alloc: Global, by_thread: &mut Vec<Held>, place: usize) -> Result<(), A
     Ok(())
 }
 
-// Whether an event of this sort can change what its thread holds.
+// Whether an event of this sort can change what its thread holds. No other is refused.
 fn changes_holdings(event: Event) -> bool
     ensures { result ≡ changes_holdings event }
 {

@@ -6,6 +6,7 @@ use Rattle.er_html.specs.declared.script.TheConstants.{SCRIPT}
 use Rattle.er_html.specs.declared.shell.TheConstants.{BEFORE_SCRIPT, BETWEEN, BODY, CLOSING, OPENING}
 use Rattle.er_html.specs.declared.style.TheConstants.{STYLE}
 use Rattle.er_json.specs.Document.{json_reports}
+use Rattle.er_places.specs.Places.{PlaceTable}
 use Rattle.er_print.specs.Styles.{escaped, string_text}
 use Rattle.er_print.specs.Values.{values_text}
 use Rattle.er_report.specs.declared.reports.Reports.{Reports}
@@ -49,5 +50,5 @@ unfoldable pub tail_text : List ℕ
 tail_text = BEFORE_SCRIPT.now ++ PICTURE.now ++ SCRIPT.now ++ CLOSING.now
 
 -- the whole page
-unfoldable pub html_reports : NameTable → Reports → List Excerpt → List ℕ
-html_reports names reports excerpts = head_text ++ block_text (json_reports names reports) ++ BETWEEN.now ++ block_text (excerpts_text excerpts) ++ tail_text
+unfoldable pub html_reports : NameTable → PlaceTable → Reports → List Excerpt → List ℕ
+html_reports names table reports excerpts = head_text ++ block_text (json_reports names table reports) ++ BETWEEN.now ++ block_text (excerpts_text excerpts) ++ tail_text

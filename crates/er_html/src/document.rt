@@ -11,23 +11,26 @@ use crate::script::SCRIPT;
 use crate::shell::{BEFORE_SCRIPT, BETWEEN, BODY, CLOSING, OPENING};
 use crate::style::STYLE;
 use er_json::json_text;
+use er_places::Places;
 use er_report::Reports;
 use er_trace::Names;
 use std::alloc::{AllocError, Global};
 
-/// The reports as a page, with these names for their numbers and these excerpts of source files.
+/// The reports as a page, with these names for their numbers and these excerpts of source files. Each reason of a race says where its access
+/// was and what its thread held, as far as the places are known.
 #[tactic(auto, using(crate::proofs::InertLemmas::inert_block), unfolding(crate::specs::Page::html_reports))]
 pub fn html_text(
     alloc: Global,
     reports: &Reports,
     names: &Names,
+    places: &Places,
     excerpts: &[Excerpt],
 ) -> Result<Vec<u8>, AllocError>
     requires { HaveNames names.now reports.now }
-    ensures text { IfOk result (λ text. text.items ≡ html_reports names.now reports.now excerpts.now) }
-    ensures inert { IsInert (block_text (json_reports names.now reports.now)) × IsInert (block_text (excerpts_text excerpts.now)) }
+    ensures text { IfOk result (λ text. text.items ≡ html_reports names.now places.now reports.now excerpts.now) }
+    ensures inert { IsInert (block_text (json_reports names.now places.now reports.now)) × IsInert (block_text (excerpts_text excerpts.now)) }
 {
-    let json = json_text(alloc, reports, names)?;
+    let json = json_text(alloc, reports, names, places)?;
     let sources = sources_text(alloc, excerpts)?;
     let mut text = Vec::new(alloc);
     put_head(&mut text)?;

@@ -11,7 +11,7 @@
 //! and `script` are the script that makes the rest. The script writes names as text and never as markup. It is tested in a browser and not proved.
 //!
 //! ```
-//! let page = html_text(alloc, &reports, trace.names(), &[])?;
+//! let page = html_text(alloc, &reports, trace.names(), &places, &[])?;
 //! // <!doctype html>
 //! // <html lang="en">
 //! // ..

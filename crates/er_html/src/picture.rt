@@ -30,7 +30,7 @@ function accessesOf(race) {
   const own = isUnordered(race) ? [{ label: "", line: race.line, thread: race.thread, kind: isReuse(race) ? "reuse" : race.kind }] : [];
   for (const reason of [...race.reasons, ...own]) {
     if (!byLine.has(reason.line)) {
-      byLine.set(reason.line, { line: reason.line, thread: reason.thread, kind: reason.kind, isFirst: false, isJoined: false, isWrite: false, lost: [] });
+      byLine.set(reason.line, { ...reason, isFirst: false, isJoined: false, isWrite: false, lost: [] });
     }
     const access = byLine.get(reason.line);
     if (reason.label === "first") access.isFirst = true;
@@ -157,6 +157,7 @@ function sentenceOf(access, race) {
   let text = `${access.thread} ${access.kind === "reuse" ? "gave the memory back" : did(access.kind) + " the word"}`;
   if (access.lost.length) text += ` without the protection of ${listed(access.lost)}`;
   if (access.isRace) text += race.held.length ? `, holding ${heldOf(access, race)}` : ", holding no lock";
+  else if (access.held) text += placeOf(access);
   text += ".";
   if (access.isFirst) text += " It was the first to use it.";
   if (access.isJoined) text += " It was the second thread to use it: from here on all accesses need a lock in common.";
@@ -165,6 +166,12 @@ function sentenceOf(access, race) {
   if (access.isRace) return text + " No lock protected all accesses since the second thread came: this is the race.";
   if (access.candidates) text += access.candidates.length ? ` Still possible: ${listed(access.candidates)}.` : " No lock is left that protects it.";
   return text;
+}
+
+// Where an earlier access stood, and what its thread held.
+function placeOf(access) {
+  const locks = access.held.map((lock) => (access.held_to_read.includes(lock) ? `${lock} (only to read)` : lock));
+  return `${access.site === null ? "" : ` at ${access.site}`}, holding ${locks.join(", ") || "no lock"}`;
 }
 
 // A lock that was held at the race and did not protect it was held only to read. At a joining that is so for all of them.

@@ -1,5 +1,6 @@
 -- The JSON of reports: each word here is the text of one value.
-use Rattle.std.specs.Prelude.{ℕ, Bool, true, false, cond, ◌&&◌, is_some, List, [], ◌∷◌, ◌++◌, flat_map, Option, Some, None, codes, decimal}
+use Rattle.std.specs.Prelude.{ℕ, Bool, true, false, cond, not, ◌&&◌, is_some, List, [], ◌∷◌, ◌++◌, flat_map, filter, Option, Some, None, codes, decimal}
+use Rattle.er_event.specs.Lockset.{has}
 use Rattle.er_event.specs.Refusal.{text_of, refusal_of}
 use Rattle.er_event.specs.declared.addresses.PageRange.{PageRange}
 use Rattle.er_event.specs.declared.refusals.NoRoom.{NoRoom}
@@ -12,6 +13,9 @@ use Rattle.er_event.specs.declared.steps.Mode.TheVariants as mode
 use Rattle.er_event.specs.declared.steps.Step.{Step}
 use Rattle.er_event.specs.declared.steps.WordState.{WordState}
 use Rattle.er_event.specs.declared.steps.WordState.TheVariants.{Virgin, Exclusive, Shared, SharedModified}
+use Rattle.er_places.specs.Places.{PlaceTable}
+use Rattle.er_places.specs.Reasons.{reason_place}
+use Rattle.er_places.specs.declared.place.Place.{Place}
 use Rattle.er_print.specs.Printed.{address_text, bytes_between, kind_text, lost_text, order_text}
 use Rattle.er_print.specs.Styles.{lock_in, locks_in, site_in, thread_in}
 use Rattle.er_print.specs.Values.{values_text}
@@ -38,15 +42,31 @@ access_text names because =
 
 -- what it has to do with a race, and the lock that does not cover it
 unfoldable pub label_member : NameTable → Label → List ℕ
-label_member names label.First = codes "first\",\"lock\":null}"
-label_member names label.Joined = codes "joined\",\"lock\":null}"
-label_member names label.Write = codes "write\",\"lock\":null}"
-label_member names (label.Uncovered lock) = codes "not covering\",\"lock\":" ++ lock_in style.Json names lock ++ codes "}"
-label_member names label.Unordered = codes "unordered with\",\"lock\":null}"
+label_member names label.First = codes "first\",\"lock\":null"
+label_member names label.Joined = codes "joined\",\"lock\":null"
+label_member names label.Write = codes "write\",\"lock\":null"
+label_member names (label.Uncovered lock) = codes "not covering\",\"lock\":" ++ lock_in style.Json names lock
+label_member names label.Unordered = codes "unordered with\",\"lock\":null"
+
+-- a lock is not among those that are held to write
+abbrev pub is_held_to_read : List ℕ → ℕ → Bool
+is_held_to_read writes lock = not (has writes lock)
+
+-- where an access stood, and which locks its thread held, and which of them only to read
+unfoldable pub place_member : NameTable → Place → List ℕ
+place_member names place =
+    codes ",\"site\":" ++ site_in style.Json names place.site ++ codes ",\"held\":" ++ locks_in style.Json names place.held
+    ++ codes ",\"held_to_read\":" ++ locks_in style.Json names (filter (is_held_to_read place.write_held) place.held)
+
+-- if that is known
+abbrev pub place_if : NameTable → Option Place → List ℕ
+place_if names None = []
+place_if names (Some place) = place_member names place
 
 -- one of a race's reasons
-abbrev pub reason_text : NameTable → Because → List ℕ
-reason_text names because = access_text names because ++ label_member names because.label
+unfoldable pub reason_text : NameTable → PlaceTable → Because → List ℕ
+reason_text names table because =
+    access_text names because ++ label_member names because.label ++ place_if table.names (reason_place table because) ++ codes "}"
 
 -- who did what to which word, where it stands, and what protected it
 unfoldable pub race_front : NameTable → ℕ → ℕ → Kind → ℕ → ℕ → List ℕ → List ℕ
@@ -62,12 +82,12 @@ reused_front names number thread range held =
     ++ codes "\",\"bytes\":" ++ decimal (bytes_between range.lo range.hi) ++ codes ",\"held\":" ++ locks_in style.Json names held ++ codes ",\"reasons\":["
 
 -- why it is a race
-abbrev pub reasons_end : NameTable → List Because → List ℕ
-reasons_end names explained = values_text (reason_text names) explained ++ codes "]}"
+abbrev pub reasons_end : NameTable → PlaceTable → List Because → List ℕ
+reasons_end names table explained = values_text (reason_text names table) explained ++ codes "]}"
 
 -- a race as an object
-abbrev pub race_text : NameTable → ℕ → ℕ → Kind → ℕ → ℕ → List ℕ → List Because → List ℕ
-race_text names number thread kind word site held explained = race_front names number thread kind word site held ++ reasons_end names explained
+abbrev pub race_text : NameTable → PlaceTable → ℕ → ℕ → Kind → ℕ → ℕ → List ℕ → List Because → List ℕ
+race_text names table number thread kind word site held explained = race_front names number thread kind word site held ++ reasons_end names table explained
 
 -- the verb of a lock event
 abbrev pub acquire_verb : Mode → List ℕ
@@ -122,11 +142,11 @@ abbrev pub shown_text : NameTable → ℕ → ℕ → WordState → List ℕ
 shown_text names number word state = shown_front number word ++ state_member names state
 
 -- the object of a line
-abbrev pub row_text : NameTable → LineView → List ℕ
-row_text names (RaceView number thread kind word site held explained) = race_text names number thread kind word site held explained
-row_text names (ReusedView number thread range held explained) = reused_front names number thread range held ++ reasons_end names explained
-row_text names (RefusedView number step refusal) = refused_text names number step refusal
-row_text names (ShownView number word state) = shown_text names number word state
+abbrev pub row_text : NameTable → PlaceTable → LineView → List ℕ
+row_text names table (RaceView number thread kind word site held explained) = race_text names table number thread kind word site held explained
+row_text names table (ReusedView number thread range held explained) = reused_front names number thread range held ++ reasons_end names table explained
+row_text names table (RefusedView number step refusal) = refused_text names number step refusal
+row_text names table (ShownView number word state) = shown_text names number word state
 
 abbrev pub is_race : LineView → Bool
 is_race (RaceView number thread kind word site held explained) = true
@@ -147,8 +167,8 @@ is_shown (RefusedView number step refusal) = false
 is_shown (ShownView number word state) = true
 
 -- the object of a line that passes
-abbrev pub rows_if : (LineView → Bool) → NameTable → LineView → List (List ℕ)
-rows_if test names line = cond (test line) (row_text names line ∷ []) []
+abbrev pub rows_if : (LineView → Bool) → NameTable → PlaceTable → LineView → List (List ℕ)
+rows_if test names table line = cond (test line) (row_text names table line ∷ []) []
 
 -- where the run stopped, or null; this closes the lists
 unfoldable pub stop_member : Option (ℕ × NoRoom) → List ℕ
@@ -174,20 +194,20 @@ unfoldable pub list_text : List ℕ → List (List ℕ) → List ℕ
 list_text name rows = name ++ rows_text rows
 
 -- the lists of a document, each in the order of the report, and the first behind this heading
-unfoldable pub lists_text : List ℕ → NameTable → List LineView → List ℕ
-lists_text heading names lines =
-    list_text heading (flat_map (rows_if is_race names) lines)
-    ++ list_text (codes "],\n\"refused\":[") (flat_map (rows_if is_refused names) lines)
-    ++ list_text (codes "],\n\"shown\":[") (flat_map (rows_if is_shown names) lines)
+unfoldable pub lists_text : List ℕ → NameTable → PlaceTable → List LineView → List ℕ
+lists_text heading names table lines =
+    list_text heading (flat_map (rows_if is_race names table) lines)
+    ++ list_text (codes "],\n\"refused\":[") (flat_map (rows_if is_refused names table) lines)
+    ++ list_text (codes "],\n\"shown\":[") (flat_map (rows_if is_shown names table) lines)
 
 -- the document of a report
-unfoldable pub document_text : List ℕ → NameTable → Summary → List ℕ
-document_text heading names s = lists_text heading names s.lines ++ stop_member s.stop ++ counts_member s.rule_counts ++ totals_member s
+unfoldable pub document_text : List ℕ → NameTable → PlaceTable → Summary → List ℕ
+document_text heading names table s = lists_text heading names table s.lines ++ stop_member s.stop ++ counts_member s.rule_counts ++ totals_member s
 
 -- if there is such a report
-abbrev pub document_if : List ℕ → NameTable → Option Report → List ℕ
-document_if heading names None = []
-document_if heading names (Some report) = document_text heading names (told report)
+abbrev pub document_if : List ℕ → NameTable → PlaceTable → Option Report → List ℕ
+document_if heading names table None = []
+document_if heading names table (Some report) = document_text heading names table (told report)
 
 -- what the documents begin with: only that by happens-before names its analysis
 abbrev pub lockset_heading : List ℕ
@@ -200,8 +220,8 @@ order_heading = codes "{\"format\":1,\"analysis\":\"happens-before\",\n\"races\"
 abbrev pub sign_if : Reports → List ℕ → List ℕ
 sign_if reports sign = cond (is_some reports.lockset && is_some reports.unordered) sign []
 
--- the document of each report
-unfoldable pub json_reports : NameTable → Reports → List ℕ
-json_reports names reports =
-    sign_if reports (codes "[\n") ++ document_if lockset_heading names reports.lockset
-    ++ sign_if reports (codes ",\n") ++ document_if order_heading names reports.unordered ++ sign_if reports (codes "]\n")
+-- the document of each report; each reason says where its access was, as far as this table knows
+unfoldable pub json_reports : NameTable → PlaceTable → Reports → List ℕ
+json_reports names table reports =
+    sign_if reports (codes "[\n") ++ document_if lockset_heading names table reports.lockset
+    ++ sign_if reports (codes ",\n") ++ document_if order_heading names table reports.unordered ++ sign_if reports (codes "]\n")

@@ -12,6 +12,7 @@ use crate::rows::{
     put_event, put_race, put_reasons, put_refused, put_reused, put_shown, put_state,
 };
 use er_event::NoRoom;
+use er_places::Places;
 use er_print::Piece::{Number, Text};
 use er_print::{Style, comma_before, put_all, put_lost, put_number};
 use er_report::{Line, Report, Reports};
@@ -19,11 +20,16 @@ use er_trace::Names;
 use std::alloc::{AllocError, Global};
 
 /// The JSON of the reports, with these names for their numbers: a document for each report. Two documents are the items of a list, that
-/// of the lockset rule first.
+/// of the lockset rule first. Each reason of a race says where its access was and what its thread held, as far as the places are known.
 #[tactic(auto, unfolding(crate::specs::Document::json_reports))]
-pub fn json_text(alloc: Global, reports: &Reports, names: &Names) -> Result<Vec<u8>, AllocError>
+pub fn json_text(
+    alloc: Global,
+    reports: &Reports,
+    names: &Names,
+    places: &Places,
+) -> Result<Vec<u8>, AllocError>
     requires { HaveNames names.now reports.now }
-    ensures { IfOk result (λ text. text.items ≡ json_reports names.now reports.now) }
+    ensures { IfOk result (λ text. text.items ≡ json_reports names.now places.now reports.now) }
 {
     let mut text = Vec::new(alloc);
     put_sign(&mut text, reports, b"[\n")?;
@@ -31,6 +37,7 @@ pub fn json_text(alloc: Global, reports: &Reports, names: &Names) -> Result<Vec<
         &mut text,
         b"{\"format\":1,\n\"races\":[",
         names,
+        places,
         &reports.lockset,
     )?;
     put_sign(&mut text, reports, b",\n")?;
@@ -38,6 +45,7 @@ pub fn json_text(alloc: Global, reports: &Reports, names: &Names) -> Result<Vec<
         &mut text,
         b"{\"format\":1,\"analysis\":\"happens-before\",\n\"races\":[",
         names,
+        places,
         &reports.unordered,
     )?;
     put_sign(&mut text, reports, b"]\n")?;
@@ -59,13 +67,14 @@ fn put_document(
     out: &mut Vec<u8>,
     heading: &[u8],
     names: &Names,
+    places: &Places,
     report: &Option<Report>,
 ) -> Result<(), AllocError>
     requires { IfSome report.now (λ report. All (HasNames names.now) report.lines.items) }
-    ensures { OnOk result (out.new.items ≡ out.old.items ++ document_if heading.now names.now report.now) }
+    ensures { OnOk result (out.new.items ≡ out.old.items ++ document_if heading.now names.now places.now report.now) }
 {
     match report {
-        Some(report) => put_report(out, heading, names, report),
+        Some(report) => put_report(out, heading, names, places, report),
         None => Ok(()),
     }
 }
@@ -75,12 +84,13 @@ fn put_report(
     out: &mut Vec<u8>,
     heading: &[u8],
     names: &Names,
+    places: &Places,
     report: &Report,
 ) -> Result<(), AllocError>
     requires { All (HasNames names.now) report.now.lines.items }
-    ensures { OnOk result (out.new.items ≡ out.old.items ++ document_text heading.now names.now (told report.now)) }
+    ensures { OnOk result (out.new.items ≡ out.old.items ++ document_text heading.now names.now places.now (told report.now)) }
 {
-    put_lists(out, heading, names, &report.lines)?;
+    put_lists(out, heading, names, places, &report.lines)?;
     put_stop(out, names, report.stop)?;
     put_counts(out, &report.rule_counts)?;
     put_totals(out, names, report)
@@ -100,14 +110,29 @@ fn put_lists(
     out: &mut Vec<u8>,
     heading: &[u8],
     names: &Names,
+    places: &Places,
     lines: &[Line],
 ) -> Result<(), AllocError>
     requires { All (HasNames names.now) lines.now }
-    ensures { OnOk result (out.new.items ≡ out.old.items ++ lists_text heading.now names.now (map line_view lines.now)) }
+    ensures { OnOk result (out.new.items ≡ out.old.items ++ lists_text heading.now names.now places.now (map line_view lines.now)) }
 {
-    put_list(out, heading, names, lines, Section::Races)?;
-    put_list(out, b"],\n\"refused\":[", names, lines, Section::Refused)?;
-    put_list(out, b"],\n\"shown\":[", names, lines, Section::Shown)?;
+    put_list(out, heading, names, places, lines, Section::Races)?;
+    put_list(
+        out,
+        b"],\n\"refused\":[",
+        names,
+        places,
+        lines,
+        Section::Refused,
+    )?;
+    put_list(
+        out,
+        b"],\n\"shown\":[",
+        names,
+        places,
+        lines,
+        Section::Shown,
+    )?;
     Ok(())
 }
 
@@ -117,29 +142,31 @@ fn put_list(
     out: &mut Vec<u8>,
     heading: &[u8],
     names: &Names,
+    places: &Places,
     lines: &[Line],
     section: Section,
 ) -> Result<(), AllocError>
     requires { All (HasNames names.now) lines.now }
-    ensures { OnOk result (out.new.items ≡ out.old.items ++ list_text heading.now (flat_map (rows_in section names.now) (map line_view lines.now))) }
+    ensures { OnOk result (out.new.items ≡ out.old.items ++ list_text heading.now (flat_map (rows_in section names.now places.now) (map line_view lines.now))) }
 {
     out.extend_from_slice(heading)?;
-    put_rows(out, names, lines, section)
+    put_rows(out, names, places, lines, section)
 }
 
 // Puts the objects of a list, each on a line of its own.
 fn put_rows(
     out: &mut Vec<u8>,
     names: &Names,
+    places: &Places,
     lines: &[Line],
     section: Section,
 ) -> Result<(), AllocError>
     requires { All (HasNames names.now) lines.now }
-    ensures { OnOk result (out.new.items ≡ out.old.items ++ rows_text (flat_map (rows_in section names.now) (map line_view lines.now))) }
+    ensures { OnOk result (out.new.items ≡ out.old.items ++ rows_text (flat_map (rows_in section names.now places.now) (map line_view lines.now))) }
 {
     let mut is_first = true;
     for line in lines {
-        is_first = put_line_in(out, names, line, section, is_first)?;
+        is_first = put_line_in(out, names, places, line, section, is_first)?;
     }
     Ok(())
 }
@@ -148,19 +175,20 @@ fn put_rows(
 fn put_line_in(
     out: &mut Vec<u8>,
     names: &Names,
+    places: &Places,
     line: &Line,
     section: Section,
     is_first: bool,
 ) -> Result<bool, AllocError>
     requires { HasNames names.now line.now }
-    ensures text { OnOk result (out.new.items ≡ out.old.items ++ next_text is_first (rows_in section names.now (line_view line.now))) }
-    ensures first { IfOk result (λ still. still ≡ (is_first && has_none (rows_in section names.now (line_view line.now)))) }
+    ensures text { OnOk result (out.new.items ≡ out.old.items ++ next_text is_first (rows_in section names.now places.now (line_view line.now))) }
+    ensures first { IfOk result (λ still. still ≡ (is_first && has_none (rows_in section names.now places.now (line_view line.now)))) }
 {
     if !is_in(section, line) {
         return Ok(is_first);
     }
     put_separator(out, is_first)?;
-    put_row(out, names, line)?;
+    put_row(out, names, places, line)?;
     Ok(false)
 }
 
@@ -188,9 +216,9 @@ pub fn put_separator(out: &mut Vec<u8>, is_first: bool) -> Result<(), AllocError
 }
 
 // Puts the object of a line.
-fn put_row(out: &mut Vec<u8>, names: &Names, line: &Line) -> Result<(), AllocError>
+fn put_row(out: &mut Vec<u8>, names: &Names, places: &Places, line: &Line) -> Result<(), AllocError>
     requires { HasNames names.now line.now }
-    ensures { OnOk result (out.new.items ≡ out.old.items ++ row_text names.now (line_view line.now)) }
+    ensures { OnOk result (out.new.items ≡ out.old.items ++ row_text names.now places.now (line_view line.now)) }
 {
     match line {
         Line::Race {
@@ -204,7 +232,7 @@ fn put_row(out: &mut Vec<u8>, names: &Names, line: &Line) -> Result<(), AllocErr
         } => {
             let held = held.as_slice();
             put_race(out, names, *line, *thread, *kind, *word, *site, held)?;
-            put_reasons(out, names, explained)
+            put_reasons(out, names, places, explained)
         }
         Line::Reused {
             line,
@@ -214,7 +242,7 @@ fn put_row(out: &mut Vec<u8>, names: &Names, line: &Line) -> Result<(), AllocErr
             explained,
         } => {
             put_reused(out, names, *line, *thread, range, held.as_slice())?;
-            put_reasons(out, names, explained)
+            put_reasons(out, names, places, explained)
         }
         Line::Refused {
             line,

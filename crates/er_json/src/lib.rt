@@ -2,7 +2,7 @@
 //!
 //! Begin with [`json_text`]. It writes a document for each report of [`er_report::Reports`]: the races, the refused steps, the words that
 //! were shown, the stop, what the suppressions took, and the totals. The document by happens-before says so in its first line, and two
-//! documents are the items of a list.
+//! documents are the items of a list. A reason of a race says where its access was and what its thread held, if the places given know it.
 //!
 //! What it promises: the bytes are those of the reports' documents and nothing else, or nothing at all for want of memory.
 //! `specs/Document` defines a document value by value, one whole as `document_text`, and all of them as `json_reports`.
@@ -10,7 +10,7 @@
 //! A race, a refused step and a word shown have a line each, so that tools that read lines can find them too.
 //!
 //! ```
-//! let text = json_text(alloc, &reports, trace.names())?;
+//! let text = json_text(alloc, &reports, trace.names(), &places)?;
 //! // {"format":1,
 //! // "races":[
 //! // {"line":3,"thread":"t2","kind":"write","address":"0x000000001000","site":null,"held":[],"reasons":[]}],

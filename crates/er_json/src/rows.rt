@@ -1,15 +1,18 @@
 //! A line of a report as an object of the document.
-ghost use Rattle.std.specs.Prelude.{◌≡◌, ◌++◌, ◌<◌, ◌≤◌, All, length, OnOk};
-ghost use Rattle.er_json.specs.Document.{access_text, acquire_verb, event_member, label_member, lock_event_member, plain_event_member, race_front, reason_text, reasons_end, refused_front, release_verb, reused_front, shown_front, state_member};
+ghost use Rattle.std.specs.Prelude.{◌≡◌, ◌++◌, ◌<◌, ◌≤◌, All, filter, length, IfOk, OnOk};
+ghost use Rattle.er_json.specs.Document.{access_text, acquire_verb, event_member, is_held_to_read, label_member, lock_event_member, place_if, place_member, plain_event_member, race_front, reason_text, reasons_end, refused_front, release_verb, reused_front, shown_front, state_member};
+ghost use Rattle.er_places.specs.Places.{HasPlaceNames};
+ghost use Rattle.er_places.specs.Reasons.{reason_place};
 ghost use Rattle.er_print.specs.Values.{values_text};
 ghost use Rattle.er_report.specs.Names.{HasEventNames, HasLabelName, HasLockName, HasLockNames, HasReasonNames, HasStateNames};
 
-use er_event::{Event, Kind, LockId, Mode, PageRange, Refusal, ThreadId, Word, WordState};
+use er_event::{Event, Kind, LockId, Lockset, Mode, PageRange, Refusal, ThreadId, Word, WordState};
+use er_places::{Place, Places};
 use er_print::Piece::{Address, Lock, Locks, Number, Site, Text, Thread, Verb};
 use er_print::{Style, bytes_of, comma_before, order_verb, put_all, verb};
 use er_report::{Because, Label};
 use er_trace::Names;
-use std::alloc::AllocError;
+use std::alloc::{AllocError, Global};
 
 /// Puts the object of a race up to its reasons.
 #[tactic(auto, unfolding(crate::specs::Document::race_front))]
@@ -69,36 +72,46 @@ pub(crate) fn put_reused(
 pub(crate) fn put_reasons(
     out: &mut Vec<u8>,
     names: &Names,
+    places: &Places,
     explained: &[Because],
 ) -> Result<(), AllocError>
     requires { All (HasReasonNames names.now) explained.now }
-    ensures { OnOk result (out.new.items ≡ out.old.items ++ reasons_end names.now explained.now) }
+    ensures { OnOk result (out.new.items ≡ out.old.items ++ reasons_end names.now places.now explained.now) }
 {
-    put_reason_list(out, names, explained)?;
+    put_reason_list(out, names, places, explained)?;
     out.extend_from_slice(b"]}")
 }
 
 fn put_reason_list(
     out: &mut Vec<u8>,
     names: &Names,
+    places: &Places,
     explained: &[Because],
 ) -> Result<(), AllocError>
     requires { All (HasReasonNames names.now) explained.now }
-    ensures { OnOk result (out.new.items ≡ out.old.items ++ values_text (reason_text names.now) explained.now) }
+    ensures { OnOk result (out.new.items ≡ out.old.items ++ values_text (reason_text names.now places.now) explained.now) }
 {
     for (place, because) in explained.iter().enumerate() {
         out.extend_from_slice(comma_before(place))?;
-        put_reason(out, names, because)?;
+        put_reason(out, names, places, because)?;
     }
     Ok(())
 }
 
-fn put_reason(out: &mut Vec<u8>, names: &Names, because: &Because) -> Result<(), AllocError>
+#[tactic(auto, unfolding(crate::specs::Document::reason_text))]
+fn put_reason(
+    out: &mut Vec<u8>,
+    names: &Names,
+    places: &Places,
+    because: &Because,
+) -> Result<(), AllocError>
     requires { HasReasonNames names.now because.now }
-    ensures { OnOk result (out.new.items ≡ out.old.items ++ reason_text names.now because.now) }
+    ensures { OnOk result (out.new.items ≡ out.old.items ++ reason_text names.now places.now because.now) }
 {
     put_access(out, names, because)?;
-    put_label(out, names, because.label)
+    put_label(out, names, because.label)?;
+    put_place(out, places, because)?;
+    out.extend_from_slice(b"}")
 }
 
 // Puts who made the access of a reason.
@@ -116,22 +129,64 @@ fn put_access(out: &mut Vec<u8>, names: &Names, because: &Because) -> Result<(),
     put_all(out, Style::Json, names, &pieces)
 }
 
-// Puts what an access has to do with a race, and closes its object.
+// Puts what an access has to do with a race.
 #[tactic(auto, unfolding(crate::specs::Document::label_member))]
 fn put_label(out: &mut Vec<u8>, names: &Names, label: Label) -> Result<(), AllocError>
     requires { HasLabelName names.now label }
     ensures { OnOk result (out.new.items ≡ out.old.items ++ label_member names.now label) }
 {
     match label {
-        Label::First => out.extend_from_slice(b"first\",\"lock\":null}"),
-        Label::Joined => out.extend_from_slice(b"joined\",\"lock\":null}"),
-        Label::Write => out.extend_from_slice(b"write\",\"lock\":null}"),
+        Label::First => out.extend_from_slice(b"first\",\"lock\":null"),
+        Label::Joined => out.extend_from_slice(b"joined\",\"lock\":null"),
+        Label::Write => out.extend_from_slice(b"write\",\"lock\":null"),
         Label::Uncovered(lock) => {
-            let pieces = [Lock(b"not covering\",\"lock\":", lock), Text(b"}")];
+            let pieces = [Lock(b"not covering\",\"lock\":", lock)];
             put_all(out, Style::Json, names, &pieces)
         }
-        Label::Unordered => out.extend_from_slice(b"unordered with\",\"lock\":null}"),
+        Label::Unordered => out.extend_from_slice(b"unordered with\",\"lock\":null"),
     }
+}
+
+// Puts where the access of a reason stood and what its thread held, if that is known.
+fn put_place(out: &mut Vec<u8>, places: &Places, because: &Because) -> Result<(), AllocError>
+    ensures { OnOk result (out.new.items ≡ out.old.items ++ place_if places.now.names (reason_place places.now because.now)) }
+{
+    match places.of_reason(because) {
+        Some(place) => put_known(out, places.names(), place),
+        None => Ok(()),
+    }
+}
+
+#[tactic(auto, unfolding(crate::specs::Document::place_member))]
+fn put_known(out: &mut Vec<u8>, names: &Names, place: &Place) -> Result<(), AllocError>
+    requires { HasPlaceNames names.now place.now }
+    ensures { OnOk result (out.new.items ≡ out.old.items ++ place_member names.now place.now) }
+{
+    let held = place.held.as_slice();
+    let to_read = held_to_read(*out.allocator(), held, &place.write_held)?;
+    let pieces = [
+        Site(b",\"site\":", place.site),
+        Locks(b",\"held\":", held),
+        Locks(b",\"held_to_read\":", &to_read),
+    ];
+    put_all(out, Style::Json, names, &pieces)
+}
+
+// The locks that are held and not to write.
+fn held_to_read(
+    alloc: Global,
+    held: &[LockId],
+    write_held: &Lockset,
+) -> Result<Vec<LockId>, AllocError>
+    ensures { IfOk result (λ locks. locks.items ≡ filter (is_held_to_read write_held.now) held.now) }
+{
+    let mut locks = Vec::new(alloc);
+    for lock in held {
+        if !write_held.contains(*lock) {
+            locks.push(*lock)?;
+        }
+    }
+    Ok(locks)
 }
 
 /// Puts which step was refused, in an object that is left open.

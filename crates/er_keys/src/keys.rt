@@ -1,4 +1,8 @@
 //! `HashKeys`, and `KeyedHasher` for maps whose keys are texts.
+ghost use Rattle.std.specs.Prelude.{◌≡◌, length, slice_range};
+ghost use Rattle.std.specs.Int.{w64, from_le_bytes};
+
+use crate::number_hasher::word_of;
 use std::hash::{BuildHasher, DefaultHasher, Hasher};
 use std::io;
 use std::random::RandomSource;
@@ -22,11 +26,19 @@ impl HashKeys {
     pub fn random(source: &impl RandomSource) -> io::Result<HashKeys> {
         let mut bytes = [0; 16];
         source.fill_bytes(&mut bytes)?;
-        let both = u128::from_le_bytes(bytes);
-        Ok(HashKeys {
-            first: (both & 0xFFFF_FFFF_FFFF_FFFF) as u64,
-            second: (both >> 64) as u64,
-        })
+        Ok(HashKeys::of(&bytes))
+    }
+
+    // Eight bytes make each, in order.
+    fn of(bytes: &[u8]) -> HashKeys
+        requires { length bytes.now ≡ 16 }
+        ensures first { result.first ≡ from_le_bytes w64 (slice_range bytes.now 0 8) }
+        ensures second { result.second ≡ from_le_bytes w64 (slice_range bytes.now 8 16) }
+    {
+        HashKeys {
+            first: word_of(&bytes[0..8]),
+            second: word_of(&bytes[8..16]),
+        }
     }
 
     // The two numbers.

@@ -48,9 +48,9 @@ fn mixed(high: u64, low: u64, word: u64) -> u64
     (carried as u64).wrapping_add(high.wrapping_mul(word))
 }
 
-// The number of eight bytes, the lowest first.
+/// The number of eight bytes, the lowest first.
 #[inline(always)]
-fn word_of(bytes: &[u8]) -> u64
+pub(crate) fn word_of(bytes: &[u8]) -> u64
     requires { length bytes.now ≡ 8 }
     ensures { result ≡ from_le_bytes w64 bytes.now }
 {

@@ -1,8 +1,9 @@
--- Reads that are known with each other serve alike: an access is answered the same by them, and they go on to such reads.
-use Rattle.std.proofs.Common.{◌≡◌, ◌∙◌, ℕ, zero, suc, ◌-◌, ◌≤◌, Bool, true, false, ◌||◌, ◌==◌, not, cond, nat_lt, List, [], ◌∷◌, ◌++◌, filter, length, Option, Some, refl, sym, ap, subst, append_assoc, arith, ⊎_elim, inl, inr, ◌⊎◌}
-use Rattle.std.proofs.lemmas.Bool.{le-leb, leb-true, or_left, or_right, or_cases, both_ways, not-true, not_from_false, false_from_ne_true}
+-- Reads that are alike serve alike: an access is answered the same by them, and they go on to such reads.
+use Rattle.std.proofs.Common.{◌≡◌, ◌∙◌, ℕ, suc, ◌-◌, ◌≤◌, Bool, true, false, ◌||◌, ◌==◌, not, cond, nat_lt, List, [], ◌∷◌, ◌++◌, filter, length, map, is_some, Option, Some, None, refl, sym, ap, subst, append_assoc, arith}
+use Rattle.std.proofs.lemmas.Bool.{le-leb, leb-true}
 use Rattle.std.specs.Bool.{MatchBool}
-use Rattle.std.specs.List.{Contains, list_any}
+use Rattle.std.specs.List.{list_any, find}
+use Rattle.std.specs.Option.{option_map}
 use Rattle.er_event.proofs.Lists.{length_push}
 use Rattle.er_event.specs.declared.steps.Event.{Event}
 use Rattle.er_event.specs.declared.steps.Event.TheVariants.{Acquire, Release, Access, Reuse, IgnoreOn, IgnoreOff, Show, Level, Sync}
@@ -15,116 +16,98 @@ use Rattle.er_model.specs.Following.{locks_for, marked}
 use Rattle.er_order.specs.Order.{acts_of}
 use Rattle.er_order.specs.Clocks.{Epoch, OfThread, clocks_at, own_count, covers}
 use Rattle.er_order.specs.Following.{Kept, Seen, Reported, fresh, is_unordered, write_is_unordered, reports_at, kept_by, kept_moved, kept_at}
-use Rattle.er_order.specs.Keeping.{IsKnownWith, AreKnownWith, reads_of, with_reads, Serves, HasNoEarlier, IsNoted, IsKeptBy, IsKeptMoved, IsKeptAfter}
-use Rattle.er_order.proofs.Clocks.{equal_Bool}
+use Rattle.er_order.specs.Keeping.{first_apart, AreAlike, reads_of, with_reads, Serves, IsNoted, IsKeptBy, IsKeptMoved, IsKeptAfter}
 use Rattle.er_order.proofs.ClockFlows.{behind, behind-sum, knows_all}
 use Rattle.er_order.proofs.StepLemmas.{clocks-front}
 use Rattle.er_order.proofs.Growing.{kept-grow}
-
--- what a list has
-pub contains_first : (x : Epoch) (xs : List Epoch) → Contains (x ∷ xs) x
-contains_first x xs = (0, omega arith, refl)
-
-pub contains_next : (x e : Epoch) (xs : List Epoch) → Contains xs e → Contains (x ∷ xs) e
-contains_next x e xs (k, below, is) = (suc k, omega (arith, below), is)
-
-pub contains_cases : (x e : Epoch) (xs : List Epoch) → Contains (x ∷ xs) e → (x ≡ e) ⊎ Contains xs e
-contains_cases x e xs (zero, below, is) = inl is
-contains_cases x e xs (suc k, below, is) = inr (k, omega (arith, below), is)
-
-none_there : {P : Type 0} (e : Epoch) → Contains [] e → P
-none_there e (k, below, is) = absurd (omega (arith, below))
-
-module _ (p : Epoch → Bool) where
-  filter_next : (x e : Epoch) (xs : List Epoch) (b : Bool) → p x ≡ b → p e ≡ true → (x ≡ e) ⊎ Contains (filter p xs) e → Contains (filter p (x ∷ xs)) e
-  filter_next x e xs true is passes (inl same) = rw is (subst (λ (y : Epoch). Contains (x ∷ filter p xs) y) same (contains_first x (filter p xs)))
-  filter_next x e xs true is passes (inr later) = rw is (contains_next x e (filter p xs) later)
-  filter_next x e xs false is passes (inl same) = absurd (both_ways (p x) is (ap p same ∙ passes))
-  filter_next x e xs false is passes (inr later) = rw is later
-
-  pub contains-filter : (xs : List Epoch) (e : Epoch) → Contains xs e → p e ≡ true → Contains (filter p xs) e
-  contains-filter [] e there passes = none_there e there
-  contains-filter (x ∷ xs) e there passes =
-      filter_next x e xs (p x) refl passes (⊎_elim (λ same. inl same) (λ later. inr (contains-filter xs e later passes)) (contains_cases x e xs there))
-
-  filter_cases : (x e : Epoch) (xs : List Epoch) (b : Bool) → p x ≡ b → Contains (filter p (x ∷ xs)) e → ((x ≡ e) × (p e ≡ true)) ⊎ Contains (filter p xs) e
-  filter_cases x e xs true is there =
-      ⊎_elim (λ same. inl (same, ap p (sym same) ∙ is)) (λ later. inr later)
-      (contains_cases x e (filter p xs) (rw is at there))
-  filter_cases x e xs false is there = inr (rw is at there)
-
-  pub filter-contains : (xs : List Epoch) (e : Epoch) → Contains (filter p xs) e → Contains xs e × (p e ≡ true)
-  filter-contains [] e there = none_there e there
-  filter-contains (x ∷ xs) e there =
-      ⊎_elim
-      (λ here. (subst (λ (y : Epoch). Contains (x ∷ xs) y) here.0 (contains_first x xs), here.1))
-      (λ later. let rest = filter-contains xs e later in (contains_next x e xs rest.0, rest.1))
-      (filter_cases x e xs (p x) refl there)
-
-  any-there : (xs : List Epoch) → list_any p xs ≡ true → (e : Epoch) × Contains xs e × (p e ≡ true)
-  any-there [] some = cc
-  any-there (x ∷ xs) some =
-      ⊎_elim
-      (λ here. (x, contains_first x xs, here))
-      (λ later. let rest = any-there xs later in (rest.0, contains_next x rest.0 xs rest.1, rest.2))
-      (or_cases (p x) (list_any p xs) some)
-
-  there-any : (xs : List Epoch) (e : Epoch) → Contains xs e → p e ≡ true → list_any p xs ≡ true
-  there-any [] e there passes = none_there e there
-  there-any (x ∷ xs) e there passes =
-      ⊎_elim
-      (λ same. or_left (p x) (list_any p xs) (ap p same ∙ passes))
-      (λ later. or_right (p x) (list_any p xs) (there-any xs e later passes))
-      (contains_cases x e xs there)
 
 not_covered : (b : Bool) → not b ≡ false → b ≡ true
 not_covered true e = refl
 not_covered false e = cc
 
-module _ (steps : List Step) where
-  known-itself : (e : Epoch) → IsKnownWith steps e e
-  known-itself e = record { known = λ more n t past covered. covered }
+-- a list has one that passes exactly if a search finds one
+pub any-found : {E : Type 0} (test : E → Bool) (xs : List E) → list_any test xs ≡ is_some (find test xs)
+any-found test [] = refl
+any-found test (x ∷ xs) = by (test x) refl (any-found test xs)
+  where
+    by : (b : Bool) → test x ≡ b → list_any test xs ≡ is_some (find test xs) → (test x || list_any test xs) ≡ is_some (cond (test x) (Some x) (find test xs))
+    by true e rest = rw e refl
+    by false e rest = rw e rest
 
-  pub all-known : (reads : List Epoch) → AreKnownWith steps reads reads
-  all-known reads e there = (e, there, known-itself e)
+-- a search through a map
+pub found-mapped : {X Y : Type 0} (test : Y → Bool) (f : X → Y) (xs : List X) → find test (map f xs) ≡ option_map f (find (λ x. test (f x)) xs)
+found-mapped test f [] = refl
+found-mapped test f (x ∷ xs) = by (test (f x)) refl (found-mapped test f xs)
+  where
+    by : (b : Bool) → test (f x) ≡ b → find test (map f xs) ≡ option_map f (find (λ x. test (f x)) xs) → cond (test (f x)) (Some (f x)) (find test (map f xs)) ≡ option_map f (cond (test (f x)) (Some x) (find (λ x. test (f x)) xs))
+    by true e rest = rw e refl
+    by false e rest = rw e rest
 
-  pub none-known : (reads : List Epoch) → AreKnownWith steps [] reads
-  none-known reads e there = none_there e there
+module _ {E : Type 0} (epoch : E → Epoch) where
+  module _ (clock later : ℕ → ℕ) (has_all : (u : ℕ) → clock u ≤ later u) where
+    -- what the clock covers, the later one does
+    pub covered-later : (e : Epoch) → is_unordered clock e ≡ false → is_unordered later e ≡ false
+    covered-later e covered =
+        let low : e.1 ≤ clock e.0 = leb-true e.1 (clock e.0) (not_covered (covers clock e) covered) in
+        ap not (le-leb e.1 (later e.0) (let more = has_all e.0 in omega (arith, low, more)))
+
+    -- so a search by the later one finds none of these
+    drop_covered : (xs : List E) → first_apart epoch later (filter (λ x. is_unordered clock (epoch x)) xs) ≡ first_apart epoch later xs
+    drop_covered [] = refl
+    drop_covered (x ∷ xs) = by (is_unordered clock (epoch x)) refl (drop_covered xs)
+      where
+        by : (b : Bool) → is_unordered clock (epoch x) ≡ b → first_apart epoch later (filter (λ y. is_unordered clock (epoch y)) xs) ≡ first_apart epoch later xs
+            → first_apart epoch later (cond (is_unordered clock (epoch x)) (x ∷ filter (λ y. is_unordered clock (epoch y)) xs) (filter (λ y. is_unordered clock (epoch y)) xs))
+            ≡ cond (is_unordered later (epoch x)) (Some x) (first_apart epoch later xs)
+        by true apart rest = rw apart (ap (λ o. cond (is_unordered later (epoch x)) (Some x) o) rest)
+        by false covered rest = rw (covered, covered-later (epoch x) covered) rest
+
+  -- behind a read by which a clock is judged, two lists need to be alike only for a clock that covers it
+  pub behind-read : (later : ℕ → ℕ) (x : E) (xs ys : List E) → (covers later (epoch x) ≡ true → first_apart epoch later xs ≡ first_apart epoch later ys)
+      → first_apart epoch later (x ∷ xs) ≡ first_apart epoch later (x ∷ ys)
+  behind-read later x xs ys same = by (is_unordered later (epoch x)) refl
+    where
+      by : (b : Bool) → is_unordered later (epoch x) ≡ b
+          → cond (is_unordered later (epoch x)) (Some x) (first_apart epoch later xs) ≡ cond (is_unordered later (epoch x)) (Some x) (first_apart epoch later ys)
+      by true apart = rw apart refl
+      by false covered = rw covered (same (not_covered (covers later (epoch x)) covered))
+
+  -- those that the reader's clock covers may go
+  pub noted-filter : (clock : ℕ → ℕ) (before : List E) (x : E) → IsNoted epoch clock before x (x ∷ filter (λ y. is_unordered clock (epoch y)) before)
+  noted-filter clock before x = record {
+    noted = λ later knows. behind-read later x (filter (λ y. is_unordered clock (epoch y)) before) before (λ covered. drop_covered clock later (knows covered) before);
+  }
+
+  pub alike-itself : (steps : List Step) (reads : List E) → AreAlike epoch steps reads reads
+  alike-itself steps reads = record { alike = λ more n t past. refl }
 
   -- by the clock of a thread at the end of the list
-  module _ (t : ℕ) where
-    abbrev clock : ℕ → ℕ
-    clock = clocks_at (acts_of steps) (length steps) (OfThread t)
+  pub alike-here : (steps : List Step) (reads others : List E) (t : ℕ) → AreAlike epoch steps reads others
+      → first_apart epoch (clocks_at (acts_of steps) (length steps) (OfThread t)) reads ≡ first_apart epoch (clocks_at (acts_of steps) (length steps) (OfThread t)) others
+  alike-here steps reads others t like =
+      subst (λ (c : ℕ → ℕ). first_apart epoch c reads ≡ first_apart epoch c others)
+      (ap (λ clocks. clocks (OfThread t)) (clocks-front steps [] (length steps) (omega arith)))
+      (like.alike [] (length steps) t (omega arith))
 
-    clock-here : clocks_at (acts_of (steps ++ [])) (length steps) (OfThread t) ≡ clock
-    clock-here = ap (λ clocks. clocks (OfThread t)) (clocks-front steps [] (length steps) (omega arith))
+module _ (steps : List Step) (t : ℕ) where
+  abbrev clock : ℕ → ℕ
+  clock = clocks_at (acts_of steps) (length steps) (OfThread t)
 
-    known_here : (other epoch : Epoch) → IsKnownWith steps other epoch → covers clock epoch ≡ true → covers clock other ≡ true
-    known_here other epoch known covered =
-        subst (λ (c : ℕ → ℕ). covers c epoch ≡ true → covers c other ≡ true) clock-here (known.known [] (length steps) t (omega arith)) covered
+  -- an access is answered the same
+  reports_same : (stored kept : Kept) (kind : Kind) → Serves steps stored kept → reports_at clock (with_reads kept (reads_of stored)) kind ≡ reports_at clock kept kind
+  reports_same stored Reported kind serves = refl
+  reports_same stored (Seen write reads) reading serves = refl
+  reports_same stored (Seen write reads) writing serves =
+      ap (λ b. write_is_unordered clock write || b)
+      (any-found (is_unordered clock) (reads_of stored) ∙ ap is_some (alike-here (λ e. e) steps (reads_of stored) reads t serves.reads) ∙ sym (any-found (is_unordered clock) reads))
 
-    still-unordered : (other epoch : Epoch) → IsKnownWith steps other epoch → is_unordered clock other ≡ true → is_unordered clock epoch ≡ true
-    still-unordered other epoch known apart =
-        not_from_false (covers clock epoch) (false_from_ne_true (covers clock epoch) (λ covered. both_ways (covers clock other) (not-true (covers clock other) apart) (known_here other epoch known covered)))
+  pub serves-reports : (stored kept : Kept) (kind : Kind) → Serves steps stored kept → reports_at clock stored kind ≡ reports_at clock kept kind
+  serves-reports stored kept kind serves = ap (λ k. reports_at clock k kind) serves.same ∙ reports_same stored kept kind serves
 
-    any-known : (others reads : List Epoch) → AreKnownWith steps others reads → list_any (is_unordered clock) others ≡ true → list_any (is_unordered clock) reads ≡ true
-    any-known others reads known some =
-        let found = any-there (is_unordered clock) others some in
-        let with = known found.0 found.1 in
-        there-any (is_unordered clock) reads with.0 with.1 (still-unordered found.0 with.0 with.2 found.2)
-
-    any-same : (others reads : List Epoch) → AreKnownWith steps others reads → AreKnownWith steps reads others → list_any (is_unordered clock) others ≡ list_any (is_unordered clock) reads
-    any-same others reads one two =
-        equal_Bool (list_any (is_unordered clock) others) (list_any (is_unordered clock) reads) (any-known others reads one) (any-known reads others two)
-
-    -- an access is answered the same
-    reports-same : (stored kept : Kept) (kind : Kind) → Serves steps stored kept → reports_at clock (with_reads kept (reads_of stored)) kind ≡ reports_at clock kept kind
-    reports-same stored Reported kind serves = refl
-    reports-same stored (Seen write reads) reading serves = refl
-    reports-same stored (Seen write reads) writing serves = ap (λ b. write_is_unordered clock write || b) (any-same (reads_of stored) reads serves.known serves.knows)
-
-    pub serves-reports : (stored kept : Kept) (kind : Kind) → Serves steps stored kept → reports_at clock stored kind ≡ reports_at clock kept kind
-    serves-reports stored kept kind serves = ap (λ k. reports_at clock k kind) serves.same ∙ reports-same stored kept kind serves
+-- what is kept serves for itself
+pub serves-itself : (steps : List Step) (kept : Kept) → Serves steps kept kept
+serves-itself steps Reported = record { same = refl; reads = alike-itself (λ e. e) steps [] }
+serves-itself steps (Seen write reads) = record { same = refl; reads = alike-itself (λ e. e) steps reads }
 
 -- the list grows
 module _ (steps : List Step) (s : Step) where
@@ -134,108 +117,67 @@ module _ (steps : List Step) (s : Step) where
   longer : length grown ≡ suc (length steps)
   longer = length_push steps s
 
-  known-grow : (other epoch : Epoch) → IsKnownWith steps other epoch → IsKnownWith grown other epoch
-  known-grow other epoch known = record {
-    known = λ more n t past covered.
-        subst (λ (all : List Step). covers (clocks_at (acts_of all) n (OfThread t)) epoch ≡ true → covers (clocks_at (acts_of all) n (OfThread t)) other ≡ true)
-        (sym (append_assoc steps (s ∷ []) more))
-        (known.known (s ∷ more) n t (omega (arith, longer, past))) covered;
-  }
+  -- a thread that knows an epoch of what a thread does now knows what that one does
+  own_then : (t : ℕ) (more : List Step) (n u : ℕ) → length grown ≤ n → clock steps t t ≤ clocks_at (acts_of (grown ++ more)) n (OfThread u) t → (v : ℕ) → clock steps t v ≤ clocks_at (acts_of (grown ++ more)) n (OfThread u) v
+  unfolding own_count
+  own_then t more n u past low v =
+      let later : steps ++ (s ∷ more) ≡ grown ++ more = sym (append_assoc steps (s ∷ []) more) in
+      let front = clocks-front steps (s ∷ more) (length steps) (omega arith) in
+      let at : behind (n - length steps) (length steps) ≡ n = behind-sum (n - length steps) (length steps) n (omega (arith, longer, past)) in
+      subst (λ (all : List Step). clock steps t t ≤ clocks_at (acts_of all) n (OfThread u) t → (v : ℕ) → clock steps t v ≤ clocks_at (acts_of all) n (OfThread u) v) later
+      (subst (λ (m : ℕ). clock steps t t ≤ clocks_at (acts_of (steps ++ (s ∷ more))) m (OfThread u) t → (v : ℕ) → clock steps t v ≤ clocks_at (acts_of (steps ++ (s ∷ more))) m (OfThread u) v) at
+      (subst (λ (c : ℕ → ℕ). c t ≤ clocks_at (acts_of (steps ++ (s ∷ more))) (behind (n - length steps) (length steps)) (OfThread u) t → (v : ℕ) → c v ≤ clocks_at (acts_of (steps ++ (s ∷ more))) (behind (n - length steps) (length steps)) (OfThread u) v)
+      (ap (λ clocks. clocks (OfThread t)) front)
+      (knows_all (acts_of (steps ++ (s ∷ more))) (length steps) t (n - length steps) (OfThread u))))
+      low v
 
-  all-grow : (others reads : List Epoch) → AreKnownWith steps others reads → AreKnownWith grown others reads
-  all-grow others reads known e there = let with = known e there in (with.0, with.1, known-grow e with.0 with.2)
+  module _ {E : Type 0} (epoch : E → Epoch) where
+    pub alike-grow : (reads others : List E) → AreAlike epoch steps reads others → AreAlike epoch grown reads others
+    alike-grow reads others like = record {
+      alike = λ more n t past.
+          subst (λ (all : List Step). first_apart epoch (clocks_at (acts_of all) n (OfThread t)) reads ≡ first_apart epoch (clocks_at (acts_of all) n (OfThread t)) others)
+          (sym (append_assoc steps (s ∷ []) more))
+          (like.alike (s ∷ more) n t (omega (arith, longer, past)));
+    }
 
-  -- what a thread knows is known with its own epoch
+    -- one more read
+    pub alike-noted : (t : ℕ) (x : E) → epoch x ≡ (t, clock steps t t) → (stored reads after : List E) → AreAlike epoch steps stored reads → IsNoted epoch (clock steps t) stored x after
+        → AreAlike epoch grown after (x ∷ filter (λ y. is_unordered (clock steps t) (epoch y)) reads)
+    alike-noted t x own stored reads after like noted = record {
+      alike = λ more n u past.
+          let later : ℕ → ℕ = clocks_at (acts_of (grown ++ more)) n (OfThread u) in
+          let knows : covers later (epoch x) ≡ true → (v : ℕ) → clock steps t v ≤ later v =
+          λ covered v. own_then t more n u past (leb-true (clock steps t t) (later t) (subst (λ (e : Epoch). covers later e ≡ true) own covered)) v in
+          noted.noted later knows
+          ∙ behind-read epoch later x stored reads (λ covered. (alike-grow stored reads like).alike more n u past)
+          ∙ sym ((noted-filter epoch (clock steps t) reads x).noted later knows);
+    }
+
+  -- one more access of the word
   module _ (t : ℕ) where
     abbrev own : ℕ → ℕ
     own = clock steps t
 
-    own_then : (more : List Step) (n u : ℕ) → length grown ≤ n → own t ≤ clocks_at (acts_of (grown ++ more)) n (OfThread u) t → (v : ℕ) → own v ≤ clocks_at (acts_of (grown ++ more)) n (OfThread u) v
-    unfolding own_count
-    own_then more n u past low v =
-        let later : steps ++ (s ∷ more) ≡ grown ++ more = sym (append_assoc steps (s ∷ []) more) in
-        let front = clocks-front steps (s ∷ more) (length steps) (omega arith) in
-        let at : behind (n - length steps) (length steps) ≡ n = behind-sum (n - length steps) (length steps) n (omega (arith, longer, past)) in
-        subst (λ (all : List Step). own t ≤ clocks_at (acts_of all) n (OfThread u) t → (v : ℕ) → own v ≤ clocks_at (acts_of all) n (OfThread u) v) later
-        (subst (λ (m : ℕ). own t ≤ clocks_at (acts_of (steps ++ (s ∷ more))) m (OfThread u) t → (v : ℕ) → own v ≤ clocks_at (acts_of (steps ++ (s ∷ more))) m (OfThread u) v) at
-        (subst (λ (c : ℕ → ℕ). c t ≤ clocks_at (acts_of (steps ++ (s ∷ more))) (behind (n - length steps) (length steps)) (OfThread u) t → (v : ℕ) → c v ≤ clocks_at (acts_of (steps ++ (s ∷ more))) (behind (n - length steps) (length steps)) (OfThread u) v)
-        (ap (λ clocks. clocks (OfThread t)) front)
-        (knows_all (acts_of (steps ++ (s ∷ more))) (length steps) t (n - length steps) (OfThread u))))
-        low v
-
-    known-own : (e : Epoch) → covers own e ≡ true → IsKnownWith grown e (t, own t)
-    known-own e covered = record {
-      known = λ more n u past own_covered.
-          let all = own_then more n u past (leb-true (own t) (clocks_at (acts_of (grown ++ more)) n (OfThread u) t) own_covered) e.0 in
-          let low = leb-true e.1 (own e.0) covered in
-          le-leb e.1 (clocks_at (acts_of (grown ++ more)) n (OfThread u) e.0) (omega (arith, all, low));
-    }
-
-    known-later : (e f : Epoch) → f.0 ≡ e.0 → e.1 ≤ f.1 → IsKnownWith grown e f
-    known-later e f same low = record {
-      known = λ more n u past covered.
-          let high = leb-true f.1 (clocks_at (acts_of (grown ++ more)) n (OfThread u) f.0) covered in
-          le-leb e.1 (clocks_at (acts_of (grown ++ more)) n (OfThread u) e.0)
-          (subst (λ (v : ℕ). e.1 ≤ clocks_at (acts_of (grown ++ more)) n (OfThread u) v) same (omega (arith, high, low)));
-    }
-
-    known-chain : (e f g : Epoch) → IsKnownWith grown e f → IsKnownWith grown f g → IsKnownWith grown e g
-    known-chain e f g one two = record { known = λ more n u past covered. one.known more n u past (two.known more n u past covered) }
-
-    -- one more read
-    module _ (stored reads after : List Epoch) (known : AreKnownWith steps stored reads) (knows : AreKnownWith steps reads stored) (noted : IsNoted own stored t after) where
-      abbrev next : List Epoch
-      next = (t, own t) ∷ filter (is_unordered own) reads
-
-      pub noted-known : AreKnownWith grown after next
-      noted-known e there = ⊎_elim (λ same. ((t, own t), contains_first (t, own t) (filter (is_unordered own) reads), rw (← same) (known-itself grown (t, own t)))) (λ before. by before) (noted.only e there)
-        where
-          by_known : (with : (f : Epoch) × Contains reads f × IsKnownWith steps e f) (b : Bool) → is_unordered own with.0 ≡ b → (f : Epoch) × Contains next f × IsKnownWith grown e f
-          by_known with true apart = (with.0, contains_next (t, own t) with.0 (filter (is_unordered own) reads) (contains-filter (is_unordered own) reads with.0 with.1 apart), known-grow e with.0 with.2)
-          by_known with false covered = ((t, own t), contains_first (t, own t) (filter (is_unordered own) reads), known-own e (known_here steps t e with.0 with.2 (not_covered (covers own with.0) covered)))
-
-          by : Contains stored e → (f : Epoch) × Contains next f × IsKnownWith grown e f
-          by before = let with = known e before in by_known with (is_unordered own with.0) refl
-
-      pub noted-knows : AreKnownWith grown next after
-      noted-knows k there =
-          ⊎_elim
-          (λ same. ((t, own t), noted.noted, rw (← same) (known-itself grown (t, own t))))
-          (λ later. let apart = filter-contains (is_unordered own) reads k later in
-          let with = knows k apart.0 in
-          let found = noted.others with.0 with.1 (still-unordered steps t k with.0 with.2 apart.1) in
-          (found.0, found.1, known-chain k with.0 found.0 (known-grow k with.0 with.2) (known-later with.0 found.0 found.2 found.3)))
-          (contains_cases (t, own t) k (filter (is_unordered own) reads) there)
-
-    -- one more access of the word
     serves_read : (stored kept after : Kept) → Serves steps stored kept → IsKeptBy own (with_reads kept (reads_of stored)) t reading after → Serves grown after (kept_by own kept t reading)
-    serves_read stored Reported after serves (reads, is, noted) = rw is (record { same = refl; known = none-known grown []; knows = none-known grown [] })
+    serves_read stored Reported after serves (reads, is, noted) = rw is (record { same = refl; reads = alike-itself (λ e. e) grown [] })
     serves_read stored (Seen write reads) after serves (more, is, noted) = by (write_is_unordered own write) refl
       where
         by : (b : Bool) → write_is_unordered own write ≡ b → Serves grown after (kept_by own (Seen write reads) t reading)
-        by true race = rw is (rw race (record { same = refl; known = none-known grown []; knows = none-known grown [] }))
-        by false quiet = rw is (rw quiet (record {
-          same = refl;
-          known = noted-known (reads_of stored) reads more serves.known serves.knows noted;
-          knows = noted-knows (reads_of stored) reads more serves.known serves.knows noted;
-        }))
+        by true race = rw is (rw race (record { same = refl; reads = alike-itself (λ e. e) grown [] }))
+        by false quiet = rw is (rw quiet (record { same = refl; reads = alike-noted (λ e. e) t (t, own t) refl (reads_of stored) reads more serves.reads noted }))
 
     serves_write : (stored kept : Kept) → Serves steps stored kept → kept_by own (with_reads kept (reads_of stored)) t writing ≡ kept_by own kept t writing
     serves_write stored Reported serves = refl
-    serves_write stored (Seen write reads) serves = ap (λ b. cond b Reported (Seen (Some (t, own t)) [])) (reports-same steps t stored (Seen write reads) writing serves)
-
-    serves_itself : (all : List Step) (kept : Kept) → Serves all kept kept
-    serves_itself all Reported = record { same = refl; known = all-known all []; knows = all-known all [] }
-    serves_itself all (Seen write reads) = record { same = refl; known = all-known all reads; knows = all-known all reads }
+    serves_write stored (Seen write reads) serves = ap (λ b. cond b Reported (Seen (Some (t, own t)) [])) (reports_same steps t stored (Seen write reads) writing serves)
 
     serves_access : (kind : Kind) (stored kept after : Kept) → Serves steps stored kept → IsKeptBy own stored t kind after → Serves grown after (kept_by own kept t kind)
     serves_access reading stored kept after serves is = serves_read stored kept after serves (subst (λ (before : Kept). IsKeptBy own before t reading after) serves.same is)
     serves_access writing stored kept after serves is =
         subst (λ (k : Kept). Serves grown k (kept_by own kept t writing)) (sym (is ∙ (ap (λ k. kept_by own k t writing) serves.same ∙ serves_write stored kept serves)))
-        (serves_itself grown (kept_by own kept t writing))
+        (serves-itself grown (kept_by own kept t writing))
 
   serves-grow : (stored kept : Kept) → Serves steps stored kept → Serves grown stored kept
-  serves-grow stored kept serves = record { same = serves.same; known = all-grow (reads_of stored) (reads_of kept) serves.known; knows = all-grow (reads_of kept) (reads_of stored) serves.knows }
+  serves-grow stored kept serves = record { same = serves.same; reads = alike-grow (λ e. e) (reads_of stored) (reads_of kept) serves.reads }
 
   serves_kept : (stored kept after : Kept) → Serves steps stored kept → after ≡ stored → Serves grown after kept
   serves_kept stored kept after serves same = rw same (serves-grow stored kept serves)
@@ -249,7 +191,7 @@ module _ (steps : List Step) (s : Step) where
     by_word kind false same = serves_kept stored kept after serves same
 
     by_range : (b : Bool) → after ≡ cond b fresh stored → Serves grown after (cond b fresh kept)
-    by_range true same = rw same (record { same = refl; known = none-known grown []; knows = none-known grown [] })
+    by_range true same = rw same (record { same = refl; reads = alike-itself (λ e. e) grown [] })
     by_range false same = serves_kept stored kept after serves same
 
     by_access : (kind : Kind) (word : ℕ) (cover : List ℕ) (b : Bool) → IsKeptMoved (own t) stored w (cond b Nothing (Counted t kind word cover)) after
@@ -274,15 +216,10 @@ module _ (steps : List Step) (s : Step) where
       → Serves grown after (kept_at grown w (suc (length steps)))
   serves-on w stored after serves is = rw (kept-grow steps s w) (by_event w stored (kept_at steps w (length steps)) after serves (holdings_at steps s.thread (length steps)) s.event is)
 
--- what is kept serves for itself
-pub serves-itself : (steps : List Step) (kept : Kept) → Serves steps kept kept
-serves-itself steps Reported = record { same = refl; known = all-known steps []; knows = all-known steps [] }
-serves-itself steps (Seen write reads) = record { same = refl; known = all-known steps reads; knows = all-known steps reads }
-
 -- what the definitions keep may be kept
 pub kept-itself : (clock : ℕ → ℕ) (before : Kept) (t : ℕ) (kind : Kind) → IsKeptBy clock before t kind (kept_by clock before t kind)
 kept-itself clock before t writing = refl
-kept-itself clock before t reading = ((t, clock t) ∷ filter (is_unordered clock) (reads_of before), same before, record { noted = contains_first (t, clock t) (filter (is_unordered clock) (reads_of before)); only = only; others = others })
+kept-itself clock before t reading = ((t, clock t) ∷ filter (is_unordered clock) (reads_of before), same before, noted-filter (λ e. e) clock (reads_of before) (t, clock t))
   where
     by_race : (b : Bool) (write : Option Epoch) (reads : List Epoch) → cond b Reported (Seen write reads) ≡ with_reads (cond b Reported (Seen write reads)) reads
     by_race true write reads = refl
@@ -291,11 +228,3 @@ kept-itself clock before t reading = ((t, clock t) ∷ filter (is_unordered cloc
     same : (k : Kept) → kept_by clock k t reading ≡ with_reads (kept_by clock k t reading) ((t, clock t) ∷ filter (is_unordered clock) (reads_of k))
     same Reported = refl
     same (Seen write reads) = by_race (write_is_unordered clock write || false) write ((t, clock t) ∷ filter (is_unordered clock) reads)
-
-    only : (e : Epoch) → Contains ((t, clock t) ∷ filter (is_unordered clock) (reads_of before)) e → ((t, clock t) ≡ e) ⊎ Contains (reads_of before) e
-    only e there =
-        ⊎_elim (λ here. inl here) (λ later. inr (filter-contains (is_unordered clock) (reads_of before) e later).0)
-        (contains_cases (t, clock t) e (filter (is_unordered clock) (reads_of before)) there)
-
-    others : (e : Epoch) → Contains (reads_of before) e → is_unordered clock e ≡ true → HasNoEarlier ((t, clock t) ∷ filter (is_unordered clock) (reads_of before)) e
-    others e there apart = (e, contains_next (t, clock t) e (filter (is_unordered clock) (reads_of before)) (contains-filter (is_unordered clock) (reads_of before) e there apart), refl, omega arith)

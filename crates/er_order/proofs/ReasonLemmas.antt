@@ -17,7 +17,7 @@ use Rattle.er_model.specs.Answers.{answer_unless, covering, mark, reading_of, re
 use Rattle.er_model.specs.Explanations.{word_in, word_of}
 use Rattle.er_model.proofs.Search.{least_below-Some}
 use Rattle.er_model.proofs.Words.{era-kept}
-use Rattle.er_order.specs.Order.{Local, acts_of, happens_before, leads}
+use Rattle.er_order.specs.Order.{Effect, Local, sync_of, act_unless, act_after, acts_of, happens_before, leads}
 use Rattle.er_order.specs.Races.{Order, conflicts, had_race, is_race, is_reported, last_use, is_in_use, word_in_use, reuse_reply, order_answer, order_answer_to, order_reply}
 use Rattle.er_order.specs.Reasons.{last_unordered, word_raced_by, word_raced_in, word_raced, use_of, unordered_by, unordered_in, unordered_with, rivals}
 use Rattle.er_order.proofs.Order.{happens_before-leads, happens_before-chain}
@@ -166,6 +166,32 @@ module _ (steps : List Step) (w : ℕ) where
   unfolding reading_of counts
   counted_at k None is counted = let never : false ≡ true = rw is at counted in cc
   counted_at k (Some s) is counted = counted_event (accepted steps k) s.thread s.event (rw is at counted)
+
+-- an access and a reuse are never refused, and order nothing
+module _ (steps : List Step) (k : ℕ) (s : Step) (here : slice_get steps k ≡ Some s) where
+  acted_if : (o : Option Refusal) (e : Effect) → o ≡ None → sync_of s.event ≡ e → act_unless o s ≡ Some (record { thread = s.thread; sync = e })
+  acted_if None e none is = ap (λ sync. Some (record { thread = s.thread; sync = sync })) is
+  acted_if (Some why) e none is = cc
+
+  acted_here : (e : Event) → s.event ≡ e → refusal (accepted steps k) s.thread e ≡ None → sync_of e ≡ Local → acts_of steps k ≡ Some (record { thread = s.thread; sync = Local })
+  unfolding acts_of
+  acted_here e event none is = ap (act_after steps k) here ∙ acted_if (refusal (accepted steps k) s.thread s.event) Local (ap (refusal (accepted steps k) s.thread) event ∙ none) (ap sync_of event ∙ is)
+
+  acted_reuse : (range : PageRange) → s.event ≡ Reuse range → acts_of steps k ≡ Some (record { thread = s.thread; sync = Local })
+  unfolding refusal
+  acted_reuse range event = acted_here (Reuse range) event refl refl
+
+  acted_word : (w : ℕ) (e : Event) → s.event ≡ e → word_in e ≡ Some w → acts_of steps k ≡ Some (record { thread = s.thread; sync = Local })
+  unfolding refusal
+  acted_word w (Access kind v site) event is = acted_here (Access kind v site) event refl refl
+  acted_word w (Acquire l m) event is = cc
+  acted_word w (Release l m) event is = cc
+  acted_word w (Reuse range) event is = cc
+  acted_word w IgnoreOn event is = cc
+  acted_word w IgnoreOff event is = cc
+  acted_word w (Show v) event is = cc
+  acted_word w (Level n) event is = cc
+  acted_word w (Sync sync) event is = cc
 
 -- what the step at position k is unordered with
 module _ (steps : List Step) (k : ℕ) where
@@ -341,10 +367,18 @@ module _ (steps : List Step) (k : ℕ) where
         (sym (use_at s range w here event (sym (word-raced-reuse s range here event) ∙ word)) ∙ is) below
         (and_from (counted_from (reading_of steps) w (era (reading_of steps) w k) i) (not (hb i k)) counted (not_from_false (hb i k) apart))
 
-    -- a thread's own steps are in order, so its accepted step is unordered with other threads' alone
-    pub with-threads : (t : ℕ) → acts_of steps k ≡ Some (record { thread = t; sync = Local }) → thread_of (reading_of steps j) ≡ t → ⊥
-    with-threads t acted same =
+    -- the step is an access or a reuse, so it is accepted
+    acted : (s : Step) → slice_get steps k ≡ Some s → acts_of steps k ≡ Some (record { thread = s.thread; sync = Local })
+    acted s here =
+        ⊎_elim
+        (λ (u : IsUnordered j). acted_word steps k s here u.0 s.event refl (sym (ap word_of here) ∙ u.1))
+        (λ (u : IsUsed j). let both : Some u.0 ≡ Some s = sym u.3 ∙ here in let same : u.0 ≡ s = cc in acted_reuse steps k s here u.1 (ap (λ (s : Step). s.event) (sym same) ∙ u.4))
+        (unordered-cases j is)
+
+    -- a thread's own steps are in order, so this one is unordered with other threads' alone
+    pub with-threads : (s : Step) → slice_get steps k ≡ Some s → thread_of (reading_of steps j) ≡ s.thread → ⊥
+    with-threads s here same =
         both_ways (hb j k) found.4
         (happens_before-leads (acts_of steps) j k found.2
-        (rw (agree-steps steps j found.0 counted_there, acted)
-        (unfold leads in or_left (thread_of (reading_of steps j) == t) false (eq-eqb (thread_of (reading_of steps j)) t same))))
+        (rw (agree-steps steps j found.0 counted_there, acted s here)
+        (unfold leads in or_left (thread_of (reading_of steps j) == s.thread) false (eq-eqb (thread_of (reading_of steps j)) s.thread same))))

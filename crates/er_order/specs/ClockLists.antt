@@ -29,7 +29,7 @@ found_list lists (Joined thread) = lists (OfThread thread)
 found_list lists (Awaited object) = lists (OfObject object)
 found_list lists _ = []
 
--- a thread's own count goes up where its clock flows into another one
+-- a thread's own count goes up if its clock flows into another one
 abbrev pub ticked_if : Act → Keeper → List ℕ → List ℕ
 ticked_if a (OfThread t) xs = cond (flows a t) (ticked t xs) xs
 ticked_if a (OfReleases l m) xs = xs

@@ -1,4 +1,4 @@
--- Vector clocks. A thread's own count rises only where its clock flows into another one, so the steps between two such share an epoch.
+-- Vector clocks. A thread's own count rises only when its clock flows into another one, so the steps between two such share an epoch.
 use Rattle.std.specs.Prelude.{ℕ, zero, suc, ◌+◌, max, ◌==◌, nat_le, Bool, true, false, ◌&&◌, ◌||◌, cond, Option, Some, None}
 use Rattle.er_event.specs.declared.steps.Mode.{Mode}
 use Rattle.er_event.specs.declared.steps.Mode.TheVariants.{Read, Write}
@@ -72,7 +72,7 @@ found clocks _ t = 0
 unfoldable pub seen : Clocks → Act → ℕ → ℕ
 seen clocks a t = max (clocks (OfThread a.thread) t) (found clocks a.sync t)
 
--- the greater count where the step puts what it knows into the clock, and one more where the clock flows into another one
+-- the greater count if the step puts what it knows into the clock, and one more if the clock flows into another one
 abbrev pub raised : Bool → Bool → ℕ → ℕ → ℕ
 raised given flowed before known = cond given (max before known) before + cond flowed 1 0
 

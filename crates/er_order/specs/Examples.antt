@@ -61,7 +61,7 @@ readers_joined = writes_word 1 ∷ does 1 (Sync (Start 2)) ∷ does 1 (Sync (Sta
 unfoldable pub one_reader_joined : List Step
 one_reader_joined = writes_word 1 ∷ does 1 (Sync (Start 2)) ∷ does 1 (Sync (Start 3)) ∷ reads_word 2 ∷ reads_word 3 ∷ does 1 (Sync (Join 2)) ∷ writes_word 1 ∷ []
 
--- the same where the earlier reader isn't joined
+-- the same if the earlier reader isn't joined
 unfoldable pub other_reader_joined : List Step
 other_reader_joined = writes_word 1 ∷ does 1 (Sync (Start 2)) ∷ does 1 (Sync (Start 3)) ∷ reads_word 2 ∷ reads_word 3 ∷ does 1 (Sync (Join 3)) ∷ writes_word 1 ∷ []
 
@@ -101,7 +101,7 @@ read_and_write_locks = takes_to_read 1 7 ∷ reads_word 1 ∷ gives_read 1 7 ∷
 unfoldable pub double_checked : List Step
 double_checked = takes 1 7 ∷ writes_word 1 ∷ writes_at 1 1025 ∷ gives 1 7 ∷ reads_at 2 1025 ∷ reads_word 2 ∷ []
 
--- the same where the flag is stored to signal and loaded to await
+-- the same if the flag is stored to signal and loaded to await
 unfoldable pub double_checked_in_order : List Step
 double_checked_in_order = takes 1 7 ∷ writes_word 1 ∷ does 1 (Sync (Signal 5)) ∷ gives 1 7 ∷ does 2 (Sync (Await 5)) ∷ reads_word 2 ∷ []
 

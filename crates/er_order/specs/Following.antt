@@ -108,7 +108,7 @@ abbrev pub epoch_numbered : (ℕ → Epoch) → Option ℕ → Option Epoch
 epoch_numbered epochs None = None
 epoch_numbered epochs (Some x) = Some (epochs x)
 
--- what a shadow word keeps, where these are the epochs of the numbers
+-- what a shadow word keeps, if its numbers have these epochs
 abbrev pub kept_of : (ℕ → Epoch) → Shadow → Kept
 kept_of epochs Told = Reported
 kept_of epochs (Numbers write reads) = Seen (epoch_numbered epochs write) (map epochs reads)

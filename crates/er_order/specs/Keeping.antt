@@ -1,7 +1,7 @@
--- What a store may keep of a word: other reads than the latest, if from then on a thread knows of those what it knows of these.
-use Rattle.std.specs.Prelude.{ℕ, ◌≡◌, ◌≤◌, ◌==◌, ◌⊎◌, true, cond, List, [], ◌++◌, length}
+-- What a store may keep of a word: other reads than the latest, if from then on each clock finds the same among those as among these.
+use Rattle.std.specs.Prelude.{ℕ, ◌≡◌, ◌≤◌, ◌==◌, true, cond, List, [], ◌∷◌, ◌++◌, length, Option}
 use Rattle.std.specs.Bool.{MatchBool}
-use Rattle.std.specs.List.{Contains}
+use Rattle.std.specs.List.{find}
 use Rattle.er_event.specs.declared.steps.Kind.{Kind}
 use Rattle.er_event.specs.declared.steps.Kind.TheVariants.{Read as reading, Write as writing}
 use Rattle.er_event.specs.declared.steps.Step.{Step}
@@ -12,14 +12,14 @@ use Rattle.er_order.specs.Order.{acts_of}
 use Rattle.er_order.specs.Clocks.{Epoch, OfThread, clocks_at, covers}
 use Rattle.er_order.specs.Following.{Kept, Seen, Reported, fresh, is_unordered, kept_by}
 
--- after the list and after any longer one, a thread that knows this epoch knows the other one
-pub record IsKnownWith (steps : List Step) (other epoch : Epoch) : Type 0 where
-  pub known : (more : List Step) (n t : ℕ) → length steps ≤ n
-      → covers (clocks_at (acts_of (steps ++ more)) n (OfThread t)) epoch ≡ true → covers (clocks_at (acts_of (steps ++ more)) n (OfThread t)) other ≡ true
+-- the first of these that the clock doesn't cover, where each has an epoch
+abbrev pub first_apart : {E : Type 0} → (E → Epoch) → (ℕ → ℕ) → List E → Option E
+first_apart epoch clock reads = find (λ read. is_unordered clock (epoch read)) reads
 
--- each of the others is known with one of these
-abbrev pub AreKnownWith : List Step → List Epoch → List Epoch → Type 0
-AreKnownWith steps others epochs = (e : Epoch) → Contains others e → (f : Epoch) × Contains epochs f × IsKnownWith steps e f
+-- after the list and after any longer one, each thread's clock finds the same among these as among those
+pub record AreAlike {E : Type 0} (epoch : E → Epoch) (steps : List Step) (reads others : List E) : Type 0 where
+  pub alike : (more : List Step) (n t : ℕ) → length steps ≤ n
+      → first_apart epoch (clocks_at (acts_of (steps ++ more)) n (OfThread t)) reads ≡ first_apart epoch (clocks_at (acts_of (steps ++ more)) n (OfThread t)) others
 
 -- the reads that are kept
 abbrev pub reads_of : Kept → List Epoch
@@ -31,25 +31,19 @@ abbrev pub with_reads : Kept → List Epoch → Kept
 with_reads Reported reads = Reported
 with_reads (Seen write before) reads = Seen write reads
 
--- what a store has of a word serves as well as what is kept: it is the same but for the reads, and those are known with these and these with those
+-- what a store has of a word serves as well as what is kept: it is the same but for the reads, and those are like these
 pub record Serves (steps : List Step) (stored kept : Kept) : Type 0 where
   pub same : stored ≡ with_reads kept (reads_of stored)
-  pub known : AreKnownWith steps (reads_of stored) (reads_of kept)
-  pub knows : AreKnownWith steps (reads_of kept) (reads_of stored)
+  pub reads : AreAlike (λ epoch. epoch) steps (reads_of stored) (reads_of kept)
 
--- the list has an epoch of that thread that is no earlier
-abbrev pub HasNoEarlier : List Epoch → Epoch → Type 0
-HasNoEarlier reads e = (f : Epoch) × Contains reads f × (f.0 ≡ e.0) × (e.1 ≤ f.1)
-
--- what may be kept of reads after one more: the read itself, and for each that its thread doesn't know one of that thread that is no earlier
-pub record IsNoted (clock : ℕ → ℕ) (before : List Epoch) (t : ℕ) (after : List Epoch) : Type 0 where
-  pub noted : Contains after (t, clock t)
-  pub only : (e : Epoch) → Contains after e → ((t, clock t) ≡ e) ⊎ Contains before e
-  pub others : (e : Epoch) → Contains before e → is_unordered clock e ≡ true → HasNoEarlier after e
+-- what may be kept of reads after one more: a clock that has all of the reader's clock, if it covers the read, finds the same as if all were there
+pub record IsNoted {E : Type 0} (epoch : E → Epoch) (clock : ℕ → ℕ) (before : List E) (read : E) (after : List E) : Type 0 where
+  pub noted : (later : ℕ → ℕ) → (covers later (epoch read) ≡ true → (u : ℕ) → clock u ≤ later u)
+      → first_apart epoch later after ≡ first_apart epoch later (read ∷ before)
 
 -- what a store may have after an access by thread t, whose clock this is
 abbrev pub IsKeptBy : (ℕ → ℕ) → Kept → ℕ → Kind → Kept → Type 0
-IsKeptBy clock before t reading after = (noted : List Epoch) × (after ≡ with_reads (kept_by clock before t reading) noted) × IsNoted clock (reads_of before) t noted
+IsKeptBy clock before t reading after = (noted : List Epoch) × (after ≡ with_reads (kept_by clock before t reading) noted) × IsNoted (λ epoch. epoch) clock (reads_of before) (t, clock t) noted
 IsKeptBy clock before t writing after = after ≡ kept_by clock before t writing
 
 -- after a position that is this to the words

@@ -27,7 +27,7 @@ pub record Act : Type 0 where
   pub thread : ℕ
   pub sync : Effect
 
--- a list of steps, read for order: nothing where a step is refused or past the end
+-- a list of steps, read for order: nothing if a step is refused or past the end
 abbrev pub Acts : Type 0
 Acts = ℕ → Option Act
 
@@ -67,7 +67,7 @@ abbrev pub leads_from : Option Act → Option Act → Bool
 leads_from (Some a) (Some b) = leads a b
 leads_from _ _ = false
 
--- the positions so far, with the next one where it is j or one of them leads to it
+-- the positions so far, with the next one if it is j or one of them leads to it
 abbrev pub with_next : Acts → ℕ → ℕ → List ℕ → List ℕ
 with_next acts j n so_far = cond (n == j || list_any (λ i. leads_from (acts i) (acts n)) so_far) (n ∷ so_far) so_far
 

@@ -51,7 +51,7 @@ abbrev pub reuse_reply : Option ℕ → Reply
 reuse_reply None = Done
 reuse_reply (Some w) = Race
 
--- the reply to an event at position k, where it isn't refused; a show is done, since a word's state is the lockset rule's
+-- the reply to an event at position k, if it isn't refused; a show is done, since a word's state is the lockset rule's
 unfoldable pub order_reply : List Step → ℕ → ℕ → Event → Reply
 order_reply steps k t (Access kind w site) = cond (is_ignoring (accepted steps k) t) Ignored (cond (is_reported (happens_before (acts_of steps)) (reading_of steps) w k) Race Quiet)
 order_reply steps k t (Reuse range) = cond (is_ignoring (accepted steps k) t) Done (reuse_reply (word_in_use (happens_before (acts_of steps)) (reading_of steps) k range))

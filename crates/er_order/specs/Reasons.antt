@@ -51,6 +51,6 @@ unordered_with steps k = unordered_in steps k (slice_get steps k)
 unfoldable pub rivals : Order → Reading → ℕ → ℕ → List ℕ
 rivals order r w k = cond (writes (r k)) (latest_reads order r w k) [] ++ option_to_list (last_write r w k)
 
--- and those of which a reuse at position k is unordered with one, if it is with any
+-- the latest reads since the era's last write and that write, the last one first: what a reuse at position k is compared with
 unfoldable pub users : Order → Reading → ℕ → ℕ → List ℕ
 users order r w k = latest_reads order r w k ++ option_to_list (last_write r w k)

@@ -10,8 +10,8 @@ ghost use Rattle.er_order.specs.Clocks.{Keeper, Clocks, OfThread, is_own, is_of_
 ghost use Rattle.er_order.specs.ClockLists.{ClockLists, StandForClocks, lists_after, merged};
 ghost use Rattle.er_order.specs.Following.{act_by};
 
-/// Order is the least relation that has each step which leads to a later one, and goes on by such a step; so it is closed under
-/// chains.
+/// A step happens before each later one that it leads to, and before each step to which such steps lead on. Order is the least relation of
+/// that kind, so it is closed under chains.
 pub fn order_is_by_chains()
     ensures leads { (acts : Acts) (j k : ℕ) → j < k → IsTrue (leads_from (acts j) (acts k)) → IsTrue (happens_before acts j k) }
     ensures chain { (acts : Acts) (i j k : ℕ) → IsTrue (happens_before acts i j) → IsTrue (happens_before acts j k)
@@ -22,7 +22,7 @@ pub fn order_is_by_chains()
     ensures earlier { (acts : Acts) (j k : ℕ) → IsTrue (happens_before acts j k) → j < k }
 {}
 
-/// A step happens before a later one exactly where the later one's clock covers its epoch; and no clock knows as much of a thread as
+/// A step happens before a later one exactly if the later one's clock covers its epoch; and no clock knows as much of a thread as
 /// the thread's own.
 pub fn clocks_decide_order()
     ensures decide { (acts : Acts) (j k : ℕ) (a b : Act) → j < k → acts j ≡ Option.Some a → acts k ≡ Option.Some b

@@ -16,8 +16,8 @@ ghost use Rattle.er_order.specs.Locality.{clocked_on};
 
 use er_event::{Kind, PageRange, Reply};
 
-/// While an era had no race, one more access is a race exactly where the last write doesn't come before it in order, or it is a write
-/// and one of the latest reads since doesn't.
+/// While an era had no race, one more access is a race exactly if the last write doesn't come before it in order, or if it is a write and
+/// one of the latest reads since doesn't come before it.
 pub fn races_are_found()
     ensures found { (order : Order) (r : Reading) (w k : ℕ)
         → ((i j k : ℕ) → IsTrue (order i j) → IsTrue (order j k) → IsTrue (order i k)) → IsTrue (counts (r k) w) → had_race order r w k ≡ false
@@ -26,7 +26,7 @@ pub fn races_are_found()
 {}
 
 /// The answer to an access or to a reuse, and what is kept of each word, follow from what was kept of the words, the kind of the access, and
-/// its thread's holdings and clock: a reuse is a race where a write of one of its words would be. Each other event is done, unless its
+/// its thread's holdings and clock: a reuse is a race if a write of one of its words would be one. Each other event is done, unless its
 /// thread's holdings refuse it.
 pub fn an_access_follows_its_word()
     ensures answer { (steps : List Step) (k w site : ℕ) (kind : Kind) (step : Step) → slice_get steps k ≡ Option.Some step
@@ -47,8 +47,8 @@ pub fn an_access_follows_its_word()
     ensures begins { (steps : List Step) (w : ℕ) → kept_at steps w 0 ≡ fresh }
 {}
 
-/// What a store has of a word may have other reads than the latest. While it serves for what is kept, accesses are answered by it as by what is
-/// kept, and it goes on to serve.
+/// A store may keep other reads of a word than the latest ones. While these serve as well as the latest, accesses get the same answers by
+/// them, and what the store keeps after one more step serves too.
 pub fn what_serves_is_as_good()
     ensures answer { (steps : List Step) (t : ℕ) (stored kept : Kept) (kind : Kind) → Serves steps stored kept
         → reports_at (clocks_at (acts_of steps) (length steps) (OfThread t)) stored kind ≡ reports_at (clocks_at (acts_of steps) (length steps) (OfThread t)) kept kind }
@@ -59,7 +59,7 @@ pub fn what_serves_is_as_good()
     ensures by_itself { (clock : ℕ → ℕ) (before : Kept) (t : ℕ) (kind : Kind) → IsKeptBy clock before t kind (kept_by clock before t kind) }
 {}
 
-/// Where more comes in order, no more accesses are races.
+/// If more steps are in order, no further access is a race.
 pub fn more_order_fewer_races()
     ensures race { (less more : Order) (r : Reading) (w k : ℕ) → ((j k : ℕ) → IsTrue (less j k) → IsTrue (more j k))
         → IsTrue (is_race more r w k) → IsTrue (is_race less r w k) }

@@ -6,7 +6,7 @@ ghost use Rattle.er_model.specs.Explanations.{word_of};
 ghost use Rattle.er_model.specs.Words.{Reading, counts, thread_of, era, counted_from, is_within};
 ghost use Rattle.er_event.specs.declared.steps.Event.TheVariants.{Reuse};
 ghost use Rattle.er_event.specs.declared.steps.Step.{Step};
-ghost use Rattle.er_order.specs.Order.{Effect, acts_of, happens_before};
+ghost use Rattle.er_order.specs.Order.{acts_of, happens_before};
 ghost use Rattle.er_order.specs.Races.{Order, conflicts, had_race, order_answer};
 ghost use Rattle.er_order.specs.Reasons.{last_unordered, word_raced, unordered_with, rivals, users};
 
@@ -30,8 +30,8 @@ pub fn a_race_is_unordered_with_an_access()
     ensures access { (steps : List Step) (k w : ℕ) → word_of (slice_get steps k) ≡ Option.Some w → word_raced steps k ≡ Option.Some w }
     ensures word { (steps : List Step) (j k w : ℕ) → unordered_with steps k ≡ Option.Some j → word_raced steps k ≡ Option.Some w
         → word_of (slice_get steps j) ≡ Option.Some w }
-    ensures threads { (steps : List Step) (j k t : ℕ) → unordered_with steps k ≡ Option.Some j
-        → acts_of steps k ≡ Option.Some (record { thread = t; sync = Effect.Local }) → thread_of (reading_of steps j) ≡ t → ⊥ }
+    ensures threads { (steps : List Step) (j k : ℕ) (step : Step) → slice_get steps k ≡ Option.Some step
+        → unordered_with steps k ≡ Option.Some j → thread_of (reading_of steps j) ≡ step.thread → ⊥ }
     ensures last { (steps : List Step) (i j k w : ℕ) → unordered_with steps k ≡ Option.Some j → word_of (slice_get steps k) ≡ Option.Some w
         → i < k → IsTrue (conflicts (reading_of steps) w i k) → happens_before (acts_of steps) i k ≡ false → i ≤ j }
     ensures last_use { (steps : List Step) (i j k w : ℕ) (step : Step) (range : PageRange) → unordered_with steps k ≡ Option.Some j

@@ -88,7 +88,8 @@ impl Follower {
             }
             return Ok(());
         }
-        self.threads.follow(self.alloc, step)
+        self.threads.follow(self.alloc, step)?;
+        Ok(())
     }
 
     // Notes the place of an access.

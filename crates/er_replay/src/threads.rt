@@ -117,12 +117,5 @@ fn change(held: &mut Held, event: Event) -> Result<(), Refusal>
     ensures refused { (why : Refusal) → refused_by held.old event ≡ Some why → result ≡ Err why }
     ensures memory { refused_by held.old event ≡ None → IfErr result (λ why. IsTrue (wants_memory event && is_no_memory why)) }
 {
-    match event {
-        Event::Acquire(lock, mode) => held.acquire(lock, mode),
-        Event::Release(lock, mode) => held.release(lock, mode),
-        Event::IgnoreOn => held.ignore_on(),
-        Event::IgnoreOff => held.ignore_off(),
-        Event::Level(level) => held.set_level(level),
-        Event::Access(..) | Event::Reuse(_) | Event::Show(_) | Event::Sync(_) => Ok(()),
-    }
+    held.change(event)
 }

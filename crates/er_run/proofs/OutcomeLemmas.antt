@@ -1,5 +1,5 @@
 -- What a replay comes to before a byte is written: reports that were built of the text's steps, or a fault.
-use Rattle.std.proofs.Common.{◌≡◌, ◌∙◌, ℕ, Bool, true, List, Option, Some, None, IfSome, IsFalse, Ok, Err, is_some, refl, sym, ap, subst}
+use Rattle.std.proofs.Common.{◌≡◌, ◌∙◌, ℕ, Bool, true, List, Option, Some, None, IfSome, IsFalse, Ok, Err, is_some, refl, ap}
 use Rattle.std.specs.List.{All}
 use Rattle.std.specs.Option.{option_map}
 use Rattle.er_batch.specs.Analysts.{Asked}

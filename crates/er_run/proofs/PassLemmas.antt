@@ -1,7 +1,8 @@
 -- The reports of the steps that were answered are those of the text, and a stop of an analysis is a fault at one of its steps.
-use Rattle.std.proofs.Common.{◌≡◌, ◌∙◌, ℕ, Bool, true, false, List, Option, Some, None, IfSome, Err, refl, sym, ap, subst}
+use Rattle.std.proofs.Common.{◌≡◌, ◌∙◌, ℕ, true, false, List, Option, Some, None, IfSome, refl, sym, ap, subst}
 use Rattle.std.specs.List.{All}
-use Rattle.er_batch.specs.Analysts.{Asked, HasRunFor, IsFaultOfReading, Ran}
+use Rattle.er_batch.specs.Analysts.{Asked, HasRunFor, IsAnswered, IsFaultOfReading, Ran}
+use Rattle.er_damage.specs.Standing.{Inspected}
 use Rattle.er_event.specs.declared.refusals.NoRoom.{NoRoom}
 use Rattle.er_event.specs.declared.refusals.NoRoom.TheVariants as room
 use Rattle.er_journal.specs.declared.answers.Stopped.{Stopped}
@@ -11,13 +12,16 @@ use Rattle.er_report.specs.Reports.{asks_locks, asks_order}
 use Rattle.er_report.specs.declared.report.Report.{Report}
 use Rattle.er_report.specs.declared.reports.Analysis.{Analysis}
 use Rattle.er_report.specs.declared.reports.Analysis.TheVariants.{Lockset, HappensBefore, Both}
-use Rattle.er_run.specs.Faults.{FailsBy, IsFaultOfText, IsNoDamage, StopsFor, fault_of_room, fault_of_stop}
-use Rattle.er_run.specs.Inner.Outcomes.{IsRunBuilt}
+use Rattle.er_run.specs.Faults.{IsFaultOfText, StopsFor, fault_of_room, fault_of_stop}
+use Rattle.er_run.specs.Inner.Inspected.{IsInspected}
+use Rattle.er_run.specs.Inner.Outcomes.{AllStand, IsRunBuilt}
 use Rattle.er_run.specs.declared.fault.RunFault.TheVariants.{Read}
 use Rattle.er_text.specs.Trace.{IsTrace}
 use Rattle.er_text.specs.declared.faults.ReadFault.{ReadFault}
 use Rattle.er_text.specs.declared.faults.ReadFault.TheVariants as reading
+use Rattle.er_trace.specs.Names.{NameTable}
 use Rattle.er_trace.specs.Trace.{Recording}
+use Rattle.er_unordered.specs.Ordered.{OrderRan}
 use Rattle.er_unordered.specs.Stops.{IsStopIn}
 use Rattle.er_unordered.specs.declared.stop.OrderStop.{OrderStop}
 use Rattle.er_unordered.specs.declared.stop.OrderStop.TheVariants as order
@@ -87,18 +91,15 @@ module _ (asked : Asked) (r : Recording) (ran : Ran) (run : HasRunFor ran asked 
 pub order-fault : (analysis : Analysis) (told : Option (List ℕ)) (limit : ℕ) (r : Recording) (why : OrderStop) → asks_order analysis ≡ true → IfSome told (λ text. IsTrace text limit r)
     → IsStopIn r.steps why → IsFaultOfText analysis told limit (fault_of_stop why)
 order-fault analysis None limit r order.CountFull orders trace is = (orders, tt)
+order-fault analysis None limit r order.ThreadsFull orders trace is = (orders, tt)
 order-fault analysis (Some text) limit r order.CountFull orders trace is = (orders, record { recording = r; trace = trace; full = is })
+order-fault analysis (Some text) limit r order.ThreadsFull orders trace is = (orders, record { recording = r; trace = trace; full = is })
 order-fault analysis told limit r order.Memory orders trace is = tt
 
--- neither is a failed read or write, nor damage
-pub stop-told : (X : Type 0) (why : OrderStop) → FailsBy {X = X} false false (Err (fault_of_stop why)) × IsNoDamage (fault_of_stop why)
-stop-told X order.CountFull = ((refl, refl), tt)
-stop-told X order.Memory = ((refl, refl), tt)
-
-pub room-told : (X : Type 0) (cause : NoRoom) → FailsBy {X = X} false false (Err (fault_of_room cause)) × IsNoDamage (fault_of_room cause)
-room-told X room.TableFull = ((refl, refl), tt)
-room-told X room.JournalFull = ((refl, refl), tt)
-room-told X room.OutOfMemory = ((refl, refl), tt)
+-- what looks for damage stands for the text too
+pub inspected : (told : Option (List ℕ)) (limit : ℕ) (asked : Asked) (used : NameTable) (ran : Option Ran) (ordered : Option OrderRan) (seen : Option Inspected) → IsAnswered (AllStand ran ordered seen asked) told limit used
+    → IsAnswered (IsInspected seen asked.strict) told limit used
+inspected told limit asked used ran ordered seen all = record { recording = all.recording; trace = all.trace; names = all.names; stands = all.stands.1 }
 
 -- a fault of the pass is one of the replay
 pub of-reading : (analysis : Analysis) (told : Option (List ℕ)) (limit : ℕ) (why : ReadFault) → IsFaultOfReading told limit why → IsFaultOfText analysis told limit (Read why)

@@ -24,6 +24,8 @@ pub enum RunFault {
     Replay(ReplayFault),
     /// By happens-before: a thread releases, starts, signals and is joined 2^32 - 1 times or more.
     CountFull,
+    /// By happens-before: a step orders a thread whose number is 65,536 or more.
+    ThreadsFull,
     /// Memory was refused between the two.
     Memory,
     /// The trace is damaged, and the replay is strict.
@@ -39,6 +41,7 @@ impl fmt::Display for RunFault {
             RunFault::Write(_) => "the report was not written",
             RunFault::Replay(_) => "the trace was not replayed",
             RunFault::CountFull => "count full",
+            RunFault::ThreadsFull => "too many threads",
             RunFault::Memory => "out of memory",
             RunFault::Damaged(_) => "the trace is damaged",
         })
@@ -93,6 +96,7 @@ impl From<OrderStop> for RunFault {
     fn from(cause: OrderStop) -> RunFault {
         match cause {
             OrderStop::CountFull => RunFault::CountFull,
+            OrderStop::ThreadsFull => RunFault::ThreadsFull,
             OrderStop::Memory => RunFault::Memory,
         }
     }

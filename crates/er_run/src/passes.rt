@@ -27,8 +27,10 @@ use std::io::Read;
 use std::sync::Wait;
 
 /// What answers the steps of a request: each rule that is asked for, and what looks for damage.
-type Analysts<'t, 'r> =
-    Pair<Pair<Option<LocksetAnalyst<'t, 'r>>, Option<OrderAnalyst<'r>>>, Inspection>;
+type Analysts<'t, 'r> = Pair<
+    Pair<Option<LocksetAnalyst<'t, 'r>>, Option<OrderAnalyst<'r>>>,
+    Inspection,
+>;
 
 /// The reports of a replay by one worker that forgets the steps, with reasons if they are asked for.
 pub(crate) fn reports_in_batches<R: Wait, D: Read, V: Watch>(
@@ -130,8 +132,13 @@ fn lockset_if<'t, 'r>(
         → IfOk result (λ lockset. StandsIf (λ (one : Ran). HasRunFor one asked no_steps) (asks_locks asked.analysis) lockset) }
 {
     if analysis.asks_locks() {
-        let lockset =
-            LocksetAnalyst::new(alloc, table, suppressions, options.explain, options.keys)?;
+        let lockset = LocksetAnalyst::new(
+            alloc,
+            table,
+            suppressions,
+            options.explain,
+            options.keys,
+        )?;
         Ok(Some(lockset))
     } else {
         Ok(None)
@@ -273,13 +280,7 @@ fn cause_beside(beside: bool, stop: Option<(u64, NoRoom)>) -> Option<NoRoom>
     ensures none { result ≡ None → beside ≡ true → stop ≡ None }
 {
     match stop {
-        Some((_, cause)) => {
-            if beside {
-                Some(cause)
-            } else {
-                None
-            }
-        }
+        Some((_, cause)) => { if beside { Some(cause) } else { None } }
         None => None,
     }
 }

@@ -1,8 +1,8 @@
-//! What one thread holds before a step, and why a step is refused.
+//! What one thread holds before a step.
 ghost use Rattle.std.specs.Prelude.{◌≡◌, ◌≤◌, length, IfOk, OnOk};
-ghost use Rattle.er_model.specs.Holdings.{after_step, holdings_at, refused_by};
+ghost use Rattle.er_model.specs.Holdings.{after_step, holdings_at};
 
-use er_event::{Event, Refusal, Step, ThreadId};
+use er_event::{Step, ThreadId};
 use er_held::Held;
 use std::alloc::{AllocError, Global};
 
@@ -32,23 +32,4 @@ fn follow(held: &mut Held, thread: ThreadId, step: Step) -> Result<(), AllocErro
         held.follow(step.event)?;
     }
     Ok(())
-}
-
-/// Why an event is refused to a thread that holds this, if it is. It makes the event's change.
-pub(crate) fn refusal_of(held: &mut Held, event: Event) -> Result<Option<Refusal>, AllocError>
-    ensures { IfOk result (λ refused. refused ≡ refused_by held.old event) }
-{
-    let answer = match event {
-        Event::Acquire(lock, mode) => held.acquire(lock, mode),
-        Event::Release(lock, mode) => held.release(lock, mode),
-        Event::IgnoreOn => held.ignore_on(),
-        Event::IgnoreOff => held.ignore_off(),
-        Event::Level(level) => held.set_level(level),
-        Event::Access(..) | Event::Reuse(_) | Event::Show(_) | Event::Sync(_) => Ok(()),
-    };
-    match answer {
-        Ok(()) => Ok(None),
-        Err(Refusal::OutOfMemory) => Err(AllocError),
-        Err(why) => Ok(Some(why)),
-    }
 }

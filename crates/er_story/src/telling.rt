@@ -9,7 +9,7 @@ ghost use Rattle.er_model.specs.Table.{advanced, reports};
 ghost use Rattle.er_story.specs.Names.{HasStoryNames};
 ghost use Rattle.er_story.specs.Story.{has_word, story_at, story_of, story_on, tale_in, tale_of};
 
-use crate::holding::{held_before, refusal_of};
+use crate::holding::held_before;
 use crate::past::{Past, past_of};
 use crate::states::{advance, reports};
 use crate::story::Story;
@@ -290,7 +290,7 @@ fn tell_other(holding: &mut Held, event: Event) -> Result<Told, AllocError>
     ensures word { IfOk result (λ told. told.word ≡ None) }
 {
     Ok(Told {
-        answer: match refusal_of(holding, event)? {
+        answer: match holding.follow(event)? {
             Some(why) => Err(why),
             None => Ok(Reply::Done),
         },

@@ -24,6 +24,9 @@ use std::marker::Model;
 /// The most bytes that a line has, without its LF.
 const LINE: usize = 1024;
 
+/// The least bytes of a piece for each of its steps.
+const STEP: usize = 4;
+
 /// Event lines that are read apart from those before them, over names of their own.
 ///
 /// Several threads can read pieces of one text side by side. Then one thread adds their names to the trace, in their order
@@ -77,7 +80,8 @@ impl Piece {
         self.lines
     }
 
-    /// Whether all of its lines were read. If one of them has a fault, or can't be read apart, or memory was refused, the answer is no.
+    /// Whether all of its lines were read. If one of them has a fault, or can't be read apart, or they have far more steps than bytes, or memory
+    /// was refused, the answer is no.
     pub fn is_whole(&self) -> bool
         ensures { result ≡ self.now.whole }
     {
@@ -129,7 +133,8 @@ impl Piece {
     }
 }
 
-/// Reads lines behind a header, and says how many they are. None if one of them can't be read apart, or memory was refused.
+/// Reads lines behind a header, and says how many they are. None if one of them can't be read apart, they have more than a step for each
+/// [`STEP`] bytes, as long reuses have, or memory was refused.
 fn read_lines(header: &mut Header, version: Version, trace: &mut Trace, bytes: &[u8]) -> Option<u64>
     requires open { (header.old.stage ≡ Stage.Events version) × (header.old.idle ≡ []) }
     ensures read { IfSome result (λ lines. AreRead version (lines_of bytes.now) 0 trace.old lines trace.new) }
@@ -140,6 +145,9 @@ fn read_lines(header: &mut Header, version: Version, trace: &mut Trace, bytes: &
     while at < bytes.len() {
         at += read_front(header, version, trace, line, &bytes[at..])?;
         line += 1;
+        if trace.steps().len() > bytes.len() / STEP {
+            return None;
+        }
     }
     Some(line)
 }

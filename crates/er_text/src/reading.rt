@@ -33,6 +33,9 @@ use std::alloc::{AllocError, Global};
 use std::io::Read;
 use std::marker::Model;
 
+/// How many steps a trace has at most, but for those of one line, when a batch ends before it has all of its lines.
+const BATCH_STEPS: usize = 131_072;
+
 /// What the lines so far make known: the stage of the text, the threads that are named but don't act yet, and what the last comment says.
 #[derive(Drop)]
 pub(crate) struct Header {
@@ -345,7 +348,7 @@ impl TraceReader {
         self.finish()
     }
 
-    /// Reads up to so many lines.
+    /// Reads up to so many lines, and at least one of them, until the trace has 131,072 steps.
     fn read_batch<R: Read>(
         &mut self,
         reader: &mut Device<R>,
@@ -358,7 +361,7 @@ impl TraceReader {
         ensures tail { BatchesTail (lines_left self.old.place (R.remaining (inner_of reader.old))) (lines_left self.new.place (R.remaining (inner_of reader.new))) self.old.tail self.new.tail result }
         ensures grows { OnOk result (Grows trace.old trace.new) }
         ensures limit { self.new.place.limit ≡ self.old.place.limit }
-        ensures more { IfOk result (λ batch. batch ≡ Batch.More → self.old.place.start + most_lines ≤ self.new.place.start) }
+        ensures more { 1 ≤ most_lines → IfOk result (λ batch. batch ≡ Batch.More → self.old.place.start < self.new.place.start) }
         ensures within { self.new.place.start ≤ self.new.place.limit }
         ensures failed { HasFailedBy (has_failed reader.new) result }
         ensures taken { taken_of reader.new + taken_by self.old.place ≤ taken_of reader.old + taken_by self.new.place }
@@ -371,11 +374,15 @@ impl TraceReader {
                 self.finish()?;
                 return Ok(Batch::End);
             }
+            if trace.steps().len() >= BATCH_STEPS {
+                return Ok(Batch::More);
+            }
         }
         Ok(Batch::More)
     }
 
-    /// Reads the next `most_lines` lines, or those up to the end of the text, and adds their steps to the trace.
+    /// Reads the next `most_lines` lines, or those up to the end of the text, and adds their steps to the trace. It stops behind the line that
+    /// brings the trace to 131,072 steps, since a line of a long reuse has up to 1,025.
     ///
     /// A text that ends without a header has a fault at its end. After a fault the reader is not to be called again: nothing is known
     /// of what it would read.
@@ -402,8 +409,8 @@ impl TraceReader {
 
         ensures limit { self.new.place.limit ≡ self.old.place.limit }
 
-        // A batch that isn't the last has passed over a byte for each line, within the limit.
-        ensures more { IfOk result (λ batch. batch ≡ Batch.More → self.old.place.start + most_lines ≤ self.new.place.start) }
+        // A batch that isn't the last has passed over some bytes, within the limit.
+        ensures more { 1 ≤ most_lines → IfOk result (λ batch. batch ≡ Batch.More → self.old.place.start < self.new.place.start) }
         ensures within { self.new.place.start ≤ self.new.place.limit }
 
         ensures failed { HasFailedBy (has_failed reader.new) result }

@@ -7,7 +7,7 @@ use Rattle.std.proofs.lemmas.List.Elements.{All-append}
 use Rattle.er_before.specs.Standing.{Ordered, Stands, answered_by, clock_of}
 use Rattle.er_clock.specs.Clock.{Counts}
 use Rattle.er_clocks.specs.Counts.{count_by}
-use Rattle.er_latest.specs.Standing.{IsClockAfter}
+use Rattle.er_epochs.specs.Standing.{IsClockAfter}
 use Rattle.er_order.specs.Clocks.{OfThread}
 use Rattle.er_report.specs.Report.{Answering, Summary, count_below, is_printed_by}
 use Rattle.er_rules.specs.Rules.{Target}

@@ -16,9 +16,9 @@ use Rattle.er_event.specs.declared.steps.Reply.TheVariants.{Race}
 use Rattle.er_event.specs.declared.steps.Step.{Step}
 use Rattle.er_explain.proofs.RaceLemmas.{race-is}
 use Rattle.er_explain.specs.Racing.{is_race, places_below}
-use Rattle.er_latest.proofs.StepLemmas.{latest-front}
-use Rattle.er_latest.specs.Latest.{Latest}
-use Rattle.er_latest.specs.Standing.{Follows, IsClockAfter, is_counted}
+use Rattle.er_epochs.proofs.FollowLemmas.{follows-tags}
+use Rattle.er_epochs.specs.Words.{AllWords}
+use Rattle.er_epochs.specs.Standing.{Follows, IsClockAfter, is_counted}
 use Rattle.er_model.specs.Explanations.{word_in, word_of}
 use Rattle.er_order.proofs.ReasonLemmas.{race-cases, with-use, with-earlier, with-word}
 use Rattle.er_order.proofs.ReasonsGrow.{unordered-stays}
@@ -110,7 +110,7 @@ module _ (r : Recording) (rules : List Target) (k : ℕ) where
       ap (reasons_below r rules) (add-one k) ∙ next-places ∙ ap (λ (p : Bool). reasons_below r rules k ++ cond p (order_reasons r k ∷ []) []) (sym is)
 
 -- before any step
-pub none-kept : (latest : List (ℕ × Latest Because)) (told : List (List Because)) → ((tags : ℕ → Because) → Follows tags latest []) → told ≡ []
+pub none-kept : (latest : AllWords Because) (told : List (List Because)) → ((tags : ℕ → Because) → Follows tags latest []) → told ≡ []
     → (r : Recording) (rules : List Target) → HasReasons (record { latest = latest; told = told }) r rules 0
 unfolding places_below
 none-kept latest told follows none r rules = record { follows = follows (access_reason_at r); reasons = none }
@@ -128,7 +128,7 @@ module _ (r : Recording) (rules : List Target) (k : ℕ) (step : Step) (here : s
       order-here r.steps k step here
       ∙ race-is (order_answer r.steps k) (and_parts (is_race (order_answer r.steps k)) (is_none (matching_rule_by (order_answer r.steps) r rules k)) printed).0
 
-  pub found-here : (latest : List (ℕ × Latest Because)) (found : Option Because) → Follows (access_reason_at r) latest past → true ≡ is_printed_by (order_answer r.steps) r rules k
+  pub found-here : (latest : AllWords Because) (found : Option Because) → Follows (access_reason_at r) latest past → true ≡ is_printed_by (order_answer r.steps) r rules k
       → (raced : Option ℕ) → raced ≡ word_raced r.steps k
       → ((past : List Step) (tags : ℕ → Because) → Follows tags latest past → order_answer (past ++ step ∷ []) (length past) ≡ Ok Race
       → raced ≡ word_raced (past ++ step ∷ []) (length past) → IsClockAfter (past ++ step ∷ []) step.thread clock → found ≡ option_map tags (unordered_with (past ++ step ∷ []) (length past)))
@@ -206,18 +206,12 @@ module _ (before after : Recording) (on : GoesOn before after) where
       ap (reasons_with after) (with-there k below)
       ∙ reasons-by (unordered_with before.steps k) (λ j is. let earlier : j < k = with-earlier before.steps k j is in omega arith)
 
-  follows-there : (latest : List (ℕ × Latest Because)) → Follows (access_reason_at before) latest before.steps → Follows (access_reason_at after) latest before.steps
-  follows-there latest follows w =
-      follows w
-      ∙ sym (latest-front before.steps on.more (access_reason_at before) (access_reason_at after) w (length before.steps) (omega arith) (λ k below. tag-there k below))
-      ∙ latest-front before.steps on.more (access_reason_at after) (access_reason_at after) w (length before.steps) (omega arith) (λ k below. refl)
-
   pub kept-there : (kept : Reasoned) (rules : List Target)
       → places_below (is_printed_by (order_answer before.steps) before rules) (length before.steps) ≡ places_below (is_printed_by (order_answer after.steps) after rules) (length before.steps)
       → HasReasons kept before rules (length before.steps) → HasReasons kept after rules (length before.steps)
   kept-there kept rules same kept_before = record {
     follows = subst (λ (steps : List Step). Follows (access_reason_at after) kept.latest steps) (sym front)
-        (follows-there kept.latest (subst (λ (steps : List Step). Follows (access_reason_at before) kept.latest steps) (take-length before.steps) kept_before.follows));
+        (follows-tags before.steps (access_reason_at before) (access_reason_at after) kept.latest (λ k below. tag-there k below) (subst (λ (steps : List Step). Follows (access_reason_at before) kept.latest steps) (take-length before.steps) kept_before.follows));
     reasons = kept_before.reasons
         ∙ map-places (order_reasons before) (order_reasons after) (is_printed_by (order_answer before.steps) before rules) (length before.steps) (λ k below. sym (reasons-there k below))
         ∙ ap (map (order_reasons after)) same;

@@ -1,4 +1,4 @@
--- A count that is full at a step is full there whatever steps come behind it, and an analyst goes on by a batch or stops in it.
+-- A count that is full at a step is full there whatever steps come behind it, so is a step that crowds, and an analyst goes on by a batch or stops in it.
 use Rattle.std.proofs.Common.{◌≡◌, ◌<◌, ◌+◌, ◌∙◌, ◌++◌, ◌||◌, ◌∷◌, [], ℕ, Bool, true, false, List, length, slice_get, length-append, take, drop, is_some, Option, Some, None, IfSome, refl, sym, ap, arith}
 use Rattle.std.proofs.lemmas.List.{take-append-drop, length-take-le}
 use Rattle.std.proofs.lemmas.List.Elements.{All-nil}
@@ -6,10 +6,11 @@ use Rattle.std.proofs.lemmas.List.Folds.{list_any-append}
 use Rattle.std.proofs.lemmas.Option.{slice_get_within}
 use Rattle.er_batch.proofs.StepLemmas.{past-next}
 use Rattle.er_batch.specs.Analysts.{Asked}
-use Rattle.er_before.specs.Standing.{IsFullAfter, Ordered, Stands}
+use Rattle.er_before.specs.Standing.{IsFullAfter, Ordered, Stands, crowds_after}
 use Rattle.er_clock.specs.declared.clock.NoTick.{NoTick}
 use Rattle.er_clock.specs.declared.clock.NoTick.TheVariants as tick
 use Rattle.er_event.specs.declared.steps.Step.{Step}
+use Rattle.er_clocks.specs.Crowding.{CrowdsIn, crowds}
 use Rattle.er_clocks.specs.Standing.{act_flows}
 use Rattle.er_order.proofs.StepLemmas.{acts-front, clocks-front}
 use Rattle.er_order.specs.Clocks.{Clocks, OfThread, clocks_at, own_count}
@@ -24,7 +25,7 @@ use Rattle.er_unordered.specs.Ordered.{HasGatheredFor, HasOrdered, OrderRan}
 use Rattle.er_unordered.specs.Reports.{has_order, is_order}
 use Rattle.er_unordered.specs.Stops.{IsStopIn, OverflowsIn, stop_of}
 use Rattle.er_unordered.specs.declared.stop.OrderStop.{OrderStop}
-use Rattle.er_unordered.specs.declared.stop.OrderStop.TheVariants.{CountFull, Memory}
+use Rattle.er_unordered.specs.declared.stop.OrderStop.TheVariants.{CountFull, ThreadsFull, Memory}
 
 -- more steps come behind
 pub overflows-on : (steps more : List Step) → OverflowsIn steps → OverflowsIn (steps ++ more)
@@ -59,14 +60,41 @@ full-here steps n step here full =
           ∙ (ap (λ (k : ℕ). clocks_at (acts_of (take n steps)) k (OfThread full.0) full.0) (sym size) ∙ full.2));
     }
 
+-- more steps come behind
+pub crowds-on : (steps more : List Step) → CrowdsIn steps → CrowdsIn (steps ++ more)
+crowds-on steps more is = record {
+  at = is.at;
+  within = (let low : is.at < length steps = is.within in omega (arith, length-append steps more));
+  full = (let low : is.at < length steps = is.within in ap crowds (acts-front steps more is.at low) ∙ is.full);
+}
+
+-- the next step behind the first n orders a thread that clocks have no room for
+pub crowds-here : (steps : List Step) (n : ℕ) (step : Step) → slice_get steps n ≡ Some step → crowds_after (take n steps) step ≡ true → CrowdsIn steps
+crowds-here steps n step here full =
+    let within : n < length steps = slice_get_within steps n step here in
+    let size : length (take n steps) ≡ n = length-take-le n steps (omega arith) in
+    let longer : length (take (n + 1) steps) ≡ n + 1 = length-take-le (n + 1) steps (omega arith) in
+    record {
+      at = n;
+      within = within;
+      full = ap (λ (s : List Step). crowds (acts_of s n)) (sym (take-append-drop (n + 1) steps))
+          ∙ ap crowds (acts-front (take (n + 1) steps) (drop (n + 1) steps) n (omega (arith, longer)))
+          ∙ ap (λ (s : List Step). crowds (acts_of s n)) (sym (past-next steps n step here))
+          ∙ ap (λ (k : ℕ). crowds (acts_of (take n steps ++ step ∷ []) k)) (sym size)
+          ∙ full;
+    }
+
 -- why a step isn't answered
-pub stop-by : (steps : List Step) (why : NoTick) (stop : OrderStop) → stop ≡ stop_of why → (why ≡ tick.CountFull → OverflowsIn steps) → IsStopIn steps stop
-stop-by steps tick.CountFull stop is full = rw is (full refl)
-stop-by steps tick.OutOfMemory stop is full = rw is tt
+pub stop-by : (steps : List Step) (why : NoTick) (stop : OrderStop) → stop ≡ stop_of why → (why ≡ tick.CountFull → OverflowsIn steps) → (why ≡ tick.ThreadsFull → CrowdsIn steps)
+    → IsStopIn steps stop
+stop-by steps tick.CountFull stop is full crowd = rw is (full refl)
+stop-by steps tick.ThreadsFull stop is full crowd = rw is (crowd refl)
+stop-by steps tick.OutOfMemory stop is full crowd = rw is tt
 
 -- why one of the steps can't be answered stays so
 pub stop-on : (steps more : List Step) (why : OrderStop) → IsStopIn steps why → IsStopIn (steps ++ more) why
 stop-on steps more CountFull is = overflows-on steps more is
+stop-on steps more ThreadsFull is = crowds-on steps more is
 stop-on steps more Memory is = tt
 
 -- before any step

@@ -1,7 +1,7 @@
 //! What finds the reasons of unordered accesses while steps go by.
 ghost use Rattle.std.specs.Prelude.{◌≡◌, ◌+◌, ◌++◌, ◌∷◌, [], ℕ, cond, List, Option, Some, map, slice_get, slice_index, take, IfOk, OnOk};
 ghost use Rattle.std.specs.Option.{option_to_list};
-ghost use Rattle.er_latest.specs.Standing.{Follows, IsClockAfter};
+ghost use Rattle.er_epochs.specs.Standing.{Follows, IsClockAfter};
 ghost use Rattle.er_explain.specs.Book.{event_kind};
 ghost use Rattle.er_report.specs.Report.{is_printed_by};
 ghost use Rattle.er_rules.specs.Rules.{Target};
@@ -12,8 +12,8 @@ ghost use Rattle.er_unordered.specs.Inner.Reasons.{HasReasons, access_reason_at,
 ghost use Rattle.er_unordered.specs.Reasons.{order_reasons};
 
 use er_clocks::ThreadClock;
+use er_epochs::OrderWords;
 use er_event::{Event, Kind, Refusal, Reply, Step, Word};
-use er_latest::LatestWords;
 use er_report::{Because, Label};
 use er_trace::NameKeys;
 use std::alloc::{AllocError, Global};
@@ -22,7 +22,7 @@ use std::marker::Model;
 /// The reasons of the printed races so far, and the latest accesses of each word, which later ones will need. It keeps no step.
 #[derive(Drop)]
 pub(crate) struct Reasons {
-    latest: LatestWords<Because>,
+    latest: OrderWords<Because>,
     told: Vec<Vec<Because>>,
     alloc: Global,
 }
@@ -42,7 +42,7 @@ impl Reasons {
         ensures { (r : Recording) (rules : List Target) → HasReasons result r rules 0 }
     {
         Reasons {
-            latest: LatestWords::keyed(alloc, keys),
+            latest: OrderWords::keyed(alloc, keys),
             told: Vec::new(alloc),
             alloc,
         }
@@ -90,7 +90,7 @@ impl Reasons {
 fn tell(
     alloc: Global,
     told: &mut Vec<Vec<Because>>,
-    latest: &LatestWords<Because>,
+    latest: &OrderWords<Because>,
     step: &Step,
     raced: Option<Word>,
     clock: &ThreadClock<'_>,
@@ -101,7 +101,7 @@ fn tell(
         → OnOk result (map (λ reasons. reasons.items) told.new.items ≡ map (λ reasons. reasons.items) told.old.items ++ cond printed (order_reasons r k ∷ []) []) }
 {
     if printed {
-        put_found(alloc, told, latest.find(step, raced, clock))
+        put_found(alloc, told, latest.reason(step, raced, clock))
     } else {
         Ok(())
     }

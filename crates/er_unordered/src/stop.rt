@@ -12,6 +12,8 @@ use std::alloc::AllocError;
 pub enum OrderStop {
     /// A thread releases, starts, signals and is joined 2^32 - 1 times or more.
     CountFull,
+    /// A step orders a thread whose number is 65,536 or more. No clock has room for one.
+    ThreadsFull,
     /// Memory was refused.
     Memory,
 }
@@ -22,6 +24,7 @@ impl From<NoTick> for OrderStop {
     fn from(cause: NoTick) -> OrderStop {
         match cause {
             NoTick::CountFull => OrderStop::CountFull,
+            NoTick::ThreadsFull => OrderStop::ThreadsFull,
             NoTick::OutOfMemory => OrderStop::Memory,
         }
     }

@@ -1,8 +1,7 @@
 -- How a replay ends.
-use Rattle.std.proofs.Common.{◌≡◌, ◌++◌, ◌∙◌, ◌||◌, ℕ, Bool, true, false, nat_lt, is_some, IsFalse, List, [], append-nil, take, Option, Some, None, IsSome, IfSome, IfOk, IfErr, Result, Ok, Err, refl, sym, ap, subst, inl, inr}
+use Rattle.std.proofs.Common.{◌≡◌, ◌++◌, ◌∙◌, ℕ, Bool, true, false, nat_lt, is_some, IsFalse, List, [], append-nil, take, Option, Some, None, IsSome, IfSome, IfOk, IfErr, Result, Ok, Err, refl, sym, ap, subst, inl, inr}
 use Rattle.std.specs.Io.KnownBytes.{Appends, Keeps}
 use Rattle.er_batch.specs.Runs.{IsRunOf}
-use Rattle.er_event.specs.declared.refusals.NoRoom.{NoRoom}
 use Rattle.er_exit.specs.Lines.{fault_line}
 use Rattle.er_exit.specs.Statuses.{fault_status}
 use Rattle.er_exit.specs.Writes.{GetsLine}
@@ -21,8 +20,9 @@ use Rattle.er_report.specs.declared.reports.Reports.{Reports}
 use Rattle.er_request.specs.Words.{IsUsual, usual_limit}
 use Rattle.er_request.specs.declared.request.Replay.{Replay}
 use Rattle.er_rules.specs.Rules.{Target}
-use Rattle.er_run.specs.Replays.{IsBegun, IsNoDamage, is_verdict_of, output_of, report_with, verdict_by, verdict_of}
-use Rattle.er_run.specs.Reports.{IsFaultOfText}
+use Rattle.er_run.specs.Faults.{IsFaultOfText, IsNoDamage, IsOfReading}
+use Rattle.er_run.specs.Replays.{IsBegun, output_of, verdict_of}
+use Rattle.er_run.specs.Reports.{AreReportsOfText, IsReportOfRun, is_verdict_of, report_with, verdict_by}
 use Rattle.er_run.specs.declared.fault.RunFault.{RunFault}
 use Rattle.er_run.specs.declared.fault.RunFault.TheVariants as running
 use Rattle.er_text.specs.Ending.{IsEndingOf, lost_told}
@@ -67,11 +67,7 @@ text_alone names reports report one none = rw (one, none) (append-nil (report_te
 
 -- and its verdict
 verdict_alone : (reports : Reports) (report : Report) → reports.lockset ≡ Some report → reports.unordered ≡ None → is_verdict_of reports ≡ verdict_by report.stop (nat_lt 0 report.races)
-verdict_alone reports report one none = rw (one, none) (or_none report.stop (nat_lt 0 report.races))
-  where
-    or_none : (stop : Option (ℕ × NoRoom)) (b : Bool) → verdict_by stop (b || false) ≡ verdict_by stop b
-    or_none stop true = refl
-    or_none stop false = refl
+verdict_alone reports report one none = rw (one, none) refl
 
 verdict_from : (lost : Option ℕ) (r : Recording) (stop : Option Stopped) (s : Summary) → s ≡ report_with lost r [] false stop → verdict_by s.stop (nat_lt 0 s.races) ≡ verdict_of r [] false stop
 verdict_from lost r None s says = ap (λ (t : Summary). verdict_by t.stop (nat_lt 0 t.races)) says
@@ -81,94 +77,105 @@ no_order : (has_order : Bool) (reports : Reports) → reports.unordered ≡ None
 no_order true reports none = refl
 no_order false reports none = rw none refl
 
--- the reports that are left have the lockset rule's alone
-record AreAlone (replay : Replay) (text : List ℕ) (rules : List Target) (bytes : List ℕ) (output : IsOutput replay text rules bytes) : Type 0 where
+-- the report of the lockset rule is alone, and it is that of a run of the text
+record IsAlone (text : List ℕ) (found left : Reports) (bytes : List ℕ) : Type 0 where
+  pub recording : Recording
   pub report : Report
-  pub one : output.left.lockset ≡ Some report
-  pub none : output.left.unordered ≡ None
-  pub none_found : output.found.unordered ≡ None
-  pub says : told report ≡ report_with (lost_told text) output.reports.recording rules replay.explain output.reports.stop
+  pub stop : Option Stopped
+  pub one : left.lockset ≡ Some report
+  pub none : left.unordered ≡ None
+  pub none_found : found.unordered ≡ None
+  pub run : IsRunOf text usual_limit recording stop
+  pub says : told report ≡ report_with (lost_told text) recording [] false stop
+  pub bytes_are : bytes ≡ output_of text recording [] false stop
 
-alone : (replay : Replay) (text : List ℕ) (rules : List Target) (bytes : List ℕ) (output : IsOutput replay text rules bytes) → IsUsual replay → AreAlone replay text rules bytes output
-alone replay text rules bytes output usual = with_report (there output.found.lockset (output.locks ∙ ap asks_locks usual.analysis))
+alone : {F : Type 0} (remaining : F → Option (List ℕ)) (replay : Replay) (text bytes : List ℕ) (output : IsOutput remaining replay text [] bytes) → IsUsual replay → IsAlone text output.found output.left bytes
+alone remaining replay text bytes output usual = with_report (there output.found.lockset (output.locks ∙ ap asks_locks usual.analysis))
   where
+    reports : AreReportsOfText Lockset text usual_limit [] false output.names output.found
+    reports =
+        subst (λ (a : Analysis). AreReportsOfText a text usual_limit [] false output.names output.found) usual.analysis
+        (subst (λ (limit : ℕ). AreReportsOfText replay.analysis text limit [] false output.names output.found) usual.limit
+        (subst (λ (explain : Bool). AreReportsOfText replay.analysis text replay.byte_limit [] explain output.names output.found) usual.explain output.reports))
+
     first : KeepFirst None output.found output.left
     first = subst (λ (m : Option ℕ). KeepFirst m output.found output.left) usual.max_races output.first
+
     none : output.found.unordered ≡ None
     none = not_there output.found.unordered (output.order ∙ ap asks_order usual.analysis)
-    with_report : (report : Report) × (output.found.lockset ≡ Some report) → AreAlone replay text rules bytes output
-    with_report (report, one) = record {
+
+    form : bytes ≡ reports_text output.names output.left
+    form = subst (λ (form : Form). IsForm form output.names output.shown.table [] output.shown.excerpts output.left bytes) usual.form output.shown.form
+
+    with_run : (report : Report) → output.found.lockset ≡ Some report → IsReportOfRun false (lost_told text) reports.recording [] false report → IsAlone text output.found output.left bytes
+    with_run report one is = record {
+      recording = reports.recording;
       report = report;
+      stop = is.stop;
       one = first.lockset ∙ one;
       none = first.unordered ∙ none;
       none_found = none;
-      says = subst (λ (o : Option Report). IfSome o (λ r. told r ≡ report_with (lost_told text) output.reports.recording rules replay.explain output.reports.stop)) one output.reports.lockset;
+      run = record { trace = reports.trace; within = is.within; cause = is.cause };
+      says = is.says;
+      bytes_are = form ∙ text_alone output.names output.left report (first.lockset ∙ one) (first.unordered ∙ none) ∙ ap (λ (names : NameTable). report_text names (told report)) reports.names
+          ∙ ap (λ (s : Summary). report_text reports.recording.names s) is.says;
     }
 
--- its bytes are those of that report
-bytes_alone : (replay : Replay) (text : List ℕ) (bytes : List ℕ) (output : IsOutput replay text [] bytes) → IsUsual replay → AreAlone replay text [] bytes output
-    → bytes ≡ output_of text output.reports.recording [] false output.reports.stop
-bytes_alone replay text bytes output usual left =
-    subst (λ (form : Form). IsForm form output.names output.shown.table [] output.shown.excerpts output.left bytes) usual.form output.shown.form
-    ∙ text_alone output.names output.left left.report left.one left.none
-    ∙ ap (λ (names : NameTable). report_text names (told left.report)) output.reports.names
-    ∙ ap (λ (s : Summary). report_text output.reports.recording.names s) left.says
-    ∙ ap (λ (explain : Bool). output_of text output.reports.recording [] explain output.reports.stop) usual.explain
+    with_report : (report : Report) × (output.found.lockset ≡ Some report) → IsAlone text output.found output.left bytes
+    with_report (report, one) = with_run report one (subst (λ (o : Option Report). IfSome o (λ r. IsReportOfRun false (lost_told text) reports.recording [] false r)) one reports.lockset)
 
-run_alone : (replay : Replay) (text : List ℕ) (bytes : List ℕ) (output : IsOutput replay text [] bytes) → IsUsual replay → IsRunOf text usual_limit output.reports.recording output.reports.stop
-run_alone replay text bytes output usual = subst (λ (limit : ℕ). IsRunOf text limit output.reports.recording output.reports.stop) usual.limit output.reports.run
-
-pub usual-ends : (replay : Replay) (text : List ℕ) (old new : Option (List ℕ)) (ended : Ended) → IsUsual replay → EndsAs replay text [] old new ended
+pub usual-ends : {F : Type 0} (remaining : F → Option (List ℕ)) (replay : Replay) (text : List ℕ) (old new : Option (List ℕ)) (ended : Ended) → IsUsual replay → EndsAs remaining replay text [] old new ended
     → ReplaysTo text old new ended.status × (IsEndingOf text ended.ending × (ended.unordered ≡ 0))
-usual-ends replay text old new ended usual ends =
-    let output : IsOutput replay text [] ends.bytes = ends.output in
-    let left : AreAlone replay text [] ends.bytes output = alone replay text [] ends.bytes output usual in
-    let says : told left.report ≡ report_with (lost_told text) output.reports.recording [] false output.reports.stop =
-    left.says ∙ ap (λ (explain : Bool). report_with (lost_told text) output.reports.recording [] explain output.reports.stop) usual.explain in
-    ( (is_verdict_of output.left, (record {
-        recording = output.reports.recording;
-        stop = output.reports.stop;
-        run = run_alone replay text ends.bytes output usual;
-        written = subst (λ (bytes : List ℕ). Appends old new bytes) (bytes_alone replay text ends.bytes output usual left) ends.written;
-        verdict = verdict_alone output.left left.report left.one left.none ∙ verdict_from (lost_told text) output.reports.recording output.reports.stop (told left.report) says;
-      }, ends.status))
-    , (ends.ending, counted ends.order left.none_found) )
+usual-ends remaining replay text old new ended usual ends =
+    let left : IsAlone text ends.output.found ends.output.left ends.bytes = alone remaining replay text ends.bytes ends.output usual in (
+      (
+        is_verdict_of ends.output.left,
+        (
+          record {
+            recording = left.recording;
+            stop = left.stop;
+            run = left.run;
+            written = subst (λ (bytes : List ℕ). Appends old new bytes) left.bytes_are ends.written;
+            verdict = verdict_alone ends.output.left left.report left.one left.none ∙ verdict_from (lost_told text) left.recording left.stop (told left.report) left.says;
+          },
+          ends.status,
+        ),
+      ),
+      (ends.ending, counted ends.order left.none_found),
+    )
   where
     counted : {Says : Bool → Type 0} {reports : Reports} → (has_order : Bool) × (Says has_order × (ended.unordered ≡ unordered_of has_order reports)) → reports.unordered ≡ None → ended.unordered ≡ 0
     counted {reports = reports} (has_order, (says, count)) none = count ∙ no_order has_order reports none
 
 -- a fault of such a replay
-found_usually : (replay : Replay) (text : List ℕ) (found : RunFault) → IsUsual replay → IsFaultOfText replay.analysis (Some text) replay.byte_limit found → (IsFalse replay.strict → IsNoDamage found)
+found_usually : (replay : Replay) (text : List ℕ) (found : RunFault) → IsUsual replay → IsFaultOfText replay.analysis (Some text) replay.byte_limit found → IsOfReading found → (IsFalse replay.strict → IsNoDamage found)
     → IsUsualFault text (replay_fault found)
-found_usually replay text found usual cause lenient =
-    by_case found (subst (λ (limit : ℕ). IsFaultOfText Lockset (Some text) limit found) usual.limit (subst (λ (a : Analysis). IsFaultOfText a (Some text) replay.byte_limit found) usual.analysis cause))
-    (lenient (sym usual.strict))
+found_usually replay text found usual cause reading lenient =
+    by_case found (subst (λ (limit : ℕ). IsFaultOfText replay.analysis (Some text) limit found) usual.limit cause) reading (lenient (sym usual.strict))
   where
-    by_case : (found : RunFault) → IsFaultOfText Lockset (Some text) usual_limit found → IsNoDamage found → IsUsualFault text (replay_fault found)
-    by_case (running.Read (reading.Text f)) is whole = is
-    by_case (running.Read reading.Memory) is whole = tt
-    by_case (running.Read reading.Read) is whole = tt
-    by_case (running.Write f) is whole = absurd is
-    by_case (running.Replay f) is whole = absurd is
-    by_case running.CountFull is whole = absurd is
-    by_case running.ThreadsFull is whole = absurd is
-    by_case running.Memory is whole = tt
-    by_case (running.Damaged damage) is whole = absurd whole
+    by_case : (found : RunFault) → IsFaultOfText replay.analysis (Some text) usual_limit found → IsOfReading found → IsNoDamage found → IsUsualFault text (replay_fault found)
+    by_case (running.Read (reading.Text f)) is read whole = is
+    by_case (running.Read reading.Memory) is read whole = tt
+    by_case (running.Read reading.Read) is read whole = tt
+    by_case (running.Write f) is read whole = absurd read
+    by_case (running.Replay f) is read whole = absurd read
+    by_case running.CountFull is read whole = absurd read
+    by_case running.ThreadsFull is read whole = absurd read
+    by_case running.Memory is read whole = tt
+    by_case (running.Damaged damage) is read whole = absurd whole
 
-pub usual-fails : (replay : Replay) (text : List ℕ) (old new : Option (List ℕ)) (why : Fault) → IsUsual replay → FailsAs replay text [] old new why → IsUsualFault text why × LeavesUsually text old new why
-usual-fails replay text old new why usual fails = by_case why fails
+pub usual-fails : {F : Type 0} (remaining : F → Option (List ℕ)) (replay : Replay) (text : List ℕ) (old new : Option (List ℕ)) (why : Fault) → IsUsual replay → FailsAs remaining replay text [] old new why → IsUsualFault text why × LeavesUsually text old new why
+usual-fails remaining replay text old new why usual fails = by_case why fails
   where
     other : (why : Fault) → IsFoundFault replay text why × Keeps old new → IsUsualFault text why × Keeps old new
-    other why (is, keeps) = (subst (λ (w : Fault). IsUsualFault text w) (sym is.says) (found_usually replay text is.found usual is.cause is.lenient), keeps)
-    begun : (bytes : List ℕ) × IsOutput replay text [] bytes × ((n : ℕ) × Appends old new (take n bytes)) → IsBegun text usual_limit [] false old new
-    begun (bytes, output, (n, appended)) = record {
-      recording = output.reports.recording;
-      stop = output.reports.stop;
-      count = n;
-      run = run_alone replay text bytes output usual;
-      written = subst (λ (b : List ℕ). Appends old new (take n b)) (bytes_alone replay text bytes output usual (alone replay text [] bytes output usual)) appended;
-    }
-    by_case : (why : Fault) → FailsAs replay text [] old new why → IsUsualFault text why × LeavesUsually text old new why
+    other why (is, keeps) = (subst (λ (w : Fault). IsUsualFault text w) (sym is.says) (found_usually replay text is.found usual is.cause (is.alone usual.workers usual.analysis) is.lenient), keeps)
+
+    begun : (bytes : List ℕ) × IsOutput remaining replay text [] bytes × ((n : ℕ) × Appends old new (take n bytes)) → IsBegun text usual_limit [] false old new
+    begun (bytes, output, (n, appended)) =
+        let left : IsAlone text output.found output.left bytes = alone remaining replay text bytes output usual in
+        record { recording = left.recording; stop = left.stop; count = n; run = left.run; written = subst (λ (b : List ℕ). Appends old new (take n b)) left.bytes_are appended }
+
+    by_case : (why : Fault) → FailsAs remaining replay text [] old new why → IsUsualFault text why × LeavesUsually text old new why
     by_case fault.Write fails = (tt, begun fails)
     by_case fault.WriteRules (some, rest) = absurd (subst (λ o. IsSome o) usual.write_rules some)
     by_case fault.Memory keeps = (tt, keeps)
@@ -188,3 +195,22 @@ usual-fails replay text old new why usual fails = by_case why fails
     by_case fault.WorkerNotStarted fails = other fault.WorkerNotStarted fails
     by_case fault.WorkerLost fails = other fault.WorkerLost fails
     by_case (fault.Unsettled why) fails = other (fault.Unsettled why) fails
+
+-- what holds of the text, if it is known
+pub for-text : {P Q : List ℕ → Type 0} (told : Option (List ℕ)) → ((text : List ℕ) → P text → Q text) → IfSome told P → IfSome told Q
+for-text None f is = tt
+for-text (Some text) f is = f text is
+
+-- before its notes or its fault are written
+pub usually : {F : Type 0} (remaining : F → Option (List ℕ)) (replay : Replay) (told old new : Option (List ℕ)) (rules : List Target) (result : Result Ended Cut) → IsUsual replay → rules ≡ []
+    → IfOk result (λ ended. IfSome told (λ text. EndsAs remaining replay text rules old new ended))
+    → IfErr result (λ cut. IfSome told (λ text. FailsAs remaining replay text rules old new cut.fault))
+    → IfOk result (λ ended. ended.notes.items ≡ []) → IfErr result (λ cut. (cut.notes.items ≡ []) × (cut.damage ≡ None))
+    → IfSome told (λ text. EndsUsually text old new result)
+usually remaining replay None old new rules result usual none ends fails quiet whole = tt
+usually remaining replay (Some text) old new rules (Ok ended) usual none ends fails quiet whole =
+    let (replays, (ending, count)) = usual-ends remaining replay text old new ended usual (subst (λ (r : List Target). EndsAs remaining replay text r old new ended) none ends) in
+    (replays, (ending, (count, quiet)))
+usually remaining replay (Some text) old new rules (Err cut) usual none ends fails quiet whole =
+    let (cause, leaves) = usual-fails remaining replay text old new cut.fault usual (subst (λ (r : List Target). FailsAs remaining replay text r old new cut.fault) none fails) in
+    (cause, (leaves, whole))

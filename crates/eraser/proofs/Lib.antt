@@ -1,2 +1,3 @@
 mod NoteLemmas
 mod EndLemmas
+mod DeliverLemmas

@@ -1,5 +1,5 @@
 -- What a replay leaves, and its exit status.
-use Rattle.std.specs.Prelude.{◌≡◌, ◌⊎◌, ◌&&◌, ℕ, Bool, true, false, not, cond, List, [], length, ◌-◌, take, codes, Option, Some, None, IsSome, is_some, IsFalse, Result, Ok, Err}
+use Rattle.std.specs.Prelude.{◌≡◌, ◌⊎◌, ◌&&◌, ℕ, Bool, true, false, not, cond, List, [], length, ◌-◌, take, codes, Option, Some, None, IsSome, is_some, IfSome, IsFalse, Result, Ok, Err}
 use Rattle.std.specs.Io.KnownBytes.{Appends, Keeps}
 use Rattle.std.specs.Str.{bytes_eq}
 use Rattle.er_batch.specs.declared.options.Options.{Options}
@@ -12,17 +12,20 @@ use Rattle.er_exit.specs.declared.faults.Fault.{Fault}
 use Rattle.er_exit.specs.declared.faults.Fault.TheVariants as fault
 use Rattle.er_forms.specs.Forms.{IsForm}
 use Rattle.er_html.specs.declared.excerpts.Excerpt.{Excerpt}
-use Rattle.er_places.specs.Places.{PlaceTable, place_at}
+use Rattle.er_places.specs.Places.{ArePlaces, PlaceTable, place_at}
+use Rattle.er_places.specs.Wanted.{are_asked}
 use Rattle.er_report.specs.declared.report.Report.{Report}
+use Rattle.er_report.specs.declared.reports.Analysis.TheVariants.{Lockset}
 use Rattle.er_report.specs.declared.reports.Form.{Form}
 use Rattle.er_report.specs.declared.reports.Form.TheVariants as form
 use Rattle.er_report.specs.declared.reports.Reports.{Reports}
 use Rattle.er_request.specs.declared.request.Replay.{Replay}
 use Rattle.er_request.specs.Words.{usual_limit}
 use Rattle.er_rules.specs.Rules.{Target}
-use Rattle.er_run.specs.Replays.{IsBegun, IsNoDamage, IsReplayed, is_verdict_of}
+use Rattle.er_run.specs.Faults.{IsFaultOfText, IsNoDamage, IsOfReading}
+use Rattle.er_run.specs.Replays.{IsBegun, IsReplayed}
 use Rattle.er_report.specs.Reports.{asks_locks, asks_order}
-use Rattle.er_run.specs.Reports.{AreReportsOfText, IsFaultOfText, RecordsOrder}
+use Rattle.er_run.specs.Reports.{AreReportsOfText, IsOrderOfText, is_verdict_of}
 use Rattle.er_run.specs.declared.fault.RunFault.{RunFault}
 use Rattle.er_text.specs.Ending.{IsEndingOf}
 use Rattle.er_text.specs.Trace.{IsTrace, IsFault}
@@ -59,17 +62,25 @@ shows_places replay = replay.explain && tells_places replay.form && not replay.u
 abbrev pub HasNoPlace : PlaceTable → Type 0
 HasNoPlace table = (line : ℕ) → place_at table line ≡ None
 
--- these bytes are the form of these reports that is asked for, under these names and rules, with places and lines of source files only if they are shown
-pub record AreShown (replay : Replay) (names : NameTable) (rules : List Target) (reports : Reports) (bytes : List ℕ) : Type 0 where
+-- they are those of the accesses that the reports' reasons name, as the definitions give them of what a file has
+abbrev pub ArePlacesIn : {F : Type 0} → (F → Option (List ℕ)) → ℕ → Reports → PlaceTable → Type 0
+ArePlacesIn {F = F} remaining limit reports table = (file : F) × IfSome (remaining file) (λ text. ArePlaces (are_asked reports) text limit table)
+
+-- so it is, if places are shown; or none is known
+abbrev pub MayHavePlaces : {F : Type 0} → (F → Option (List ℕ)) → Replay → Reports → PlaceTable → Type 0
+MayHavePlaces remaining replay reports table = HasNoPlace table ⊎ ((shows_places replay ≡ true) × ArePlacesIn remaining replay.byte_limit reports table)
+
+-- these bytes are the form of these reports that is asked for, under these names and rules, with lines of source files only if a folder is given
+pub record AreShown {F : Type 0} (remaining : F → Option (List ℕ)) (replay : Replay) (names : NameTable) (rules : List Target) (reports : Reports) (bytes : List ℕ) : Type 0 where
   pub table : PlaceTable
   pub excerpts : List Excerpt
-  pub places : shows_places replay ≡ false → HasNoPlace table
+  pub places : MayHavePlaces remaining replay reports table
   pub sources : replay.source ≡ None → excerpts ≡ []
   pub form : IsForm replay.form names table rules excerpts reports bytes
 
 -- the text is a trace, and these bytes are the form of its reports by the analysis that is asked for, under these rules, and with the lines of the first
 -- races alone if their number is limited
-pub record IsOutput (replay : Replay) (text : List ℕ) (rules : List Target) (bytes : List ℕ) : Type 0 where
+pub record IsOutput {F : Type 0} (remaining : F → Option (List ℕ)) (replay : Replay) (text : List ℕ) (rules : List Target) (bytes : List ℕ) : Type 0 where
   pub names : NameTable
   pub found : Reports
   pub left : Reports
@@ -77,7 +88,7 @@ pub record IsOutput (replay : Replay) (text : List ℕ) (rules : List Target) (b
   pub locks : is_some found.lockset ≡ asks_locks replay.analysis
   pub order : is_some found.unordered ≡ asks_order replay.analysis
   pub first : KeepFirst replay.max_races found left
-  pub shown : AreShown replay names rules left bytes
+  pub shown : AreShown remaining replay names rules left bytes
 
 -- how many accesses and reuses a report by happens-before has
 abbrev pub races_in : Option Report → ℕ
@@ -89,13 +100,13 @@ abbrev pub unordered_of : Bool → Reports → ℕ
 unordered_of has_order reports = cond has_order 0 (races_in reports.unordered)
 
 -- what a replay leaves that ends so: the whole output, the status of its verdict, and what is noted
-pub record EndsAs (replay : Replay) (text : List ℕ) (rules : List Target) (old new : Option (List ℕ)) (ended : Ended) : Type 0 where
+pub record EndsAs {F : Type 0} (remaining : F → Option (List ℕ)) (replay : Replay) (text : List ℕ) (rules : List Target) (old new : Option (List ℕ)) (ended : Ended) : Type 0 where
   pub bytes : List ℕ
-  pub output : IsOutput replay text rules bytes
+  pub output : IsOutput remaining replay text rules bytes
   pub written : Appends old new bytes
   pub status : ended.status ≡ verdict_status (is_verdict_of output.left)
   pub ending : IsEndingOf text ended.ending
-  pub order : (has_order : Bool) × (RecordsOrder replay.analysis text replay.byte_limit has_order × (ended.unordered ≡ unordered_of has_order output.found))
+  pub order : (has_order : Bool) × (IsOrderOfText replay.analysis text replay.byte_limit has_order × (ended.unordered ≡ unordered_of has_order output.found))
   pub notes : ended.notes.items ≡ notes_text replay.unused_rules output.found rules (length (lines_of output.found) - length (lines_of output.left))
 
 -- the fault of a replay, before a byte is written
@@ -104,14 +115,15 @@ pub record IsFoundFault (replay : Replay) (text : List ℕ) (why : Fault) : Type
   pub says : why ≡ replay_fault found
   pub cause : IsFaultOfText replay.analysis (Some text) replay.byte_limit found
   pub lenient : IsFalse replay.strict → IsNoDamage found
+  pub alone : replay.workers ≡ 1 → replay.analysis ≡ Lockset → IsOfReading found
 
 -- why a replay has not all that was asked for, and what it leaves: a beginning of the output if a write failed, all of it if only the file of rules
 -- is missing, and else nothing
-abbrev pub FailsAs : Replay → List ℕ → List Target → Option (List ℕ) → Option (List ℕ) → Fault → Type 0
-FailsAs replay text rules old new fault.Write = (bytes : List ℕ) × IsOutput replay text rules bytes × ((n : ℕ) × Appends old new (take n bytes))
-FailsAs replay text rules old new fault.WriteRules = IsSome replay.write_rules × ((bytes : List ℕ) × IsOutput replay text rules bytes × Appends old new bytes)
-FailsAs replay text rules old new fault.Memory = Keeps old new
-FailsAs replay text rules old new other = IsFoundFault replay text other × Keeps old new
+abbrev pub FailsAs : {F : Type 0} → (F → Option (List ℕ)) → Replay → List ℕ → List Target → Option (List ℕ) → Option (List ℕ) → Fault → Type 0
+FailsAs remaining replay text rules old new fault.Write = (bytes : List ℕ) × IsOutput remaining replay text rules bytes × ((n : ℕ) × Appends old new (take n bytes))
+FailsAs remaining replay text rules old new fault.WriteRules = IsSome replay.write_rules × ((bytes : List ℕ) × IsOutput remaining replay text rules bytes × Appends old new bytes)
+FailsAs remaining replay text rules old new fault.Memory = Keeps old new
+FailsAs remaining replay text rules old new other = IsFoundFault replay text other × Keeps old new
 
 -- by these options a replay is run as it is asked for
 pub record AreOptionsOf (replay : Replay) (options : Options) : Type 0 where

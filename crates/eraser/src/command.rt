@@ -1,13 +1,11 @@
 //! One command line, run over a reader and its writers.
-ghost use Rattle.std.specs.Prelude.{◌≡◌, ◌≢◌, ◌≤◌, ◌||◌, [], false, true, None, codes, IfOk, IfErr, IfSome};
+ghost use Rattle.std.specs.Prelude.{◌≡◌, ◌≢◌, ◌≤◌, ◌||◌, ℕ, List, Option, [], false, true, None, codes, IfOk, IfErr, IfSome};
 ghost use Rattle.std.specs.Io.KnownBytes.{Keeps};
 ghost use Rattle.er_device.specs.Device.{inner_of, has_failed};
-ghost use Rattle.er_exit.specs.Lines.{fault_line};
-ghost use Rattle.er_exit.specs.Statuses.{fault_status};
-ghost use Rattle.er_exit.specs.Writes.{GetsLine, LeavesOutput};
+ghost use Rattle.er_exit.specs.Writes.{LeavesOutput};
 ghost use Rattle.er_request.specs.Words.{IsUsual, asks_hints, asks_progress, asks_until_fault, asks_usual, names_hints, names_progress, names_until_fault, replays_input};
 ghost use Rattle.er_triage.specs.Notes.{AreNotes};
-ghost use Rattle.eraser.specs.Notes.{AddsNotesOn, GetsNotes, IsSilent};
+ghost use Rattle.eraser.specs.Notes.{AddsNotesOn, GetsNotes, GetsTextNotes, IsSilent};
 ghost use Rattle.eraser.specs.Replays.{AreOptionsOf, ComesTo, EndsAs, EndsUsually, FailsAs};
 
 use crate::advice::trace_path;
@@ -147,12 +145,13 @@ where
     P: Write,
     requires input { has_failed input.old ≡ false }
     requires output { has_failed output.old ≡ false }
-    ensures status { IfOk result (λ ended. (ended.status ≤ 4) × (ended.status ≢ 2)) }
+    ensures status { IfOk result (λ ended. ended.status ≤ 4) }
+    ensures not_two { IfOk result (λ ended. ended.status ≢ 2) }
     ensures usual { IsUsual replay.now → IfSome (I.remaining (inner_of input.old)) (λ text. EndsUsually text (O.contents (inner_of output.old)) (O.contents (inner_of output.new)) result) }
     ensures notes { IfOk result (λ ended. AreNotes ended.notes.items) }
     ensures silent { replay.now.unused_rules ≡ false → replay.now.max_races ≡ None → IfOk result (λ ended. ended.notes.items ≡ []) }
-    ensures ends { replay.now.trace.now ≡ codes "-" → replay.now.suppressions.items ≡ [] → IfOk result (λ ended. IfSome (I.remaining (inner_of input.old)) (λ text. EndsAs replay.now text [] (O.contents (inner_of output.old)) (O.contents (inner_of output.new)) ended)) }
-    ensures fails { replay.now.trace.now ≡ codes "-" → replay.now.suppressions.items ≡ [] → replay.now.until_fault ≡ false → IfErr result (λ cut. IfSome (I.remaining (inner_of input.old)) (λ text. FailsAs replay.now text [] (O.contents (inner_of output.old)) (O.contents (inner_of output.new)) cut.fault)) }
+    ensures ends { replay.now.trace.now ≡ codes "-" → replay.now.suppressions.items ≡ [] → IfOk result (λ ended. IfSome (I.remaining (inner_of input.old)) (λ text. EndsAs R.File.remaining replay.now text [] (O.contents (inner_of output.old)) (O.contents (inner_of output.new)) ended)) }
+    ensures fails { replay.now.trace.now ≡ codes "-" → replay.now.suppressions.items ≡ [] → replay.now.until_fault ≡ false → IfErr result (λ cut. IfSome (I.remaining (inner_of input.old)) (λ text. FailsAs R.File.remaining replay.now text [] (O.contents (inner_of output.old)) (O.contents (inner_of output.new)) cut.fault)) }
     ensures nothing { replay.now.until_fault ≡ false → IfErr result (λ cut. LeavesOutput (O.contents (inner_of output.old)) (O.contents (inner_of output.new)) cut.fault) }
     ensures unwatched { replay.now.progress ≡ false → Keeps (P.contents (inner_of progress.old)) (P.contents (inner_of progress.new)) }
 {
@@ -190,11 +189,11 @@ where
     E: Write,
     requires errors { has_failed errors.old ≡ false }
     requires notes { IfOk replayed (λ ended. AreNotes ended.notes.items) }
-    ensures status { IfOk replayed (λ ended. result ≡ ended.status) }
-    ensures fault { IfErr replayed (λ cut. (result ≡ fault_status cut.fault) × ((2 ≤ result) × (result ≤ 4))) }
-    ensures notes { IfOk replayed (λ ended. GetsNotes replay.now.hints (E.contents (inner_of errors.old)) (E.contents (inner_of errors.new)) (has_failed errors.new)) }
-    ensures silent { IfOk replayed (λ ended. ended.notes.items ≡ [] → AddsNotesOn replay.now.hints ended.ending ended.unordered [] (E.contents (inner_of errors.old)) (E.contents (inner_of errors.new)) (has_failed errors.new)) }
-    ensures line { IfErr replayed (λ cut. cut.notes.items ≡ [] → cut.damage ≡ None → replay.now.hints ≡ false → GetsLine (E.contents (inner_of errors.old)) (E.contents (inner_of errors.new)) (fault_line cut.fault) (has_failed errors.new)) }
+    ensures status { IfOk replayed (λ ended. ended.status ≤ 4) → result ≤ 4 }
+    ensures usual { (text : List ℕ) (old new : Option (List ℕ)) → EndsUsually text old new replayed → ComesTo replay.now.hints text old new (E.contents (inner_of errors.old)) (E.contents (inner_of errors.new)) (has_failed errors.new) result }
+    ensures quiet { result ≤ 1 → GetsNotes replay.now.hints (E.contents (inner_of errors.old)) (E.contents (inner_of errors.new)) (has_failed errors.new) }
+    ensures silent { IfOk replayed (λ ended. ended.notes.items ≡ []) → result ≤ 1 → GetsTextNotes replay.now.hints (E.contents (inner_of errors.old)) (E.contents (inner_of errors.new)) (has_failed errors.new) }
+    ensures refused { (old new : Option (List ℕ)) → IfOk replayed (λ ended. ended.status ≢ 2) → IfErr replayed (λ cut. LeavesOutput old new cut.fault) → result ≡ 2 → Keeps old new }
 {
     match replayed {
         Ok(ended) => note(rt.alloc(), ended, replay.hints, errors),

@@ -1,7 +1,7 @@
 //! A second look at a trace, for the places of the accesses that reasons name.
-ghost use Rattle.std.specs.Prelude.{◌≡◌, false, None, IfSome};
+ghost use Rattle.std.specs.Prelude.{◌≡◌, false, true, IfSome};
 ghost use Rattle.er_device.specs.Device.{has_failed};
-ghost use Rattle.eraser.specs.Replays.{HasNoPlace, shows_places, tells_places};
+ghost use Rattle.eraser.specs.Replays.{AreOptionsOf, MayHavePlaces, shows_places, tells_places};
 
 use crate::replaying::Job;
 use crate::sources::is_ordinary;
@@ -16,7 +16,7 @@ use std::rt::Files;
 pub(crate) fn places_of<R>(rt: &R, job: Job<'_>, reports: &Reports) -> Places
 where
     R: Files + AllocGlobal,
-    ensures { shows_places job.replay.now ≡ false → HasNoPlace result }
+    ensures { AreOptionsOf job.entry.replay.now job.entry.options.now → MayHavePlaces R.File.remaining job.entry.replay.now reports.now result }
 {
     let alloc = rt.alloc();
     let Some(mut again) = open_again(rt, job.replay) else {
@@ -34,7 +34,7 @@ where
 // The trace once more, if its reports have reasons whose places are shown. What is no ordinary file can't be read twice.
 fn open_again<R: Files>(rt: &R, replay: &Replay<'_>) -> Option<Device<R::File>>
     ensures open { IfSome result (λ again. has_failed again ≡ false) }
-    ensures shown { shows_places replay.now ≡ false → result ≡ None }
+    ensures shown { IfSome result (λ again. shows_places replay.now ≡ true) }
 {
     if !shows_places(replay) || !is_ordinary(rt, replay.trace) {
         return None;

@@ -5,8 +5,7 @@ ghost use Rattle.er_exit.specs.declared.faults.Fault.TheVariants.{WriteRules};
 ghost use Rattle.er_exit.specs.Writes.{LeavesOutput};
 ghost use Rattle.er_report.specs.Reports.{HaveNames, asks_locks, asks_order};
 ghost use Rattle.er_rules.specs.Rules.{targets_of};
-ghost use Rattle.er_run.specs.Replays.{is_verdict_of};
-ghost use Rattle.er_run.specs.Reports.{AreReportsOfText, RecordsOrder};
+ghost use Rattle.er_run.specs.Reports.{AreReportsOfText, IsOrderOfText, is_verdict_of};
 ghost use Rattle.er_text.specs.Ending.{IsEndingOf};
 ghost use Rattle.er_triage.specs.Notes.{AreNotes};
 ghost use Rattle.eraser.specs.Inner.Writes.{WritesSome};
@@ -73,9 +72,9 @@ where
     requires output { has_failed output.old ≡ false }
     ensures status { IfOk result (λ ended. (ended.status ≤ 4) × (ended.status ≢ 2)) }
     ensures notes { IfOk result (λ ended. AreNotes ended.notes.items) }
-    ensures silent { job.replay.now.unused_rules ≡ false → job.replay.now.max_races ≡ None → IfOk result (λ ended. ended.notes.items ≡ []) }
-    ensures ends { AreOptionsOf job.replay.now job.options.now → IfOk result (λ ended. IfSome (D.remaining (inner_of source.old)) (λ text. EndsAs job.replay.now text (targets_of job.suppressions.now) (O.contents (inner_of output.old)) (O.contents (inner_of output.new)) ended)) }
-    ensures fails { AreOptionsOf job.replay.now job.options.now → IfErr result (λ why. IfSome (D.remaining (inner_of source.old)) (λ text. FailsAs job.replay.now text (targets_of job.suppressions.now) (O.contents (inner_of output.old)) (O.contents (inner_of output.new)) why)) }
+    ensures silent { job.entry.replay.now.unused_rules ≡ false → job.entry.replay.now.max_races ≡ None → IfOk result (λ ended. ended.notes.items ≡ []) }
+    ensures ends { AreOptionsOf job.entry.replay.now job.entry.options.now → IfOk result (λ ended. IfSome (D.remaining (inner_of source.old)) (λ text. EndsAs R.File.remaining job.entry.replay.now text (targets_of job.entry.suppressions.now) (O.contents (inner_of output.old)) (O.contents (inner_of output.new)) ended)) }
+    ensures fails { AreOptionsOf job.entry.replay.now job.entry.options.now → IfErr result (λ why. IfSome (D.remaining (inner_of source.old)) (λ text. FailsAs R.File.remaining job.entry.replay.now text (targets_of job.entry.suppressions.now) (O.contents (inner_of output.old)) (O.contents (inner_of output.new)) why)) }
     ensures nothing { IfErr result (LeavesOutput (O.contents (inner_of output.old)) (O.contents (inner_of output.new))) }
 {
     match replay_reports(
@@ -122,18 +121,18 @@ where
     requires order { is_some reports.unordered ≡ asks_order job.replay.now.analysis }
     ensures status { IfOk result (λ ended. (ended.status ≤ 4) × (ended.status ≢ 2)) }
     ensures notes { IfOk result (λ ended. AreNotes ended.notes.items) }
-    ensures silent { job.replay.now.unused_rules ≡ false → job.replay.now.max_races ≡ None → IfOk result (λ ended. ended.notes.items ≡ []) }
-    ensures ends { (text : List ℕ) → AreReportsOfText job.replay.now.analysis text job.replay.now.byte_limit (targets_of job.suppressions.now) job.replay.now.explain names.now reports
-        → IsEndingOf text ending → RecordsOrder job.replay.now.analysis text job.replay.now.byte_limit has_order → IfOk result (EndsAs job.replay.now text (targets_of job.suppressions.now) (O.contents (inner_of output.old)) (O.contents (inner_of output.new))) }
-    ensures fails { (text : List ℕ) → AreReportsOfText job.replay.now.analysis text job.replay.now.byte_limit (targets_of job.suppressions.now) job.replay.now.explain names.now reports
-        → IfErr result (FailsAs job.replay.now text (targets_of job.suppressions.now) (O.contents (inner_of output.old)) (O.contents (inner_of output.new))) }
+    ensures silent { job.entry.replay.now.unused_rules ≡ false → job.entry.replay.now.max_races ≡ None → IfOk result (λ ended. ended.notes.items ≡ []) }
+    ensures ends { AreOptionsOf job.entry.replay.now job.entry.options.now → (text : List ℕ) → AreReportsOfText job.entry.replay.now.analysis text job.entry.replay.now.byte_limit (targets_of job.entry.suppressions.now) job.entry.replay.now.explain names.now reports
+        → IsEndingOf text ending → IsOrderOfText job.entry.replay.now.analysis text job.entry.replay.now.byte_limit has_order → IfOk result (EndsAs R.File.remaining job.entry.replay.now text (targets_of job.entry.suppressions.now) (O.contents (inner_of output.old)) (O.contents (inner_of output.new))) }
+    ensures fails { AreOptionsOf job.entry.replay.now job.entry.options.now → (text : List ℕ) → AreReportsOfText job.entry.replay.now.analysis text job.entry.replay.now.byte_limit (targets_of job.entry.suppressions.now) job.entry.replay.now.explain names.now reports
+        → IfErr result (FailsAs R.File.remaining job.entry.replay.now text (targets_of job.entry.suppressions.now) (O.contents (inner_of output.old)) (O.contents (inner_of output.new))) }
     ensures nothing { IfErr result (LeavesOutput (O.contents (inner_of output.old)) (O.contents (inner_of output.new))) }
 {
+    let unordered = unordered_of(&reports, has_order);
     let wishes = wishes_of(job.replay);
     let Ok(triaged) = triage(rt.alloc(), reports, names, job.suppressions, wishes) else {
         return Err(Fault::Memory);
     };
-    let unordered = unordered_of(&triaged.reports, has_order);
     match write_reports(rt, job, &triaged.reports, names, output) {
         Ok(()) => finish(rt, job.replay.write_rules, triaged, ending, unordered),
         Err(fault) => {
@@ -178,7 +177,8 @@ where
     O: Write,
     requires output { has_failed output.old ≡ false }
     requires named { HaveNames names.now reports.now }
-    ensures { WritesSome (AreShown job.replay.now names.now (targets_of job.suppressions.now) reports.now) (O.contents (inner_of output.old)) (O.contents (inner_of output.new)) result }
+    ensures nothing { IfErr result (LeavesOutput (O.contents (inner_of output.old)) (O.contents (inner_of output.new))) }
+    ensures shown { AreOptionsOf job.entry.replay.now job.entry.options.now → WritesSome (AreShown R.File.remaining job.entry.replay.now names.now (targets_of job.entry.suppressions.now) reports.now) (O.contents (inner_of output.old)) (O.contents (inner_of output.new)) result }
 {
     let excerpts = excerpts_of(rt, job.replay.source, reports, names)?;
     let places = places_of(rt, job, reports);
@@ -211,7 +211,7 @@ fn finish<R: Files>(
     ensures status { IfOk result (λ ended. ended.status ≡ verdict_status (is_verdict_of triaged.reports)) }
     ensures notes { IfOk result (λ ended. ended.notes.items ≡ triaged.notes.items) }
     ensures text { IfOk result (λ ended. (ended.ending ≡ ending) × (ended.unordered ≡ unordered)) }
-    ensures fault { IfErr result (λ fault. (fault ≡ WriteRules) × IsSome path) }
+    ensures fault { IfErr result (λ fault. (fault ≡ WriteRules) × IsSome path.entry) }
 {
     let verdict = verdict_of(&triaged.reports);
     if let Err(fault) = write_known(rt, path, &triaged, verdict) {
@@ -240,7 +240,7 @@ fn write_known<R: Files>(
     triaged: &Triaged,
     verdict: Verdict,
 ) -> Result<(), Fault>
-    ensures { IfErr result (λ fault. (fault ≡ WriteRules) × IsSome path) }
+    ensures { IfErr result (λ fault. (fault ≡ WriteRules) × IsSome path.entry) }
 {
     match (path, &triaged.known_races) {
         (Some(path), Some(text)) if verdict != Verdict::Stopped => write_rules(rt, path, text),

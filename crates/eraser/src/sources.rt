@@ -37,7 +37,7 @@ pub(crate) fn excerpts_of<R>(
 where
     R: Files + AllocGlobal,
     requires named { HaveNames names.now reports.now }
-    ensures none { folder ≡ None → IfOk result (λ excerpts. excerpts.items ≡ []) }
+    ensures none { folder.entry ≡ None → IfOk result (λ excerpts. excerpts.items ≡ []) }
     ensures fault { IfErr result (λ fault. fault ≡ Memory) }
 {
     let Some(folder) = folder else {

@@ -100,11 +100,11 @@ where
     requires output { has_failed output.old ≡ false }
     ensures status { IfOk result (λ ended. (ended.status ≤ 4) × (ended.status ≢ 2)) }
     ensures notes { IfOk result (λ ended. AreNotes ended.notes.items) }
-    ensures silent { job.replay.now.unused_rules ≡ false → job.replay.now.max_races ≡ None → IfOk result (λ ended. ended.notes.items ≡ []) }
-    ensures ends { job.replay.now.trace.now ≡ codes "-" → AreOptionsOf job.replay.now job.options.now → IfOk result (λ ended. IfSome (I.remaining (inner_of input.old)) (λ text. EndsAs job.replay.now text (targets_of job.suppressions.now) (O.contents (inner_of output.old)) (O.contents (inner_of output.new)) ended)) }
-    ensures fails { job.replay.now.trace.now ≡ codes "-" → job.replay.now.until_fault ≡ false → AreOptionsOf job.replay.now job.options.now → IfErr result (λ cut. IfSome (I.remaining (inner_of input.old)) (λ text. FailsAs job.replay.now text (targets_of job.suppressions.now) (O.contents (inner_of output.old)) (O.contents (inner_of output.new)) cut.fault)) }
-    ensures alone { job.replay.now.until_fault ≡ false → IfErr result (λ cut. (cut.notes.items ≡ []) × (cut.damage ≡ None)) }
-    ensures nothing { job.replay.now.until_fault ≡ false → IfErr result (λ cut. LeavesOutput (O.contents (inner_of output.old)) (O.contents (inner_of output.new)) cut.fault) }
+    ensures silent { job.entry.replay.now.unused_rules ≡ false → job.entry.replay.now.max_races ≡ None → IfOk result (λ ended. ended.notes.items ≡ []) }
+    ensures ends { job.entry.replay.now.trace.now ≡ codes "-" → AreOptionsOf job.entry.replay.now job.entry.options.now → IfOk result (λ ended. IfSome (I.remaining (inner_of input.old)) (λ text. EndsAs R.File.remaining job.entry.replay.now text (targets_of job.entry.suppressions.now) (O.contents (inner_of output.old)) (O.contents (inner_of output.new)) ended)) }
+    ensures fails { job.entry.replay.now.trace.now ≡ codes "-" → job.entry.replay.now.until_fault ≡ false → AreOptionsOf job.entry.replay.now job.entry.options.now → IfErr result (λ cut. IfSome (I.remaining (inner_of input.old)) (λ text. FailsAs R.File.remaining job.entry.replay.now text (targets_of job.entry.suppressions.now) (O.contents (inner_of output.old)) (O.contents (inner_of output.new)) cut.fault)) }
+    ensures alone { job.entry.replay.now.until_fault ≡ false → IfErr result (λ cut. (cut.notes.items ≡ []) × (cut.damage ≡ None)) }
+    ensures nothing { job.entry.replay.now.until_fault ≡ false → IfErr result (λ cut. LeavesOutput (O.contents (inner_of output.old)) (O.contents (inner_of output.new)) cut.fault) }
 {
     let replay = job.replay;
     if replay.trace == "-" {
@@ -151,8 +151,8 @@ where
     requires output { has_failed output.old ≡ false }
     ensures status { IfOk result (λ ended. (ended.status ≤ 4) × (ended.status ≢ 2)) }
     ensures notes { IfOk result (λ ended. AreNotes ended.notes.items) }
-    ensures silent { job.replay.now.unused_rules ≡ false → job.replay.now.max_races ≡ None → IfOk result (λ ended. ended.notes.items ≡ []) }
-    ensures ends { AreOptionsOf job.replay.now job.options.now → IfOk result (λ ended. IfSome (D.remaining (inner_of source.old)) (λ text. EndsAs job.replay.now text (targets_of job.suppressions.now) (O.contents (inner_of output.old)) (O.contents (inner_of output.new)) ended)) }
+    ensures silent { job.entry.replay.now.unused_rules ≡ false → job.entry.replay.now.max_races ≡ None → IfOk result (λ ended. ended.notes.items ≡ []) }
+    ensures ends { AreOptionsOf job.entry.replay.now job.entry.options.now → IfOk result (λ ended. IfSome (D.remaining (inner_of source.old)) (λ text. EndsAs R.File.remaining job.entry.replay.now text (targets_of job.entry.suppressions.now) (O.contents (inner_of output.old)) (O.contents (inner_of output.new)) ended)) }
 {
     let mut keeping = Device::new(Keeping::new(rt.alloc(), source));
     let first = replay_from(rt, job, &mut keeping, output, watcher);

@@ -3,6 +3,7 @@ use Rattle.std.specs.Prelude.{ℕ, Bool, true, false, cond, List, [], ◌∷◌,
 use Rattle.er_json.specs.Document.{is_race, is_refused, is_shown, rows_if}
 use Rattle.er_json.specs.declared.document.Section.{Section}
 use Rattle.er_json.specs.declared.document.Section.TheVariants as section
+use Rattle.er_places.specs.Places.{PlaceTable}
 use Rattle.er_report.specs.Lines.{LineView}
 use Rattle.er_trace.specs.Names.{NameTable}
 
@@ -13,7 +14,7 @@ is_in section.Refused line = is_refused line
 is_in section.Shown line = is_shown line
 
 -- that object
-abbrev pub rows_in : Section → NameTable → LineView → List (List ℕ)
+abbrev pub rows_in : Section → NameTable → PlaceTable → LineView → List (List ℕ)
 rows_in s = rows_if (is_in s)
 
 -- what stands before an object

@@ -3,8 +3,8 @@ use Rattle.std.specs.Prelude.{◌≡◌, ℕ, List, map, take, slice_get, slice_
 use Rattle.er_event.specs.declared.steps.Kind.TheVariants.{Read}
 use Rattle.er_event.specs.declared.steps.Step.{Step}
 use Rattle.er_explain.specs.Racing.{places_below}
-use Rattle.er_latest.specs.Latest.{Latest}
-use Rattle.er_latest.specs.Standing.{Follows}
+use Rattle.er_epochs.specs.Words.{AllWords}
+use Rattle.er_epochs.specs.Standing.{Follows}
 use Rattle.er_explain.specs.Book.{event_kind}
 use Rattle.er_report.specs.Report.{is_printed_by}
 use Rattle.er_report.specs.declared.report.Because.{Because}
@@ -16,7 +16,7 @@ use Rattle.er_unordered.specs.Reasons.{order_reasons}
 
 -- the latest accesses of each word, as reasons of later races, and the reasons of the races so far
 pub record Reasoned : Type 0 where
-  pub latest : List (ℕ × Latest Because)
+  pub latest : AllWords Because
   pub told : List (List Because)
 
 -- a step on this line of the text, as the reason of a later race

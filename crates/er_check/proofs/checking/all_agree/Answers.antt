@@ -21,7 +21,7 @@ loop-at-preserved c =
     let steps = c.args.steps.now in
     let here = slice_get_read steps _ c.loop-at.at c.index-steps-at.result refl (omega arith) c.index-steps-at.is in
     let mark = step-marked c.loop-at.locks steps c.loop-at.at c.loop-at.invariant.held _ here in record {
-      held = λ t. held-next c.loop-at.locks steps c.loop-at.at c.loop-at.invariant.held _ here c.follow.new.self c.in_ok-follow.ensures (c.loop-at.at + 1) t (add-one c.loop-at.at);
+      held = λ t. held-next c.loop-at.locks steps c.loop-at.at c.loop-at.invariant.held _ here c.follow.new.self c.in_ok-follow.ensures.threads (c.loop-at.at + 1) t (add-one c.loop-at.at);
       agrees = below_more _ _ c.loop-at.invariant.agrees
           (agrees-step steps c.args.word c.args.claims.now.start c.args.k c.args.claims.now.first_thread c.args.claims.now.explanation.now c.requires.named c.loop-at.at _ here
           (λ low access. rw mark (c.in_ok-step_agrees.ensures.0 c.if-not-branch.false low access)));

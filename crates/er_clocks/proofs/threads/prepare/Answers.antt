@@ -8,13 +8,13 @@ use Rattle.er_clocks.proofs.threads.prepare.Goals as goal
 -- the copy of the thread's clock has its counts
 copied : (c : goal.After-tick) (u : ℕ) → count_in c.join.new.self u ≡ known_by c.begin.new.table c.args.thread u
 copied c =
-    carried-known c.begin.new.table c.args.thread c.number.result c.clear.new.self c.get.result.now c.join.new.self c.number.ensures.value c.clear.ensures c.get.ensures c.in-Ok-join.ensures.ok
+    carried-known c.begin.new.table c.args.thread c.number.result c.clear.new.self c.get.result.now c.join.new.self c.number.ensures.value c.clear.ensures c.get.ensures c.in_ok-join.ensures.ok
 
-pub returns-in-Ok-join-clause-risen : goal.returns-in-Ok-join-clause-risen
-returns-in-Ok-join-clause-risen c =
+pub returns-clause-risen : goal.returns-clause-risen
+returns-clause-risen c =
     on_ok c.tick.result _ _ c.tick.ensures.ok (λ new u. new u ∙ ap (λ k. k + cond (c.args.thread == u) 1 0) (copied c u))
 
-pub returns-in-Ok-join-clause-full : goal.returns-in-Ok-join-clause-full
-returns-in-Ok-join-clause-full c full =
-    sym (c.begin.ensures.same c.args.thread c.args.thread) ∙ sym (ready-known c.begin.new.table c.args.thread c.in-Ok.ensures.begun c.args.thread)
+pub returns-clause-full : goal.returns-clause-full
+returns-clause-full c full =
+    sym (c.begin.ensures.same c.args.thread c.args.thread) ∙ sym (ready-known c.begin.new.table c.args.thread c.in_ok-begin.ensures.begun c.args.thread)
     ∙ (sym (copied c c.args.thread) ∙ c.tick.ensures.full.0 full)

@@ -28,4 +28,4 @@ loop-at-preserved c =
     c.loop-at.invariant
     (ap (named_book name_of) c.in_ok-follow.ensures
     ∙ named-step name_of c.loop-at.book c.args.word (access_of c.loop-at.at c.step-item.result) (marked (held_by c.loop-at.locks c.step-item.result.thread) c.step-item.result.thread c.step-item.result.event))
-    c.in_ok-follow-2.ensures
+    c.in_ok-follow-2.ensures.threads

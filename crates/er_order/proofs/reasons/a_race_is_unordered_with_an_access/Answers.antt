@@ -25,7 +25,7 @@ pub returns-clause-word : goal.returns-clause-word
 returns-clause-word c = λ steps j k w is word. with-word steps k j is w word
 
 pub returns-clause-threads : goal.returns-clause-threads
-returns-clause-threads c = λ steps j k t is acted same. with-threads steps k j is t acted same
+returns-clause-threads c = λ steps j k step here is same. with-threads steps k j is step here same
 
 pub returns-clause-last : goal.returns-clause-last
 returns-clause-last c = λ steps i j k w is. with-last steps k j is i w

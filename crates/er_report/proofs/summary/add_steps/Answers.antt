@@ -51,7 +51,7 @@ loop-k-preserved c =
           (ap (λ (numbers : List ℕ). slice_index numbers k) c.lines.ensures.value) c.names.ensures c.in_ok-held.ensures (c.loop-k.invariant.held step.thread));
       explains = c.in_ok-added.ensures.explains ∙ c.loop-k.invariant.explains;
       rules = c.in_ok-added.ensures.rules ∙ c.loop-k.invariant.rules;
-      held = held-next r.steps k step c.loop-k.locks c.follow.new.self here c.loop-k.invariant.held c.in_ok-follow.ensures;
+      held = held-next r.steps k step c.loop-k.locks c.follow.new.self here c.loop-k.invariant.held c.in_ok-follow.ensures.threads;
       within = omega (arith, many, below);
     }
 

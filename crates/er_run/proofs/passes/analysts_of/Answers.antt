@@ -1,4 +1,3 @@
-use Rattle.std.proofs.Common.{sym, subst}
 use Rattle.er_run.proofs.passes.analysts_of.Goals as goal
 
 pub returns : goal.returns

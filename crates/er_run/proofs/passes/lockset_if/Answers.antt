@@ -2,8 +2,8 @@ use Rattle.std.proofs.Common.{◌∙◌, ap, sym}
 use Rattle.er_report.specs.Reports.{asks_locks}
 use Rattle.er_run.proofs.passes.lockset_if.Goals as goal
 
-pub returns-then-asks_locks : goal.returns-then-asks_locks
-returns-then-asks_locks c = record {
+pub returns-in_ok-lockset : goal.returns-in_ok-lockset
+returns-in_ok-lockset c = record {
   stands = λ asked same rules explain. record { there = sym (ap asks_locks same ∙ sym c.asks_locks.ensures ∙ c.if-asks_locks.true); stands = c.in_ok-lockset.ensures.stands asked rules explain };
 }
 

@@ -1,7 +1,9 @@
 -- What was built of the text is written, and a fault before that leaves the writer alone.
+use Rattle.std.proofs.Common.{Bool, Err, subst, sym}
 use Rattle.er_batch.specs.declared.verdict.Verdict.{Verdict}
-use Rattle.er_device.specs.Device.{inner_of}
+use Rattle.er_device.specs.Device.{has_failed, inner_of}
 use Rattle.er_rules.specs.Rules.{targets_of}
+use Rattle.er_run.specs.Faults.{FailsBy}
 use Rattle.er_run.specs.declared.outcome.ReplayedTrace.{ReplayedTrace}
 use Rattle.er_run.proofs.ReplayLemmas.{fails-again, nothing, part, untouched, unwritten, whole-of, whole-verdict}
 use Rattle.er_run.proofs.replay.replay_text.Goals as goal
@@ -30,4 +32,6 @@ pub returns-in-Err-clause-nothing : goal.returns-in-Err-clause-nothing
 returns-in-Err-clause-nothing g c = untouched (g.D.Read.remaining (inner_of c.args.reader.now)) _ c.args.options.now.byte_limit c.in-Err.why c.in-Err.ensures.fault
 
 pub returns-in-Err-clause-failed : goal.returns-in-Err-clause-failed
-returns-in-Err-clause-failed g c = fails-again ReplayedTrace Verdict _ _ c.in-Err.why c.in-Err.ensures.failed
+returns-in-Err-clause-failed g c =
+    subst (λ (b : Bool). FailsBy {X = Verdict} (has_failed c.replay_reports.new.reader) b (Err c.in-Err.why)) (sym c.requires.writer)
+    (fails-again ReplayedTrace Verdict _ _ c.in-Err.why c.in-Err.ensures.failed)

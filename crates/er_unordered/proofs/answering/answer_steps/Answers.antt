@@ -12,7 +12,7 @@ use Rattle.er_order.specs.Races.{order_answer}
 use Rattle.er_trace.specs.Trace.{Recording}
 use Rattle.er_unordered.specs.Inner.Passes.{HasComeTo}
 use Rattle.er_unordered.proofs.PassLemmas.{come-to, plain-here, start, step-here, whole}
-use Rattle.er_unordered.proofs.StoppingLemmas.{full-here, stop-by}
+use Rattle.er_unordered.proofs.StoppingLemmas.{crowds-here, full-here, stop-by}
 use Rattle.er_unordered.proofs.answering.answer_steps.Goals as goal
 use Rattle.er_unordered.proofs.answering.answer_steps.Goals.{then-is_plain, else-is_plain+in_ok-add}
 
@@ -83,4 +83,5 @@ returns-in_err-answer-clause-full c = λ past lines names kept run.
     let here : slice_get r.steps at ≡ Some step = get_behind past c.args.trace.now.steps c.loop-k.k at refl ∙ (rw c.steps-steps.ensures.value at read) in
     let stands : Stands c.look_ahead.new.self (take at r.steps) = subst (λ (m : Ordered). Stands m (take at r.steps)) (sym c.look_ahead.ensures) come.stands in
     err_from c.from_residual.result _ _ c.from_residual.ensures.1 (λ e is.
-    stop-by r.steps c.in_err-answer.field-0.0 e is (λ full. full-here r.steps at step here (c.in_err-answer.ensures.full (take at r.steps) stands (ap Err full))))
+    stop-by r.steps c.in_err-answer.field-0.0 e is (λ full. full-here r.steps at step here (c.in_err-answer.ensures.full (take at r.steps) stands (ap Err full)))
+    (λ crowd. crowds-here r.steps at step here (c.in_err-answer.ensures.threads (take at r.steps) stands (ap Err crowd))))

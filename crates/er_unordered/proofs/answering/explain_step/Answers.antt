@@ -8,7 +8,7 @@ use Rattle.er_order.specs.Races.{order_answer}
 use Rattle.er_unordered.specs.Inner.Passes.{HasComeTo}
 use Rattle.er_unordered.specs.Inner.Reasons.{HasReasons}
 use Rattle.er_unordered.proofs.PassLemmas.{clock-lent, come-to, known-here, printed-here, raced-here, step-here}
-use Rattle.er_unordered.proofs.StoppingLemmas.{full-here, stop-by}
+use Rattle.er_unordered.proofs.StoppingLemmas.{crowds-here, full-here, stop-by}
 use Rattle.er_unordered.proofs.answering.explain_step.Goals as goal
 
 pub returns-clause-run : goal.returns-clause-run
@@ -31,4 +31,5 @@ returns-clause-run c = λ r k old here line named.
 pub returns-in_err-answer-clause-full : goal.returns-in_err-answer-clause-full
 returns-in_err-answer-clause-full c = λ r k old here.
     err_from c.from_residual.result _ _ c.from_residual.ensures.1 (λ e is.
-    stop-by r.steps c.in_err-answer.field-0.0 e is (λ full. full-here r.steps k c.args.step.now here (c.in_err-answer.ensures.full (take k r.steps) old.come.stands (ap Err full))))
+    stop-by r.steps c.in_err-answer.field-0.0 e is (λ full. full-here r.steps k c.args.step.now here (c.in_err-answer.ensures.full (take k r.steps) old.come.stands (ap Err full)))
+    (λ crowd. crowds-here r.steps k c.args.step.now here (c.in_err-answer.ensures.threads (take k r.steps) old.come.stands (ap Err crowd))))

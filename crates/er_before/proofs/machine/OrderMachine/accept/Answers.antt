@@ -8,8 +8,8 @@ use Rattle.er_before.proofs.machine.OrderMachine.accept.Goals as goal
 pub returns-in-Show-clause-changes : goal.returns-in-Show-clause-changes
 returns-in-Show-clause-changes c =
     rw c.in-Show.is
-    (changes c.args.self.now c.args.self.now c.args.thread (Show c.in-Show.field-0) refl (held_same c.args.self.now c.args.thread) (clocks_same c.args.self.now.clocks c.args.thread Local refl) (λ w. refl))
+    (changes c.args.self.now c.args.self.now c.args.thread (Show c.in-Show.field-0) refl (held_same c.args.self.now c.args.thread) (clocks_same c.args.self.now.clocks c.args.thread Local refl) refl (λ w. refl))
 
 pub returns-in-Access-clause-changes : goal.returns-in-Access-clause-changes
 returns-in-Access-clause-changes c =
-    rw c.in-Access.is (on_ok c.access.result _ _ c.access.ensures.changes (λ changed. record { held = changed.held; clocks = changed.clocks; kept = changed.kept }))
+    rw c.in-Access.is (on_ok c.access.result _ _ c.access.ensures.changes (λ changed. record { held = changed.held; clocks = changed.clocks; room = changed.room; kept = changed.kept }))

@@ -3,6 +3,7 @@ use Rattle.std.proofs.lemmas.Bool.{ltb_from_iff}
 use Rattle.std.proofs.Math.Path.{fun_ext}
 use Rattle.er_model.specs.Holdings.{Holdings}
 use Rattle.er_clocks.specs.Counts.{count_by}
+use Rattle.er_epochs.specs.Epochs.{plain}
 use Rattle.er_before.specs.Standing.{holding, clock_of}
 use Rattle.er_before.specs.contracts.machine.OrderMachine.{the_view}
 use Rattle.er_before.proofs.StandingLemmas.{ignored, accessed}
@@ -34,8 +35,8 @@ returns-clause-changes c =
     rw (← c.self.view_is)
     (elim c.match-access.branch [
       | in-Ok-true w ↦ rw w.result-is
-          (accessed (the_view c.self.inside) c.access.new.self c.args.thread c.args.word c.args.kind c.clock-clock.result heeds c.clock-clock.ensures.thread c.clock-clock.ensures.clock w.in-Ok-true.ensures.ok c.access.ensures.others)
+          (accessed (the_view c.self.inside) c.access.new.self c.args.thread c.args.word c.args.kind c.clock-clock.result heeds c.clock-clock.ensures.thread c.clock-clock.ensures.clock w.in-Ok-true.ensures.kept (λ v apart. ap plain (c.access.ensures.others v apart)))
       | in-Ok-false w ↦ rw w.result-is
-          (accessed (the_view c.self.inside) c.access.new.self c.args.thread c.args.word c.args.kind c.clock-clock.result heeds c.clock-clock.ensures.thread c.clock-clock.ensures.clock w.in-Ok-false.ensures.ok c.access.ensures.others)
+          (accessed (the_view c.self.inside) c.access.new.self c.args.thread c.args.word c.args.kind c.clock-clock.result heeds c.clock-clock.ensures.thread c.clock-clock.ensures.clock w.in-Ok-false.ensures.kept (λ v apart. ap plain (c.access.ensures.others v apart)))
       | in-Err w ↦ rw w.result-is tt
     ])

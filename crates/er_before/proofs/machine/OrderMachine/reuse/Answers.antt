@@ -19,7 +19,7 @@ pub returns-clause-changes : goal.returns-clause-changes
 returns-clause-changes c =
     rw (← c.self.view_is)
     (changes (the_view c.self.inside) (the_view (record { holders = c.self.inside.holders; clocks = c.self.inside.clocks; words = c.reset-in_use.new.self })) c.args.thread (Reuse c.args.range) refl
-    (held_same (the_view c.self.inside) c.args.thread) (clocks_same c.self.inside.clocks c.args.thread Local refl) c.reset-in_use.ensures.reset)
+    (held_same (the_view c.self.inside) c.args.thread) (clocks_same c.self.inside.clocks c.args.thread Local refl) refl c.reset-in_use.ensures.kept)
 
 pub returns-clause-reply : goal.returns-clause-reply
 returns-clause-reply c =

@@ -1,6 +1,6 @@
 use Rattle.std.proofs.Common.{◌∙◌}
 use Rattle.er_event.proofs.Results.{on_ok}
-use Rattle.er_before.proofs.StandingLemmas.{stands-on, answer-stands, full-after, if_ok}
+use Rattle.er_before.proofs.StandingLemmas.{stands-on, answer-stands, full-after, crowded-after, room-after, once_ok, if_ok}
 use Rattle.er_before.proofs.machine.OrderMachine.step.Goals as goal
 
 pub returns-clause-answer : goal.returns-clause-answer
@@ -13,3 +13,9 @@ returns-clause-goes_on c past stands =
 
 pub returns-clause-full : goal.returns-clause-full
 returns-clause-full c past stands full = full-after c.args.self.now past c.args.step.now stands (c.take.ensures.full full)
+
+pub returns-clause-threads : goal.returns-clause-threads
+returns-clause-threads c past stands crowded = crowded-after c.args.self.now past c.args.step.now stands (c.take.ensures.crowded crowded)
+
+pub returns-clause-room : goal.returns-clause-room
+returns-clause-room c past stands = once_ok c.take.result _ _ c.take.ensures.changes (λ changed. room-after c.args.self.now past c.args.step.now stands changed.room)

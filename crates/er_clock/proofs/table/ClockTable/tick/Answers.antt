@@ -43,9 +43,9 @@ returns-in-Some-clause-full c full =
     ap (λ clocks. known_by clocks c.args.number c.args.thread) (sym c.self.view_is)
     ∙ (ap (λ counts. count_in counts c.args.thread) (sym (here some c.index_mut-known.result.now c.index_mut-known.ensures.value)) ∙ c.tick.ensures.full.0 full)
 
-pub returns-in-Ok-insert-clause-ok : goal.returns-in-Ok-insert-clause-ok
-returns-in-Ok-insert-clause-ok c =
+pub returns-in-Ok-clause-ok : goal.returns-in-Ok-clause-ok
+returns-in-Ok-clause-ok c =
     let none = count_absent c.self.inside.clocks.entries c.args.number (sym c.in-None.ensures.none) in
     rw (← c.self.view_is)
-    (count_written (λ u x. x + cond (c.args.thread == u) 1 0) c.self.inside.clocks.entries _ c.args.number c.tick-in-None.new.self c.in-Ok-insert.ensures.updates.0
-    (λ u. c.in-Ok.ensures.ok u ∙ ap (λ x. x + cond (c.args.thread == u) 1 0) (c.new-clock.ensures u ∙ sym (none u))))
+    (count_written (λ u x. x + cond (c.args.thread == u) 1 0) c.self.inside.clocks.entries _ c.args.number c.tick-in-None.new.self c.in-Ok.ensures.updates.0
+    (λ u. c.in_ok-tick-in-None.ensures.ok u ∙ ap (λ x. x + cond (c.args.thread == u) 1 0) (c.new-clock.ensures u ∙ sym (none u))))

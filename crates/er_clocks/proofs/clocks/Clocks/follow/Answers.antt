@@ -3,8 +3,8 @@ use Rattle.er_event.proofs.Results.{on_ok}
 use Rattle.er_clocks.proofs.Standing.{stands-on}
 use Rattle.er_clocks.proofs.clocks.Clocks.follow.Goals as goal
 
-pub returns-then-accepted-clause-goes_on : goal.returns-then-accepted-clause-goes_on
-returns-then-accepted-clause-goes_on c steps stands is =
+pub returns-else-crowds-clause-goes_on : goal.returns-else-crowds-clause-goes_on
+returns-else-crowds-clause-goes_on c steps stands is =
     on_ok c.take.result _ _ c.take.ensures.ok (λ moves.
     stands-on c.args.self.now c.take.new.self steps c.args.step.now c.args.accepted stands is (rw c.if-accepted.true moves))
 

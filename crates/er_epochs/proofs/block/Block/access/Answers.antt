@@ -1,12 +1,15 @@
-use Rattle.std.proofs.Common.{◌≡◌, rules}
-use Rattle.er_order.specs.Following.{kept_by}
+use Rattle.std.proofs.Common.{◌∙◌, map, ap}
 use Rattle.er_clocks.specs.Counts.{count_by}
-use Rattle.er_epochs.specs.Words.{kept_beside, word_at}
-use Rattle.er_epochs.proofs.Noted.{kept_exactly}
+use Rattle.er_epochs.specs.Epochs.{stored_by, tagged}
+use Rattle.er_epochs.specs.Words.{list_of, said, stored_beside, word_at}
+use Rattle.er_epochs.proofs.Noted.{stored_exactly}
 use Rattle.er_epochs.proofs.block.Block.access.Goals as goal
 
-pub returns-then-is_settled-clause-ok : goal.returns-then-is_settled-clause-ok
-returns-then-is_settled-clause-ok c =
-    let kept = kept_beside c.args.lists.now c.args.number (word_at c.args.self.now c.args.place) in
-    let same : kept ≡ kept_by (count_by c.args.clock.now) kept c.args.clock.now.0 c.args.kind = search rules in
-    kept_exactly (count_by c.args.clock.now) kept kept c.args.clock.now.0 c.args.kind same
+pub returns-in-Some-clause-ok : goal.returns-in-Some-clause-ok
+returns-in-Some-clause-ok g c =
+    stored_exactly (count_by c.args.clock.now) (stored_beside c.args.lists.now c.args.number (word_at c.args.self.now c.args.place)) (stored_beside c.args.lists.now c.args.number (word_at (map said c.put.new.words.items) c.args.place))
+    (tagged c.args.clock.now.0 (count_by c.args.clock.now c.args.clock.now.0) c.args.tag) c.args.kind
+    (ap (λ w. stored_beside c.args.lists.now c.args.number w) c.put.ensures.here
+    ∙ (c.in-Some.ensures.kept (list_of c.args.lists.now c.args.number)
+    ∙ ap (λ w. stored_by (count_by c.args.clock.now) (stored_beside c.args.lists.now c.args.number w) (tagged c.args.clock.now.0 (count_by c.args.clock.now c.args.clock.now.0) c.args.tag) c.args.kind)
+    (c.get-word.ensures ∙ ap (λ words. word_at words c.args.place) c.self.view_is)))

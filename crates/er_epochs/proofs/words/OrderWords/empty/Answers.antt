@@ -1,9 +1,9 @@
 use Rattle.std.proofs.Common.{◌≡◌, ℕ, ◌+◌, ◌*◌, ◌&&◌, cond, false, Option, sym, subst}
 use Rattle.std.specs.Option.{option_map}
 use Rattle.er_event.specs.declared.steps.Kind.TheVariants.{Write}
-use Rattle.er_order.specs.Following.{fresh, reports_at}
+use Rattle.er_epochs.specs.Epochs.{Accesses, untouched, is_raced}
 use Rattle.er_clocks.specs.Counts.{count_by}
-use Rattle.er_epochs.specs.Words.{AllWords, kept_among, is_place_in, IsLowest}
+use Rattle.er_epochs.specs.Words.{AllWords, stored_among, is_place_in, IsLowest}
 use Rattle.indexmap.specs.IndexMap.{with_value_at}
 use Rattle.er_epochs.proofs.Maps.{entry_found, entry_put}
 use Rattle.er_epochs.proofs.Blocks.{reset_block, absent_block}
@@ -11,30 +11,30 @@ use Rattle.er_epochs.proofs.Lowest.{lowest_in_block, none_in_absent}
 use Rattle.er_epochs.proofs.words.OrderWords.empty.Goals as goal
 
 pub returns-in-Some-clause-reset : goal.returns-in-Some-clause-reset
-returns-in-Some-clause-reset c =
-    let old : AllWords = record { blocks = c.self.inside.blocks.entries; lists = c.self.inside.lists } in
-    let new : AllWords = record { blocks = (with_value_at c.self.inside.blocks c.in-Some.index c.reset.new.self).entries; lists = c.forget_lists.new.lists } in
-    subst (λ (before : AllWords). (w : ℕ) → kept_among new w ≡ cond (is_place_in c.args.number c.args.«from» c.args.to w) fresh (kept_among before w)) c.self.view_is
+returns-in-Some-clause-reset g c =
+    let old : AllWords g.row.A.Denot = record { blocks = c.self.inside.blocks.entries; lists = c.self.inside.lists } in
+    let new : AllWords g.row.A.Denot = record { blocks = (with_value_at c.self.inside.blocks c.in-Some.index c.reset.new.self).entries; lists = c.forget_lists.new.lists } in
+    subst (λ (before : AllWords g.row.A.Denot). (w : ℕ) → stored_among new w ≡ cond (is_place_in c.args.number c.args.«from» c.args.to w) (Accesses untouched) (stored_among before w)) c.self.view_is
     (reset_block old new c.args.number c.args.«from» c.args.to c.index_mut-block.result.now c.reset.new.self
     (entry_found c.self.inside.blocks c.in-Some.index c.args.number c.index_mut-block.result.now c.in-Some.ensures.unique c.in-Some.ensures.key c.index_mut-block.ensures.value)
     (entry_put c.self.inside.blocks c.in-Some.index c.args.number c.index_mut-block.result.now c.in-Some.ensures.unique c.in-Some.ensures.key c.index_mut-block.ensures.value c.reset.new.self)
     c.reset.ensures c.forget_lists.ensures)
 
 pub returns-in-Some-clause-in_use : goal.returns-in-Some-clause-in_use
-returns-in-Some-clause-in_use c =
-    let old : AllWords = record { blocks = c.self.inside.blocks.entries; lists = c.self.inside.lists } in
-    subst (λ (found : Option ℕ). IsLowest (λ w. is_place_in c.args.number c.args.«from» c.args.to w && reports_at (count_by c.args.clock.now) (kept_among c.args.self.now w) Write) found) (sym c.word_in.ensures)
-    (subst (λ (before : AllWords). IsLowest (λ w. is_place_in c.args.number c.args.«from» c.args.to w && reports_at (count_by c.args.clock.now) (kept_among before w) Write) (option_map (λ place. c.args.number * 128 + place) c.first_in_use-found.result)) c.self.view_is
+returns-in-Some-clause-in_use g c =
+    let old : AllWords g.row.A.Denot = record { blocks = c.self.inside.blocks.entries; lists = c.self.inside.lists } in
+    subst (λ (found : Option ℕ). IsLowest (λ w. is_place_in c.args.number c.args.«from» c.args.to w && is_raced (count_by c.args.clock.now) (stored_among c.args.self.now w) Write) found) (sym c.word_in.ensures)
+    (subst (λ (before : AllWords g.row.A.Denot). IsLowest (λ w. is_place_in c.args.number c.args.«from» c.args.to w && is_raced (count_by c.args.clock.now) (stored_among before w) Write) (option_map (λ place. c.args.number * 128 + place) c.first_in_use-found.result)) c.self.view_is
     (lowest_in_block old c.args.number c.args.«from» c.args.to c.index_mut-block.result.now (count_by c.args.clock.now) c.first_in_use-found.result
     (entry_found c.self.inside.blocks c.in-Some.index c.args.number c.index_mut-block.result.now c.in-Some.ensures.unique c.in-Some.ensures.key c.index_mut-block.ensures.value)
     c.requires.to c.first_in_use-found.ensures))
 
 pub returns-in-None-clause-reset : goal.returns-in-None-clause-reset
-returns-in-None-clause-reset c =
-    subst (λ (v : AllWords). (w : ℕ) → kept_among v w ≡ cond (is_place_in c.args.number c.args.«from» c.args.to w) fresh (kept_among v w)) c.self.view_is
+returns-in-None-clause-reset g c =
+    subst (λ (v : AllWords g.row.A.Denot). (w : ℕ) → stored_among v w ≡ cond (is_place_in c.args.number c.args.«from» c.args.to w) (Accesses untouched) (stored_among v w)) c.self.view_is
     (absent_block (record { blocks = c.self.inside.blocks.entries; lists = c.self.inside.lists }) c.args.number c.args.«from» c.args.to c.in-None.ensures.none)
 
 pub returns-in-None-clause-in_use : goal.returns-in-None-clause-in_use
-returns-in-None-clause-in_use c =
-    subst (λ (v : AllWords). (w : ℕ) → (is_place_in c.args.number c.args.«from» c.args.to w && reports_at (count_by c.args.clock.now) (kept_among v w) Write) ≡ false) c.self.view_is
+returns-in-None-clause-in_use g c =
+    subst (λ (v : AllWords g.row.A.Denot). (w : ℕ) → (is_place_in c.args.number c.args.«from» c.args.to w && is_raced (count_by c.args.clock.now) (stored_among v w) Write) ≡ false) c.self.view_is
     (none_in_absent (record { blocks = c.self.inside.blocks.entries; lists = c.self.inside.lists }) c.args.number c.args.«from» c.args.to (count_by c.args.clock.now) c.in-None.ensures.none)

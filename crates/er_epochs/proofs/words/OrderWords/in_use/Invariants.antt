@@ -3,4 +3,4 @@ use Rattle.er_epochs.proofs.Lowest.{IsLowestBelow}
 use Rattle.er_epochs.proofs.words.OrderWords.in_use.Given as goal
 
 abbrev pub invariant-loop-number : goal.invariant-loop-number
-invariant-loop-number l = IsLowestBelow l.self l.fn.range (count_by l.clock) l.number l.found
+invariant-loop-number g l = IsLowestBelow l.self l.fn.range (count_by l.clock) l.number l.found

@@ -1,0 +1,9 @@
+use Rattle.std.proofs.Common.{◌≡◌, ℕ, length, map}
+use Rattle.er_epochs.specs.Words.{blank, said, word_at}
+use Rattle.er_epochs.proofs.block.Block.new.Given as goal
+
+abbrev pub invariant-loop-place : goal.invariant-loop-place
+invariant-loop-place g l = record {
+  words : (i : ℕ) → word_at (map said l.words.items) i ≡ blank;
+  long : length l.words.items ≡ l.place;
+}

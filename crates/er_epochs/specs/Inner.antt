@@ -1,0 +1,2 @@
+-- How what is stored goes on step by step.
+pub mod Steps
