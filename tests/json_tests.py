@@ -133,16 +133,12 @@ def documents_of(text, rules, explain, analysis="lockset", is_file=False):
     return documents
 
 
-<<<<<<< HEAD
 def order_note(text, documents):
     """The note on a trace that records no order, behind these documents of it."""
     return reference.order_note_of(text, sum(document["totals"]["races"] for document in documents if "analysis" in document))
 
 
-def expected(text, rules, explain, analysis="lockset"):
-=======
 def expected(text, rules, explain, analysis="lockset", is_file=False):
->>>>>>> fbaec9a5ea13f9485799f996b7a95bae7927f04c
     output, errors, status = reference.replay(text, rules or b"", explain=explain)
     if status == 2:
         return output.encode(), errors.encode(), status
