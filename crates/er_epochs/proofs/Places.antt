@@ -3,7 +3,7 @@ use Rattle.std.proofs.Common.{◌≡◌, ◌≢◌, ◌∙◌, ◌&&◌, ℕ, ze
 use Rattle.std.proofs.lemmas.Bool.Decides.{nat_tests}
 use borrow.Author.Tests.{eqb-true, eqb-false}
 use Rattle.er_epochs.specs.declared.word.OrderWord.{OrderWord}
-use Rattle.er_epochs.specs.Words.{Said, blank, said, word_at, is_place_in}
+use Rattle.er_epochs.specs.Words.{IsButForTags, Said, blank, said, word_at, is_place_in}
 
 -- one more word that says nothing
 pub blank_more : {A : Type 0} (words : List (OrderWord A)) (word : OrderWord A) → said word ≡ blank → ((i : ℕ) → word_at (map said words) i ≡ blank)
@@ -24,6 +24,22 @@ pub put_at : {A : Type 0} (words : List (OrderWord A)) (i : ℕ) (word : OrderWo
 put_at [] i word within = absurd (omega (arith, within))
 put_at (w ∷ words) zero word within = refl
 put_at (w ∷ words) (suc i) word within = put_at words i word (omega (arith, within))
+
+-- or the same one with other tags
+pub tags_at : {A : Type 0} (words : List (OrderWord A)) (i : ℕ) (old slot word : OrderWord A) → i < length words → old ≡ get_or words i old → slot ≡ get_or words i slot → IsButForTags old word
+    → word_at (map said (slice_set words i (record { writer = slot.writer; write_count = slot.write_count; reader = slot.reader; read_count = slot.read_count; write_tag = word.write_tag; read_tag = word.read_tag }))) i ≡ said word
+tags_at [] i old slot word within there is same = absurd (omega (arith, within))
+tags_at (w ∷ words) zero old slot word within there is same =
+    let alike : old ≡ slot = there ∙ sym is in
+    ap said (λ k. record {
+      writer = (sym (ap (λ v. v.writer) alike) ∙ sym same.0) k;
+      write_count = (sym (ap (λ v. v.write_count) alike) ∙ sym same.1) k;
+      reader = (sym (ap (λ v. v.reader) alike) ∙ sym same.2) k;
+      read_count = (sym (ap (λ v. v.read_count) alike) ∙ sym same.3) k;
+      write_tag = word.write_tag;
+      read_tag = word.read_tag;
+    })
+tags_at (w ∷ words) (suc i) old slot word within there is same = tags_at words i old slot word (omega (arith, within)) there is same
 
 pub put_beside : {A : Type 0} (words : List (OrderWord A)) (place i : ℕ) (word : OrderWord A) → nat_eq place i ≡ false → word_at (map said (slice_set words place word)) i ≡ word_at (map said words) i
 put_beside [] place i word apart = refl

@@ -17,6 +17,10 @@ pub record Said (A : Type 0) : Type 0 where
 abbrev pub said : {A : Type 0} → OrderWord A → Said A
 said word = record { told = nat_eq word.writer (2 ^ 30 + 1); write = access_in word.writer word.write_count word.write_tag; readers = readers_in word.reader word.read_count word.read_tag }
 
+-- the other word is the same, but for its tags
+abbrev pub IsButForTags : {A : Type 0} → OrderWord A → OrderWord A → Type 0
+IsButForTags word other = (other.writer ≡ word.writer) × (other.write_count ≡ word.write_count) × (other.reader ≡ word.reader) × (other.read_count ≡ word.read_count)
+
 -- a word that says nothing
 abbrev pub blank : {A : Type 0} → Said A
 blank = record { told = false; write = None; readers = Alone None }

@@ -1,8 +1,9 @@
 //! Words that lie side by side.
-ghost use Rattle.std.specs.Prelude.{◌≡◌, ◌+◌, ◌*◌, ◌<◌, ◌≤◌, ◌^◌, ◌&&◌, ℕ, nat_eq, nat_le, nat_lt, cond, false, length, map, IfOk, OnOk, OnErr};
+ghost use Rattle.std.specs.Prelude.{◌≡◌, ◌+◌, ◌*◌, ◌<◌, ◌≤◌, ◌^◌, ◌&&◌, ℕ, nat_eq, nat_le, nat_lt, cond, false, get_or, length, map, IfOk, OnOk, OnErr};
 ghost use Rattle.er_clocks.specs.Counts.{count_by};
 ghost use Rattle.er_epochs.specs.Epochs.{is_raced, tag_found, tagged, IsStoredBy};
-ghost use Rattle.er_epochs.specs.Words.{blank, said, word_at, list_of, stored_beside, is_place_in, IsLowest};
+ghost use Rattle.er_epochs.specs.declared.word.OrderWord.{OrderWord as Stored};
+ghost use Rattle.er_epochs.specs.Words.{IsButForTags, blank, said, word_at, list_of, stored_beside, is_place_in, IsLowest};
 
 use crate::finding::start_of;
 use crate::lists::ReadLists;
@@ -65,7 +66,7 @@ impl<A: Copy> Block<A> {
     {
         let word = get(&self.words, place);
         if let Some(next) = word.settled(clock, kind, tag) {
-            put(&mut self.words, place, next);
+            put_tags(&mut self.words, place, next);
             return Ok(false);
         }
         let (next, reported) = advance(lists, number, word, clock, kind, tag)?;
@@ -196,9 +197,24 @@ fn advance<A: Copy>(
 fn get<A: Copy>(words: &Vec<OrderWord<A>>, place: usize) -> OrderWord<A>
     requires long { length words.now.items ≡ 128 }
     requires place { place < 128 }
-    ensures { said result ≡ word_at (map said words.now.items) place }
+    ensures said { said result ≡ word_at (map said words.now.items) place }
+    ensures there { result ≡ get_or words.now.items place result }
 {
     words[place]
+}
+
+// Gives the word at a place the tags of this one, which is the same but for them. Of tags with no bytes nothing is written.
+#[inline]
+fn put_tags<A: Copy>(words: &mut Vec<OrderWord<A>>, place: usize, word: OrderWord<A>)
+    requires long { length words.old.items ≡ 128 }
+    requires place { place < 128 }
+    ensures long { length words.new.items ≡ 128 }
+    ensures here { (old : Stored A) → old ≡ get_or words.old.items place old → IsButForTags old word → word_at (map said words.new.items) place ≡ said word }
+    ensures others { (i : ℕ) → nat_eq place i ≡ false → word_at (map said words.new.items) i ≡ word_at (map said words.old.items) i }
+{
+    let slot = &mut words[place];
+    slot.write_tag = word.write_tag;
+    slot.read_tag = word.read_tag;
 }
 
 // Puts a word at a place.

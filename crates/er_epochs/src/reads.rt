@@ -27,11 +27,9 @@ pub struct Tagged<A> {
     pub tag: A,
 }
 
-/// Reads of a word since its last write: the latest reads, of which neither happens before another, and earlier ones that nobody needs any more.
-/// Contracts see the last one first.
-///
-/// Of many reads the useless ones are looked for only once the list is full, and then it gets room for as many again. So on average a read takes the
-/// same time however many threads read the word, and a list has at most about two reads for each of these threads.
+/// Reads of a word since its last write, the last one first for contracts: the latest ones, and earlier ones that nobody needs any more.
+/// The useless ones of many are looked for once the list is full, and then it gets room for as many again. So on average a read takes the same
+/// time however many threads read the word, and a list has at most about two reads for each of these threads.
 #[derive(Drop)]
 pub(crate) struct Reads<A> {
     // The last read stands last.

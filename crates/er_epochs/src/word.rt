@@ -6,7 +6,7 @@ ghost use Rattle.er_order.specs.Following.{is_unordered};
 ghost use Rattle.er_clocks.specs.Counts.{count_by};
 ghost use Rattle.er_epochs.specs.declared.reads.Tagged.{Tagged as Access};
 ghost use Rattle.er_epochs.specs.Epochs.{access_in, is_raced, reads_beside, readers_in, rivals_of, some_apart, stored_by, tag_found, tag_of_first, tagged, Readers, Told, IsStoredBy};
-ghost use Rattle.er_epochs.specs.Words.{said, blank, stored_in};
+ghost use Rattle.er_epochs.specs.Words.{said, blank, stored_in, IsButForTags};
 
 use crate::reads::{Reads, Tagged, access_by};
 use er_clock::Epoch;
@@ -33,8 +33,8 @@ pub(crate) struct OrderWord<A> {
     reader: u32,
     // If a list has the reads, the place where it stood when it was noted: a hint.
     read_count: u32,
-    write_tag: A,
-    read_tag: A,
+    pub(crate) write_tag: A,
+    pub(crate) read_tag: A,
 }
 
 impl<A: Copy> OrderWord<A> {
@@ -60,11 +60,8 @@ impl<A: Copy> OrderWord<A> {
     {
         OrderWord {
             writer: NONE,
-            write_count: 0,
             reader: NONE,
-            read_count: 0,
-            write_tag: self.write_tag,
-            read_tag: self.read_tag,
+            ..self
         }
     }
 
@@ -96,11 +93,12 @@ impl<A: Copy> OrderWord<A> {
         self.writer
     }
 
-    /// The word after a counted access, if a race was reported, or the epoch of this access is the word's last one, by the same kind of access. It
-    /// is then no race, and leaves the word as it is but for the tag. `None` says nothing.
+    /// The word after a counted access that is no race and changes a tag at most: one was reported, or the word's last access is of this epoch and
+    /// this kind. `None` says nothing.
     #[inline]
     pub(crate) fn settled(self, clock: &ThreadClock<'_>, kind: Kind, tag: A) -> Option<Self>
         ensures kept { IfSome result (λ r. (listed : List (Access A)) → stored_in r listed ≡ stored_by (count_by clock.now) (stored_in self listed) (tagged clock.now.0 (count_by clock.now clock.now.0) tag) kind) }
+        ensures same { IfSome result (IsButForTags self) }
         ensures quiet { IfSome result (λ r. (listed : List (Access A)) → is_raced (count_by clock.now) (stored_in self listed) kind ≡ false) }
     {
         if self.writer == TOLD {
@@ -208,7 +206,6 @@ impl<A: Copy> OrderWord<A> {
     }
 
     // The same, if no race was reported.
-    #[inline]
     fn find_latest(self, clock: &ThreadClock<'_>, kind: Kind, listed: Option<A>) -> Option<A>
         ensures { (reads : List (Access A)) → listed ≡ tag_of_first (count_by clock.now) reads → result ≡ tag_of_first (count_by clock.now) (rivals_of (record { write = (said self).write; reads = reads_beside (said self).readers reads }) kind) }
     {
@@ -220,7 +217,6 @@ impl<A: Copy> OrderWord<A> {
     }
 
     // The same of the reads alone.
-    #[inline]
     fn find_read(self, clock: &ThreadClock<'_>, kind: Kind, listed: Option<A>) -> Option<A>
         ensures { (reads : List (Access A)) → listed ≡ tag_of_first (count_by clock.now) reads → result ≡ tag_of_first (count_by clock.now) (cond (is_writing kind) (reads_beside (said self).readers reads) []) }
     {
@@ -231,7 +227,6 @@ impl<A: Copy> OrderWord<A> {
     }
 
     // The same, whatever the kind is.
-    #[inline]
     fn find_any_read(self, clock: &ThreadClock<'_>, listed: Option<A>) -> Option<A>
         ensures { (reads : List (Access A)) → listed ≡ tag_of_first (count_by clock.now) reads → result ≡ tag_of_first (count_by clock.now) (reads_beside (said self).readers reads) }
     {
@@ -307,9 +302,8 @@ impl<A: Copy> OrderWord<A> {
             writer: epoch.thread.number(),
             write_count: epoch.count,
             reader: NONE,
-            read_count: 0,
             write_tag: tag,
-            read_tag: self.read_tag,
+            ..self
         }
     }
 

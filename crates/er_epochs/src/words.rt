@@ -21,9 +21,7 @@ use std::marker::Model;
 
 /// What is stored of each word, 16 bytes and two tags in a block of 128 words that is made at the first access of one of them. Contracts see
 /// it by `stored_among`, and without the tags by `kept_among`. Whoever wants no tags takes `()`.
-///
-/// An access takes one look at its word. Only a word that several threads have read, where neither read happens before the other, has a list
-/// besides, until it is written or reset. A reset takes one look at each block of its range.
+/// Only a word that several threads have read, where neither read happens before the other, has a list besides, until it is written or reset.
 #[derive(Drop)]
 pub struct OrderWords<A> {
     blocks: IndexMap<u64, Block<A>, NumberHasher>,

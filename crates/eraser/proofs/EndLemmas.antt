@@ -1,10 +1,7 @@
 -- How a replay ends.
-use Rattle.std.proofs.Common.{◌≡◌, ◌++◌, ◌∙◌, ℕ, Bool, true, false, nat_lt, is_some, IsFalse, List, [], append-nil, take, Option, Some, None, IsSome, IfSome, IfOk, IfErr, Result, Ok, Err, refl, sym, ap, subst, inl, inr}
+use Rattle.std.proofs.Common.{◌≡◌, ◌++◌, ◌∙◌, ℕ, Bool, true, false, nat_lt, is_some, IsFalse, List, [], append-nil, take, Option, Some, None, IsSome, IfSome, IfOk, IfErr, Result, Ok, Err, refl, sym, ap, subst}
 use Rattle.std.specs.Io.KnownBytes.{Appends, Keeps}
 use Rattle.er_batch.specs.Runs.{IsRunOf}
-use Rattle.er_exit.specs.Lines.{fault_line}
-use Rattle.er_exit.specs.Statuses.{fault_status}
-use Rattle.er_exit.specs.Writes.{GetsLine}
 use Rattle.er_exit.specs.declared.faults.Fault.{Fault}
 use Rattle.er_exit.specs.declared.faults.Fault.TheVariants as fault
 use Rattle.er_forms.specs.Forms.{IsForm}
@@ -31,24 +28,9 @@ use Rattle.er_trace.specs.Names.{NameTable}
 use Rattle.er_trace.specs.Trace.{Recording}
 use Rattle.er_triage.specs.First.{KeepFirst}
 use Rattle.eraser.specs.Faults.{replay_fault}
-use Rattle.eraser.specs.Notes.{AddsNotesOn}
-use Rattle.eraser.specs.Replays.{ComesTo, EndsAs, EndsUsually, FailsAs, IsFoundFault, IsOutput, IsUsualFault, LeavesUsually, ReplaysTo, unordered_of}
+use Rattle.eraser.specs.Replays.{EndsAs, EndsUsually, FailsAs, IsFoundFault, IsOutput, IsUsualFault, LeavesUsually, ReplaysTo, unordered_of}
 use Rattle.eraser.specs.declared.replaying.Ended.{Ended}
 use Rattle.eraser.specs.declared.until.Cut.{Cut}
-
--- what a replay without options leaves behind its notes or its fault
-pub comes-to : (people : Bool) (text : List ℕ) (old new errors errors_new : Option (List ℕ)) (failed : Bool) (status : ℕ) (replayed : Result Ended Cut) → EndsUsually text old new replayed
-    → IfOk replayed (λ ended. status ≡ ended.status) → IfErr replayed (λ cut. status ≡ fault_status cut.fault)
-    → IfOk replayed (λ ended. ended.notes.items ≡ [] → AddsNotesOn people ended.ending ended.unordered [] errors errors_new failed)
-    → IfErr replayed (λ cut. cut.notes.items ≡ [] → cut.damage ≡ None → people ≡ false → GetsLine errors errors_new (fault_line cut.fault) failed)
-    → ComesTo people text old new errors errors_new failed status
-comes-to people text old new errors errors_new failed status (Ok ended) (replays, (ending, (none, quiet))) same fault notes line =
-    inl (record {
-      report = subst (λ s. ReplaysTo text old new s) (sym same) replays;
-      notes = (ended.ending, (ending, subst (λ n. AddsNotesOn people ended.ending n [] errors errors_new failed) none (notes quiet)));
-    })
-comes-to people text old new errors errors_new failed status (Err cut) (cause, (leaves, (quiet, whole))) same fault notes line =
-    inr (record { why = cut.fault; cause = cause; ends = fault; output = leaves; line = line quiet whole })
 
 -- The usual replay
 
@@ -144,14 +126,14 @@ usual-ends remaining replay text old new ended usual ends =
       (ends.ending, counted ends.order left.none_found),
     )
   where
-    counted : {Says : Bool → Type 0} {reports : Reports} → (has_order : Bool) × (Says has_order × (ended.unordered ≡ unordered_of has_order reports)) → reports.unordered ≡ None → ended.unordered ≡ 0
-    counted {reports = reports} (has_order, (says, count)) none = count ∙ no_order has_order reports none
+    counted : {Says : Bool → Type 0} (reports : Reports) → (has_order : Bool) × (Says has_order × (ended.unordered ≡ unordered_of has_order reports)) → reports.unordered ≡ None → ended.unordered ≡ 0
+    counted reports (has_order, (says, count)) none = count ∙ no_order has_order reports none
 
 -- a fault of such a replay
 found_usually : (replay : Replay) (text : List ℕ) (found : RunFault) → IsUsual replay → IsFaultOfText replay.analysis (Some text) replay.byte_limit found → IsOfReading found → (IsFalse replay.strict → IsNoDamage found)
     → IsUsualFault text (replay_fault found)
-found_usually replay text found usual cause reading lenient =
-    by_case found (subst (λ (limit : ℕ). IsFaultOfText replay.analysis (Some text) limit found) usual.limit cause) reading (lenient (sym usual.strict))
+found_usually replay text found usual cause alone lenient =
+    by_case found (subst (λ (limit : ℕ). IsFaultOfText replay.analysis (Some text) limit found) usual.limit cause) alone (lenient (sym usual.strict))
   where
     by_case : (found : RunFault) → IsFaultOfText replay.analysis (Some text) usual_limit found → IsOfReading found → IsNoDamage found → IsUsualFault text (replay_fault found)
     by_case (running.Read (reading.Text f)) is read whole = is
@@ -163,6 +145,10 @@ found_usually replay text found usual cause reading lenient =
     by_case running.ThreadsFull is read whole = absurd read
     by_case running.Memory is read whole = tt
     by_case (running.Damaged damage) is read whole = absurd whole
+
+no_file : {A B : Type 0} (path : Option A) → path ≡ None → IsSome path → B
+no_file None none some = cc
+no_file (Some file) none some = cc
 
 pub usual-fails : {F : Type 0} (remaining : F → Option (List ℕ)) (replay : Replay) (text : List ℕ) (old new : Option (List ℕ)) (why : Fault) → IsUsual replay → FailsAs remaining replay text [] old new why → IsUsualFault text why × LeavesUsually text old new why
 usual-fails remaining replay text old new why usual fails = by_case why fails
@@ -177,7 +163,7 @@ usual-fails remaining replay text old new why usual fails = by_case why fails
 
     by_case : (why : Fault) → FailsAs remaining replay text [] old new why → IsUsualFault text why × LeavesUsually text old new why
     by_case fault.Write fails = (tt, begun fails)
-    by_case fault.WriteRules (some, rest) = absurd (subst (λ o. IsSome o) usual.write_rules some)
+    by_case fault.WriteRules (some, rest) = no_file replay.write_rules usual.write_rules some
     by_case fault.Memory keeps = (tt, keeps)
     by_case fault.Arguments fails = other fault.Arguments fails
     by_case (fault.Text f) fails = other (fault.Text f) fails
@@ -209,8 +195,12 @@ pub usually : {F : Type 0} (remaining : F → Option (List ℕ)) (replay : Repla
     → IfSome told (λ text. EndsUsually text old new result)
 usually remaining replay None old new rules result usual none ends fails quiet whole = tt
 usually remaining replay (Some text) old new rules (Ok ended) usual none ends fails quiet whole =
-    let (replays, (ending, count)) = usual-ends remaining replay text old new ended usual (subst (λ (r : List Target). EndsAs remaining replay text r old new ended) none ends) in
-    (replays, (ending, (count, quiet)))
+    all (usual-ends remaining replay text old new ended usual (subst (λ (r : List Target). EndsAs remaining replay text r old new ended) none ends))
+  where
+    all : ReplaysTo text old new ended.status × (IsEndingOf text ended.ending × (ended.unordered ≡ 0)) → EndsUsually text old new (Ok ended)
+    all (replays, (ending, count)) = (replays, (ending, (count, quiet)))
 usually remaining replay (Some text) old new rules (Err cut) usual none ends fails quiet whole =
-    let (cause, leaves) = usual-fails remaining replay text old new cut.fault usual (subst (λ (r : List Target). FailsAs remaining replay text r old new cut.fault) none fails) in
-    (cause, (leaves, whole))
+    all (usual-fails remaining replay text old new cut.fault usual (subst (λ (r : List Target). FailsAs remaining replay text r old new cut.fault) none fails))
+  where
+    all : IsUsualFault text cut.fault × LeavesUsually text old new cut.fault → EndsUsually text old new (Err cut)
+    all (cause, leaves) = (cause, (leaves, whole))

@@ -7,9 +7,9 @@ use Rattle.er_epochs.proofs.block.Block.access.Goals as goal
 
 pub returns-in-Some-clause-ok : goal.returns-in-Some-clause-ok
 returns-in-Some-clause-ok g c =
-    stored_exactly (count_by c.args.clock.now) (stored_beside c.args.lists.now c.args.number (word_at c.args.self.now c.args.place)) (stored_beside c.args.lists.now c.args.number (word_at (map said c.put.new.words.items) c.args.place))
+    stored_exactly (count_by c.args.clock.now) (stored_beside c.args.lists.now c.args.number (word_at c.args.self.now c.args.place)) (stored_beside c.args.lists.now c.args.number (word_at (map said c.put_tags.new.words.items) c.args.place))
     (tagged c.args.clock.now.0 (count_by c.args.clock.now c.args.clock.now.0) c.args.tag) c.args.kind
-    (ap (λ w. stored_beside c.args.lists.now c.args.number w) c.put.ensures.here
+    (ap (λ w. stored_beside c.args.lists.now c.args.number w) (c.put_tags.ensures.here c.get-word.result c.get-word.ensures.there c.in-Some.ensures.same)
     ∙ (c.in-Some.ensures.kept (list_of c.args.lists.now c.args.number)
     ∙ ap (λ w. stored_by (count_by c.args.clock.now) (stored_beside c.args.lists.now c.args.number w) (tagged c.args.clock.now.0 (count_by c.args.clock.now c.args.clock.now.0) c.args.tag) c.args.kind)
-    (c.get-word.ensures ∙ ap (λ words. word_at words c.args.place) c.self.view_is)))
+    (c.get-word.ensures.said ∙ ap (λ words. word_at words c.args.place) c.self.view_is)))

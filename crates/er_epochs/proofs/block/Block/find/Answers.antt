@@ -9,4 +9,4 @@ returns-else-has_list g c =
     c.find-else-has_list.ensures [] refl
     ∙ ap (λ stored. tag_found (count_by c.args.clock.now) stored c.args.kind)
     (c.has_list.ensures c.if-has_list.false [] (list_of c.args.lists.now c.args.number)
-    ∙ ap (λ word. stored_beside c.args.lists.now c.args.number word) (c.get-word.ensures ∙ ap (λ words. word_at words c.args.place) c.self.view_is))
+    ∙ ap (λ word. stored_beside c.args.lists.now c.args.number word) (c.get-word.ensures.said ∙ ap (λ words. word_at words c.args.place) c.self.view_is))
