@@ -229,7 +229,8 @@ def by_sites(record):
     place = b"  nothing orders this before it: t1 wrote it (line 2)\n    at count.c:3, holding no lock\n"
     for name, text in (("alone", ORDER_ALONE), ("beside races by locks", ORDER_BESIDE)):
         found = run_file(None, text, *BOTH, "--by-site")
-        record(f"both by site: the place of a reason of order {name}", place in found[0] and found[1:] == (b"", 1), f"{found}")
+        note = order_note(text, unordered_report(text, [])[0]).encode()
+        record(f"both by site: the place of a reason of order {name}", place in found[0] and found[1:] == (note, 1), f"{found}")
 
 
 # ---- What is made of a report besides ----
