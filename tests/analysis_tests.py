@@ -12,7 +12,7 @@
 - the two reports of one text under rules are those of the two analyses, with the same counts of rules in each
 - each allocation refused in turn, each read and each write failed in turn
 - steps, a fault and unordered accesses on both sides of the ends of batches
-- what does not go together is refused
+- an analysis that there is not is refused; forms and other options by each analysis: tests/forms_tests.py
 """
 
 import os
@@ -114,12 +114,18 @@ def unordered_report(text, rules, explain=False):
     return "".join(line + "\n" for line in found), 1 if races else 0
 
 
+def order_note(text, report):
+    """The note on a trace that records no order, behind the text of this report by happens-before."""
+    return reference.order_note_of(text, int(re.search(r"^steps \d+, unordered (\d+)", report, re.M)[1]))
+
+
 def expected(text, rules, analysis, explain=False):
     """What a replay by this analysis writes to both streams, with reasons or without, and its status."""
     output, errors, status = reference.replay(text, rules or b"", explain)
     if status == 2:
         return output.encode(), errors.encode(), status
     unordered, unordered_status = unordered_report(text, reference.rules_of(rules or b""), explain)
+    errors += order_note(text, unordered)
     if analysis == "happens-before":
         return unordered.encode(), errors.encode(), unordered_status
     return (output + unordered).encode(), errors.encode(), max(status, unordered_status)
@@ -142,13 +148,14 @@ def worked(record):
             by_locks, either = reference.replay(text, explain=True)[0], 1 if ": race: " in rest else status
             wanted = [(analysis, want.encode(), status) for analysis, want in ((HAPPENS_BEFORE, plain), ([*HAPPENS_BEFORE, "--explain"], ordered))]
             wanted += [(analysis, want.encode(), either) for analysis, want in ((BOTH, rest + plain), ([*BOTH, "--explain"], by_locks + ordered))]
+            errors = (reference.note_of(text) + order_note(text, ordered)).encode()
             with tempfile.NamedTemporaryFile() as file:
                 file.write(text)
                 file.flush()
                 for options in ([], ["--workers", "2"], ["--workers", "7", "--shards", "3"]):
                     for analysis, want, status in wanted:
                         by_path, by_input = run([*analysis, *options, file.name]), run([*analysis, *options, "-"], text)
-                        record(f"{analysis[1:]}: {name} {options}", by_path == by_input == (want, b"", status), f"{by_path}, {by_input}")
+                        record(f"{analysis[1:]}: {name} {options}", by_path == by_input == (want, errors, status), f"{by_path}, {by_input}")
     record("analyses: worked traces are found", len(names) >= 10, f"{names}")
 
 
@@ -163,7 +170,7 @@ def worked_lists(record):
         output, errors, status = run([*HAPPENS_BEFORE, "-"], text)
         *found, last = output.decode().splitlines() or [""]
         heads = [tuple(re.match(r"line (\d+): (\w+): ", line).groups()) for line in found]
-        is_right = (heads, last, errors, status) == (lines, counts, b"", 1 if races else 0)
+        is_right = (heads, last, errors.decode(), status) == (lines, counts, reference.order_note_of(text, races), 1 if races else 0)
         record(f"happens-before: list {name}", is_right, f"{output}, {errors}, {status}")
         names.append(name)
     record("analyses: worked lists are found", len(names) >= 20, f"{names}")
@@ -205,6 +212,7 @@ def by_sites(record):
         wanted = {(analysis, False): (output.encode(), errors, status) for analysis in ("happens-before", "both")}
         if status != 2:
             ordered, ordered_status = unordered_report(text, reference.rules_of(rules or b""), explain=True)
+            errors += order_note(text, ordered).encode()
             for is_file, places in ((False, {}), (True, places_in(text))):
                 wanted["happens-before", is_file] = by_site_of_order(ordered, sites_in(text), places).encode(), errors, ordered_status
                 wanted["both", is_file] = by_site_of_both(output, ordered, sites_in(text), places).encode(), errors, max(status, ordered_status)
@@ -221,7 +229,8 @@ def by_sites(record):
     place = b"  nothing orders this before it: t1 wrote it (line 2)\n    at count.c:3, holding no lock\n"
     for name, text in (("alone", ORDER_ALONE), ("beside races by locks", ORDER_BESIDE)):
         found = run_file(None, text, *BOTH, "--by-site")
-        record(f"both by site: the place of a reason of order {name}", place in found[0] and found[1:] == (b"", 1), f"{found}")
+        note = order_note(text, unordered_report(text, [])[0]).encode()
+        record(f"both by site: the place of a reason of order {name}", place in found[0] and found[1:] == (note, 1), f"{found}")
 
 
 # ---- What is made of a report besides ----
@@ -234,6 +243,7 @@ t1 write 0x3000 a.c:3
 t2 read 0x1000 b.c:1
 t2 read 0x2000 b.c:2
 t2 write 0x3000 b.c:3
+t2 signal q
 end
 """
 
@@ -320,7 +330,7 @@ def more_of_a_report(record):
         first = run([*HAPPENS_BEFORE, "--write-rules", str(rules), "-"], RACY)
         record("happens-before: rules are written", first == run([*HAPPENS_BEFORE, "-"], RACY) and rules.exists(), f"{first}")
         again = run([*HAPPENS_BEFORE, "--suppress", str(rules), "-"], RACY)
-        want = b"suppression 1: 1\nsuppression 2: 1\nsuppression 3: 1\nsteps 6, unordered 0, suppressed 3, refused 0\n"
+        want = b"suppression 1: 1\nsuppression 2: 1\nsuppression 3: 1\nsteps 7, unordered 0, suppressed 3, refused 0\n"
         record("happens-before: the rules that were written take all", again == (want, b"", 0), f"{again}")
         other = pathlib.Path(folder) / "other.rules"
         other.write_text("site nowhere.c:1\nsite b.c:2\n")
@@ -396,24 +406,13 @@ def batches(record):
             record(f"{analysis[1]}: a fault behind steps from line {number} on", found == (b"", f"line {number + 6}: bad verb\n".encode(), 2), f"{found}")
 
 
-# ---- What does not go together ----
+# ---- Other arguments ----
 
 
-def wrong_arguments(record):
-    for analysis in (HAPPENS_BEFORE, BOTH):
-        of_one = [["--by-site"]] if analysis == HAPPENS_BEFORE else []
-        for more in (*of_one, ["--format", "json"], ["--format", "sarif"], ["--format", "html"], ["--strict"]):
-            output, errors, status = run([*analysis, *more, "-"], RACY)
-            record(f"{analysis[1]} with {more}", (output, status) == (b"", 2) and b"--analysis" in errors, f"{errors}")
+def other_arguments(record):
     found = run([*BOTH, "--explain", "-"], RACY)
     want = run(["--explain", "-"], RACY)[0] + run([*HAPPENS_BEFORE, "--explain", "-"], RACY)[0]
     record("both: each report has its reasons", found == (want, b"", 1), f"{found}, not {want}")
-    with tempfile.TemporaryDirectory() as folder:
-        rules = pathlib.Path(folder) / "known.rules"
-        for more in (["--write-rules", str(rules)], ["--unused-rules"], ["--max-races", "1"]):
-            output, errors, status = run([*BOTH, *more, "-"], RACY)
-            record(f"both with {more}", (output, status) == (b"", 2) and f"{more[0]}".encode() in errors and b"--analysis both" in errors, f"{errors}")
-        record("both: no rules are written", not rules.exists())
     output, errors, status = run(["--analysis", "neither", "-"], RACY)
     record("an analysis that there is not", (output, status) == (b"", 2) and b"invalid value 'neither'" in errors, f"{errors}")
     for more in (["--explain"], ["--by-site"], ["--format", "json"]):
@@ -429,7 +428,7 @@ def tests(record, preloaded):
     refusals(record, preloaded)
     failures(record, preloaded)
     batches(record)
-    wrong_arguments(record)
+    other_arguments(record)
 
 
 if __name__ == "__main__":

@@ -146,6 +146,11 @@ def documents_of(text, rules, explain, analysis="lockset", is_file=False):
     return documents
 
 
+def order_note(text, documents):
+    """The note on a trace that records no order, behind these documents of it."""
+    return reference.order_note_of(text, sum(document["totals"]["races"] for document in documents if "analysis" in document))
+
+
 def expected(text, rules, explain, analysis="lockset", is_file=False):
     output, errors, status = reference.replay(text, rules or b"", explain=explain)
     if status == 2:
@@ -153,7 +158,7 @@ def expected(text, rules, explain, analysis="lockset", is_file=False):
     documents = documents_of(text, rules, explain, analysis, is_file)
     texts = [text_of(document) for document in documents]
     output = "[\n" + ",\n".join(texts) + "]\n" if len(texts) > 1 else texts[0]
-    return output.encode(), errors.encode(), 1 if any(document["totals"]["races"] for document in documents) else 0
+    return output.encode(), (errors + order_note(text, documents)).encode(), 1 if any(document["totals"]["races"] for document in documents) else 0
 
 
 # ---- The schema

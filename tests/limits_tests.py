@@ -21,6 +21,7 @@ import tempfile
 
 sys.path.insert(0, str(pathlib.Path(__file__).parent))
 sys.dont_write_bytecode = True
+import reference
 from alone import program, run_alone
 from site_tests import preloaded
 
@@ -271,28 +272,24 @@ def numbers(record):
 
 # ---- Options that go together
 
-# The options of each form, and how its report begins, of the lockset rule and of both analyses.
+ANALYSES = ("lockset", "happens-before", "both")
+# The options of each form, and how the reports of each analysis begin in it.
 FORMS = {
-    "text": (["--format", "text"], b"line 3: ", b"line 3: "),
-    "no form": ([], b"line 3: ", b"line 3: "),
-    "by site": (["--by-site"], b"words     kinds ", b"races in this run\n"),
-    "JSON": (["--format", "json"], b'{"format":1,', None),
-    "SARIF": (["--format", "sarif"], b'{"$schema":', None),
-    "HTML": (["--format", "html"], b"<!doctype html>\n", None),
+    "text": (["--format", "text"], (b"line 3: race: ", b"line 3: unordered: ", b"line 3: race: ")),
+    "no form": ([], (b"line 3: race: ", b"line 3: unordered: ", b"line 3: race: ")),
+    "by site": (["--by-site"], (b"words     kinds ", b"races in this run\n", b"races in this run\n")),
+    "JSON": (["--format", "json"], (b'{"format":1,\n', b'{"format":1,"analysis":"happens-before",\n', b'[\n{"format":1,\n')),
+    "SARIF": (["--format", "sarif"], (b'{"$schema":',) * 3),
+    "HTML": (["--format", "html"], (b"<!doctype html>\n",) * 3),
 }
-FORMS_OF = {"lockset": set(FORMS), "happens-before": {"text", "no form"}, "both": {"text", "no form", "by site"}}
 OTHERS = ([], ["--explain"], ["--until-fault"], ["--workers", "2"], ["--write-rules", "known.rules"], ["--unused-rules"], ["--max-races", "1"], ["--source", "."], ["--hints"])
 
 
-def goes_together(analysis, form, strict, other):
-    """Whether docs/FORMATS.md lets these options go together."""
-    if form not in FORMS_OF[analysis] or strict and analysis != "lockset":
-        return False
+def goes_together(form, other):
+    """Whether docs/FORMATS.md lets a form and another option go together."""
     if other[:1] == ["--source"]:
         return form == "HTML"
-    if other[:1] == ["--max-races"] and form == "by site":
-        return False
-    return analysis != "both" or other[:1] not in (["--write-rules"], ["--unused-rules"], ["--max-races"])
+    return other[:1] != ["--max-races"] or form != "by site"
 
 
 def files_of_rules(record, folder):
@@ -325,8 +322,9 @@ def races_left_out(record, folder):
 
 def together(record, folder):
     counts = [0, 0]
-    for analysis in FORMS_OF:
-        for form, (options, of_one, of_both) in FORMS.items():
+    for at, analysis in enumerate(ANALYSES):
+        note = b"" if analysis == "lockset" else reference.order_note_of(SOUND, 1).encode()
+        for form, (options, begins) in FORMS.items():
             for strict in ([], ["--strict"]):
                 for other in OTHERS:
                     words = ["--analysis", analysis, *options, *strict, *other]
@@ -334,15 +332,14 @@ def together(record, folder):
                     rules = folder / "known.rules"
                     is_written = rules.exists()
                     rules.unlink(missing_ok=True)
-                    is_asked = goes_together(analysis, form, strict, other)
+                    is_asked = goes_together(form, other)
                     if is_asked:
-                        begins = of_both if analysis == "both" else of_one
-                        is_right = found[0].startswith(begins) and found[1:] == (b"", 1) and is_written == ("known.rules" in other)
+                        is_right = found[0].startswith(begins[at]) and found[1:] == (note, 1) and is_written == ("known.rules" in other)
                     else:
                         is_right = is_refused(found) and not is_written
                     counts[is_asked] += 1
                     record(f"limits: {' '.join(words)} {'is a report' if is_asked else 'is a wrong argument'}", is_right, f"{found}"[:1000])
-    record("limits: some options go together and some don't", min(counts) > 50, f"{counts}")
+    record("limits: some options go together and some don't", min(counts) > 30, f"{counts}")
     for form in ("text", "json", "sarif", "html"):
         for words in (["--by-site", "--format", form], ["--format", form, "--by-site"]):
             found = run(["replay", *words, "-"], SOUND)

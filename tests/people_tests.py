@@ -220,7 +220,8 @@ def files(record, folder):
 NO_LINE_FEED = b"note: the last line has no line feed: it may be cut off\n"
 NOTED = ([], ["--explain"], ["--by-site"], ["--format", "json"], ["--format", "html"], ["--workers", "2"], ["--until-fault"], ["--max-races", "0"],
     ["--write-rules", "known.rules"], ["--analysis", "both"], ["--analysis", "both", "--by-site"], ["--analysis", "happens-before"],
-    ["--analysis", "happens-before", "--max-races", "1"])
+    ["--analysis", "happens-before", "--max-races", "1"], ["--analysis", "both", "--max-races", "0"], ["--analysis", "happens-before", "--by-site"],
+    ["--analysis", "happens-before", "--format", "html"], ["--analysis", "both", "--format", "sarif", "--max-races", "0"])
 
 
 def notes(record, folder):
@@ -233,7 +234,7 @@ def notes(record, folder):
                 lines = reference.note_of(text).encode()
                 more, name = lines + (b"" if feed else NO_LINE_FEED), f"notes: text {version} {end} {bool(feed)}"
                 for options in NOTED:
-                    left, words, title = b"races left out: 1\n" if "0" in options else b"", ["replay", *options, "n.trace"], f"{name} {' '.join(options)}"
+                    left, words, title = b"races left out: %d\n" % (1 + ("both" in options)) if "0" in options else b"", ["replay", *options, "n.trace"], f"{name} {' '.join(options)}"
                     asks = "--analysis" in options
                     order, order_too = [reference.order_note_of(text, int(asks), hints).encode() for hints in (False, True)]
                     plain = piped(words, folder)

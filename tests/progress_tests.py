@@ -47,7 +47,8 @@ MOST_PIECES = 600
 OPTIONS = ([], ["--explain"], ["--by-site"], ["--format", "json"], ["--format", "sarif"], ["--format", "html"], ["--strict"], ["--until-fault"],
     ["--hints"], ["--until-fault", "--hints"], ["--workers", "3"], ["--workers", "2", "--explain"], ["--analysis", "happens-before"], ["--analysis", "happens-before", "--explain"],
     ["--analysis", "both"], ["--analysis", "both", "--by-site"], ["--max-races", "1"], ["--until-fault", "--strict", "--explain"],
-    ["--analysis", "happens-before", "--max-races", "1"], ["--until-fault", "--workers", "2"])
+    ["--analysis", "happens-before", "--max-races", "1"], ["--until-fault", "--workers", "2"], ["--analysis", "happens-before", "--by-site"],
+    ["--analysis", "both", "--format", "json"], ["--analysis", "both", "--strict", "--max-races", "1"])
 
 
 def parted(errors):

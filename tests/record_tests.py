@@ -299,6 +299,12 @@ def ways_to_use(folder, findings, counter, queue):
         replayed = command([TOP / "eraser", "replay", *words, trace])
         is_whole = found.stderr == replayed.stdout and len(re.findall(r'^    at counter.c|"relatedLocations":.*"uri":"counter.c"|"label":.*"site":"counter.c', replayed.stdout, re.M)) > 0
         findings.check(f"a trace that is kept, and the places of its report with {words}", is_whole and (found.stdout, found.returncode) == ("30\n", 3), f"{found} {replayed}")
+    for analysis in ("lockset", "happens-before", "both"):
+        for words in (["--by-site"], ["--format", "json"], ["--format", "sarif"], ["--format", "html"], ["--strict"]):
+            found = command([RUN, "-q", "-o", trace, "--replay", "--analysis", analysis, *words, counter])
+            replayed = command([TOP / "eraser", "replay", "--analysis", analysis, *words, trace])
+            is_right = (found.stderr, found.returncode, replayed.returncode) == (replayed.stdout, 3, 1)
+            findings.check(f"a report by {analysis} with {words}", is_right, f"{found} {replayed}")
     report = folder / "kept.report"
     found = command([RUN, "-o", trace, "--report", report, counter])
     kept = "\nsteps " in report.read_text() and re.fullmatch(r"record: \d+ events recorded, 0 lost\n", found.stderr)

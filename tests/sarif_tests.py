@@ -18,7 +18,7 @@ import order_tests
 import reference
 import site_tests
 from alone import each_refused, run_alone
-from json_tests import ANALYSES, REUSED, documents_of, plain
+from json_tests import ANALYSES, REUSED, documents_of, order_note, plain
 from site_tests import DID, PLACED, TOP, places_in, preloaded, run, run_fifo, run_file, run_with
 
 # What differs between the runs: what the rules begin with, what they say of each kind, why a race is one, and the name of the run.
@@ -140,7 +140,7 @@ def expected(text, rules, is_file=False, analysis="lockset"):
     if status < 2:
         documents = documents_of(text, rules, True, analysis)
         output = log_of(run_text(document, places_in(text) if is_file else {}, reference.rules_of(rules or b"")) for document in documents)
-        status = 1 if any(document["totals"]["races"] for document in documents) else 0
+        errors, status = errors + order_note(text, documents), 1 if any(document["totals"]["races"] for document in documents) else 0
     return output.encode(), errors.encode(), status
 
 

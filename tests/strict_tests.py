@@ -7,7 +7,7 @@
   1, 2 and 3 with a last line feed and without, with `end` and without, with comments that say that events are lost and with comments that
   nearly do; by path and by standard input
 - examples, worked traces and random ones: a damaged trace gives a line for each kind and nothing on the output, and any other gives what
-  it gives without --strict, in each form, explained, by several workers and under rules
+  it gives without --strict, by each analysis, in each form, explained, by several workers and under rules
 - each allocation refused in turn: `out of memory`, or the whole answer
 - long traces with a comment at each of many places, which several workers read in pieces
 - steps on both sides of the ends of batches, and threads that hold one lock to read, as many as a count of them may grow to
@@ -27,7 +27,9 @@ from site_tests import TOP, preloaded, run, run_with
 RANDOM_TRACES = 300
 TAKES = {b"lock": b"write", b"rlock": b"read"}
 GIVES = {b"unlock", b"runlock"}
-FORMS = ([], ["--explain"], ["--by-site"], ["--format", "json"], ["--format", "sarif"], ["--format", "html"], ["--workers", "3"], ["--workers", "2", "--explain"])
+FORMS = ([], ["--explain"], ["--by-site"], ["--format", "json"], ["--format", "sarif"], ["--format", "html"], ["--workers", "3"], ["--workers", "2", "--explain"],
+    ["--analysis", "happens-before"], ["--analysis", "both"], ["--analysis", "happens-before", "--by-site"], ["--analysis", "both", "--format", "json"],
+    ["--analysis", "happens-before", "--format", "sarif"], ["--analysis", "both", "--format", "html", "--workers", "2"])
 
 
 # ---- The second reading

@@ -9,6 +9,7 @@ the other tests compare with tests/reference.py.
   leaves no race; a rule for a header of the system has a comment; there is no file behind a fault or a stop
 - --unused-rules: a line for each rule of which the report says 0
 - --max-races: the first races have lines, and the others are counted; the same in JSON and SARIF
+- each of these by each analysis: both reports have one list of rules, and each has its own first races
 - more races at one site, and more sites, than 16 bits number
 - each allocation refused in turn: `out of memory` and no file of rules, or a stop, or the whole answer
 """
@@ -22,6 +23,7 @@ import tempfile
 
 sys.dont_write_bytecode = True
 import cases
+import order_tests
 import reference
 from alone import each_refused, program, run_alone
 from site_tests import HEADERS, SYSTEM, preloaded
@@ -29,12 +31,15 @@ from site_tests import HEADERS, SYSTEM, preloaded
 TOP = pathlib.Path(__file__).resolve().parent.parent
 PROGRAM = program("eraser")
 RANDOM_TRACES = 300
+RANDOM_LISTS = 100
+ANALYSES = ([], ["--analysis", "happens-before"], ["--analysis", "both"])
 # More than 16 bits number.
 MANY = 65_600
 # Sites that look like something else where they are written and read again: comments, rules, a name without its end. Each has a race.
 ODD_SITES = ("#a.c:1", "#", "##", "site", "words", "--", "-1", "0x1000", "words,0x1000,4", "a.c:1,", "!", "~", "'\"`", "\\n", "%20", "<b>", "{}", "/usr/include/#", "/usr/lib/~", "x" * 128, "/usr/include/" + "y" * 115)
 ODD_NAMES = "".join(f"t{k} write 0x{k}000 {site}\nt{k}: write 0x{k}000 {site}\n" for k, site in enumerate(ODD_SITES))
-RACE = re.compile(r"line (\d+): race: (\S+) (read|write) (0x[0-9a-f]{12}) at (\S+), holds .*")
+RACE = re.compile(r"line (\d+): (?:race|unordered): (\S+) (read|write) (0x[0-9a-f]{12}) at (\S+), holds .*")
+REUSE = re.compile(r"line (\d+): unordered: (\S+) (reuse) (0x[0-9a-f]{12}) (\d+)")
 HEAD = "# Known races, written by eraser replay --write-rules\n"
 
 
@@ -43,20 +48,45 @@ def run(words, text=b"", **more):
     return done.stdout, done.stderr, done.returncode
 
 
-def known_races(report):
-    """The rules file that a report asks for."""
-    rules = []
+def races_in(report):
+    """The races of a report's text, of both reports if it has two: of each its line, what it did, its site, and its first and last byte."""
     for line in report.decode().splitlines():
-        race = RACE.fullmatch(line)
+        race, reuse = RACE.fullmatch(line), REUSE.fullmatch(line)
         if race:
-            _, _, _, address, site = race.groups()
-            for rule in rules:
-                if rule["rule"] in (f"site {site}", f"words {address} 4"):
-                    rule["races"] += 1
-                    break
-            else:
-                rules.append({"rule": f"words {address} 4" if site == "-" else f"site {site}", "races": 1, "first": race})
-    told = (f"# races {rule['races']}, first: line {rule['first'][1]}, {rule['first'][2]} {rule['first'][3]} {rule['first'][4]}\n{hidden(rule['first'][5])}{rule['rule']}\n" for rule in rules)
+            number, thread, kind, address, site = race.groups()
+            yield number, f"{thread} {kind} {address}", site, int(address, 16), int(address, 16) + 3
+        elif reuse:
+            number, thread, kind, address, size = reuse.groups()
+            yield number, f"{thread} {kind} {address} {size}", None, int(address, 16), int(address, 16) + int(size) - 1
+
+
+def rule_for(race):
+    """The rule that is written for a race: by the site of an access that has one, and else by words."""
+    _, _, site, first, last = race
+    return ("-", first, last) if site in ("-", None) else (site, None, None)
+
+
+def takes(rule, race):
+    """Whether a written rule takes a race: one of words has all of its words."""
+    name, first, last = rule
+    return name == race[2] if first is None else first <= race[3] and race[4] <= last
+
+
+def rule_text(rule):
+    name, first, last = rule
+    return f"site {name}" if first is None else f"words 0x{first:012x} {last - first + 1}"
+
+
+def known_races(report):
+    """The rules file that a report asks for, or two reports, one behind the other."""
+    rules = []
+    for race in races_in(report):
+        taker = next((known for known in rules if takes(known[0], race)), None)
+        if taker:
+            taker[1] += 1
+        else:
+            rules.append([rule_for(race), 1, race])
+    told = (f"# races {count}, first: line {race[0]}, {race[1]}\n{hidden(rule[0])}{rule_text(rule)}\n" for rule, count, race in rules)
     return (HEAD + "".join(told)).encode()
 
 
@@ -66,7 +96,42 @@ def hidden(site):
 
 
 def totals(report):
-    return [int(number) for number in re.findall(rb"\d+", report.splitlines()[-1])]
+    """The counts of the totals of each report."""
+    return [[int(number) for number in re.findall(rb"\d+", line)] for line in report.splitlines() if line.startswith(b"steps ")]
+
+
+def counts_in(report):
+    """How many races each rule took, in all reports."""
+    counts = {}
+    for number, count in re.findall(rb"suppression (\d+): (\d+)", report):
+        counts[int(number)] = counts.get(int(number), 0) + int(count)
+    return [counts[number] for number in sorted(counts)]
+
+
+def notes_behind(text, report):
+    """The notes behind the reports of a text that none asked for."""
+    unordered = re.search(rb"^steps \d+, unordered (\d+)", report, re.M)
+    return (reference.note_of(text) + reference.order_note_of(text, int(unordered[1]) if unordered else 0)).encode()
+
+
+def reports_in(text):
+    """The reports of a text, each with its totals as the last line."""
+    return re.findall(rb".*?^steps [^\n]*\n", text, re.M | re.S)
+
+
+def first_of(text, most):
+    """The text with the lines of the first races of each report, and how many races it leaves out."""
+    kept, left = [], 0
+    for report in reports_in(text):
+        seen, is_kept = 0, True
+        for line in report.splitlines(keepends=True):
+            if b": race: " in line or b": unordered: " in line:
+                seen, is_kept = seen + 1, seen < most
+            elif not line.startswith(b"  "):
+                is_kept = True
+            kept += [line] if is_kept else []
+        left += max(0, seen - most)
+    return b"".join(kept), left
 
 
 def texts():
@@ -82,29 +147,55 @@ def texts():
         text, rules = reference.random_trace(seed), reference.random_rules(seed)
         if reference.replay(text, rules)[2] < 2:
             yield f"random trace {seed}", text, rules, []
+    for seed in range(RANDOM_LISTS):
+        yield f"random list {seed}", order_tests.random_list(seed), b"words 0 4\n" if seed % 3 == 0 else b"", []
+    yield "rules that take what comes behind them", OVERLAPPING, b"", []
+
+
+# Of both analyses a race at no site, a reuse that has its word and others, and accesses at no site that the reuse's rule takes.
+OVERLAPPING = b"""eraser trace 3
+t1 write 0x1000
+t1 write 0x1004
+t1 write 0x1008
+t2 write 0x1004
+t2 reuse 0x1000 12
+t1 write 0x1008
+t2 write 0x1008
+t1 write 0x1000 a.c:1
+t2 write 0x1000 a.c:2
+t3 reuse 0x1000 4
+t3 reuse 0x1008 4
+end
+"""
 
 
 def written_rules(record, folder):
     first, second = folder / "first.rules", folder / "second.rules"
-    races = 0
+    races = {"race": 0, "unordered": 0, "reuse": 0, "both": 0}
     for name, text, rules, options in texts():
         first.write_bytes(rules)
-        second.unlink(missing_ok=True)
-        before = run(["replay", *options, "--suppress", first, "-"], text)
-        for more in ([], ["--workers", "3"], ["--by-site"]):
-            plain = run(["replay", *options, *more, "--suppress", first, "-"], text)
-            found = run(["replay", *options, *more, "--suppress", first, "--write-rules", second, "-"], text)
-            record(f"{name} {more}: the report beside written rules", found == plain, f"{found}")
-            record(f"{name} {more}: written rules", second.read_bytes() == known_races(before[0]), f"{second.read_bytes()}")
-        output, errors, status = run(["replay", *options, "--suppress", first, "--suppress", second, "-"], text)
-        steps, raced, suppressed, *others = totals(before[0])
-        is_quiet = (errors, status) == (reference.note_of(text).encode(), 0) and totals(output) == [steps, 0, suppressed + raced, *others]
-        record(f"{name}: written rules leave no race", is_quiet, f"{output}")
-        counts = [int(count) for count in re.findall(rb"suppression \d+: (\d+)", output)][rules_in(rules):]
-        told = [int(count) for count in re.findall(rb"# races (\d+)", second.read_bytes())]
-        record(f"{name}: written rules take what they say", counts == told, f"{counts}, {told}")
-        races += raced
-    record("rules were written for some races", races > 100, f"{races}")
+        for analysis in ANALYSES:
+            second.unlink(missing_ok=True)
+            before = run(["replay", *options, *analysis, "--suppress", first, "-"], text)
+            title, wanted = f"{name} {' '.join(analysis)}", known_races(before[0])
+            for more in ([], ["--workers", "3"], ["--by-site"]):
+                plain = run(["replay", *options, *analysis, *more, "--suppress", first, "-"], text)
+                found = run(["replay", *options, *analysis, *more, "--suppress", first, "--write-rules", second, "-"], text)
+                record(f"{title} {more}: the report beside written rules", found == plain, f"{found}")
+                record(f"{title} {more}: written rules", second.exists() and second.read_bytes() == wanted, f"{second.exists() and second.read_bytes()}, not {wanted}")
+            if not second.exists():
+                continue
+            output, errors, status = run(["replay", *options, *analysis, "--suppress", first, "--suppress", second, "-"], text)
+            left = [[steps, 0, suppressed + raced, *others] for steps, raced, suppressed, *others in totals(before[0])]
+            is_quiet = (errors, status) == (notes_behind(text, output), 0) and totals(output) == left
+            record(f"{title}: written rules leave no race", is_quiet, f"{output}")
+            counts, told = counts_in(output)[rules_in(rules):], [int(count) for count in re.findall(rb"# races (\d+)", second.read_bytes())]
+            record(f"{title}: written rules take what they say", counts == told, f"{counts}, {told}")
+            for kind in ("race", "unordered"):
+                races[kind] += before[0].count(f": {kind}: ".encode())
+            races["reuse"] += wanted.count(b" reuse ")
+            races["both"] += "both" in analysis and any(int(count) > 1 for count in told)
+    record("rules were written for some races of each kind, and some take races of both reports", min(races.values()) > 50, f"{races}")
     wanted = known_races(run(["replay", "-"], HEADERS)[0])
     record("rules of headers of the system say what they hide", wanted.count(b" is a line of a system header: ") == 2, f"{wanted}")
 
@@ -174,39 +265,41 @@ def unused_rules(record, folder):
     path, unused = folder / "some.rules", 0
     for name, text, rules, options in texts():
         path.write_bytes(rules)
-        plain = run(["replay", *options, "--suppress", path, "-"], text)
-        found = run(["replay", *options, "--suppress", path, "--unused-rules", "-"], text)
-        counts = [int(count) for count in re.findall(rb"suppression \d+: (\d+)", plain[0])]
-        numbers = [place for place, count in enumerate(counts, 1) if count == 0]
-        told = [int(number) for number in re.findall(rb"unused suppression (\d+): (?:site \S+|words 0x[0-9a-f]{12} \d+|words 0 0)\n", found[1])]
-        note = reference.note_of(text).encode()
-        is_right = (found[0], found[2]) == (plain[0], plain[2]) and told == numbers and found[1].endswith(note) and found[1].count(b"\n") == len(numbers) + len(note.splitlines())
-        record(f"{name}: unused rules", is_right, f"{found}, {numbers}")
-        unused += len(numbers)
-    record("some rules were unused", unused > 100, f"{unused}")
+        for analysis in ANALYSES:
+            plain = run(["replay", *options, *analysis, "--suppress", path, "-"], text)
+            found = run(["replay", *options, *analysis, "--suppress", path, "--unused-rules", "-"], text)
+            numbers = [place for place, count in enumerate(counts_in(plain[0]), 1) if count == 0]
+            told = [int(number) for number in re.findall(rb"unused suppression (\d+): (?:site \S+|words 0x[0-9a-f]{12} \d+|words 0 0)\n", found[1])]
+            notes = notes_behind(text, plain[0])
+            is_right = (found[0], found[2]) == (plain[0], plain[2]) and told == numbers and found[1].endswith(notes) and found[1].count(b"\n") == len(numbers) + notes.count(b"\n")
+            record(f"{name} {' '.join(analysis)}: unused rules", is_right, f"{found}, {numbers}")
+            unused += len(numbers)
+    record("some rules were unused", unused > 300, f"{unused}")
     path.write_bytes(b"site a.c:1\nsite -\n# none\n words  4096 0x10 \nwords 0x7 1\nwords 12 0\n")
     found = run(["replay", "--suppress", path, "--unused-rules", "-"], b"eraser trace 1\n")[1]
     wanted = b"1: site a.c:1|2: site -|3: words 0x000000001000 16|4: words 0x000000000004 4|5: words 0 0"
     record("unused rules as they are written", found == b"".join(b"unused suppression " + line + b"\n" for line in wanted.split(b"|")), f"{found}")
+    # By locks the first rule takes a race, by happens-before the second, and the third takes none.
+    path.write_bytes(b"site locks.c:2\nsite order.c:2\nsite none.c:1\n")
+    text = b"eraser trace 3\nt1 write 0 locks.c:1\nt1 signal q\nt2 await q\nt2 write 0 locks.c:2\nt1 write 4 order.c:1\nt2 lock m\nt2 write 4 order.c:2\nt2 unlock m\nend\n"
+    for analysis, numbers in zip(ANALYSES, ((2, 3), (1, 3), (3,))):
+        found = run(["replay", *analysis, "--suppress", path, "--unused-rules", "-"], text)
+        told = tuple(int(number) for number in re.findall(rb"unused suppression (\d+): ", found[1]))
+        record(f"rules that one report alone uses {' '.join(analysis)}", told == numbers and found[2] == 0, f"{found}")
 
 
 def first_races(record, folder):
     for name, text, _, options in texts():
-        for explained in ([], ["--explain"]) if not options else ([],):
-            lines = run(["replay", *options, *explained, "-"], text)
-            races = sum(1 for line in lines[0].splitlines() if b": race: " in line)
-            for most in {0, 1, races // 2, races, races + 1}:
-                kept, seen, is_kept = [], 0, True
-                for line in lines[0].splitlines(keepends=True):
-                    if b": race: " in line:
-                        seen += 1
-                        is_kept = seen <= most
-                    elif not line.startswith(b"  "):
-                        is_kept = True
-                    kept += [line] if is_kept else []
-                errors = f"races left out: {races - most}\n" if races > most else ""
-                found = run(["replay", *options, *explained, "--max-races", most, "-"], text)
-                record(f"{name} {explained}: the first {most} races", found == (b"".join(kept), (errors + reference.note_of(text)).encode(), lines[2]), f"{found}")
+        for analysis in ANALYSES:
+            for explained in ([], ["--explain"]) if not options else ([],):
+                words = ["replay", *options, *explained, *analysis]
+                whole = run([*words, "-"], text)
+                races = max((sum(1 for line in report.splitlines() if b": race: " in line or b": unordered: " in line) for report in reports_in(whole[0])), default=0)
+                for most in {0, 1, races // 2, races, races + 1}:
+                    kept, left = first_of(whole[0], most)
+                    errors = (f"races left out: {left}\n" if left else "").encode() + notes_behind(text, whole[0])
+                    found = run([*words, "--max-races", most, "-"], text)
+                    record(f"{name} {' '.join(analysis)} {explained}: the first {most} races", found == (kept, errors, whole[2]), f"{found}, not {kept}, {errors}")
 
 
 def many_races(record, folder):
@@ -240,27 +333,31 @@ def many_races(record, folder):
 
 
 def counted(form, text):
-    """How many races a JSON document or the results of a SARIF log have."""
-    document = json.loads(text)
-    return len(document["races"]) if form == "json" else sum(result["occurrenceCount"] for result in document["runs"][0]["results"])
+    """How many races each JSON document, or the results of each run of a SARIF log, have."""
+    parts = json.loads(text)
+    parts = parts["runs"] if form == "sarif" else parts if isinstance(parts, list) else [parts]
+    return [len(part["races"]) if form == "json" else sum(result["occurrenceCount"] for result in part["results"]) for part in parts]
 
 
 def together(record, folder):
     path, rules = folder / "all.rules", folder / "used.rules"
     rules.write_bytes(b"site b.c:1\n")
-    words = ["replay", "--suppress", rules, "--unused-rules", "--max-races", "1", "--write-rules", path, "-"]
-    output, errors, status = run(words, TWO_RACES)
-    record("all at once", (errors, status) == (b"unused suppression 1: site b.c:1\nraces left out: 1\n", 1) and output.count(b": race: ") == 1, f"{output}, {errors}")
-    record("rules take the races without a line too", path.read_bytes() == known_races(run(["replay", "-"], TWO_RACES)[0]), f"{path.read_bytes()}")
-    output, errors, status = run(["replay", "--by-site", "--max-races", "1", "-"], TWO_RACES)
-    record("--max-races with --by-site", (output, status) == (b"", 2) and errors.startswith(b"error: the argument '"), f"{errors}")
-    for form in ("json", "sarif"):
-        everything = run(["replay", "--format", form, "-"], TWO_RACES)
-        path.unlink()
-        found = run(["replay", "--format", form, *words[1:]], TWO_RACES)
-        is_right = found[1:] == (b"unused suppression 1: site b.c:1\nraces left out: 1\n", 1) and counted(form, found[0]) == 1
-        record(f"all at once as {form}", is_right and counted(form, everything[0]) == 2, f"{found}")
-        record(f"rules take all races if the report is {form}", path.read_bytes() == known_races(run(["replay", "-"], TWO_RACES)[0]), f"{path.read_bytes()}")
+    for analysis in ANALYSES:
+        words = ["replay", *analysis, "--suppress", rules, "--unused-rules", "--max-races", "1", "--write-rules", path, "-"]
+        plain, reports, name = run(["replay", *analysis, "-"], TWO_RACES), 2 if "both" in analysis else 1, f"all at once {' '.join(analysis)}"
+        notes = f"unused suppression 1: site b.c:1\nraces left out: {reports}\n".encode()
+        output, errors, status = run(words, TWO_RACES)
+        record(name, (errors, status) == (notes, 1) and output.count(b": race: ") + output.count(b": unordered: ") == reports, f"{output}, {errors}")
+        record(f"{name}: rules take the races without a line too", path.read_bytes() == known_races(plain[0]), f"{path.read_bytes()}")
+        output, errors, status = run(["replay", *analysis, "--by-site", "--max-races", "1", "-"], TWO_RACES)
+        record(f"{name}: --max-races with --by-site", (output, status) == (b"", 2) and errors.startswith(b"error: the argument '"), f"{errors}")
+        for form in ("json", "sarif"):
+            everything = run(["replay", *analysis, "--format", form, "-"], TWO_RACES)
+            path.unlink()
+            found = run(["replay", "--format", form, *words[1:]], TWO_RACES)
+            is_right = found[1:] == (notes, 1) and counted(form, found[0]) == [1] * reports
+            record(f"{name} as {form}", is_right and counted(form, everything[0]) == [2] * reports, f"{found}")
+            record(f"{name}: rules take all races if the report is {form}", path.read_bytes() == known_races(plain[0]), f"{path.read_bytes()}")
     for value in ("-1", "x", ""):
         found = run(["replay", f"--max-races={value}", "-"], TWO_RACES)
         record(f"--max-races {value}", (found[0], found[2]) == (b"", 2), f"{found}")
@@ -270,23 +367,24 @@ def refusals(record, folder, preloaded):
     """Each allocation refused in turn: `out of memory` with nothing written, or a stop, or the whole answer."""
     library, rules, path = preloaded(folder, "refuse"), folder / "refused.rules", folder / "written.rules"
     rules.write_bytes(b"site b.c:1\nwords 0x9000 8\n")
-    words = ["replay", "--suppress", rules, "--suppress", rules, "--unused-rules", "--max-races", "1", "--write-rules", path, "-"]
-    whole, told = run(words, TWO_RACES), 0
-    written = path.read_bytes()
+    for analysis in (ANALYSES[0], ANALYSES[2]):
+        words = ["replay", *analysis, "--suppress", rules, "--suppress", rules, "--unused-rules", "--max-races", "1", "--write-rules", path, "-"]
+        whole, told, name = run(words, OVERLAPPING), 0, f"triage {' '.join(analysis)}"
+        written = path.read_bytes()
 
-    def run_again(env):
-        path.write_bytes(b"")
-        return run(words, TWO_RACES, env=env)
+        def run_again(env):
+            path.write_bytes(b"")
+            return run(words, OVERLAPPING, env=env)
 
-    for nth, found, was_refused in each_refused(library, folder, run_again):
-        if not was_refused:
-            record("triage with all allocations", found == whole and path.read_bytes() == written and 2 * told > nth, f"{found}, {told} of {nth}")
-            break
-        is_stopped = found[2] == 3 and b": stopped: out of memory\n" in found[0]
-        is_told = is_stopped or found == (b"", b"out of memory\n", 3)
-        told += is_told
-        is_right = path.read_bytes() == b"" if is_told else (found, path.read_bytes()) == (whole, written)
-        record(f"triage without allocation {nth}", is_right, f"{found}")
+        for nth, found, was_refused in each_refused(library, folder, run_again):
+            if not was_refused:
+                record(f"{name} with all allocations", found == whole and path.read_bytes() == written and 2 * told > nth, f"{found}, {told} of {nth}")
+                break
+            is_stopped = found[2] == 3 and b": stopped: out of memory\n" in found[0]
+            is_told = is_stopped or found == (b"", b"out of memory\n", 3)
+            told += is_told
+            is_right = path.read_bytes() == b"" if is_told else (found, path.read_bytes()) == (whole, written)
+            record(f"{name} without allocation {nth}", is_right, f"{found}")
 
 
 def tests(record, preloaded):
