@@ -29,7 +29,7 @@ pub enum Fault {
     TableFull,
     /// A thread releases, starts, signals and is joined 2^32 - 1 times or more.
     CountFull,
-    /// Happens-before wanted to know more threads at once than it takes.
+    /// By happens-before: a step orders a thread whose number is 65,536 or more.
     ThreadsFull,
     /// The trace can't be opened.
     OpenTrace,
