@@ -1,5 +1,5 @@
 //! Answers the steps of a batch by one machine, and adds them to a report.
-ghost use Rattle.std.specs.Prelude.{◌≡◌, ◌+◌, ◌<◌, ◌^◌, ℕ, List, length, is_some, IfSome, IfOk, IsTrue, OnOk, false, true};
+ghost use Rattle.std.specs.Prelude.{◌≡◌, ◌+◌, ◌<◌, ◌^◌, nat_lt, ℕ, List, length, is_some, IfSome, IfOk, IsTrue, OnOk, false, true};
 ghost use Rattle.er_batch.specs.Inner.Answering.{Answers, HasAnswered, Lags};
 ghost use Rattle.er_batch.specs.Runs.{HasRun, recorded};
 ghost use Rattle.er_event.specs.declared.steps.Step.{Step as Steps};
@@ -134,7 +134,7 @@ fn answer_steps<R: Wait>(
         → IfOk result (λ stopped. Answers machine.new builder.new (joined past lines trace.now) (length past) stopped) }
 {
     let steps = trace.steps();
-    if steps.len() as u64 > u64::MAX - builder.steps() {
+    if !has_room(builder, steps) {
         return Err(AllocError);
     }
     let explains = builder.explains();
@@ -160,4 +160,11 @@ fn answer_steps<R: Wait>(
     }
     builder.add_plain(plain);
     Ok(None)
+}
+
+/// Whether the report can count these steps too: it counts up to 2^64 - 1.
+pub fn has_room(builder: &ReportBuilder<'_>, steps: &[Step]) -> bool
+    ensures { result ≡ nat_lt (builder.now.report.steps + length steps.now) (2 ^ 64) }
+{
+    steps.len() as u64 <= u64::MAX - builder.steps()
 }

@@ -18,7 +18,7 @@
 #![tactic(auto)]
 
 pub use analyst::{Analyst, Pair};
-pub use answering::answer_batch;
+pub use answering::{answer_batch, has_room};
 pub use lockset::LocksetAnalyst;
 pub use options::Options;
 pub use passes::{Analysed, analyse};

@@ -12,6 +12,7 @@ ghost use Rattle.er_batch.specs.Runs.{recorded};
 ghost use Rattle.er_run.specs.Inner.Several.{AreItems, IsNext};
 ghost use Rattle.er_trace.specs.Trace.{IsNamed};
 
+use er_batch::has_room;
 use er_event::{Event, Lockset, Step};
 use er_journal::Answer;
 use er_parallel::Unusual;
@@ -140,7 +141,7 @@ pub(crate) fn add_batch(
         → IsReported builder.old (recorded (past ++ steps.now) (lines ++ numbers.now) names.now) (length past)
         → OnOk result (IsReported builder.new (recorded (past ++ steps.now) (lines ++ numbers.now) names.now) (length past + length steps.now)) }
 {
-    if steps.len() as u64 > u64::MAX - builder.steps() {
+    if !has_room(builder, steps) {
         return Err(AllocError);
     }
     let explains = builder.explains();

@@ -14,6 +14,10 @@ use Rattle.er_text.specs.Inner.Lending.{lines_left}
 use Rattle.er_text.specs.Inner.Reading.{Continues}
 use Rattle.er_text.specs.Inner.Traces.{progress, at_front, read_content}
 
+-- a batch ends behind the line that brings its trace to so many steps
+abbrev pub batch_steps : ℕ
+batch_steps = 131072
+
 -- steps and their lines that the caller has taken away, and then those that the trace has, under its names
 abbrev pub joined : List Step → List ℕ → Recording → Recording
 joined steps lines trace = record { steps = steps ++ trace.steps; lines = lines ++ trace.lines; names = trace.names }

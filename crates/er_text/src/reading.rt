@@ -6,7 +6,7 @@ ghost use Rattle.er_text.specs.Trace.{Tells, HasFailedBy};
 ghost use Rattle.er_trace.specs.Trace.{Recording, no_steps};
 ghost use Rattle.er_event.specs.declared.steps.Step.{Step};
 ghost use Rattle.er_text.specs.Named.{Grows};
-ghost use Rattle.er_text.specs.Batches.{HasRead, GivesBatch};
+ghost use Rattle.er_text.specs.Batches.{HasRead, GivesBatch, batch_steps};
 ghost use Rattle.er_text.specs.Pieces.{AreWhole, StaysAt};
 ghost use Rattle.er_text.specs.Places.{no_tail};
 ghost use Rattle.er_text.specs.Ending.{KnowsEnd, IsEndingOf, comment_past};
@@ -33,7 +33,7 @@ use std::alloc::{AllocError, Global};
 use std::io::Read;
 use std::marker::Model;
 
-/// How many steps a trace has at most, but for those of one line, when a batch ends before it has all of its lines.
+/// A batch ends behind the line that brings its trace to this many steps.
 const BATCH_STEPS: usize = 131_072;
 
 /// What the lines so far make known: the stage of the text, the threads that are named but don't act yet, and what the last comment says.
@@ -348,7 +348,7 @@ impl TraceReader {
         self.finish()
     }
 
-    /// Reads up to so many lines, and at least one of them, until the trace has 131,072 steps.
+    /// Reads at least one line and at most `most_lines`, until the trace has 131,072 steps.
     fn read_batch<R: Read>(
         &mut self,
         reader: &mut Device<R>,
@@ -362,6 +362,7 @@ impl TraceReader {
         ensures grows { OnOk result (Grows trace.old trace.new) }
         ensures limit { self.new.place.limit ≡ self.old.place.limit }
         ensures more { 1 ≤ most_lines → IfOk result (λ batch. batch ≡ Batch.More → self.old.place.start < self.new.place.start) }
+        ensures full { IfOk result (λ batch. batch ≡ Batch.More → length trace.new.steps < batch_steps → self.old.place.start + most_lines ≤ self.new.place.start) }
         ensures within { self.new.place.start ≤ self.new.place.limit }
         ensures failed { HasFailedBy (has_failed reader.new) result }
         ensures taken { taken_of reader.new + taken_by self.old.place ≤ taken_of reader.old + taken_by self.new.place }
@@ -409,8 +410,10 @@ impl TraceReader {
 
         ensures limit { self.new.place.limit ≡ self.old.place.limit }
 
-        // A batch that isn't the last has passed over some bytes, within the limit.
+        // A batch that isn't the last has passed over some bytes, and over a byte for each line that was asked for unless the trace has as many
+        // steps as end a batch.
         ensures more { 1 ≤ most_lines → IfOk result (λ batch. batch ≡ Batch.More → self.old.place.start < self.new.place.start) }
+        ensures full { IfOk result (λ batch. batch ≡ Batch.More → length trace.new.steps < batch_steps → self.old.place.start + most_lines ≤ self.new.place.start) }
         ensures within { self.new.place.start ≤ self.new.place.limit }
 
         ensures failed { HasFailedBy (has_failed reader.new) result }

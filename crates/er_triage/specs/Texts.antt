@@ -1,5 +1,5 @@
 -- The texts of rules, to the byte.
-use Rattle.std.specs.Prelude.{◌≡◌, ◌&&◌, ℕ, zero, suc, Bool, true, false, cond, ◌+◌, ◌-◌, ◌*◌, List, [], ◌∷◌, ◌++◌, flat_map, map, slice_get, Option, Some, None, codes, decimal}
+use Rattle.std.specs.Prelude.{◌≡◌, ◌&&◌, ℕ, zero, suc, All, Bool, true, false, cond, ◌+◌, ◌-◌, ◌*◌, List, [], ◌∷◌, ◌++◌, flat_map, map, slice_get, Option, Some, None, codes, decimal}
 use Rattle.er_print.specs.Printed.{address_text, bytes_between, kind_text, name_at}
 use Rattle.er_report.specs.declared.report.Line.{Line}
 use Rattle.er_report.specs.declared.report.Report.{Report}
@@ -8,6 +8,7 @@ use Rattle.er_rules.specs.Rules.{Target, AtSite, AtWords}
 use Rattle.er_sites.specs.System.{is_system_name}
 use Rattle.er_trace.specs.Names.{NameTable}
 use Rattle.er_triage.specs.Known.{known_target, rules_of, AreCounts}
+use Rattle.er_triage.specs.Sound.{IsSound}
 use Rattle.er_triage.specs.declared.known.KnownRace.{KnownRace}
 use Rattle.er_triage.specs.declared.known.Raced.{Raced}
 use Rattle.er_triage.specs.declared.known.Raced.TheVariants.{Access, Reuse}
@@ -49,11 +50,12 @@ known_text names race = taken_text names race ++ hidden_text (known_target names
 abbrev pub known_races_text : NameTable → List KnownRace → List ℕ
 known_races_text names known = codes "# Known races, written by eraser replay --write-rules\n" ++ flat_map (known_text names) known
 
--- the text is that of rules for the races of these lines, each with the races that it takes
+-- the text is that of rules for the races of these lines, each with the races that it takes, and with names and numbers that can be read again
 pub record IsKnownText (names : NameTable) (lines : List Line) (text : List ℕ) : Type 0 where
   pub known : List KnownRace
   pub rules : map (known_target names) known ≡ rules_of names lines
   pub counted : AreCounts names lines known
+  pub sound : All (IsSound names) known
   pub says : text ≡ known_races_text names known
 
 -- the count is there, and is 0

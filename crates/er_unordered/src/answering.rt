@@ -12,6 +12,7 @@ ghost use Rattle.er_unordered.specs.Stops.{IsStopIn};
 
 use crate::OrderStop;
 use crate::reasons::Reasons;
+use er_batch::has_room;
 use er_before::OrderMachine;
 use er_event::{Refusal, Reply, Step};
 use er_report::ReportBuilder;
@@ -32,7 +33,7 @@ pub(crate) fn answer_steps(
 {
     let steps = trace.steps();
     prove!(steps.len() == trace.lines().len());
-    if steps.len() as u64 > u64::MAX - builder.steps() {
+    if !has_room(builder, steps) {
         return Err(OrderStop::Memory);
     }
     for (k, step) in steps.iter().enumerate() {
@@ -63,7 +64,7 @@ pub(crate) fn explain_steps(
 {
     let steps = trace.steps();
     prove!(steps.len() == trace.lines().len());
-    if steps.len() as u64 > u64::MAX - builder.steps() {
+    if !has_room(builder, steps) {
         return Err(OrderStop::Memory);
     }
     for (k, step) in steps.iter().enumerate() {
