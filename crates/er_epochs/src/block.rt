@@ -39,8 +39,8 @@ impl<A: Copy> Block<A> {
         ensures { IfOk result (λ block. (i : ℕ) → word_at block i ≡ blank) }
     {
         let mut words = Vec::with_capacity(alloc, WORDS)?;
-        for place in 0..WORDS {
-            words.push(OrderWord::new(tag))?;
+        for _ in 0..WORDS {
+            words.push_reserved(OrderWord::new(tag));
         }
         Ok(Block { words })
     }

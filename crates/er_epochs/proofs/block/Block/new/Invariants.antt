@@ -1,9 +1,10 @@
-use Rattle.std.proofs.Common.{◌≡◌, ℕ, length, map}
+use Rattle.std.proofs.Common.{◌≡◌, ◌≤◌, ℕ, length, map}
 use Rattle.er_epochs.specs.Words.{blank, said, word_at}
 use Rattle.er_epochs.proofs.block.Block.new.Given as goal
 
-abbrev pub invariant-loop-place : goal.invariant-loop-place
-invariant-loop-place g l = record {
+abbrev pub invariant-loop : goal.invariant-loop
+invariant-loop g l = record {
   words : (i : ℕ) → word_at (map said l.words.items) i ≡ blank;
-  long : length l.words.items ≡ l.place;
+  room : 128 ≤ l.words.cap;
+  long : length l.words.items ≡ l.counter;
 }
