@@ -5,7 +5,7 @@
 
 - more threads, locks and sites than 18 bits number; more sets of locks by both analyses, blocks of words, lists of reads and releases of one
   thread by happens-before, races with reasons, rules of a file, and locks of a strict replay than 17 bits number; more pages than 16 bits number
-- 65,536 threads whose order happens-before follows, and one more
+- 65,536 threads whose order happens-before follows, and one more; of a damaged trace a strict replay reports the damage, and not the thread
 - a word whose reads are in order again gives their list up: memory goes by the words that have a list now
 - each number of workers starts more threads than the one before it, and a thread that can't be started hides no fault of the text
 - an option with a number takes the least and the greatest, and nothing beyond
@@ -134,6 +134,14 @@ def many_threads(record):
     for step in (f"{late} lock m0", f"t0 start {late}", f"t0 join {late}", f"{late} signal q", f"{late} await q"):
         for analysis in (HAPPENS_BEFORE, BOTH):
             check(record, f"a thread more: {step}", analysis, [*trace, step], [], ["too many threads"], 3)
+    # Damage comes before it, wherever the two stand.
+    late_lock, refused = f"{late} lock m0", "t0 unlock m0"
+    for analysis in (HAPPENS_BEFORE, BOTH):
+        strict = [*analysis, "--strict"]
+        check(record, "a thread more", strict, [*trace, late_lock], [], ["too many threads"], 3)
+        for steps in ([refused, late_lock], [late_lock, refused]):
+            damaged = [*trace, *steps]
+            check(record, f"a thread more and damage: {', '.join(steps)}", strict, damaged, [], [f"line {damaged.index(refused, len(trace)) + 1}: refused step"], 2)
 
 
 def many_reasons(record):
