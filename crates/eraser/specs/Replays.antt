@@ -28,10 +28,9 @@ use Rattle.er_report.specs.Reports.{asks_locks, asks_order}
 use Rattle.er_run.specs.Reports.{AreReportsOfText, IsOrderOfText, is_verdict_of}
 use Rattle.er_run.specs.declared.fault.RunFault.{RunFault}
 use Rattle.er_text.specs.Ending.{IsEndingOf}
-use Rattle.er_text.specs.Trace.{IsTrace, IsFault}
+use Rattle.er_text.specs.Trace.{IsFault}
 use Rattle.er_text.specs.declared.endings.Ending.{Ending}
 use Rattle.er_trace.specs.Names.{NameTable}
-use Rattle.er_trace.specs.Trace.{Recording}
 use Rattle.er_triage.specs.First.{KeepFirst}
 use Rattle.er_triage.specs.Known.{lines_of}
 use Rattle.er_triage.specs.Notes.{notes_text}
