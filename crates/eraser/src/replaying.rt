@@ -73,6 +73,8 @@ where
     ensures status { IfOk result (λ ended. (ended.status ≤ 4) × (ended.status ≢ 2)) }
     ensures notes { IfOk result (λ ended. AreNotes ended.notes.items) }
     ensures silent { job.entry.replay.now.unused_rules ≡ false → job.entry.replay.now.max_races ≡ None → IfOk result (λ ended. ended.notes.items ≡ []) }
+    ensures text { IfOk result (λ ended. IfSome (D.remaining (inner_of source.old)) (λ text. IsEndingOf text ended.ending)) }
+    ensures locks { asks_order job.entry.replay.now.analysis ≡ false → IfOk result (λ ended. ended.unordered ≡ 0) }
     ensures ends { AreOptionsOf job.entry.replay.now job.entry.options.now → IfOk result (λ ended. IfSome (D.remaining (inner_of source.old)) (λ text. EndsAs R.File.remaining job.entry.replay.now text (targets_of job.entry.suppressions.now) (O.contents (inner_of output.old)) (O.contents (inner_of output.new)) ended)) }
     ensures fails { AreOptionsOf job.entry.replay.now job.entry.options.now → IfErr result (λ why. IfSome (D.remaining (inner_of source.old)) (λ text. FailsAs R.File.remaining job.entry.replay.now text (targets_of job.entry.suppressions.now) (O.contents (inner_of output.old)) (O.contents (inner_of output.new)) why)) }
     ensures nothing { IfErr result (LeavesOutput (O.contents (inner_of output.old)) (O.contents (inner_of output.new))) }
@@ -122,6 +124,8 @@ where
     ensures status { IfOk result (λ ended. (ended.status ≤ 4) × (ended.status ≢ 2)) }
     ensures notes { IfOk result (λ ended. AreNotes ended.notes.items) }
     ensures silent { job.entry.replay.now.unused_rules ≡ false → job.entry.replay.now.max_races ≡ None → IfOk result (λ ended. ended.notes.items ≡ []) }
+    ensures text { IfOk result (λ ended. ended.ending ≡ ending) }
+    ensures locks { asks_order job.entry.replay.now.analysis ≡ false → IfOk result (λ ended. ended.unordered ≡ 0) }
     ensures ends { AreOptionsOf job.entry.replay.now job.entry.options.now → (text : List ℕ) → AreReportsOfText job.entry.replay.now.analysis text job.entry.replay.now.byte_limit (targets_of job.entry.suppressions.now) job.entry.replay.now.explain names.now reports
         → IsEndingOf text ending → IsOrderOfText job.entry.replay.now.analysis text job.entry.replay.now.byte_limit has_order → IfOk result (EndsAs R.File.remaining job.entry.replay.now text (targets_of job.entry.suppressions.now) (O.contents (inner_of output.old)) (O.contents (inner_of output.new))) }
     ensures fails { AreOptionsOf job.entry.replay.now job.entry.options.now → (text : List ℕ) → AreReportsOfText job.entry.replay.now.analysis text job.entry.replay.now.byte_limit (targets_of job.entry.suppressions.now) job.entry.replay.now.explain names.now reports
