@@ -5,6 +5,7 @@ use Rattle.er_exit.specs.declared.faults.Fault.{Fault}
 use Rattle.er_exit.specs.declared.faults.Fault.TheVariants as fault
 use Rattle.er_forms.specs.Forms.{IsForm}
 use Rattle.er_html.specs.declared.excerpts.Excerpt.{Excerpt}
+use Rattle.er_parallel.specs.declared.faults.ReplayFault.TheVariants as replaying
 use Rattle.er_places.specs.Places.{PlaceTable}
 use Rattle.er_print.specs.Written.{WritesReport}
 use Rattle.er_print.specs.declared.fault.WriteFault.{WriteFault}
@@ -14,15 +15,20 @@ use Rattle.er_report.specs.declared.report.Report.{Report}
 use Rattle.er_report.specs.declared.reports.Reports.{Reports}
 use Rattle.er_request.specs.declared.request.Replay.{Replay}
 use Rattle.er_rules.specs.Rules.{Target}
+use Rattle.er_run.specs.Faults.{FailsBy as RunFailsBy}
 use Rattle.er_run.specs.Reports.{AreReportsOfText, IsOrderOfText, is_verdict_of}
+use Rattle.er_run.specs.declared.fault.RunFault.{RunFault}
+use Rattle.er_run.specs.declared.fault.RunFault.TheVariants as running
 use Rattle.er_text.specs.Ending.{IsEndingOf}
 use Rattle.er_text.specs.declared.endings.Ending.{Ending}
+use Rattle.er_text.specs.declared.faults.ReadFault.TheVariants as reading
 use Rattle.er_trace.specs.Names.{NameTable}
 use Rattle.er_triage.specs.First.{KeepFirst}
 use Rattle.er_triage.specs.Known.{lines_of}
 use Rattle.er_triage.specs.Notes.{notes_text}
+use Rattle.eraser.specs.Faults.{replay_fault}
 use Rattle.eraser.specs.Inner.Writes.{WritesSome}
-use Rattle.eraser.specs.Replays.{AreShown, EndsAs, FailsAs, IsOutput, MayHavePlaces, races_in, unordered_of, verdict_status}
+use Rattle.eraser.specs.Replays.{AreShown, EndsAs, FailsAs, FailsBy, FailsFor, IsOutput, MayHavePlaces, races_in, unordered_of, verdict_status}
 use Rattle.eraser.specs.declared.replaying.Ended.{Ended}
 
 -- what is known of reports of a text, and of those of them that are left
@@ -116,3 +122,27 @@ pub counts-none : (has_order : Bool) (found : Reports) (ending : Ending) (count 
     → IfOk result (λ ended. (ended.ending ≡ ending) × (ended.unordered ≡ count)) → IfOk result (λ ended. ended.unordered ≡ 0)
 counts-none has_order found ending count (Err why) none counted same = tt
 counts-none has_order found ending count (Ok ended) none counted (same, same_count) = same_count ∙ counted ∙ uncounted has_order found.unordered none
+
+-- neither has failed if only the file of rules is missing
+pub unfailed-behind : (P : Type 0) (read write : Bool) (result : Result Ended Fault) → (read ≡ false) × (write ≡ false) → IfErr result (λ why. (why ≡ fault.WriteRules) × P) → FailsBy read write result
+unfailed-behind P read write (Ok ended) unfailed is = unfailed
+unfailed-behind P read write (Err why) unfailed (is, some) = subst (λ (w : Fault). FailsFor read write w) (sym is) unfailed
+
+-- before a byte is written
+pub failed-before : (X : Type 0) (read write : Bool) (why : RunFault) → RunFailsBy {X = X} read false (Err why) → write ≡ false → FailsFor read write (replay_fault why)
+failed-before X read write why failed unfailed = subst (λ (w : Bool). FailsFor read w (replay_fault why)) (sym unfailed) (by_case why failed)
+  where
+    by_case : (why : RunFault) → RunFailsBy {X = X} read false (Err why) → FailsFor read false (replay_fault why)
+    by_case (running.Read (reading.Text f)) failed = failed
+    by_case (running.Read reading.Memory) failed = failed
+    by_case (running.Read reading.Read) failed = failed
+    by_case (running.Write writing.Memory) failed = failed
+    by_case (running.Write writing.Write) (read, none) = cc
+    by_case (running.Replay replaying.Memory) failed = failed
+    by_case (running.Replay replaying.TableFull) failed = failed
+    by_case (running.Replay replaying.WorkerNotStarted) failed = failed
+    by_case (running.Replay replaying.WorkerLost) failed = failed
+    by_case running.CountFull failed = failed
+    by_case running.ThreadsFull failed = failed
+    by_case running.Memory failed = failed
+    by_case (running.Damaged damage) failed = failed
