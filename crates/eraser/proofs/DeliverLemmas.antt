@@ -1,27 +1,34 @@
 -- What was delivered is what was asked for.
-use Rattle.std.proofs.Common.{◌≡◌, ◌-◌, ◌∙◌, ℕ, Bool, is_some, List, [], length, Option, None, IsSome, IfOk, IfErr, Result, Ok, Err, refl, sym, subst}
+use Rattle.std.proofs.Common.{◌≡◌, ◌-◌, ◌∙◌, ℕ, Bool, true, false, cond, is_some, List, [], length, Option, Some, None, IsSome, IfOk, IfErr, Result, Ok, Err, refl, sym, subst}
 use Rattle.std.specs.Io.KnownBytes.{Appends, Keeps}
 use Rattle.er_exit.specs.declared.faults.Fault.{Fault}
 use Rattle.er_exit.specs.declared.faults.Fault.TheVariants as fault
 use Rattle.er_forms.specs.Forms.{IsForm}
 use Rattle.er_html.specs.declared.excerpts.Excerpt.{Excerpt}
+use Rattle.er_parallel.specs.declared.faults.ReplayFault.TheVariants as replaying
 use Rattle.er_places.specs.Places.{PlaceTable}
 use Rattle.er_print.specs.Written.{WritesReport}
 use Rattle.er_print.specs.declared.fault.WriteFault.{WriteFault}
 use Rattle.er_print.specs.declared.fault.WriteFault.TheVariants as writing
 use Rattle.er_report.specs.Reports.{asks_locks, asks_order}
+use Rattle.er_report.specs.declared.report.Report.{Report}
 use Rattle.er_report.specs.declared.reports.Reports.{Reports}
 use Rattle.er_request.specs.declared.request.Replay.{Replay}
 use Rattle.er_rules.specs.Rules.{Target}
+use Rattle.er_run.specs.Faults.{FailsBy as RunFailsBy}
 use Rattle.er_run.specs.Reports.{AreReportsOfText, IsOrderOfText, is_verdict_of}
+use Rattle.er_run.specs.declared.fault.RunFault.{RunFault}
+use Rattle.er_run.specs.declared.fault.RunFault.TheVariants as running
 use Rattle.er_text.specs.Ending.{IsEndingOf}
 use Rattle.er_text.specs.declared.endings.Ending.{Ending}
+use Rattle.er_text.specs.declared.faults.ReadFault.TheVariants as reading
 use Rattle.er_trace.specs.Names.{NameTable}
 use Rattle.er_triage.specs.First.{KeepFirst}
 use Rattle.er_triage.specs.Known.{lines_of}
 use Rattle.er_triage.specs.Notes.{notes_text}
+use Rattle.eraser.specs.Faults.{replay_fault}
 use Rattle.eraser.specs.Inner.Writes.{WritesSome}
-use Rattle.eraser.specs.Replays.{AreShown, EndsAs, FailsAs, IsOutput, MayHavePlaces, unordered_of, verdict_status}
+use Rattle.eraser.specs.Replays.{AreShown, EndsAs, FailsAs, FailsBy, FailsFor, IsOutput, MayHavePlaces, races_in, unordered_of, verdict_status}
 use Rattle.eraser.specs.declared.replaying.Ended.{Ended}
 
 -- what is known of reports of a text, and of those of them that are left
@@ -104,3 +111,38 @@ pub no-memory : {A E X : Type 0} (old new : Option (List ℕ)) (text : Result A 
     → ((bytes : List ℕ) → IfOk text (λ t. items t ≡ bytes) → WritesReport old new bytes result) → Keeps old new
 no-memory old new (Ok t) items result is wrote = rw is at (wrote (items t) refl)
 no-memory old new (Err e) items result is wrote = rw is at (wrote [] tt)
+
+-- nothing is counted without a report by happens-before
+uncounted : (has_order : Bool) (o : Option Report) → is_some o ≡ false → cond has_order 0 (races_in o) ≡ 0
+uncounted true o none = refl
+uncounted false None none = refl
+uncounted false (Some report) none = cc
+
+pub counts-none : (has_order : Bool) (found : Reports) (ending : Ending) (count : ℕ) (result : Result Ended Fault) → is_some found.unordered ≡ false → count ≡ unordered_of has_order found
+    → IfOk result (λ ended. (ended.ending ≡ ending) × (ended.unordered ≡ count)) → IfOk result (λ ended. ended.unordered ≡ 0)
+counts-none has_order found ending count (Err why) none counted same = tt
+counts-none has_order found ending count (Ok ended) none counted (same, same_count) = same_count ∙ counted ∙ uncounted has_order found.unordered none
+
+-- neither has failed if only the file of rules is missing
+pub unfailed-behind : (P : Type 0) (read write : Bool) (result : Result Ended Fault) → (read ≡ false) × (write ≡ false) → IfErr result (λ why. (why ≡ fault.WriteRules) × P) → FailsBy read write result
+unfailed-behind P read write (Ok ended) unfailed is = unfailed
+unfailed-behind P read write (Err why) unfailed (is, some) = subst (λ (w : Fault). FailsFor read write w) (sym is) unfailed
+
+-- before a byte is written
+pub failed-before : (X : Type 0) (read write : Bool) (why : RunFault) → RunFailsBy {X = X} read false (Err why) → write ≡ false → FailsFor read write (replay_fault why)
+failed-before X read write why failed unfailed = subst (λ (w : Bool). FailsFor read w (replay_fault why)) (sym unfailed) (by_case why failed)
+  where
+    by_case : (why : RunFault) → RunFailsBy {X = X} read false (Err why) → FailsFor read false (replay_fault why)
+    by_case (running.Read (reading.Text f)) failed = failed
+    by_case (running.Read reading.Memory) failed = failed
+    by_case (running.Read reading.Read) failed = failed
+    by_case (running.Write writing.Memory) failed = failed
+    by_case (running.Write writing.Write) (read, none) = cc
+    by_case (running.Replay replaying.Memory) failed = failed
+    by_case (running.Replay replaying.TableFull) failed = failed
+    by_case (running.Replay replaying.WorkerNotStarted) failed = failed
+    by_case (running.Replay replaying.WorkerLost) failed = failed
+    by_case running.CountFull failed = failed
+    by_case running.ThreadsFull failed = failed
+    by_case running.Memory failed = failed
+    by_case (running.Damaged damage) failed = failed

@@ -65,7 +65,8 @@ HasNoPlace table = (line : ℕ) → place_at table line ≡ None
 abbrev pub ArePlacesIn : {F : Type 0} → (F → Option (List ℕ)) → ℕ → Reports → PlaceTable → Type 0
 ArePlacesIn {F = F} remaining limit reports table = (file : F) × IfSome (remaining file) (λ text. ArePlaces (are_asked reports) text limit table)
 
--- so it is, if places are shown; or none is known
+-- so it is, if places are shown; or none is known. Of the standard input none is. Of a real file this shows nothing but that the places, if there are some,
+-- are those of what some file has: not that the trace was read again, nor that it was this file
 abbrev pub MayHavePlaces : {F : Type 0} → (F → Option (List ℕ)) → Replay → Reports → PlaceTable → Type 0
 MayHavePlaces remaining replay reports table = HasNoPlace table ⊎ ((shows_places replay ≡ true) × ArePlacesIn remaining replay.byte_limit reports table)
 
@@ -124,6 +125,17 @@ FailsAs remaining replay text rules old new fault.WriteRules = IsSome replay.wri
 FailsAs remaining replay text rules old new fault.Memory = Keeps old new
 FailsAs remaining replay text rules old new other = IsFoundFault replay text other × Keeps old new
 
+-- the reader has failed exactly if this is a failed read, and the output exactly if it is a failed write
+abbrev pub FailsFor : Bool → Bool → Fault → Type 0
+FailsFor read written fault.Read = (read ≡ true) × (written ≡ false)
+FailsFor read written fault.Write = (read ≡ false) × (written ≡ true)
+FailsFor read written other = (read ≡ false) × (written ≡ false)
+
+-- so it is of a fault, and without one neither has failed
+abbrev pub FailsBy : {X : Type 0} → Bool → Bool → Result X Fault → Type 0
+FailsBy read written (Ok x) = (read ≡ false) × (written ≡ false)
+FailsBy read written (Err why) = FailsFor read written why
+
 -- by these options a replay is run as it is asked for
 pub record AreOptionsOf (replay : Replay) (options : Options) : Type 0 where
   pub bytes : options.byte_limit ≡ replay.byte_limit
@@ -151,29 +163,31 @@ LeavesUsually text old new fault.Write = IsBegun text usual_limit [] false old n
 LeavesUsually text old new other = Keeps old new
 
 -- before its notes or its fault are written: the whole report of the text, or why there is none
-abbrev pub EndsUsually : List ℕ → Option (List ℕ) → Option (List ℕ) → Result Ended Cut → Type 0
-EndsUsually text old new (Ok ended) = ReplaysTo text old new ended.status × (IsEndingOf text ended.ending × ((ended.unordered ≡ 0) × (ended.notes.items ≡ [])))
-EndsUsually text old new (Err cut) = IsUsualFault text cut.fault × (LeavesUsually text old new cut.fault × ((cut.notes.items ≡ []) × (cut.damage ≡ None)))
+abbrev pub EndsUsually : List ℕ → Bool → Bool → Option (List ℕ) → Option (List ℕ) → Result Ended Cut → Type 0
+EndsUsually text read written old new (Ok ended) = ((read ≡ false) × (written ≡ false)) × (ReplaysTo text old new ended.status × (IsEndingOf text ended.ending × ((ended.unordered ≡ 0) × (ended.notes.items ≡ []))))
+EndsUsually text read written old new (Err cut) = FailsFor read written cut.fault × (IsUsualFault text cut.fault × (LeavesUsually text old new cut.fault × ((cut.notes.items ≡ []) × (cut.damage ≡ None))))
 
 -- the errors got the notes on the text alone
 abbrev pub GetsNotesOn : Bool → List ℕ → Option (List ℕ) → Option (List ℕ) → Bool → Type 0
 GetsNotesOn people text old new failed = (ending : Ending) × IsEndingOf text ending × AddsNotesOn people ending 0 [] old new failed
 
 -- it has reported: the output got the whole report and the errors the notes on the text; the status says whether the report has a race (1), or stops for
--- want of room as it says itself (3)
-pub record HasReported (people : Bool) (text : List ℕ) (old new : Option (List ℕ)) (errors_old errors_new : Option (List ℕ)) (failed : Bool) (status : ℕ) : Type 0 where
+-- want of room as it says itself (3); neither the input nor the output has failed
+pub record HasReported (people : Bool) (text : List ℕ) (read written : Bool) (old new : Option (List ℕ)) (errors_old errors_new : Option (List ℕ)) (failed : Bool) (status : ℕ) : Type 0 where
+  pub unfailed : (read ≡ false) × (written ≡ false)
   pub report : ReplaysTo text old new status
   pub notes : GetsNotesOn people text errors_old errors_new failed
 
--- it has a fault, whose status it ends with; unless it is for people the errors got the line of the fault alone
-pub record HasFailed (people : Bool) (text : List ℕ) (old new : Option (List ℕ)) (errors_old errors_new : Option (List ℕ)) (failed : Bool) (status : ℕ) : Type 0 where
+-- it has a fault, whose status it ends with, and the input or the output has failed if and only if the fault says so; unless it is for people the errors got the line of the fault alone
+pub record HasFailed (people : Bool) (text : List ℕ) (read written : Bool) (old new : Option (List ℕ)) (errors_old errors_new : Option (List ℕ)) (failed : Bool) (status : ℕ) : Type 0 where
   pub why : Fault
   pub cause : IsUsualFault text why
+  pub device : FailsFor read written why
   pub ends : status ≡ fault_status why
   pub output : LeavesUsually text old new why
   pub line : people ≡ false → GetsLine errors_old errors_new (fault_line why) failed
 
 -- what it leaves on the output and the errors, and its exit status
-abbrev pub ComesTo : Bool → List ℕ → Option (List ℕ) → Option (List ℕ) → Option (List ℕ) → Option (List ℕ) → Bool → ℕ → Type 0
-ComesTo people text old new errors_old errors_new failed status =
-    HasReported people text old new errors_old errors_new failed status ⊎ HasFailed people text old new errors_old errors_new failed status
+abbrev pub ComesTo : Bool → List ℕ → Bool → Bool → Option (List ℕ) → Option (List ℕ) → Option (List ℕ) → Option (List ℕ) → Bool → ℕ → Type 0
+ComesTo people text read written old new errors_old errors_new failed status =
+    HasReported people text read written old new errors_old errors_new failed status ⊎ HasFailed people text read written old new errors_old errors_new failed status

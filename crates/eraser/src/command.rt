@@ -1,9 +1,11 @@
 //! One command line, run over a reader and its writers.
-ghost use Rattle.std.specs.Prelude.{◌≡◌, ◌≢◌, ◌≤◌, ◌||◌, ℕ, List, Option, [], false, true, None, codes, IfOk, IfErr, IfSome};
+ghost use Rattle.std.specs.Prelude.{◌≡◌, ◌≢◌, ◌≤◌, ◌||◌, ℕ, Bool, List, Option, [], false, true, None, codes, IfOk, IfErr, IfSome};
 ghost use Rattle.std.specs.Io.KnownBytes.{Keeps};
 ghost use Rattle.er_device.specs.Device.{inner_of, has_failed};
 ghost use Rattle.er_exit.specs.Writes.{LeavesOutput};
 ghost use Rattle.er_request.specs.Words.{IsUsual, asks_hints, asks_progress, asks_until_fault, asks_usual, names_hints, names_progress, names_until_fault, replays_input};
+ghost use Rattle.er_report.specs.Reports.{asks_order};
+ghost use Rattle.er_text.specs.Ending.{IsEndingOf};
 ghost use Rattle.er_triage.specs.Notes.{AreNotes};
 ghost use Rattle.eraser.specs.Notes.{AddsNotesOn, GetsNotes, GetsTextNotes, IsSilent};
 ghost use Rattle.eraser.specs.Replays.{AreOptionsOf, ComesTo, EndsAs, EndsUsually, FailsAs};
@@ -55,9 +57,9 @@ where
     ensures status { result ≤ 4 }
 
     // `replay -` has written the report that the definitions give of the input's text, and its status says whether the report has a race or
-    // stops for want of room. Or there is a fault: 2 is the text's first one, 3 a want of memory, and 4 a failed read or write. Then the output
-    // has nothing, or a beginning of the report if a write failed.
-    ensures usual { replays_input words.now ≡ true → IfSome (I.remaining (inner_of input.old)) (λ text. ComesTo on_terminal text (O.contents (inner_of output.old)) (O.contents (inner_of output.new)) (E.contents (inner_of errors.old)) (E.contents (inner_of errors.new)) (has_failed errors.new) result) }
+    // stops for want of room. Or there is a fault: 2 is the text's first one, 3 a want of memory, and 4 a failed read or write, which is told
+    // exactly if the input or the output has failed. Then the output has nothing, or a beginning of the report if a write failed.
+    ensures usual { replays_input words.now ≡ true → IfSome (I.remaining (inner_of input.old)) (λ text. ComesTo on_terminal text (has_failed input.new) (has_failed output.new) (O.contents (inner_of output.old)) (O.contents (inner_of output.new)) (E.contents (inner_of errors.old)) (E.contents (inner_of errors.new)) (has_failed errors.new) result) }
 
     // With a result nothing goes to the errors but the notes that were asked for and those on the text, and with wrong arguments or a
     // faulty text nothing to the output, unless a word asks for the steps before the fault. `progress` is a device of its own: `quiet`
@@ -97,7 +99,7 @@ where
     requires output { has_failed output.old ≡ false }
     requires errors { has_failed errors.old ≡ false }
     ensures status { result ≤ 4 }
-    ensures usual { asks_usual request.entry → IfSome (I.remaining (inner_of input.old)) (λ text. ComesTo on_terminal text (O.contents (inner_of output.old)) (O.contents (inner_of output.new)) (E.contents (inner_of errors.old)) (E.contents (inner_of errors.new)) (has_failed errors.new) result) }
+    ensures usual { asks_usual request.entry → IfSome (I.remaining (inner_of input.old)) (λ text. ComesTo on_terminal text (has_failed input.new) (has_failed output.new) (O.contents (inner_of output.old)) (O.contents (inner_of output.new)) (E.contents (inner_of errors.old)) (E.contents (inner_of errors.new)) (has_failed errors.new) result) }
     ensures quiet { result ≤ 1 → GetsNotes (asks_hints request.entry || on_terminal) (E.contents (inner_of errors.old)) (E.contents (inner_of errors.new)) (has_failed errors.new) }
     ensures silent { result ≤ 1 → IsSilent request.entry (asks_hints request.entry || on_terminal) (E.contents (inner_of errors.old)) (E.contents (inner_of errors.new)) (has_failed errors.new) }
     ensures refused { asks_until_fault request.entry ≡ false → result ≡ 2 → Keeps (O.contents (inner_of output.old)) (O.contents (inner_of output.new)) }
@@ -147,9 +149,11 @@ where
     requires output { has_failed output.old ≡ false }
     ensures status { IfOk result (λ ended. ended.status ≤ 4) }
     ensures not_two { IfOk result (λ ended. ended.status ≢ 2) }
-    ensures usual { IsUsual replay.now → IfSome (I.remaining (inner_of input.old)) (λ text. EndsUsually text (O.contents (inner_of output.old)) (O.contents (inner_of output.new)) result) }
+    ensures usual { IsUsual replay.now → IfSome (I.remaining (inner_of input.old)) (λ text. EndsUsually text (has_failed input.new) (has_failed output.new) (O.contents (inner_of output.old)) (O.contents (inner_of output.new)) result) }
     ensures notes { IfOk result (λ ended. AreNotes ended.notes.items) }
     ensures silent { replay.now.unused_rules ≡ false → replay.now.max_races ≡ None → IfOk result (λ ended. ended.notes.items ≡ []) }
+    ensures text { replay.now.trace.now ≡ codes "-" → IfOk result (λ ended. IfSome (I.remaining (inner_of input.old)) (λ text. IsEndingOf text ended.ending)) }
+    ensures locks { asks_order replay.now.analysis ≡ false → IfOk result (λ ended. ended.unordered ≡ 0) }
     ensures ends { replay.now.trace.now ≡ codes "-" → replay.now.suppressions.items ≡ [] → IfOk result (λ ended. IfSome (I.remaining (inner_of input.old)) (λ text. EndsAs R.File.remaining replay.now text [] (O.contents (inner_of output.old)) (O.contents (inner_of output.new)) ended)) }
     ensures fails { replay.now.trace.now ≡ codes "-" → replay.now.suppressions.items ≡ [] → replay.now.until_fault ≡ false → IfErr result (λ cut. IfSome (I.remaining (inner_of input.old)) (λ text. FailsAs R.File.remaining replay.now text [] (O.contents (inner_of output.old)) (O.contents (inner_of output.new)) cut.fault)) }
     ensures nothing { replay.now.until_fault ≡ false → IfErr result (λ cut. LeavesOutput (O.contents (inner_of output.old)) (O.contents (inner_of output.new)) cut.fault) }
@@ -190,7 +194,7 @@ where
     requires errors { has_failed errors.old ≡ false }
     requires notes { IfOk replayed (λ ended. AreNotes ended.notes.items) }
     ensures status { IfOk replayed (λ ended. ended.status ≤ 4) → result ≤ 4 }
-    ensures usual { (text : List ℕ) (old new : Option (List ℕ)) → EndsUsually text old new replayed → ComesTo replay.now.hints text old new (E.contents (inner_of errors.old)) (E.contents (inner_of errors.new)) (has_failed errors.new) result }
+    ensures usual { (text : List ℕ) (read written : Bool) (old new : Option (List ℕ)) → EndsUsually text read written old new replayed → ComesTo replay.now.hints text read written old new (E.contents (inner_of errors.old)) (E.contents (inner_of errors.new)) (has_failed errors.new) result }
     ensures quiet { result ≤ 1 → GetsNotes replay.now.hints (E.contents (inner_of errors.old)) (E.contents (inner_of errors.new)) (has_failed errors.new) }
     ensures silent { IfOk replayed (λ ended. ended.notes.items ≡ []) → result ≤ 1 → GetsTextNotes replay.now.hints (E.contents (inner_of errors.old)) (E.contents (inner_of errors.new)) (has_failed errors.new) }
     ensures refused { (old new : Option (List ℕ)) → IfOk replayed (λ ended. ended.status ≢ 2) → IfErr replayed (λ cut. LeavesOutput old new cut.fault) → result ≡ 2 → Keeps old new }

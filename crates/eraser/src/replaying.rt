@@ -9,7 +9,7 @@ ghost use Rattle.er_run.specs.Reports.{AreReportsOfText, IsOrderOfText, is_verdi
 ghost use Rattle.er_text.specs.Ending.{IsEndingOf};
 ghost use Rattle.er_triage.specs.Notes.{AreNotes};
 ghost use Rattle.eraser.specs.Inner.Writes.{WritesSome};
-ghost use Rattle.eraser.specs.Replays.{AreOptionsOf, AreShown, EndsAs, FailsAs, unordered_of, verdict_status};
+ghost use Rattle.eraser.specs.Replays.{AreOptionsOf, AreShown, EndsAs, FailsAs, FailsBy, unordered_of, verdict_status};
 
 use crate::faults::fault_of;
 use crate::places::places_of;
@@ -73,9 +73,12 @@ where
     ensures status { IfOk result (λ ended. (ended.status ≤ 4) × (ended.status ≢ 2)) }
     ensures notes { IfOk result (λ ended. AreNotes ended.notes.items) }
     ensures silent { job.entry.replay.now.unused_rules ≡ false → job.entry.replay.now.max_races ≡ None → IfOk result (λ ended. ended.notes.items ≡ []) }
+    ensures text { IfOk result (λ ended. IfSome (D.remaining (inner_of source.old)) (λ text. IsEndingOf text ended.ending)) }
+    ensures locks { asks_order job.entry.replay.now.analysis ≡ false → IfOk result (λ ended. ended.unordered ≡ 0) }
     ensures ends { AreOptionsOf job.entry.replay.now job.entry.options.now → IfOk result (λ ended. IfSome (D.remaining (inner_of source.old)) (λ text. EndsAs R.File.remaining job.entry.replay.now text (targets_of job.entry.suppressions.now) (O.contents (inner_of output.old)) (O.contents (inner_of output.new)) ended)) }
     ensures fails { AreOptionsOf job.entry.replay.now job.entry.options.now → IfErr result (λ why. IfSome (D.remaining (inner_of source.old)) (λ text. FailsAs R.File.remaining job.entry.replay.now text (targets_of job.entry.suppressions.now) (O.contents (inner_of output.old)) (O.contents (inner_of output.new)) why)) }
     ensures nothing { IfErr result (LeavesOutput (O.contents (inner_of output.old)) (O.contents (inner_of output.new))) }
+    ensures failed { FailsBy (has_failed source.new) (has_failed output.new) result }
 {
     match replay_reports(
         rt,
@@ -122,11 +125,14 @@ where
     ensures status { IfOk result (λ ended. (ended.status ≤ 4) × (ended.status ≢ 2)) }
     ensures notes { IfOk result (λ ended. AreNotes ended.notes.items) }
     ensures silent { job.entry.replay.now.unused_rules ≡ false → job.entry.replay.now.max_races ≡ None → IfOk result (λ ended. ended.notes.items ≡ []) }
+    ensures text { IfOk result (λ ended. ended.ending ≡ ending) }
+    ensures locks { asks_order job.entry.replay.now.analysis ≡ false → IfOk result (λ ended. ended.unordered ≡ 0) }
     ensures ends { AreOptionsOf job.entry.replay.now job.entry.options.now → (text : List ℕ) → AreReportsOfText job.entry.replay.now.analysis text job.entry.replay.now.byte_limit (targets_of job.entry.suppressions.now) job.entry.replay.now.explain names.now reports
         → IsEndingOf text ending → IsOrderOfText job.entry.replay.now.analysis text job.entry.replay.now.byte_limit has_order → IfOk result (EndsAs R.File.remaining job.entry.replay.now text (targets_of job.entry.suppressions.now) (O.contents (inner_of output.old)) (O.contents (inner_of output.new))) }
     ensures fails { AreOptionsOf job.entry.replay.now job.entry.options.now → (text : List ℕ) → AreReportsOfText job.entry.replay.now.analysis text job.entry.replay.now.byte_limit (targets_of job.entry.suppressions.now) job.entry.replay.now.explain names.now reports
         → IfErr result (FailsAs R.File.remaining job.entry.replay.now text (targets_of job.entry.suppressions.now) (O.contents (inner_of output.old)) (O.contents (inner_of output.new))) }
     ensures nothing { IfErr result (LeavesOutput (O.contents (inner_of output.old)) (O.contents (inner_of output.new))) }
+    ensures failed { FailsBy false (has_failed output.new) result }
 {
     let unordered = unordered_of(&reports, has_order);
     let wishes = wishes_of(job.replay);
@@ -178,6 +184,7 @@ where
     requires output { has_failed output.old ≡ false }
     requires named { HaveNames names.now reports.now }
     ensures nothing { IfErr result (LeavesOutput (O.contents (inner_of output.old)) (O.contents (inner_of output.new))) }
+    ensures failed { FailsBy false (has_failed output.new) result }
     ensures shown { AreOptionsOf job.entry.replay.now job.entry.options.now → WritesSome (AreShown R.File.remaining job.entry.replay.now names.now (targets_of job.entry.suppressions.now) reports.now) (O.contents (inner_of output.old)) (O.contents (inner_of output.new)) result }
 {
     let excerpts = excerpts_of(rt, job.replay.source, reports, names)?;

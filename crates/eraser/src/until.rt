@@ -7,9 +7,11 @@ ghost use Rattle.er_device.specs.Device.{inner_of, has_failed};
 ghost use Rattle.er_exit.specs.Statuses.{fault_status};
 ghost use Rattle.er_exit.specs.Lines.{fault_line};
 ghost use Rattle.er_exit.specs.Writes.{GetsLine, LeavesOutput};
+ghost use Rattle.er_report.specs.Reports.{asks_order};
 ghost use Rattle.er_rules.specs.Rules.{targets_of};
+ghost use Rattle.er_text.specs.Ending.{IsEndingOf};
 ghost use Rattle.er_triage.specs.Notes.{AreNotes};
-ghost use Rattle.eraser.specs.Replays.{AreOptionsOf, EndsAs, FailsAs};
+ghost use Rattle.eraser.specs.Replays.{AreOptionsOf, EndsAs, FailsAs, FailsFor};
 
 use crate::advice::report_replay_fault;
 use crate::notes::notes_of;
@@ -101,8 +103,12 @@ where
     ensures status { IfOk result (λ ended. (ended.status ≤ 4) × (ended.status ≢ 2)) }
     ensures notes { IfOk result (λ ended. AreNotes ended.notes.items) }
     ensures silent { job.entry.replay.now.unused_rules ≡ false → job.entry.replay.now.max_races ≡ None → IfOk result (λ ended. ended.notes.items ≡ []) }
+    ensures text { job.entry.replay.now.trace.now ≡ codes "-" → IfOk result (λ ended. IfSome (I.remaining (inner_of input.old)) (λ text. IsEndingOf text ended.ending)) }
+    ensures locks { asks_order job.entry.replay.now.analysis ≡ false → IfOk result (λ ended. ended.unordered ≡ 0) }
     ensures ends { job.entry.replay.now.trace.now ≡ codes "-" → AreOptionsOf job.entry.replay.now job.entry.options.now → IfOk result (λ ended. IfSome (I.remaining (inner_of input.old)) (λ text. EndsAs R.File.remaining job.entry.replay.now text (targets_of job.entry.suppressions.now) (O.contents (inner_of output.old)) (O.contents (inner_of output.new)) ended)) }
     ensures fails { job.entry.replay.now.trace.now ≡ codes "-" → job.entry.replay.now.until_fault ≡ false → AreOptionsOf job.entry.replay.now job.entry.options.now → IfErr result (λ cut. IfSome (I.remaining (inner_of input.old)) (λ text. FailsAs R.File.remaining job.entry.replay.now text (targets_of job.entry.suppressions.now) (O.contents (inner_of output.old)) (O.contents (inner_of output.new)) cut.fault)) }
+    ensures unfailed { job.entry.replay.now.trace.now ≡ codes "-" → job.entry.replay.now.until_fault ≡ false → IfOk result (λ ended. (has_failed input.new ≡ false) × (has_failed output.new ≡ false)) }
+    ensures failed { job.entry.replay.now.trace.now ≡ codes "-" → job.entry.replay.now.until_fault ≡ false → IfErr result (λ cut. FailsFor (has_failed input.new) (has_failed output.new) cut.fault) }
     ensures alone { job.entry.replay.now.until_fault ≡ false → IfErr result (λ cut. (cut.notes.items ≡ []) × (cut.damage ≡ None)) }
     ensures nothing { job.entry.replay.now.until_fault ≡ false → IfErr result (λ cut. LeavesOutput (O.contents (inner_of output.old)) (O.contents (inner_of output.new)) cut.fault) }
 {
@@ -152,6 +158,8 @@ where
     ensures status { IfOk result (λ ended. (ended.status ≤ 4) × (ended.status ≢ 2)) }
     ensures notes { IfOk result (λ ended. AreNotes ended.notes.items) }
     ensures silent { job.entry.replay.now.unused_rules ≡ false → job.entry.replay.now.max_races ≡ None → IfOk result (λ ended. ended.notes.items ≡ []) }
+    ensures text { IfOk result (λ ended. IfSome (D.remaining (inner_of source.old)) (λ text. IsEndingOf text ended.ending)) }
+    ensures locks { asks_order job.entry.replay.now.analysis ≡ false → IfOk result (λ ended. ended.unordered ≡ 0) }
     ensures ends { AreOptionsOf job.entry.replay.now job.entry.options.now → IfOk result (λ ended. IfSome (D.remaining (inner_of source.old)) (λ text. EndsAs R.File.remaining job.entry.replay.now text (targets_of job.entry.suppressions.now) (O.contents (inner_of output.old)) (O.contents (inner_of output.new)) ended)) }
 {
     let mut keeping = Device::new(Keeping::new(rt.alloc(), source));

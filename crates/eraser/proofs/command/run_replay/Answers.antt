@@ -1,6 +1,6 @@
 -- The options are those that are asked for, and without files of suppressions there are no rules.
 use Rattle.std.proofs.Common.{◌∙◌}
-use Rattle.er_device.specs.Device.{inner_of}
+use Rattle.er_device.specs.Device.{has_failed, inner_of}
 use Rattle.er_rules.specs.Rules.{targets_of}
 use Rattle.eraser.proofs.EndLemmas.{usually}
 use Rattle.eraser.proofs.command.run_replay.Goals as goal
@@ -8,6 +8,7 @@ use Rattle.eraser.proofs.command.run_replay.Goals as goal
 pub returns-clause-usual : goal.returns-clause-usual
 returns-clause-usual g c usual =
     usually g.R.File.Read.remaining c.args.replay.now (g.I.Read.remaining (inner_of c.args.input.now)) (g.O.Write.contents (inner_of c.args.output.now))
-    (g.O.Write.contents (inner_of c.replay_trace-2.new.output)) (targets_of c.in-Ok.suppressions) c.replay_trace-2.result usual (c.in-Ok.ensures.none (c.deref.ensures.value ∙ usual.suppressions))
+    (g.O.Write.contents (inner_of c.replay_trace-2.new.output)) (has_failed c.replay_trace-2.new.input) (has_failed c.replay_trace-2.new.output) (targets_of c.in-Ok.suppressions) c.replay_trace-2.result usual (c.in-Ok.ensures.none (c.deref.ensures.value ∙ usual.suppressions))
     (c.replay_trace-2.ensures.ends usual.input c.options_of-options.ensures) (c.replay_trace-2.ensures.fails usual.input usual.until_fault c.options_of-options.ensures)
     (c.replay_trace-2.ensures.silent usual.unused_rules usual.max_races) (c.replay_trace-2.ensures.alone usual.until_fault)
+    (c.replay_trace-2.ensures.unfailed usual.input usual.until_fault) (c.replay_trace-2.ensures.failed usual.input usual.until_fault)

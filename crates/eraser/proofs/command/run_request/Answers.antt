@@ -10,9 +10,9 @@ use Rattle.eraser.proofs.command.run_request.Goals as goal
 pub returns-in-Replay-clause-usual : goal.returns-in-Replay-clause-usual
 returns-in-Replay-clause-usual g c = rw c.in-Replay.is (λ (usual, quiet).
     for-text (g.I.Read.remaining (inner_of c.args.input.now))
-    (λ text ends. subst (λ people. ComesTo people text (g.O.Write.contents (inner_of c.args.output.now)) (g.O.Write.contents (inner_of c.run_replay-replayed.new.output))
+    (λ text ends. subst (λ people. ComesTo people text (has_failed c.run_replay-replayed.new.input) (has_failed c.run_replay-replayed.new.output) (g.O.Write.contents (inner_of c.args.output.now)) (g.O.Write.contents (inner_of c.run_replay-replayed.new.output))
     (g.E.Write.contents (inner_of c.args.errors.now)) (g.E.Write.contents (inner_of c.end_replay-status.new.errors)) (has_failed c.end_replay-status.new.errors) c.end_replay-status.result)
-    (c.with_hints-asked.ensures.hints ∙ rw quiet refl) (c.end_replay-status.ensures.usual text _ _ ends))
+    (c.with_hints-asked.ensures.hints ∙ rw quiet refl) (c.end_replay-status.ensures.usual text _ _ _ _ ends))
     (c.run_replay-replayed.ensures.usual (c.with_hints-asked.ensures.usual usual)))
 
 pub returns-in-Replay-clause-quiet : goal.returns-in-Replay-clause-quiet
