@@ -37,6 +37,8 @@ BYTES_FOR_A_BYTE, BYTES_BY_ORDER, BYTES_BESIDE = 400, 200, 32 << 20
 LONGER, MOST_TIMES = 4, 5.5
 # If half of these reads were kept, they would take more than this memory.
 TURNS, BYTES_OF_TURNS = 1_000_000, 16 << 20
+# If several workers kept these reuses as steps, they would take more than this memory, which is far more than the stacks of their threads.
+REUSES, BYTES_OF_REUSES = 40_000, 1 << 30
 # Lines that no reason names.
 SEEN_ONCE = 20_000
 # What is replayed of each kind: how many there are in the shorter text, and by which options.
@@ -151,6 +153,17 @@ def turns(record):
             record(f"hostile: two of many readers in turn {' '.join(options)}", found == (wanted, b"", 0), f"{found}"[:300])
 
 
+def long_reuses(record):
+    """A line of 20 bytes is 1,025 steps: several workers keep no more of such steps at a time than one worker, whatever the text's length."""
+    wanted = b"steps %d, races 0, suppressed 0, refused 0\n" % (1 + 1025 * REUSES)
+    with tempfile.NamedTemporaryFile() as trace:
+        trace.write(b"eraser trace 1\nt1 write 4\n" + b"t1 reuse 4 4194304\n" * REUSES)
+        trace.flush()
+        for workers in ("1", "2", "4"):
+            found = run(["--workers", workers, trace.name], preexec_fn=functools.partial(resource.setrlimit, resource.RLIMIT_AS, (BYTES_OF_REUSES, BYTES_OF_REUSES)))
+            record(f"hostile: long reuses, {workers} workers", found == (wanted, b"", 0), f"{found}"[:300])
+
+
 def second_looks(record):
     """What a file takes beside the same text on standard input, which is read once, with the race's second access in front or at the end."""
     first, second, rest = b"t1 write 0x1000 a.c:1\n", b"t2 write 0x1000 a.c:2\n", b"t1 read 0x2000 b.c:1\n" * SEEN_ONCE
@@ -171,6 +184,7 @@ def tests(record, preloaded):
     answers(record, preloaded)
     costs(record)
     turns(record)
+    long_reuses(record)
     second_looks(record)
 
 
