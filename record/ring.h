@@ -9,7 +9,7 @@
 #include <stdatomic.h>
 #include <stdint.h>
 
-#define RING_MAGIC 0x34676e6972617265u /* "eraring4" in memory */
+#define RING_MAGIC 0x35676e6972617265u /* "eraring5" in memory */
 #define RING_BITS 18
 #define RING_SLOTS (1u << RING_BITS)
 #define RING_MASK (RING_SLOTS - 1)
@@ -25,6 +25,8 @@
 
 /* Name of the ring's file, as it stands in /proc/PID/maps with a number behind it, and of the variable by which the program finds it. */
 #define RING_FILE_NAME "eraser-record"
+#define PRESENCE_FILE_NAME "eraser-presence"
+#define PRESENCE_BYTES 4096
 #define RING_VARIABLE "ERASER_RECORD"
 
 enum event_kind {
@@ -37,8 +39,8 @@ enum event_kind {
     EVENT_LOCK_TWICE, /* first: lock that the thread holds and waits for, which lasts for ever; size: enum lock_kind, second: program counter */
     EVENT_LOCK_BEGIN, /* first: lock that begins a new life */
     EVENT_LOCK_END,   /* first: lock whose life ends, second: program counter */
-    EVENT_REUSE,      /* first: address, second: bytes that are put to a new use */
-    EVENT_FREE,       /* first: address, size: bytes that a call gives back, second: program counter of the call */
+    EVENT_REUSE,      /* first: address, size: bytes that are put to a new use, second: program counter of the call that does so, or 0; reuse_size() tells the bytes */
+    EVENT_FREE,       /* the same of a call that ends the lives of locks there */
     EVENT_IGNORE_ON,
     EVENT_IGNORE_OFF,
     EVENT_THREAD,     /* first: the thread's pthread_t */
@@ -62,17 +64,25 @@ enum event_kind {
     EVENT_LOADED,     /* first: atomic, loaded by an operation that doesn't acquire, in a program that has fences */
 };
 
+/* A reuse has addresses below 2^48, so the upper bits of how many bytes it has stand above its address. */
+#define REUSE_BITS 48
+#define REUSE_MASK ((UINT64_C(1) << REUSE_BITS) - 1)
+
 enum lock_kind { LOCK_MUTEX, LOCK_RWLOCK, LOCK_SPIN, LOCK_USER };
 #define LOCK_KINDS 4
 /* The release failed, and whoever held the lock holds it still. */
 #define LOCK_FAILED 4
 
 /* What threads signal and await. */
-enum object_kind { OBJECT_ATOMIC, OBJECT_SEMAPHORE, OBJECT_BARRIER, OBJECT_CONDITION, OBJECT_ONCE, OBJECT_USER, OBJECT_FENCE, OBJECT_EXCEPTION, OBJECT_PIPE };
-#define OBJECT_KINDS 9
+enum object_kind { OBJECT_ATOMIC, OBJECT_SEMAPHORE, OBJECT_BARRIER, OBJECT_CONDITION, OBJECT_ONCE, OBJECT_USER, OBJECT_FENCE, OBJECT_EXCEPTION, OBJECT_PIPE, OBJECT_REGION };
+#define OBJECT_KINDS 10
 
 #define FENCE_ACQUIRES 1
 #define FENCE_RELEASES 2
+
+/* Other files find locks, threads and the like in the C library, and not in the recorder's. Or they find another `free`. */
+#define UNSEEN_LOCKS 1u
+#define UNSEEN_FREES 2u
 
 struct slot {
     _Atomic uint32_t published; /* ring_round() of its ticket once the rest is filled */
@@ -111,14 +121,19 @@ struct ring {
     uint64_t magic;
     uint32_t writer; /* process id */
     uint32_t orders; /* not 0: what orders threads is recorded as well */
+    uint32_t shakes; /* not 0: threads wait at random, as `seed` says */
+    uint64_t seed;
     _Atomic uint32_t stop;       /* the writer takes no more events */
     _Atomic uint32_t owner;      /* process id of the program that is recorded, 0 before there is one */
     _Atomic uint32_t others;     /* programs that found another one recorded already, and got no ring */
     _Atomic uint32_t forks;      /* children that the recorded program forked */
+    uint32_t unseen;             /* what is not recorded of it: UNSEEN_LOCKS, UNSEEN_FREES */
+    uint32_t is_late;            /* the program ran before it was recorded, and may hold locks */
     _Atomic uint32_t threads;    /* numbers given to threads */
     _Atomic uint64_t abandoned;  /* some ticket below this one may never be published */
     char program[RING_NAME_BYTES]; /* the name of the program's file, once there is an owner */
     /* Of the first ring alone. */
+    uint32_t presence;           /* a file of the writer that each recorded program has mapped, and so its forked children */
     _Atomic uint32_t server;     /* process id of who gives out further rings, or 0 */
     _Atomic uint32_t bell;       /* changes if the server has something to look at */
     struct asker askers[RING_ASKERS];
@@ -127,6 +142,11 @@ struct ring {
     _Alignas(128) struct lost_counter lost[LOST_COUNTERS];
     _Alignas(4096) struct slot slots[RING_SLOTS];
 };
+
+static inline uint64_t reuse_size(const struct slot *slot)
+{
+    return (slot->first >> REUSE_BITS) << 32 | slot->size;
+}
 
 /* What a slot's `published` says once the event of this ticket is in it: never 0, and another value in each round through the ring. */
 static inline uint32_t ring_round(uint64_t ticket)

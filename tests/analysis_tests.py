@@ -28,7 +28,7 @@ import order_reference
 import order_tests
 import reference
 from alone import each_failed, each_refused, program, run_alone
-from site_tests import by_site_of_both, by_site_of_order, places_in, preloaded, run_file, sites_in
+from site_tests import by_site_of_both, by_site_of_order, places_in, preloaded, run_file
 
 TOP = pathlib.Path(__file__).resolve().parent.parent
 PROGRAM = program("eraser")
@@ -72,11 +72,13 @@ class Noting(reference.Replay):
 
 
 def takes_race(rule, race):
-    """Whether a rule takes a race: that of a reuse if it is one of words, and has them all."""
+    """Whether a rule takes a race: that of a reuse if it is of its site, or of words and has them all."""
     step = race.marked.step
     if step.verb != "reuse":
         return reference.takes(rule, step.site.encode(), step.words.start)
-    return not isinstance(rule, bytes) and rule[0] <= race.words[0] and race.words[-1] <= rule[1]
+    if isinstance(rule, bytes):
+        return rule == step.site.encode() != b"-"
+    return rule[0] <= race.words[0] and race.words[-1] <= rule[1]
 
 
 def taker_of(rules, race):
@@ -88,7 +90,7 @@ def told_of(race, holds):
     """The line of a race."""
     step, address = race.marked.step, f"0x{race.words.start * 4:012x}"
     if step.verb == "reuse":
-        return f"line {step.line}: unordered: {step.thread} reuse {address} {4 * len(race.words)}"
+        return f"line {step.line}: unordered: {step.thread} reuse {address} {4 * len(race.words)}" + (f" at {step.site}" if step.site != "-" else "")
     return f"line {step.line}: unordered: {step.thread} {step.verb} {address} at {step.site}, holds {holds[step.line]}"
 
 
@@ -203,7 +205,7 @@ def by_sites(record):
     """`--by-site` beside a second reading of docs/FORMATS.md, made from what the other readings say of the text."""
     texts = [(f"random trace {seed}", reference.random_trace(seed), rules) for seed in range(SITE_TRACES) for rules in (None, reference.random_rules(seed))]
     texts += [(f"random list {seed}", order_tests.random_list(seed), None) for seed in range(SITE_TRACES)]
-    texts += [("two headings", TWO_HEADINGS, None), ("order alone", ORDER_ALONE, None), ("order beside", ORDER_BESIDE, None), ("given back", GIVEN_BACK, None)]
+    texts += [("two headings", TWO_HEADINGS, None), ("ordered by a start", STARTED, None), ("order alone", ORDER_ALONE, None), ("order beside", ORDER_BESIDE, None), ("given back", GIVEN_BACK, None), ("given back at sites", FREED, None)]
     kinds = set()
     for name, text, rules in texts:
         title = f"{name}{'' if rules is None else ' with suppressions'}"
@@ -214,8 +216,8 @@ def by_sites(record):
             ordered, ordered_status = unordered_report(text, reference.rules_of(rules or b""), explain=True)
             errors += order_note(text, ordered).encode()
             for is_file, places in ((False, {}), (True, places_in(text))):
-                wanted["happens-before", is_file] = by_site_of_order(ordered, sites_in(text), places).encode(), errors, ordered_status
-                wanted["both", is_file] = by_site_of_both(output, ordered, sites_in(text), places).encode(), errors, max(status, ordered_status)
+                wanted["happens-before", is_file] = by_site_of_order(ordered, text, places).encode(), errors, ordered_status
+                wanted["both", is_file] = by_site_of_both(output, ordered, text, places).encode(), errors, max(status, ordered_status)
             both = wanted["both", False][0]
             kinds.add((b"races in this run: none" in both, b"no common lock: no further site" in both))
         for (analysis, is_file), want in wanted.items():
@@ -226,6 +228,8 @@ def by_sites(record):
     record("both by site: the worked text", found == (TWO_HEADINGS_BY_SITE, b"", 1), f"{found}")
     found = run_file(None, GIVEN_BACK, *BOTH, "--by-site")
     record("both by site: memory that is given back while it is read", found == (GIVEN_BACK_BY_SITE, b"", 1), f"{found}")
+    found = run_file(None, FREED, *HAPPENS_BEFORE, "--by-site")
+    record("happens-before by site: memory that is given back at sites", found == (FREED_BY_SITE, b"", 1), f"{found}")
     place = b"  nothing orders this before it: t1 wrote it (line 2)\n    at count.c:3, holding no lock\n"
     for name, text in (("alone", ORDER_ALONE), ("beside races by locks", ORDER_BESIDE)):
         found = run_file(None, text, *BOTH, "--by-site")
@@ -258,6 +262,10 @@ end
 """
 # The same, beside a word that is reported by both.
 ORDER_BESIDE = ORDER_ALONE.replace(b"t2 lock", b"t1 write 0x1000 flag.c:3\nt2 write 0x1000 flag.c:9\nt2 lock")
+
+
+# No lock in common, and all in order.
+STARTED = b"eraser trace 3\nt1 write 0x1000 a.c:1\nt1 start t2\nt2 write 0x1000 a.c:2\nend\n"
 
 
 # The flag is handed on by a signal, and the counter has no lock at all.
@@ -295,6 +303,48 @@ no common lock: no further site
 
 steps 5, races 0, suppressed 0, refused 0
 steps 5, unordered 1, suppressed 0, refused 0
+"""
+
+
+# Blocks are given back at two sites: at one beside a read, at the other over two pages, and once without a site.
+FREED = b"""eraser trace 3
+main write 0x1000 job.c:7
+main lock pool
+main start worker
+worker write 0x1000 job.c:20
+worker read 0x3ffc job.c:21
+worker write 0x4000 job.c:21
+worker read 0x5000 job.c:33
+main reuse 0x1000 64 job.c:9
+main reuse 0x3ff0 64 job.c:33
+main reuse 0x5000 4 -
+worker write 0x6000 job.c:9
+main read 0x6000 job.c:33
+end
+"""
+
+
+FREED_BY_SITE = b"""races in this run
+words     kinds       threads   locks     site
+3         read reuse  1         1         job.c:33
+1         reuse       1         1         job.c:9
+
+job.c:33 and job.c:21:
+  main gave back 16 bytes (line 10)
+  nothing orders this before it: worker read it (line 6)
+    at job.c:21, holding no lock
+
+job.c:9 and job.c:20:
+  main gave back 64 bytes (line 9)
+  nothing orders this before it: worker wrote it (line 5)
+    at job.c:20, holding no lock
+
+0x000000005000:
+  main gave back 4 bytes (line 11)
+  nothing orders this before it: worker read it (line 8)
+    at job.c:33, holding no lock
+
+steps 13, unordered 5, suppressed 0, refused 0
 """
 
 

@@ -159,6 +159,13 @@ FAULTY = [
     faulty("size_too_large", text_of("t1 reuse x 4194305"), 2, "size too large"),
     faulty("address_out_of_range", text_of("t1 read 0x1000000000000"), 2, "address out of range"),
     faulty("reuse_out_of_range", text_of("t1 reuse 0xffffffffffff 2"), 2, "address out of range"),
+    *(faulty(f"reuse_at_a_site_in_text_{word}", text_of(f"t1 reuse x 4 {site}", f"eraser trace {number}"), 2, "extra operand")
+      for site in ("a.c:7", "-") for word, number in (("one", 1), ("two", 2))),
+    faulty("reuse_at_two_sites", text_of("t1 reuse x 4 a.c:7 a.c:7", ORDERED), 2, "extra operand"),
+    faulty("reuse_at_a_site_of_129_bytes", text_of(f"t1 reuse x 4 {'+' * 129}", ORDERED), 2, "bad name"),
+    *(faulty(f"reuse_at_a_site_of_{byte}", text_of(f"t1 reuse x 4 a{byte}", ORDERED), 2, "bad name") for byte in ("\x1f", "\x7f", "\r")),
+    faulty("reuse_at_a_bad_site_of_too_many_bytes", text_of(f"t1 reuse 0xffffffffffff 4194305 \x7f", ORDERED), 2, "bad name"),
+    faulty("reuse_of_no_number_at_a_bad_site", text_of("t1 reuse x a \x7f", ORDERED), 2, "bad number"),
     faulty("level_too_high", text_of("t1 level 32", "eraser trace 2"), 2, "level too high"),
     faulty("level_in_text_one", text_of("t1 level 3"), 2, "bad verb"),
     *(faulty(f"{verb}_in_text_{word}", text_of(f"t1 {verb} a", f"eraser trace {number}"), 2, "bad verb")

@@ -29,9 +29,9 @@ import site_tests
 import strict_tests
 import triage_tests
 from alone import run_alone
-from analysis_tests import GIVEN_BACK, ORDER_ALONE, ORDER_BESIDE, RACY, TWO_HEADINGS, unordered_report
+from analysis_tests import FREED, GIVEN_BACK, ORDER_ALONE, ORDER_BESIDE, RACY, TWO_HEADINGS, unordered_report
 from html_tests import blocks_of
-from site_tests import places_in, run, sites_in
+from site_tests import places_in, run
 from until_fault_tests import before
 
 RANDOM_LISTS = 100
@@ -88,9 +88,9 @@ def sarif_text(documents, places, rules):
 
 def sites_text(reports, text, places):
     if len(reports) > 1:
-        return site_tests.by_site_of_both(*reports.values(), sites_in(text), places)
+        return site_tests.by_site_of_both(*reports.values(), text, places)
     form = site_tests.by_site if "races" in reports else site_tests.by_site_of_order
-    return form(*reports.values(), sites_in(text), places)
+    return form(*reports.values(), text, places)
 
 
 def text_in(form, reports, text, rules, places):
@@ -99,7 +99,7 @@ def text_in(form, reports, text, rules, places):
         return "".join(reports.values())
     if form == "by site":
         return sites_text(reports, text, places)
-    documents = [json_tests.document_of(report, json_tests.holds_of(text)) for report in reports.values()]
+    documents = [json_tests.document_of(report, site_tests.holds_of(text)) for report in reports.values()]
     return sarif_text(documents, places, rules) if form == "sarif" else json_text(documents)
 
 
@@ -156,7 +156,7 @@ def compare(record, name, folder, text, rules, analysis, form, options, is_file=
 
 # ---- Texts and options
 
-WORKED = {"two headings": TWO_HEADINGS, "order alone": ORDER_ALONE, "order beside": ORDER_BESIDE, "given back": GIVEN_BACK, "racy": RACY,
+WORKED = {"two headings": TWO_HEADINGS, "order alone": ORDER_ALONE, "order beside": ORDER_BESIDE, "given back": GIVEN_BACK, "given back at sites": FREED, "racy": RACY,
     "overlapping": triage_tests.OVERLAPPING, "lost": json_tests.LOSSY, "two races": triage_tests.TWO_RACES,
     "a fault behind": RACY.replace(b"end\n", b"t1 hop\n"), "lost before a fault": json_tests.LOSSY.replace(b"end\n", b"end\nt1 write 0\n"), "no header": b"# \n"}
 

@@ -27,6 +27,7 @@ sys.dont_write_bytecode = True
 import analysis_tests
 import reference
 from alone import program, run_alone
+from cases import NO_END
 from site_tests import preloaded
 
 PROGRAM = program("eraser")
@@ -54,9 +55,12 @@ COSTS = {
     "readers": (2000, [[], EXPLAIN, HAPPENS_BEFORE, [*HAPPENS_BEFORE, *EXPLAIN]]),
     "handed-on": (2000, [[], HAPPENS_BEFORE]),
     "own-locks": (2000, [[], HAPPENS_BEFORE]),
+    "own-objects": (16_000, [[], HAPPENS_BEFORE]),
+    "many-objects": (16_000, [[], HAPPENS_BEFORE]),
+    "started": (16_000, [[], HAPPENS_BEFORE]),
 }
-# The same of a kind whose second options want a shorter text: a thread that hands on what it knows copies a reference for each 128 threads that it knows. A text
-# has eight times as many threads as its number, and from 32,000 threads on these references are most of a step.
+# The same of a kind whose second options want a shorter text: by happens-before only 65,536 threads may take locks, and a text has eight times as many threads as
+# its number.
 COSTS_BESIDE = [("threads", (1000, [HAPPENS_BEFORE]))]
 COUNTED = ["valgrind", "--tool=cachegrind", "--cache-sim=no", "--cachegrind-out-file=/dev/null"]
 
@@ -77,6 +81,9 @@ def run(words, text=b"", before=(), **more):
 def twice(kind, text):
     """What a few more lines make of a text: each of its keys is looked up again, by a second thread too, and there are races."""
     body = text.partition(b"\n")[2]
+    if kind == "started":
+        # No thread is started once it has acted.
+        body = b""
     second = body.replace(b"t1 ", b"t2 ")
     if kind == "pages":
         reuses = b"".join(b"t1 reuse %s 8\n" % line.split()[2] for line in body.splitlines()[::2])
@@ -133,7 +140,7 @@ def costs(record):
             for options in rows:
                 name = f"hostile: {kind} {' '.join(options)}"
                 found = run([*options, long], preexec_fn=functools.partial(limited, size, options))
-                is_whole = b"steps %d, " % steps in found[0] and found[1] == b"" and found[2] < 2
+                is_whole = b"steps %d, " % steps in found[0] and found[1] in (b"", NO_END) and found[2] < 2
                 record(f"{name}: memory of a text of {size} bytes", is_whole, f"{found}"[:300])
                 # What takes too much memory isn't run without a limit.
                 if is_whole:

@@ -459,7 +459,8 @@ def part_tests(record, one, folder):
     record("a page by happens-before", is_calm(one) and found == ["1 race in this run at 1 site", ["Sites with races", "An example of each"], [["job.c:33"]]], f"{found}")
     opened(run(["replay", "--analysis", "both", "--format", "html", "-"], REUSED)[0], folder, one)
     found = [one.value("document.querySelector('h1').textContent"), one.value(firsts), one.value(marks)]
-    wanted = ["2 races in this run at 2 addresses that were given back, no further site with no common lock", [["0x000000001ff0", "0x000000002000"]], [[4, 1, 1], [4, 1, 1]]]
+    wanted = ["3 races in this run at 1 site and 2 addresses that were given back, no further site with no common lock",
+              [["0x000000001ff0", "0x000000002000", "pool.c:33"]], [[4, 1, 1], [4, 1, 1], [4, 1, 1]]]
     record("a page of reuses", is_calm(one) and found == wanted, f"{found}")
     told = one.value(stories)
     wanted = ["Line 3: worker wrote the word.", "Line 7: main gave the memory back, holding list, size. Nothing orders this after the access above: this is the race."]

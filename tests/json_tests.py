@@ -20,7 +20,7 @@ import reference
 import site_tests
 from alone import OUTCOMES, each_refused, outcome_of, run_alone
 from analysis_tests import unordered_report
-from site_tests import RACE, REASON, REUSE, TOP, places_in, preloaded, run, run_file, run_with
+from site_tests import RACE, REASON, REUSE, TOP, holds_of, locks_in, places_in, preloaded, run, run_file, run_with
 
 SCHEMA = TOP / "docs/report.schema.json"
 REFUSED = re.compile(r"line (\d+): refused: (\S+) (\S+)(?: (\S+))?: ([^:]+)")
@@ -29,7 +29,7 @@ STOPPED = re.compile(r"line (\d+): stopped: (.*)")
 LOSSY = b"eraser trace 3\nt1 write 0\n# incomplete: 1 events, 30175 lost\nend\n"
 TOTALS = re.compile(r"steps (\d+), (?:races|unordered) (\d+), suppressed (\d+), refused (\d+)(?:, lost (\d+))?")
 ANALYSES = ("lockset", "happens-before", "both")
-# Unordered reuses: one under locks of which one is held to read, and one over two pages.
+# Unordered reuses: one under locks of which one is held to read, one over two pages, and one at a site.
 REUSED = b"""eraser trace 3
 main start worker
 worker write 0x1ffc pool.c:9
@@ -37,36 +37,15 @@ worker write 0x2000 pool.c:10
 main lock list
 main rlock size
 main reuse 0x1ff0 64
+worker read 0x3000 pool.c:9
 main unlock list
 main reuse 0x1ff0 64
+main reuse 0x3000 64 pool.c:33
 end
 """
 
 
 # ---- The document of a report's text
-
-def locks_in(text):
-    return [] if text == "none" else text.split(" ")
-
-
-class Holding(reference.Replay):
-    """A replay that notes the locks that the thread of each reuse holds, by the reuse's line. The text of a report doesn't say them."""
-
-    def __init__(self):
-        super().__init__([])
-        self.holds = {}
-
-    def step(self, line, thread, verb, operands):
-        super().step(line, thread, verb, operands)
-        self.holds[str(line)] = self.names(self.cover(thread, b"read"))
-
-
-def holds_of(text):
-    holding = Holding()
-    for line, event in reference.events_of(text):
-        holding.step(line, *event)
-    return holding.holds
-
 
 def document_of(report, holds=()):
     """What the lines of a report say, as the document. A report by happens-before needs the locks that are held on each line."""
@@ -79,7 +58,7 @@ def document_of(report, holds=()):
             site = None if race[5] == "-" else race[5]
             found["races"].append({"line": int(race[1]), "thread": race[2], "kind": race[3], "address": race[4], "site": site, "held": locks_in(race[6]), "reasons": []})
         elif reuse:
-            found["races"].append({"line": int(reuse[1]), "thread": reuse[2], "reuse": reuse[3], "bytes": int(reuse[4]), "held": locks_in(holds[reuse[1]]), "reasons": []})
+            found["races"].append({"line": int(reuse[1]), "thread": reuse[2], "reuse": reuse[3], "bytes": int(reuse[4]), **({"site": reuse[5]} if reuse[5] else {}), "held": locks_in(holds[reuse[1]]), "reasons": []})
         elif reason:
             label, lock = ("not covering", reason[1].removesuffix(" not covering")) if reason[1].endswith(" not covering") else (reason[1], None)
             found["races"][-1]["reasons"].append({"line": int(reason[2]), "thread": reason[3], "kind": reason[4], "label": label, "lock": lock})
@@ -238,6 +217,9 @@ def changed(document):
             other = copy.deepcopy(document)
             owner, name = list(places(other))[place]
             if change == "gone":
+                # A reuse may have no site.
+                if name == "site" and "reuse" in owner:
+                    continue
                 del owner[name]
             elif change == "more":
                 owner["more"] = 0
@@ -254,7 +236,7 @@ def schema_tests(record, schema):
     both = ["replay", "--analysis", "both", "--explain", "--format", "json", "-"]
     shown = run([*both[:-1], str(TOP / "examples/both_analyses.trace")])[0].decode()
     record("the documents of the formats", '"held_to_read":' in shown and shown in formats, shown)
-    for reused in (run(both, REUSED)[0].decode().splitlines() or [""])[-8:-6]:
+    for reused in (run(both, REUSED)[0].decode().splitlines() or [""])[-9:-6]:
         record("the reuses of the formats", '"reuse":' in reused and reused.rstrip("],") in formats, reused)
     rich = b"eraser trace 2\nt1 level 3\nt1 lock a\nt1 lock a\nt1 write 0\nt1 show 0\nt1 show 64\nt2 lock b\nt2 read 0 s:1\nt2 show 0\nt1 ignore-off\nt1 write 0 s:2\nt2 write 0\nt2 show 0\n"
     output, errors, status = run(["replay", "--explain", "--format", "json", "-"], rich)

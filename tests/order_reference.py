@@ -2,7 +2,7 @@
 """Happens-before, read a second time: by chains of steps, without clocks. Slow, plain and unproved, written for checking alone.
 
 order_reference.py FILE           prints the accesses and reuses that race by happens-before, in the order of the trace
-order_reference.py --sites FILE   prints how many words race at each site
+order_reference.py --sites FILE   prints how many races there are at each site
 
 It reads traces of the texts 1 to 3, and shares no code with the program nor with tests/reference.py.
 
@@ -28,7 +28,8 @@ MOST_LOCKS, MOST_BRACKETS = 64, 255
 # The operands of each verb. A question mark: it may be missing.
 VERBS = {"lock": "L", "unlock": "L", "rlock": "L", "runlock": "L", "read": "AS?", "write": "AS?", "reuse": "AN", "ignore-on": "",
          "ignore-off": "", "show": "A"}
-VERBS_OF_TEXT = {"1": VERBS, "2": VERBS | {"level": "N"}, "3": VERBS | {"level": "N", "start": "T", "join": "T", "signal": "L", "await": "L"}}
+VERBS_OF_TEXT = {"1": VERBS, "2": VERBS | {"level": "N"},
+                 "3": VERBS | {"level": "N", "start": "T", "join": "T", "signal": "L", "await": "L", "reuse": "ANS?"}}
 
 
 # ---- Reading ----
@@ -96,7 +97,8 @@ def address_step(step, operands, line):
     if address >= 2**48 or address + (size if step.verb == "reuse" else 0) > 2**48:
         raise Fault(line, "address out of range")
     step.words = range(address // 4, (address + size - 1) // 4 + 1) if size else range(0)
-    step.site = operands[1] if step.verb != "reuse" and len(operands) > 1 else "-"
+    sites = operands[2 if step.verb == "reuse" else 1:]
+    step.site = sites[0] if sites and step.verb != "show" else "-"
     return step
 
 
@@ -372,7 +374,8 @@ def answers(marked):
 def line_of(race):
     step, held = race.marked.step, " ".join(race.marked.held) or "none"
     if step.verb == "reuse":
-        return f"line {step.line}: unordered: {step.thread} reuse 0x{race.words.start * 4:012x} {len(race.words) * 4}"
+        site = "" if step.site == "-" else f" at {step.site}"
+        return f"line {step.line}: unordered: {step.thread} reuse 0x{race.words.start * 4:012x} {len(race.words) * 4}{site}"
     return f"line {step.line}: unordered: {step.thread} {step.verb} 0x{step.words.start * 4:012x} at {step.site}, holds {held}"
 
 

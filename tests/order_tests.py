@@ -86,7 +86,7 @@ def faults_beside_the_reference(record):
 def random_step(dice, threads):
     thread, other = dice.sample(threads, 2)
     verb = dice.choice(["read", "write", "write", "lock", "unlock", "rlock", "runlock", "join", "signal", "await", "reuse", "ignore-on", "ignore-off", "level"])
-    operand = {"read": f" {4 * dice.randrange(3)}", "write": f" {4 * dice.randrange(3)}", "reuse": f" 0 {4 * dice.randrange(4)}", "join": f" {other}",
+    operand = {"read": f" {4 * dice.randrange(3)}", "write": f" {4 * dice.randrange(3)}", "reuse": f" 0 {4 * dice.randrange(4)}{dice.choice(['', '', ' -', ' f.c:7'])}", "join": f" {other}",
                "ignore-on": "", "ignore-off": "", "level": f" {dice.randrange(3)}"}.get(verb, f" m{dice.randrange(2)}")
     return thread, f"{thread} {verb}{operand}"
 

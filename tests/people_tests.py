@@ -30,6 +30,7 @@ PROGRAM = program("eraser")
 VERBS = "verbs are lock, unlock, rlock, runlock, read, write, reuse, ignore-on, ignore-off, show"
 NAMES = "a name has 1 to 128 letters, digits and _ . : / - and no lock is named none"
 SITES = "a name has 1 to 128 letters, digits and _ . : / - and a site of a trace 3 has any printable bytes"
+REUSE_SITES = "a reuse has one site at most, and needs the header eraser trace 3 for that"
 RULE_SITES = "a site has 1 to 128 printable bytes"
 ORDER_VERBS = "the verbs start, join, signal and await need the header eraser trace 3"
 HEADER = b"eraser trace 1\n"
@@ -72,6 +73,7 @@ TRACES = {
     "a thread of an access": (b"eraser trace 3\nt+1 write 0x1000 f+3\n", "line 2: bad name", ("t+1 write 0x1000 f+3", 1), SITES),
     "a site of a read": (HEADER + b"t1 read 0x1000 f+3\n", "line 2: bad name", ("t1 read 0x1000 f+3", 16), SITES),
     "a control byte in a site": (b"eraser trace 3\nt1 write 0x1000 f+\x7f\n", "line 2: bad name", (r"t1 write 0x1000 f+\x7f", 18), SITES),
+    "a control byte in a site of a reuse": (b"eraser trace 3\nt1 reuse 4 8 f+\x7f\n", "line 2: bad name", (r"t1 reuse 4 8 f+\x7f", 15), SITES),
     "a long site": (b"eraser trace 3\nt1 write 4 " + b"+" * 129 + b"\n", "line 2: bad name", ("t1 write 4 " + "+" * 89 + "..", 11), SITES),
     "a lock named none": (HEADER + b"t1 lock none\n", "line 2: bad name", ("t1 lock none", 0), NAMES),
     "a command to the terminal": (HEADER + b"t1 lock \x1b[2J\n", "line 2: bad name", (r"t1 lock \x1b[2J", 8), NAMES),
@@ -79,6 +81,8 @@ TRACES = {
     "a letter with an accent": (HEADER + b"t1 lock caf\xc3\xa9\n", "line 2: not ascii", (r"t1 lock caf\xc3\xa9", 11), "a text has bytes of ASCII alone"),
     "no number": (HEADER + b"t1 write 0y10\n", "line 2: bad number", ("t1 write 0y10", 0),
                   "a number has decimal digits, or 0x and hexadecimal digits, and is below 2^64"),
+    "a site of a reuse in a text 1": (HEADER + b"t1 reuse 0x1000 8 pool.c:9\n", "line 2: extra operand", ("t1 reuse 0x1000 8 pool.c:9", 18), REUSE_SITES),
+    "two sites of a reuse": (b"eraser trace 3\nt1 reuse 0x1000 8 pool.c:9 pool.c:9\n", "line 2: extra operand", ("t1 reuse 0x1000 8 pool.c:9 pool.c:9", 27), REUSE_SITES),
     "a comment behind a step": (HEADER + b"t1 write 0x1000 # init\n", "line 2: extra operand", ("t1 write 0x1000 # init", 16), "a comment needs a line of its own"),
     "a word too many": (HEADER + b"t1 ignore-on now\n", "line 2: extra operand", ("t1 ignore-on now", 13), None),
     "a word too few": (HEADER + b"t1 write\n", "line 2: missing operand", ("t1 write", 8), "the line ends early; was the file cut off?"),

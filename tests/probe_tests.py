@@ -7,7 +7,6 @@ more. Which rows may find none, and that each of them does, stands in the case. 
 """
 
 import pathlib
-import random
 import re
 import subprocess
 import tempfile
@@ -21,38 +20,42 @@ TOLD = re.compile(r"line (\d+): (?:out of memory|stopped at (0x[0-9a-f]+) for wa
 # Rows that ask for nothing, each behind the rows of its kind, and the line that is told.
 BAD_ROWS = [
     ("", 1),
+    ("# no row\n", 1),
     ("no-such\n", 1),
-    ("values 1\n", 1),
-    ("steps 0\n", 1),
-    ("steps 1048577\n", 1),
-    ("detectors 4 65 100 2 8\n", 1),
-    ("detectors 4 1 100 2\n", 1),
-    ("values\nhas 1\n\n# comment\nhas x\n", 5),
-    ("values\nshadow shared 1073741824\n", 2),
-    ("steps 4\nthread 1073741824 write 0\n", 2),
-    ("steps 4\nthread 1 write 0 1 2\n", 2),
-    ("steps 4\nparallel 1 1 17\n", 2),
-    ("steps 4\nbatches 1 1 17 3\n", 2),
-    ("steps 4\nbatches 1 1 2 0\n", 2),
-    ("detectors 4 2 100 2 8\nopen c\n", 2),
-    ("detectors 4 2 100 2 8\nseat 0 write 0\n", 2),
-    ("detectors 4 2 100 2 8\nopen a\nseat 0 write 0 in a 2\n", 3),
-    ("detectors 4 2 100 2 8\nentries a 2\n", 2),
-    ("detectors 4 2 100 2 8\nswap a 1 a 1\n", 2),
-    ("detectors 4 2 100 2 8\ntimes 0 0 open a\n", 2),
-    ("detectors 4 2 100 2 8\nsettle a\nopen a\n", 3),
-    ("detectors 4 2 100 2 8\nopen a\nsettle a 1\n", 3),
-    ("detectors 4 2 100 2 8\nopen a\nsettle a 0 0\n", 3),
-    ("workloads 0\n", 1),
-    ("workloads 1000001\n", 1),
-    ("workloads 1\nlocked-counter 1\n", 2),
-    ("workloads 1\n\nno-such\n", 3),
-    ("rate own 0 1\n", 1),
-    ("rate own 17 1\n", 1),
-    ("rate own 1 100000001\n", 1),
-    ("rate any 1 1\n", 1),
-    ("rate own 1\n", 1),
-    ("rate own 1 1\nrate own 1 1\n", 2),
+    ("table 1 1\n", 1),
+    ("table 0\n", 1),
+    ("table 1048577\n", 1),
+    ("table 4\ndetector 7 65 100 2\n", 2),
+    ("table 4\ndetector 7 0 100 2\n", 2),
+    ("table 4\ndetector 7 1 0 2\n", 2),
+    ("table 4\ndetector 7 1 1073741825 2\n", 2),
+    ("table 4\ndetector 7 1 100 0\n", 2),
+    ("table 4\ndetector 7 1 100 1073741825\n", 2),
+    ("table 4\ndetector 7 1 100\n", 2),
+    ("table 4\nmeet 1 and 2\n\n# comment\nmeet x and 2\n", 5),
+    ("table 4\nshadow shared 1073741824\n", 2),
+    ("table 4\nthread 1073741824 write 0\n", 2),
+    ("table 4\nthread 1 write 0 1 2\n", 2),
+    ("table 4\nparallel 1 1 17\n", 2),
+    ("table 4\nparallel 0 1 1\n", 2),
+    ("table 4\nparallel 65 1 1\n", 2),
+    ("table 4\nparallel 1 0 1\n", 2),
+    ("table 4\nparallel 1 1048577 1\n", 2),
+    ("table 4\nworkload no-such\n", 2),
+    ("table 4\ndetector 7 2 100 2\nopen c\n", 3),
+    ("table 4\ndetector 7 2 100 2\nseat 0 write 0\n", 3),
+    ("table 4\ndetector 7 2 100 2\nopen a\nseat 0 write 0 in a 2\n", 4),
+    ("table 4\ndetector 7 2 100 2\nentries a 2\n", 3),
+    ("table 4\ndetector 7 2 100 2\nswap a 1 a 1\n", 3),
+    ("table 4\ndetector 7 2 100 2\ntimes 0 0 open a\n", 3),
+    ("table 4\ndetector 7 2 100 2\nsettle a\nopen a\n", 4),
+    ("table 4\ndetector 7 2 100 2\nopen a\nsettle a 1\n", 4),
+    ("table 4\ndetector 7 2 100 2\nopen a\nsettle a 0 0\n", 4),
+    ("table 4\ndetector 1 1 1000000 17\nrate own 0 1\n", 3),
+    ("table 4\ndetector 1 1 1000000 17\nrate own 17 1\n", 3),
+    ("table 4\ndetector 1 1 1000000 17\nrate own 1 100000001\n", 3),
+    ("table 4\ndetector 1 1 1000000 17\nrate any 1 1\n", 3),
+    ("table 4\ndetector 1 1 1000000 17\nrate own 1\n", 3),
 ]
 
 
@@ -94,7 +97,7 @@ def lacking(case, found):
         words = case.rows[line - 1].split()
         is_first = stop is None or "reuse" in words and int(stop, 0) == int(words[words.index("reuse") + 1], 0)
         return line if (left == "unchanged") == is_first else None
-    # Settling and whole runs answer by themselves that they found none.
+    # Settling and a run answer by themselves that they found none.
     answers = output.splitlines()
     if errors or len(answers) != len(case.answers):
         return None
@@ -111,39 +114,15 @@ def is_lacking(verb, usual, answer):
         done, _, stop = answer.rpartition("; stopped at ")
         count = 0 if done == "no answers" else done.count(",") + 1
         return stop == f"{count}: out of memory" and (count == 0 or usual.startswith(f"{done}, "))
-    return {"settle": "memory", "parallel": "out of memory"}.get(verb) == answer or (verb, answer) == ("parallel", "worker not started")
-
-
-def random_calls(choose):
-    """Calls of four threads at three locks and eight pages. Some are refused, and some are races."""
-    for _ in range(choose.randrange(4, 80)):
-        thread, lock, mode = choose.randrange(4), choose.randrange(3), choose.choice(("read", "write"))
-        word = 4096 * choose.randrange(8) + 4 * choose.randrange(3)
-        call = choose.choice((f"read {word}", f"write {word}", f"write {word}", f"acquire {lock} {mode}", f"release {lock} {mode}", f"show {word}",
-            f"reuse {word} 8", choose.choice(("ignore-on", "ignore-off", "ignore-off", "level 3", "level 0"))))
-        yield f"thread {thread} {call}"
-
-
-def batches(record):
-    """Workers that answer a list in batches of 3 steps, and in batches of 1 and 1,000, give the answers of one machine to the whole list, or find the table full."""
-    choose, races, full = random.Random(3), 0, 0
-    for nth in range(300):
-        sets = choose.choice((1, 2, 1048576, 1048576))
-        asked = [f"batches {shards} {sets} {workers} {length}" for workers, shards in ((1, 8), (2, 8), (7, 3)) for length in (3, choose.choice((1, 1000)))]
-        output, errors, status = run("\n".join([f"steps {sets}", *random_calls(choose), f"run {sets}", *asked, ""]))
-        whole, *found = output.splitlines()[-1 - len(asked) :]
-        wanted = "table full" if "stopped" in whole else whole
-        races, full = races + ("race" in whole), full + ("stopped" in whole)
-        record(f"random calls {nth} in batches", (errors, status, found) == ("", 0, [wanted] * len(asked)), f"{errors} {status} {found}, not {wanted}"[:1000])
-    record("some random calls race, and some find the table full", races > 50 and full > 10, f"{races} and {full}")
+    return (verb, answer) == ("settle", "memory")
 
 
 def rates(record):
     """Threads make all calls that are measured, and none is a race. How long they took goes to the errors."""
     for shape in ("own", "spread", "one"):
         for threads in (1, 4, 16):
-            output, errors, status = run(f"rate {shape} {threads} 1000\n")
-            is_right = (output, status) == (f"calls {1000 * threads}, races 0\n", 0) and re.fullmatch(r"\d+ microseconds\n", errors)
+            output, errors, status = run(f"table 4\ndetector 1 4 1073741824 17\nrate {shape} {threads} 1000\n")
+            is_right = (output, status) == (f"done\ncalls {1000 * threads}, races 0\n", 0) and re.fullmatch(r"\d+ microseconds\n", errors)
             record(f"rate {shape} {threads}", bool(is_right), f"{output} {errors} {status}")
 
 
@@ -168,7 +147,6 @@ def refusals(record, preloaded):
 def tests(record, preloaded):
     plays(record)
     bad_rows(record)
-    batches(record)
     rates(record)
     refusals(record, preloaded)
 

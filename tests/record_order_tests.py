@@ -249,11 +249,13 @@ def knows_reuses():
 
 
 def reuse_fault(source, text):
-    """Each reuse that is too early has a line for each page that is in use, and the reason for it is an access with a mark."""
+    """Each reuse that is too early has a line for each page that is in use, with its site if it has one, and the reason for it is an access with a mark."""
     report = analysis_tests.run(["--analysis", "happens-before", "--explain", "-"], text.encode())[0].decode()
     lines, found = text.splitlines(), []
-    for line, thread, address, size, reason in re.findall(r"^line (\d+): unordered: (\S+) reuse (0x[0-9a-f]+) (\d+)\n  unordered with: line (\d+), ", report, re.M):
+    for line, thread, address, size, site, reason in re.findall(r"^line (\d+): unordered: (\S+) reuse (0x[0-9a-f]+) (\d+)(?: at (\S+))?\n  unordered with: line (\d+), ", report, re.M):
         found.append((int(line), thread, int(address, 16), int(size)))
+        if [site] != (lines[int(line) - 1].split()[4:] or [""]):
+            return f"line {line} at {site!r}, and the trace has {lines[int(line) - 1]!r}"
         if lines[int(reason) - 1].split()[-1] not in marked(source, "EARLY"):
             return f"line {line} for the reason {lines[int(reason) - 1]!r}"
     wanted = [(early.step.line, early.step.thread, 4 * early.words.start, 4 * len(early.words)) for early in early_reuses(text) if early.is_reported]
@@ -321,6 +323,23 @@ def local_memory(folder, findings):
         has_words = len(set(re.findall(r"write (\S+) plugin\.c:8\n", text))) >= 100
         early = early_sites(text)
         findings.check(f"thread-local memory of a library that was loaded later, run {nth}", not fault and has_words and not early, f"{fault} {early}")
+
+
+def openmp(folder, findings):
+    """What OpenMP orders, as gcc has it, and the locks that its critical sections are."""
+    source = SOURCES / "openmp/regions.c"
+    for level in LEVELS:
+        program = folder / f"regions{level}"
+        built = command(["gcc", "-g", "-fsanitize=thread", "-std=gnu11", *record_tests.WARNINGS, "-fopenmp", level, source, "-o", program])
+        findings.check(f"{program.name} is built", built.returncode == 0 and built.stderr == "", built.stderr)
+        for nth in range(RUNS):
+            done, text = record_trace(folder, nth, program, "--order")
+            fault = f"{done}" if done.returncode or done.stderr else order_fault(text) or analysis_fault(source, text)
+            missing = {"omp_critical", ".gomp_critical_user_named"} - set(re.findall(r"^t\d+ lock (\S+)$", text, re.M))
+            findings.check(f"{program.name} with --order, run {nth}", not fault and not missing, f"{fault} {missing}")
+        done = command([RUN, "-q", "--report", "-", program])
+        raced = record_tests.races(done.stdout) & marked(source, "LOCKED")
+        findings.check(f"{program.name} by locks", done.returncode == 0 and ": race: " in done.stdout and not raced, f"{done.returncode} {done.stderr} {raced}")
 
 
 # ---- The option ----
@@ -408,6 +427,7 @@ def tests(record):
         made = {program.name: program for program in order_programs(folder, findings, pool)}
         other_programs(folder, findings, pool)
         local_memory(folder, findings)
+        openmp(folder, findings)
         without_order(folder, findings, made["message-gcc-O0"])
         with_a_limit(folder, findings)
         few_awaits(folder, findings, made["message-gcc-O0"])

@@ -4,6 +4,7 @@ A comment on a line of a program says what is expected there:
 - RACE: a race is reported at this line. The reported sites are these lines and no others
 - NEVER: the trace has no access of this line
 - READS n, WRITES n: the trace has so many words read or written at this line
+- GIVES: memory gets a new use by a call on this line, and the trace names it
 """
 
 import concurrent.futures
@@ -40,6 +41,9 @@ PRINTED = {
     "queue": "50\n",
     "thread_pool": "same block 1\n",
     "handover": "malloc 1 realloc 1 delete 1 munmap 1 stack 1 own stack 1\n",
+    "recycle": "7200\n",
+    "operators": "12 operators, some with the same block\n",
+    "replaced": "taken 4, given back 4\n",
 }
 STATUS = {"counter": 3}
 # How ends.c can end, with the exit status that is passed on.
@@ -205,7 +209,14 @@ def cancelled_fault(trace):
     return None if "\n# t2 is named waiter\n" in trace else "no name of the thread"
 
 
-EXTRA = {"sizes": sizes_fault, "forks": never_fault, "lives": lives_fault, "table": table_fault, "cancelled": cancelled_fault}
+def gives_fault(trace):
+    """The places of calls that give memory back. What the C library gives back has none."""
+    named = re.findall(r"^t1 reuse \S+ \d+(?: (\S+))?$", trace, re.M)
+    is_right = set(named) == {"", *marked(SOURCES / "gives.cpp", "GIVES")} and len(named) == len(re.findall(r"^t1 reuse ", trace, re.M))
+    return None if is_right else f"named {sorted(set(named))}"
+
+
+EXTRA = {"gives": gives_fault, "sizes": sizes_fault, "forks": never_fault, "lives": lives_fault, "table": table_fault, "cancelled": cancelled_fault}
 
 
 def programs(folder, findings, made):
@@ -336,6 +347,8 @@ def ways_to_end(folder, made):
         return next(path for (source, compiler, level), path in made.items() if (source.stem, compiler, level) == (name, "gcc", "-O0"))
 
     right, racy, ends, busy = program("recursive"), program("queue"), program("ends"), program("busy")
+    command(["gcc", "-g", SOURCES / "late/host.c", "-o", folder / "host"])
+    leaves, plugin = (build(folder, SOURCES / "late" / name, "gcc", "-O0")[0] for name in ("leaves.c", "plugin.c"))
     limited = ["-o", folder / "lost.trace", "--limit", "100000"]
     several = ["--report", f"{folder}/several/"]
     failing, ended = as_script(folder, "failing", "cat >/dev/null; exit 4\n"), as_script(folder, "ended", "cat >/dev/null; kill -TERM $$\n")
@@ -355,6 +368,8 @@ def ways_to_end(folder, made):
         "no instrumented code ran": ([], [program("empty")], {}),
         "events were lost": (limited, [busy, "3000"], {}),
         "one more instrumented program was started, and `-o FILE` is given": (["-o", folder / "one.trace"], ["sh", "-c", f"{right}; {right}"], {}),
+        "`-o FILE` is given, and a forked child goes on after the command's end": (["-o", folder / "left.trace"], [leaves], {}),
+        "a program that isn't instrumented loads what is, without `LD_PRELOAD`": ([], ["env", "-u", "LD_PRELOAD", folder / "host", plugin], {}),
         "of several programs one lost events": ([*limited[2:], "-o", f"{folder}/lost/"], ["sh", "-c", f"{right}; {busy} 3000"], {}),
         "of several programs one has a race": (several, ["sh", "-c", f"{right}; {racy}"], {}),
         "of several programs none has a race": (several, ["sh", "-c", f"{right}; {right}"], {}),
@@ -443,6 +458,218 @@ def several_programs(folder, findings, made):
     findings.check("a file in the place of the folder", found.returncode == 125 and is_told, f"{found}")
     found = command([RUN, "--report", "taken/eraser.out/", racy], cwd=folder)
     findings.check("a file in the place of a folder that is named", (found.returncode, found.stdout) == (125, "") and "Not a directory" in found.stderr, f"{found}")
+
+
+# ---- Several runs, and waits at random ----
+
+
+def merged(text):
+    """The head of a text of several runs, and its rows."""
+    head, *rows = text.splitlines() or [""]
+    return head, [row.split() for row in rows]
+
+
+def several_runs(folder, findings, made):
+    """A command that is run several times has a report of each run, and one text says of each site in how many runs it was reported."""
+    right, racy, ends, busy = (made[SOURCES / name, "gcc", "-O0"] for name in ("recursive.cpp", "queue.cpp", "ends.c", "busy.c"))
+    site = next(iter(marked(SOURCES / "queue.cpp", "RACE")))
+    # What a command does in its nth run.
+    nth = folder / "nth"
+    turns = as_script(folder, "turns", f'n=$(cat {nth}); echo $((n+1)) >{nth}; shift $n; exec "$1"\n')
+    both = as_script(folder, "both", f"{racy}; {right}\n")
+    for analysis, more, columns in (("lockset", [], ["3"]), ("happens-before", [], ["3"]), ("both", [], ["3", "3"]), ("both", ["--by-site"], ["3", "3"]), ("lockset", ["--by-site"], ["3"])):
+        nth.write_text("0")
+        options = ["-q", "--runs", "5", "--analysis", analysis, *more, "--report", "runs.txt"]
+        found = command([RUN, *options, turns, right, racy, right, racy, both], cwd=folder)
+        head, rows = merged((folder / "runs.txt").read_text())
+        wanted = [[*columns, "2", "02-queue-gcc-O0.txt", site]]
+        is_right = head == "5 runs recorded, 3 with races" and rows[1:] == wanted and rows[0][-2:] == ["report", "site"] and len(rows[0]) == len(wanted[0])
+        findings.check(f"several runs by {analysis} {more}", is_right and (found.returncode, found.stderr) == (0, ""), f"{found}, not {wanted}")
+        findings.check(f"their reports by {analysis} {more}", len(listed(folder / "eraser.out")) == 6, f"{listed(folder / 'eraser.out')}")
+    for more, status in (([], 6), (["--exit-status", "report"], 6)):
+        nth.write_text("0")
+        found = command([RUN, "--runs", "3", *more, "--report", "-", turns, right, as_script(folder, "six", f"{ends} exit\n"), racy], cwd=folder)
+        is_told = "record: 3 runs of 1 program recorded, 2 with races; reports in eraser.out/\n" in found.stderr
+        findings.check(f"several runs, and the worst of their exit statuses {more}", found.returncode == status and is_told, f"{found}")
+    nth.write_text("0")
+    found = command([RUN, "-q", "--runs", "2", "--exit-status", "report", "--report", "-", turns, right, racy], cwd=folder)
+    findings.check("several runs, of which one has a race", found.returncode == 1, f"{found}")
+    found = command([RUN, "-q", "--runs", "2", "--exit-status", "report", "--report", "-", right], cwd=folder)
+    findings.check("several runs without a race", (found.returncode, found.stdout) == (0, "2 runs recorded, 0 with races\n"), f"{found}")
+    found = command([RUN, "--runs", "2", "--report", "-", both], cwd=folder)
+    findings.check("several runs of several programs", "record: 2 runs with 4 programs recorded, 2 with races; reports in eraser.out/\n" in found.stderr, f"{found}")
+    nth.write_text("0")
+    words = ["--exit-status", "report", "--limit", "100000", "-o", "lost/", turns, as_script(folder, "six", f"{ends} exit\n"), as_script(folder, "loses", f"{busy} 3000\n")]
+    found = command([RUN, "--runs", "2", *words], cwd=folder)
+    findings.check("several runs, of which one lost events and another one failed", found.returncode == 125, f"{found}")
+    failing = as_script(folder, "failing", "cat >/dev/null; exit 4\n")
+    found = command([RUN, "--runs", "2", "--report", "-", right], cwd=folder, env={**os.environ, "ERASER": failing})
+    findings.check("several runs that were not replayed", found.stdout == "2 runs recorded, 0 with races, 2 not replayed\n", f"{found}")
+    found = command([RUN, "--runs", "2", "--report", "-", "true"], cwd=folder)
+    findings.check("several runs of nothing", found.stdout == "" and found.stderr.count("record: nothing was recorded: ") == 1, f"{found}")
+    found = command([RUN, "--runs", "3", folder / "nothing"], cwd=folder)
+    findings.check("several runs of a program that is not there", found.returncode == 127 and found.stderr.count("cannot start") == 1, f"{found}")
+    found = command([RUN, "-q", "--runs", "3", "-o", "runs/", right], cwd=folder)
+    findings.check("traces of several runs", len(list((folder / "runs").glob("0?-*.trace"))) == 3 and found.returncode == 0, f"{found}")
+    for words, text in ((["--runs", "0"], "--runs wants a number"), (["--runs", "x"], "--runs wants a number"), (["--runs", "2", "-o", "file"], "-o names a folder"), (["--runs", "2", "--format", "json"], "--format"), (["--shake=x"], "--shake wants")):
+        found = command([RUN, *words, right], cwd=folder)
+        findings.check(f"wrong options {words}", (found.returncode, found.stdout) == (125, "") and text in found.stderr, f"{found}")
+
+
+# What replays print of three runs: their lines, and the same by site.
+LINES = [
+    "line 5: race: t2 write 0x000000001000 at a,b.c:8, holds none\nline 9: race: t1 read 0x000000001004 at a,b.c:8, holds a at\nsteps 9, races 2, suppressed 0, refused 0\n"
+    "line 9: unordered: t1 reuse 0x000000001000 64\n  unordered with: line 8, t2 write\nsteps 9, unordered 1, suppressed 0, refused 0\n",
+    "steps 9, races 0, suppressed 0, refused 0\nline 9: unordered: t1 reuse 0x000000001000 64 at c.c:1\nline 9: unordered: t1 write 0x000000002000 at a,b.c:8, holds a b\n"
+    "steps 9, unordered 2, suppressed 0, refused 0\n",
+    "line 5: race: t2 write 0x000000001000 at -, holds none\nsteps 9, races 1, suppressed 0, refused 0\nsteps 9, unordered 0, suppressed 0, refused 0\n",
+]
+HEAD = "words     kinds       threads   locks     site\n"
+BY_SITE = [
+    "races in this run: none\n\n0x000000001000:\n  t1 gave back 64 bytes (line 9)\n  nothing orders this before it: t2 wrote it (line 8)\n\nno common lock\n"
+    + HEAD + "2         read write  2         1         a,b.c:8\n\na,b.c:8:\n  t2 wrote the word at 0x000000001000 (line 5)\n\nsteps 9, races 2, suppressed 0, refused 0\n",
+    "races in this run\n" + HEAD + "1         reuse       1         0         c.c:1\n1         write       1         2         a,b.c:8\n\nc.c:1:\n  t1 gave back 64 bytes (line 9)\n\n"
+    "a,b.c:8:\n  t1 wrote the word at 0x000000002000 (line 9)\n\nno common lock: no further site\n\nsteps 9, races 0, suppressed 0, refused 0\n",
+    "races in this run: none\n\nno common lock\n" + HEAD + "1         write       1         0         -\n\n-:\n  t2 wrote the word at 0x000000001000 (line 5)\n\nsteps 9, races 1, suppressed 0, refused 0\n",
+]
+ROWS = [["2", "1", "1", "01", "-"], ["2", "1", "1", "01", "a,b.c:8"], ["1", "1", "2", "02", "c.c:1"]]
+
+
+def merged_texts(folder, findings, program):
+    """Each form of a report's text is read as the other one, also where memory is given back."""
+    # The trace of a further program says what its file is called.
+    programs = [shutil.copy(program, folder / f"run.{number}") for number in range(len(LINES))]
+    nth = folder / "nth"
+    turns = as_script(folder, "turns", f'n=$(cat {nth}); echo $((n+1)) >{nth}; shift $n; exec "$1"\n')
+    for name, texts in (("lines", LINES), ("sites", BY_SITE)):
+        for number, text in enumerate(texts):
+            (folder / f"{name}.{number}").write_text(text)
+        nth.write_text("0")
+        replay = as_script(folder, name, f"n=$(sed -n 's/^# recorded from run.//p'); cat {folder}/{name}.${{n:-0}}; exit 1\n")
+        words = [RUN, "-q", "--runs", "3", "--analysis", "both", *(["--by-site"] if name == "sites" else []), "--report", "merged.txt", turns, *programs]
+        found = command(words, cwd=folder, env={**os.environ, "ERASER": replay})
+        head, rows = merged((folder / "merged.txt").read_text())
+        rows = [[*row[:3], row[3][:2], *row[4:]] for row in rows[1:]]
+        is_right = head == "3 runs recorded, 3 with races" and sorted(rows) == sorted(ROWS) and rows[-1] == ROWS[-1]
+        findings.check(f"several runs whose reports have {name}", is_right and (found.returncode, found.stderr) == (0, ""), f"{head} {rows} {found}")
+
+
+def interrupted_runs(folder, findings, busy):
+    """After an interrupt the command is not run again."""
+    begun = folder / "runs.begun"
+    recorder = subprocess.Popen([RUN, "-q", "--runs", "1000", "--report", "-", busy, "100000000", begun], cwd=folder, stdout=subprocess.PIPE, stderr=subprocess.DEVNULL, text=True, start_new_session=True)
+    is_begun = wait_for(begun)
+    os.killpg(recorder.pid, signal.SIGINT)
+    text, _ = recorder.communicate(timeout=PATIENCE)
+    findings.check("an interrupt of several runs", is_begun and recorder.returncode == 130 and text == "1 runs recorded, 0 with races\n", f"{recorder.returncode} {text}")
+
+
+def shaken(folder, findings):
+    """With --shake threads wait, and by the same seed for the same times."""
+    built = command(["gcc", "-shared", "-fPIC", *WARNINGS, SOURCES / "shaken/waits.c", "-o", folder / "waits.so"])
+    findings.check("waits.c is built", built.returncode == 0 and built.stderr == "", built.stderr)
+    for compiler in ("gcc", "clang"):
+        program, built = build(folder, SOURCES / "shaken/meets.c", compiler, "-O0")
+        findings.check(f"{program.name} is built", built.returncode == 0 and built.stderr == "", built.stderr)
+        for more in ([], ["--order"]):
+            found = {}
+            for way in ("", "--shake=1", "--shake=1 ", "--shake=2"):
+                noted = folder / "waits"
+                noted.unlink(missing_ok=True)
+                settings = {**os.environ, "LD_PRELOAD": str(folder / "waits.so"), "WAITS_NOTED": str(noted)}
+                done = command([RUN, "-q", "-o", folder / "shaken.trace", *more, *way.split(), program], env=settings)
+                found[way] = sorted(noted.read_text().splitlines()) if noted.exists() else []
+                findings.check(f"{program.name} {more} {way}", (done.returncode, done.stderr) == (0, ""), f"{done}")
+            findings.check(f"{program.name} {more} without --shake", found[""] == [], f"{found['']}")
+            findings.check(f"{program.name} {more} shaken by one seed", len(found["--shake=1"]) > 30 and found["--shake=1"] == found["--shake=1 "], f"{found}")
+            findings.check(f"{program.name} {more} shaken by another seed", found["--shake=2"] != found["--shake=1"], f"{found}")
+    found = command([RUN, "-o", folder / "shaken.trace", "--shake", program])
+    seed = re.search(r"^record: shaken by (--shake=\d+)$", found.stderr, re.M)
+    findings.check("a seed that is drawn", seed and command([RUN, "-q", "-o", folder / "shaken.trace", seed[1], program]).returncode == 0, f"{found}")
+
+
+# ---- Programs that are recorded from later on, and other allocators ----
+
+
+def hosts(folder, findings):
+    """A program that isn't instrumented and loads what is: by record/run its locks and threads are recorded. Without the library in front of all others
+    they are not, and that is said."""
+    host, built = folder / "host", command(["gcc", "-g", *WARNINGS, SOURCES / "late/host.c", "-o", folder / "host"])
+    findings.check("host.c is built", built.returncode == 0 and built.stderr == "", built.stderr)
+    site = marked(SOURCES / "late/plugin.c", "RACE")
+    for compiler in ("gcc", "clang"):
+        plugin, built = build(folder, SOURCES / "late/plugin.c", compiler, "-O0")
+        findings.check(f"{plugin.name} is built", built.returncode == 0 and built.stderr == "", built.stderr)
+        for more in ([], ["--analysis", "happens-before"]):
+            found = command([RUN, "-q", "--report", "-", "--exit-status", "report", *more, host, plugin])
+            sites = set(re.findall(r"^line \d+: (?:race|unordered): .* at (\S+), holds", found.stdout, re.M))
+            findings.check(f"{plugin.name} in a program that is not instrumented {more}", (found.returncode, found.stderr) == (1, "") and sites == site, f"{found}")
+        found = command([RUN, "-q", "--report", "-", "--exit-status", "report", "env", "-u", "LD_PRELOAD", host, plugin])
+        is_told = "record: LD_PRELOAD was taken from a program that isn't instrumented and loads what is: " in found.stderr
+        findings.check(f"{plugin.name}, and no LD_PRELOAD", found.returncode == 125 and is_told, f"{found}")
+        place = folder / f"a {compiler}"
+        shutil.copytree(TOP / "record", place / "record", symlinks=True)
+        found = command([place / "record/run", "-q", "--report", "-", host, plugin])
+        findings.check(f"{plugin.name} from a folder with a blank", races(found.stdout) == site and ", refused 0" in found.stdout, f"{found}")
+
+
+def daemons(folder, findings):
+    """A forked child is recorded as a program of its own from its first thread on."""
+    source = SOURCES / "late/daemon.c"
+    for compiler in ("gcc", "clang"):
+        program, built = build(folder, source, compiler, "-O0")
+        findings.check(f"{program.name} is built", built.returncode == 0 and built.stderr == "", built.stderr)
+        place = folder / f"{program.name}.reports"
+        for more in ([], ["--analysis", "happens-before"]):
+            found = command([RUN, "-q", "--exit-status", "report", *more, "--report", f"{place}/", program])
+            text = (place / f"02-{program.name}.txt").read_text() if len(listed(place)) == 2 else ""
+            sites = set(re.findall(r"^line \d+: (?:race|unordered): .* at (\S+), holds", text, re.M))
+            wanted = "record: the program forked 1 time: a child is recorded from its first thread on\n"
+            is_told = "".join(line for line in found.stderr.splitlines(True) if line.startswith("record:")) == wanted
+            findings.check(f"{program.name} {more}", (found.returncode, is_told, sites) == (1, True, marked(source, "RACE")) and ", refused 0" in text, f"{found} {text}")
+        found = command([RUN, "-q", "--exit-status", "report", "-o", folder / "daemon.trace", program])
+        is_told = re.search(r"^record: (1 further program started by it was not recorded|a child that it forked goes on, and is not recorded)$", found.stderr, re.M)
+        findings.check(f"{program.name}, and room for one trace", found.returncode == 125 and is_told, f"{found}")
+
+
+def library(name):
+    """Where the compiler finds a library."""
+    return command(["gcc", f"-print-file-name={name}"]).stdout.strip()
+
+
+def allocators(record):
+    """Memory that goes through jemalloc or tcmalloc, linked as a library or an archive, or preloaded: what changes hands is no race. An allocator in the
+    program's own file can't be seen, and that is said."""
+    findings, source = Findings(record), SOURCES / "recycle.cpp"
+    command([TOP / "record/build"])
+    os.environ.setdefault("ERASER", str(program("eraser")))
+    jemalloc, tcmalloc = "libjemalloc.so.2", "libtcmalloc_minimal.so.4"
+    give_back = ["-include", "jemalloc/jemalloc.h", "-DGIVE_BACK(block)=sdallocx(block, 64, 0)", f"-l:{jemalloc}"]
+    ways = {
+        "jemalloc": ([f"-l:{jemalloc}"], {}),
+        "tcmalloc": ([f"-l:{tcmalloc}"], {}),
+        "jemalloc, by functions of its own": (give_back, {}),
+        "jemalloc as an archive": ([library("libjemalloc.a"), "-ldl", "-lm"], {}),
+        "jemalloc, preloaded": ([], {"LD_PRELOAD": library(jemalloc)}),
+        "tcmalloc, preloaded": ([], {"LD_PRELOAD": library(tcmalloc)}),
+    }
+    within = ["-Wl,--whole-archive", library("libjemalloc.a"), "-Wl,--no-whole-archive", "-ldl", "-lm"]
+    with tempfile.TemporaryDirectory() as name:
+        made = pathlib.Path(name) / "recycle"
+        for compiler, words in (("gcc", ["g++", "-g", "-fsanitize=thread"]), ("clang", [TOP / "record/c++"])):
+            settings = {**os.environ, "ERASER_CXX": "clang++"}
+            for way, (more, preloaded) in ways.items():
+                built = command([*words, "-std=c++17", "-O1", source, *more, "-o", made], env=settings)
+                findings.check(f"{way} with {compiler} is built", built.returncode == 0, built.stderr)
+                for analysis in ("lockset", "happens-before"):
+                    found = command([RUN, "-q", "--report", "-", "--analysis", analysis, made], env={**os.environ, **preloaded})
+                    sites = set(re.findall(r": (?:race|unordered): .* at (\S+), holds", found.stdout))
+                    is_right = (found.returncode, found.stderr, sites) == (0, "", marked(source, "RACE")) and found.stdout.startswith("7200\n")
+                    findings.check(f"{way} with {compiler} by {analysis}", is_right, f"{sites} {found.returncode} {found.stderr}")
+            built = command([*words, "-std=c++17", "-O1", source, *within, "-o", made], env=settings)
+            found = command([RUN, "-q", "--report", "-", made])
+            is_told = found.stderr == "record: what the program frees is not recorded, since it has a `free` of its own: memory that changes hands may be reported\n"
+            findings.check(f"jemalloc in the program's own file with {compiler}", built.returncode == found.returncode == 0 and is_told, f"{built} {found.returncode} {found.stderr}")
 
 
 # ---- Misuse of locks ----
@@ -641,10 +868,13 @@ int main()
 
 
 def forks(findings, program):
-    """What a forked child does isn't recorded, and a line says so. It changes no status."""
+    """What a forked child does isn't recorded before it has a thread, or at all if there is room for one program. A line says so. It changes no status."""
     found = command([RUN, "-q", "--report", "-", "--exit-status", "report", program])
-    wanted = "record: the program forked 1 time: what its children did is not recorded\n"
+    wanted = "record: the program forked 1 time: a child is recorded from its first thread on\n"
     findings.check("a program that forks", (found.returncode, found.stderr) == (1, wanted), f"{found}")
+    found = command([RUN, "-q", "-o", "/dev/null", program])
+    wanted = "record: the program forked 1 time: what its children did is not recorded\n"
+    findings.check("a program that forks, and room for one trace", (found.returncode, found.stderr) == (0, wanted), f"{found}")
 
 
 def hangups(folder, findings):
@@ -806,7 +1036,7 @@ def unusual_starts(folder, findings, counter):
 def names(folder, findings):
     """Every name of ThreadSanitizer's library that a compiler or a program may ask for, and the two that differ in clang."""
     library = command(["gcc", "-print-file-name=libtsan.so"]).stdout.strip()
-    pattern = re.compile(r"^(__tsan_|__sanitizer_|Annotate|WTFAnnotate|RunningOnValgrind|ValgrindSlowdown)")
+    pattern = re.compile(r"^(__tsan_|__sanitizer_|Annotate|WTFAnnotate|RunningOnValgrind|ValgrindSlowdown|_Zn[wa]|_Zd[la]|__cxa_guard_)")
 
     def exported(path):
         lines = command(["nm", "-D", "--defined-only", path]).stdout.splitlines()
@@ -830,6 +1060,19 @@ def annotations_elsewhere(folder, findings):
     findings.check("annotations under ThreadSanitizer", done.returncode == 0 and found.returncode in (0, 66), f"{found}")
 
 
+def with_archives(folder, findings):
+    """Programs that have the C++ library in their own file: its operators and its guards of static variables are the recorder's then."""
+    ways = {"operators.cpp": ["-static-libstdc++", "-static-libgcc"], "replaced.cpp": ["-static-libstdc++", "-static-libgcc"], "queue.cpp": ["-static-libstdc++", "-static-libgcc"]}
+    for name, more in {**ways, "order/once.cpp": ["-static-libstdc++"]}.items():
+        for compiler, words in (("gcc", ["g++", "-g", "-fsanitize=thread"]), ("clang", [TOP / "record/c++"])):
+            source, program = SOURCES / name, folder / f"{pathlib.Path(name).stem}-archive-{compiler}"
+            built = command([*words, "-std=c++17", source, *more, "-o", program], env={**os.environ, "ERASER_CXX": "clang++"})
+            found = command([RUN, "-q", "--report", "-", "--analysis", "happens-before", program])
+            sites = set(re.findall(r": unordered: .* at (\S+), holds", found.stdout))
+            is_right = (found.returncode, found.stderr) == (0, "") and found.stdout.startswith(PRINTED.get(source.stem, "")) and re.search(r"^steps \d{2,}", found.stdout, re.M)
+            findings.check(f"{name} with the C++ library within, {compiler}", built.returncode == 0 and is_right and sites == marked(source, "RACE"), f"{built} {found}")
+
+
 def linked_by_hand(folder, findings):
     """clang as the documents say: compiled with -fsanitize=thread, linked without it."""
     source, part, program = SOURCES / "counter.c", folder / "counter.o", folder / "by-hand"
@@ -837,6 +1080,10 @@ def linked_by_hand(folder, findings):
     linked = command(["clang", part, "-o", program, f"-L{TOP}/record/out", "-leraser_record"])
     found = command([RUN, program])
     findings.check("clang, linked by hand", compiled.returncode == linked.returncode == 0 and "counter.c:" in found.stderr, f"{linked} {found}")
+    place = pathlib.Path(library("libtsan.so")).resolve().parent
+    linked = command(["gcc", "-g", "-fsanitize=thread", source, "-o", program, "-Wl,--disable-new-dtags", f"-Wl,-rpath,{place}"])
+    found = command([RUN, program])
+    findings.check("another library by the program's own path", linked.returncode == 0 and "counter.c:" in found.stderr, f"{linked} {found}")
 
 
 def fresh_copy(folder, findings):
@@ -928,6 +1175,8 @@ def tests(record):
         real_programs(folder, findings)
         sites(folder, findings)
         misuse(folder, findings)
+        hosts(folder, findings)
+        daemons(folder, findings)
         hangups(folder, findings)
         late_interrupt(folder, findings, counter)
         outlived(folder, findings, made[SOURCES / "recursive.cpp", "gcc", "-O0"], busy)
@@ -935,9 +1184,14 @@ def tests(record):
         early_ends(folder, findings, busy)
         memory(folder, findings, busy)
         interrupts(folder, findings, busy)
+        several_runs(folder, findings, made)
+        merged_texts(folder, findings, made[SOURCES / "recursive.cpp", "gcc", "-O0"])
+        interrupted_runs(folder, findings, busy)
+        shaken(folder, findings)
         unusual_starts(folder, findings, counter)
         names(folder, findings)
         annotations_elsewhere(folder, findings)
+        with_archives(folder, findings)
         linked_by_hand(folder, findings)
         as_the_readme_says(folder, findings)
         fresh_copy(folder, findings)

@@ -21,7 +21,7 @@ VERBS = {
 }
 LEVEL_VERB = {b"level": (1, 1)}
 ORDER_VERBS = {b"start": (1, 1), b"join": (1, 1), b"signal": (1, 1), b"await": (1, 1)}
-VERBS_OF = {b"1": VERBS, b"2": VERBS | LEVEL_VERB, b"3": VERBS | LEVEL_VERB | ORDER_VERBS}
+VERBS_OF = {b"1": VERBS, b"2": VERBS | LEVEL_VERB, b"3": VERBS | LEVEL_VERB | ORDER_VERBS | {b"reuse": (2, 3)}}
 BYTE_LIMIT = 268435456
 
 
@@ -55,7 +55,7 @@ def operands_fault(verb, words, version):
         elif verb in (b"start", b"join"):
             if not is_name(word):
                 return "bad name"
-        elif verb in (b"read", b"write") and place == 1:
+        elif (verb in (b"read", b"write") and place == 1) or (verb == b"reuse" and place == 2):
             if not is_site(word, version):
                 return "bad name"
         elif number(word) is None:
@@ -377,7 +377,8 @@ def random_line(dice, version, acting):
     if verb in ("read", "write"):
         return f"{thread} {verb} {address}" + dice.choice(["", " a.c:7", "\tb/c.rs:12"] + ([f" {site}" for site in WIDE_SITES] if version > "2" else []))
     if verb == "reuse":
-        return f"{thread} reuse {dice.choice(['0x1000', '0x1003', '0x1ffc'])} {dice.choice([0, 1, 8, 4096, 9000])}"
+        site = dice.choice(["", "", " a.c:7", "\t-", f" {dice.choice(WIDE_SITES)}"]) if version > "2" or dice.randrange(40) == 0 else ""
+        return f"{thread} reuse {dice.choice(['0x1000', '0x1003', '0x1ffc'])} {dice.choice([0, 1, 8, 4096, 9000])}{site}"
     if verb == "level":
         return f"{thread} level {dice.choice([0, 0, 1, 2, 3, 31])}"
     return f"{thread} {verb}" + (f" {address}" if verb == "show" else "")

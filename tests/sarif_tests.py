@@ -74,11 +74,13 @@ def words_of(document):
 
 
 def results_of(document, places):
-    """The results, each with the first race of its site and kind. Each reuse is one of its own, at its address."""
+    """The results, each with the first race of its site and kind. Each reuse without a site is one of its own, at its address."""
     front, _, why, _ = words_of(document)
     sorts = {}
     for race in document["races"]:
-        sorts.setdefault((race["line"], race["reuse"], "reuse") if "reuse" in race else (race["site"] or "-", race["kind"]), []).append(race)
+        is_alone = "reuse" in race and "site" not in race
+        sort = (race["line"], race["reuse"], "reuse") if is_alone else (race["site"] or "-", race.get("kind", "reuse"))
+        sorts.setdefault(sort, []).append(race)
     for (*_, site, kind), races in sorts.items():
         race = races[0]
         deed = f"gave back {race['bytes']} bytes at {race['reuse']}" if kind == "reuse" else f"{DID[kind]} the word at {race['address']}"

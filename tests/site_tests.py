@@ -58,7 +58,7 @@ steps 11, races 3, suppressed 0, refused 0
 MANY = (1 << 17) + 2
 
 RACE = re.compile(r"line (\d+): (?:race|unordered): (\S+) (read|write) (0x[0-9a-f]{12}) at (\S+), holds (.*)")
-REUSE = re.compile(r"line (\d+): unordered: (\S+) reuse (0x[0-9a-f]{12}) (\d+)")
+REUSE = re.compile(r"line (\d+): unordered: (\S+) reuse (0x[0-9a-f]{12}) (\d+)(?: at (\S+))?")
 REASON = re.compile(r"  (.+): line (\d+), (\S+) (read|write)")
 REFUSED = re.compile(r"line (\d+): refused: .*: ([^:]+)")
 DID = {"read": "read", "write": "wrote"}
@@ -101,9 +101,33 @@ def sites_in(text):
     """The sites of a trace by their numbers: the missing one, and the others by first appearance."""
     found = {"-": 0}
     for _, (_, verb, operands) in reference.events_of(text):
-        if verb in (b"read", b"write") and len(operands) > 1 and operands[1] != b"-":
-            found.setdefault(operands[1].decode(), len(found))
+        sites = operands[{b"read": 1, b"write": 1, b"reuse": 2}.get(verb, len(operands)):]
+        if sites and sites[0] != b"-":
+            found.setdefault(sites[0].decode(), len(found))
     return found
+
+
+def locks_in(text):
+    return [] if text == "none" else text.split(" ")
+
+
+class Holding(reference.Replay):
+    """A replay that notes the locks that the thread of each reuse holds, by the reuse's line. The text of a report doesn't say them."""
+
+    def __init__(self):
+        super().__init__([])
+        self.holds = {}
+
+    def step(self, line, thread, verb, operands):
+        super().step(line, thread, verb, operands)
+        self.holds[str(line)] = self.names(self.cover(thread, b"read"))
+
+
+def holds_of(text):
+    holding = Holding()
+    for line, event in reference.events_of(text):
+        holding.step(line, *event)
+    return holding.holds
 
 
 class Placed(reference.Replay):
@@ -150,11 +174,14 @@ def title(race, places):
 
 
 def story(race, places):
-    """A race in sentences."""
+    """A race in sentences. That of a reuse has a size in place of the address of a word."""
     line, thread, kind, address, site, held, reasons = race
     who = short(thread, 24)
     yield ""
     yield title(race, places)
+    if kind == "reuse":
+        yield from given_back(line, thread, address, reasons, places)
+        return
     yield f"  {who} {DID[kind]} the word at {address} (line {line})"
     unwritten = {lock for lock, writes in places.get(line, ("-", []))[1] if not writes}
     for lock in held:
@@ -185,24 +212,32 @@ def reason_lines(line, reasons, places):
             yield from place_lines(places[at])
 
 
+def given_back(line, thread, size, reasons, places):
+    return [f"  {short(thread, 24)} gave back {size} bytes (line {line})", *reason_lines(line, reasons, places)]
+
+
 def reuse_story(reuse, places):
-    """An unordered reuse in sentences."""
+    """An unordered reuse without a site in sentences."""
     line, thread, address, size, reasons = reuse
-    return [f"{address}:", f"  {short(thread, 24)} gave back {size} bytes (line {line})", *reason_lines(line, reasons, places), ""]
+    return [f"{address}:", *given_back(line, thread, size, reasons, places), ""]
 
 
-def read_report(report):
-    """The races of an explained report, its reuses, the line of its first refusal, and the lines that it ends with."""
+def read_report(report, holds=()):
+    """The races of an explained report that are at a site, which may be the missing one, its other reuses, the line of its first refusal, and the lines
+    that it ends with. Reuses need the locks that are held on each line."""
     races, reuses, refused, rest, reasons = [], [], [], [], []
     for line in report.splitlines():
         race, reuse, reason, refusal = (form.fullmatch(line) for form in (RACE, REUSE, REASON, REFUSED))
         if race:
-            held = [] if race[6] == "none" else race[6].split(" ")
             reasons = []
-            races.append((race[1], race[2], race[3], race[4], race[5], held, reasons))
+            races.append((race[1], race[2], race[3], race[4], race[5], locks_in(race[6]), reasons))
         elif reuse:
             reasons = []
-            reuses.append((*reuse.groups(), reasons))
+            line, thread, address, size, site = reuse.groups()
+            if site:
+                races.append((line, thread, "reuse", size, site, locks_in(holds[line]), reasons))
+            else:
+                reuses.append((line, thread, address, size, reasons))
         elif reason:
             reasons.append((reason[1], reason[2], reason[3], reason[4]))
         elif refusal:
@@ -226,7 +261,7 @@ def table(rows, places):
         return []
     lines = ["words     kinds       threads   locks     site"]
     for site, found in rows:
-        kinds = " ".join(sorted({race[2] for race in found}))
+        kinds = " ".join(sorted({race[2] for race in found}, key=["read", "write", "reuse"].index)).replace("read write reuse", "all three")
         threads, locks = len({race[1] for race in found}), len({lock for race in found for lock in race[5]})
         lines.append(f"{len(found):<10}{kinds:<12}{threads:<10}{locks:<10}{short(site, 72)}")
     for _, found in rows:
@@ -239,28 +274,29 @@ def part(heading, nothing, rows, places):
     return [heading, *table(rows, places)] if rows else [f"{heading}: {nothing}", ""]
 
 
-def by_site(report, numbers, places):
-    """The text for people, from the lines of an explained report and where accesses stood as far as that is known."""
+def by_site(report, text, places):
+    """The text for people, from the lines of an explained report of a trace and where accesses stood as far as that is known."""
     races, _, refused, rest = read_report(report)
-    return "".join(line + "\n" for line in [*table(rows_of(races, numbers), places), *refused, *rest])
+    return "".join(line + "\n" for line in [*table(rows_of(races, sites_in(text)), places), *refused, *rest])
 
 
 def in_run(races, reuses, numbers, places):
-    """What is unordered in the run: the sites of accesses, and then the reuses."""
+    """What is unordered in the run: the sites of accesses and reuses, and then the other reuses."""
     rows = rows_of(races, numbers)
     sites = ["races in this run"] if reuses and not rows else part("races in this run", "none", rows, places)
     return [*sites, *(line for reuse in reuses for line in reuse_story(reuse, places))]
 
 
-def by_site_of_order(unordered, numbers, places):
+def by_site_of_order(unordered, text, places):
     """The text for people of an explained report by happens-before."""
-    races, reuses, refused, rest = read_report(unordered)
-    return "".join(line + "\n" for line in [*in_run(races, reuses, numbers, places), *refused, *rest])
+    races, reuses, refused, rest = read_report(unordered, holds_of(text))
+    return "".join(line + "\n" for line in [*in_run(races, reuses, sites_in(text), places), *refused, *rest])
 
 
-def by_site_of_both(lockset, unordered, numbers, places):
+def by_site_of_both(lockset, unordered, text, places):
     """The same of a trace that was analysed both ways: what is unordered in the run, and the other sites of races by locks."""
-    (races, _, refused, rest), (others, reuses, _, more) = read_report(lockset), read_report(unordered)
+    (races, _, refused, rest), (others, reuses, _, more) = read_report(lockset), read_report(unordered, holds_of(text))
+    numbers = sites_in(text)
     unordered_sites = dict(rows_of(others, numbers))
     apart = [row for row in rows_of(races, numbers) if row[0] not in unordered_sites]
     lines = [*in_run(others, reuses, numbers, places), *part("no common lock", "no further site", apart, places)]
@@ -270,7 +306,7 @@ def by_site_of_both(lockset, unordered, numbers, places):
 def expected(text, rules, is_file=False):
     output, errors, status = reference.replay(text, rules or b"", explain=True)
     if status < 2:
-        output = by_site(output, sites_in(text), places_in(text) if is_file else {})
+        output = by_site(output, text, places_in(text) if is_file else {})
     return output.encode(), errors.encode(), status
 
 

@@ -39,7 +39,7 @@ MANY = 65_600
 ODD_SITES = ("#a.c:1", "#", "##", "site", "words", "--", "-1", "0x1000", "words,0x1000,4", "a.c:1,", "!", "~", "'\"`", "\\n", "%20", "<b>", "{}", "/usr/include/#", "/usr/lib/~", "x" * 128, "/usr/include/" + "y" * 115)
 ODD_NAMES = "".join(f"t{k} write 0x{k}000 {site}\nt{k}: write 0x{k}000 {site}\n" for k, site in enumerate(ODD_SITES))
 RACE = re.compile(r"line (\d+): (?:race|unordered): (\S+) (read|write) (0x[0-9a-f]{12}) at (\S+), holds .*")
-REUSE = re.compile(r"line (\d+): unordered: (\S+) (reuse) (0x[0-9a-f]{12}) (\d+)")
+REUSE = re.compile(r"line (\d+): unordered: (\S+) (reuse) (0x[0-9a-f]{12}) (\d+)(?: at (\S+))?")
 HEAD = "# Known races, written by eraser replay --write-rules\n"
 
 
@@ -56,12 +56,12 @@ def races_in(report):
             number, thread, kind, address, site = race.groups()
             yield number, f"{thread} {kind} {address}", site, int(address, 16), int(address, 16) + 3
         elif reuse:
-            number, thread, kind, address, size = reuse.groups()
-            yield number, f"{thread} {kind} {address} {size}", None, int(address, 16), int(address, 16) + int(size) - 1
+            number, thread, kind, address, size, site = reuse.groups()
+            yield number, f"{thread} {kind} {address} {size}", site, int(address, 16), int(address, 16) + int(size) - 1
 
 
 def rule_for(race):
-    """The rule that is written for a race: by the site of an access that has one, and else by words."""
+    """The rule that is written for a race: by its site if it has one, and else by words."""
     _, _, site, first, last = race
     return ("-", first, last) if site in ("-", None) else (site, None, None)
 
@@ -244,6 +244,11 @@ def unwritten_rules(record, folder):
         ("a fault of the text", [], b"eraser trace 1\nt1 hop\n"),
         ("a trace that is not there", ["/nonexistent"], b""),
         ("suppressions that are not there", ["--suppress", "/nonexistent", "-"], TWO_RACES),
+        ("a fault of the suppressions", ["--suppress", TOP / "README.md", "-"], TWO_RACES),
+        ("damage", ["--strict", "-"], TWO_RACES + b"t1 unlock m\n"),
+        ("damage by both analyses", ["--strict", "--analysis", "both", "-"], TWO_RACES + b"t1 unlock m\n"),
+        ("damage before a fault", ["--strict", "--until-fault", "-"], TWO_RACES + b"t1 unlock m\nt1 hop\n"),
+        ("a fault of the header", ["--until-fault", "-"], b"t1 hop\n"),
     ):
         found = run(["replay", "--write-rules", path, *(words or ["-"])], text)
         record(f"no rules are written behind {name}", found[2] > 1 and found[1] and path.read_bytes() == kept, f"{found}")
@@ -369,7 +374,7 @@ def refusals(record, folder, preloaded):
     rules.write_bytes(b"site b.c:1\nwords 0x9000 8\n")
     for analysis in (ANALYSES[0], ANALYSES[2]):
         words = ["replay", *analysis, "--suppress", rules, "--suppress", rules, "--unused-rules", "--max-races", "1", "--write-rules", path, "-"]
-        whole, told, name = run(words, OVERLAPPING), 0, f"triage {' '.join(analysis)}"
+        whole, told, stops, name = run(words, OVERLAPPING), 0, 0, f"triage {' '.join(analysis)}"
         written = path.read_bytes()
         bare = whole[0], b"".join(line for line in whole[1].splitlines(True) if not line.startswith(b"note: ")), whole[2]
 
@@ -379,11 +384,13 @@ def refusals(record, folder, preloaded):
 
         for nth, found, was_refused in each_refused(library, folder, run_again):
             if not was_refused:
-                record(f"{name} with all allocations", found == whole and path.read_bytes() == written and 2 * told > nth, f"{found}, {told} of {nth}")
+                # A replay by locks alone stops where memory for its words is refused.
+                is_right = found == whole and path.read_bytes() == written and 2 * told > nth and (stops > 0 or analysis != ANALYSES[0])
+                record(f"{name} with all allocations", is_right, f"{found}, {told} of {nth}, of which {stops} stopped")
                 break
             is_stopped = found[2] == 3 and b": stopped: out of memory\n" in found[0]
             is_told = is_stopped or found == (b"", b"out of memory\n", 3)
-            told += is_told
+            told, stops = told + is_told, stops + is_stopped
             is_right = path.read_bytes() == b"" if is_told else found in (whole, bare) and path.read_bytes() == written
             record(f"{name} without allocation {nth}", is_right, f"{found}")
 

@@ -147,6 +147,17 @@ static void add_code(const struct dl_phdr_info *file)
 /* How many files were loaded and unloaded when they were looked at last. The loader's own lock protects this. */
 static unsigned long long known_loads, known_unloads;
 
+static int look_for_instrumented(struct dl_phdr_info *file, size_t size, void *nothing)
+{
+    (void)size, (void)nothing;
+    return asks_for(file, "__tsan_init");
+}
+
+bool has_instrumented_file(void)
+{
+    return dl_iterate_phdr(look_for_instrumented, NULL) != 0;
+}
+
 static int look_at(struct dl_phdr_info *file, size_t size, void *is_changed)
 {
     (void)size;
@@ -162,17 +173,20 @@ static int look_at(struct dl_phdr_info *file, size_t size, void *is_changed)
     return 0;
 }
 
+void note_files(bool is_new)
+{
+    dl_iterate_phdr(look_at, &is_new);
+    if (is_new)
+        emit_maps();
+}
+
 /* Every instrumented file calls this before its own code runs, also one that is loaded later. So the writer knows the file before it
  * meets a site in it. */
 HOOK void __tsan_init(void)
 {
-    bool is_changed = false;
     attach();
-    if (!is_recording())
-        return;
-    dl_iterate_phdr(look_at, &is_changed);
-    if (is_changed)
-        emit_maps();
+    if (is_recording())
+        note_files(false);
 }
 
 static inline bool is_recorded_copy(uint64_t caller)

@@ -4,18 +4,6 @@
 
 /* ---- record/eraser.h ---- */
 
-/* The program says that its memory changes hands, by an order that may be in no event. So this reuse stands in a bracket, where nothing counts
- * that would want an order. */
-static void emit_hand_over(const volatile void *address, size_t size)
-{
-    bool is_in_bracket = size && is_ordering();
-    if (is_in_bracket)
-        emit(EVENT_IGNORE_ON, 0, 0, 0);
-    emit_reuse(address, size);
-    if (is_in_bracket)
-        emit(EVENT_IGNORE_OFF, 0, 0, 0);
-}
-
 HOOK void eraser_reuse(const volatile void *address, size_t size) { emit_hand_over(address, size); }
 HOOK void eraser_ignore_on(void) { emit(EVENT_IGNORE_ON, 0, 0, 0); }
 HOOK void eraser_ignore_off(void) { emit(EVENT_IGNORE_OFF, 0, 0, 0); }

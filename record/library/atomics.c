@@ -22,6 +22,7 @@ static inline bool is_acquire(int order)
 
 static __attribute__((noinline)) void signal_address(const volatile void *at)
 {
+    shake();
     emit_signal(OBJECT_ATOMIC, at);
 }
 
@@ -43,7 +44,7 @@ static __attribute__((noinline)) void note_load(const volatile void *at)
 /* Before an operation that stores. */
 static inline void before_store(const volatile void *at, int order)
 {
-    if (LIKELY(!is_ordering()))
+    if (LIKELY(!attached->notes_atomics))
         return;
     if (is_release(order))
         signal_address(at);
@@ -65,7 +66,10 @@ static inline void after_load(const volatile void *at, int order)
 /* An operation that stores only if it succeeds has its place among the events before it is known whether it is one of them. */
 static inline __attribute__((always_inline)) bool draw_store(struct draft *draft, int order)
 {
-    return UNLIKELY(is_ordering()) && (is_release(order) || self.has_released) && emit_draw(draft);
+    if (LIKELY(!attached->notes_atomics) || !(is_release(order) || self.has_released))
+        return false;
+    shake();
+    return is_ordering() && emit_draw(draft);
 }
 
 static inline __attribute__((always_inline)) void publish_store(const struct draft *draft, bool is_done, const volatile void *at, int order)

@@ -1,5 +1,5 @@
 /* Finds the ring, and does what an event needs besides its slot: room to wait for, numbers of threads, repairs. */
-#include "emit.h"
+#include "memory.h"
 
 #include <dlfcn.h>
 #include <errno.h>
@@ -113,6 +113,17 @@ void emit_range(enum event_kind kind, const volatile void *address, uint64_t siz
         emit(kind, (uint32_t)size, at, site);
 }
 
+/* In a bracket, because happens-before would ask for an order that no event shows. */
+void emit_hand_over(const volatile void *address, uint64_t size)
+{
+    bool is_in_bracket = size && is_ordering();
+    if (is_in_bracket)
+        emit(EVENT_IGNORE_ON, 0, 0, 0);
+    emit_reuse(address, size);
+    if (is_in_bracket)
+        emit(EVENT_IGNORE_OFF, 0, 0, 0);
+}
+
 /* ---- Start ---- */
 
 /* Where the program's files are mapped, for the source lines. Read from the kernel, since this takes no lock and no memory. */
@@ -193,12 +204,12 @@ static char *put_digits(char *at, uint32_t number)
 }
 
 /* Without the C library's functions, which may not be ready yet. */
-static void put_path(char *at, const struct asker *asker)
+static void put_path(char *at, uint32_t process, uint32_t file)
 {
     __builtin_memcpy(at, "/proc/", 6);
-    at = put_digits(at + 6, asker->writer);
+    at = put_digits(at + 6, process);
     __builtin_memcpy(at, "/fd/", 4);
-    at = put_digits(at + 4, asker->file);
+    at = put_digits(at + 4, file);
     *at = 0;
 }
 
@@ -241,7 +252,7 @@ static struct ring *ask_for_ring(struct ring *first)
             return NULL;
     }
     if (state == ASKER_HAS) {
-        put_path(path, asker);
+        put_path(path, asker->writer, asker->file);
         return map_ring(path);
     }
     atomic_store(&asker->state, ASKER_NONE);
@@ -263,34 +274,90 @@ static bool own(struct ring *ring, struct attachment *page)
         ring->program[i - begin] = path[i];
     page->ring = ring;
     page->orders = ring->orders;
+    page->shakes = ring->shakes;
+    page->notes_atomics = page->orders || page->shakes;
+    page->seed = ring->seed;
     return true;
 }
 
-/* Begins to record if `record/run` started this program: in the first ring, or in one of its own if another program was first. */
+/* Whether the program ran before it had instrumented code. It may hold locks then that were not recorded. */
+static bool has_begun;
+
+/* What is known not to be recorded of this program: where another definition of a function comes before this library's. */
+static uint32_t unseen(void)
+{
+    bool sees_locks = find_first("pthread_mutex_lock") != find_behind("pthread_mutex_lock");
+    return (sees_locks ? 0 : UNSEEN_LOCKS) | (is_free_seen() ? 0 : UNSEEN_FREES);
+}
+
+/* Records this process in the first ring, or in one of its own if another program has that. */
+static void attach_to(struct ring *first, struct attachment *page)
+{
+    struct ring *ring = own(first, page) ? first : ask_for_ring(first);
+    if (ring && ring != first && !own(ring, page))
+        ring = NULL;
+    if (!ring)
+        atomic_fetch_add(&first->others, 1);
+    page->was_refused = !ring;
+    if (ring != first)
+        syscall(SYS_munmap, first, sizeof *first);
+    if (!ring)
+        return;
+    ring->unseen = unseen();
+    ring->is_late = has_begun;
+    attached = page;
+    emit(EVENT_THREAD, 0, (uint64_t)pthread_self(), 0);
+}
+
+/* Where the first ring is. A program may write over its environment. */
+static char place_of_first[64];
+
+/* As long as this process or a forked child has it mapped, the recorder waits. */
+static void be_present(const struct ring *first)
+{
+    char path[64];
+    put_path(path, first->writer, first->presence);
+    int file = (int)syscall(SYS_openat, AT_FDCWD, path, O_RDWR | O_CLOEXEC);
+    if (file < 0)
+        return;
+    mmap(NULL, PRESENCE_BYTES, PROT_READ, MAP_SHARED, file, 0);
+    syscall(SYS_close, file);
+}
+
+/* Begins to record if `record/run` started this program. */
 void attach(void)
 {
     static atomic_int was_called;
-    char path[64];
     if (atomic_exchange(&was_called, 1))
         return;
     int error = errno;
-    struct ring *first = read_setting(path, sizeof path) ? map_ring(path) : NULL;
+    struct ring *first = read_setting(place_of_first, sizeof place_of_first) ? map_ring(place_of_first) : NULL;
     struct attachment *page = first ? map_attachment() : NULL;
-    bool is_first = page && own(first, page);
-    if (page && !is_first) {
-        struct ring *mine = ask_for_ring(first);
-        if (!mine || !own(mine, page))
-            page = NULL;
-    }
-    if (first && !page)
+    if (first)
+        be_present(first);
+    if (page)
+        attach_to(first, page);
+    else if (first)
         atomic_fetch_add(&first->others, 1);
-    if (first && !is_first)
-        syscall(SYS_munmap, first, sizeof *first);
-    if (page) {
-        attached = page;
-        emit(EVENT_THREAD, 0, (uint64_t)pthread_self(), 0);
-    }
     errno = error;
+}
+
+/* What a forked child does is recorded from its first thread on, as that of a further program. Most children start another program instead. */
+bool attach_child(void)
+{
+    if (attached == &no_attachment || attached->was_refused)
+        return false;
+    int error = errno;
+    struct ring *first = map_ring(place_of_first);
+    attached->was_refused = !first;
+    has_begun = true;
+    self = (struct self){.reads_ignored = self.reads_ignored, .writes_ignored = self.writes_ignored};
+    if (first)
+        attach_to(first, attached);
+    if (is_recording())
+        note_files(true);
+    errno = error;
+    return is_recording();
 }
 
 /* A child finds no ring, so its parent counts it. */
@@ -300,10 +367,14 @@ static void count_fork(void)
         atomic_fetch_add_explicit(&attached->ring->forks, 1, memory_order_relaxed);
 }
 
+/* This library is in front of all others of each program that `record/run` starts. A program that isn't instrumented may load what is. */
 static __attribute__((constructor)) void begin(void)
 {
-    attach();
     pthread_atfork(NULL, count_fork, NULL);
+    if (has_instrumented_file())
+        attach();
+    else
+        has_begun = true;
 }
 
 /* ---- Functions behind this library ---- */
@@ -311,6 +382,38 @@ static __attribute__((constructor)) void begin(void)
 static int is_missing(void)
 {
     return ENOSYS;
+}
+
+bool is_found(const void *function)
+{
+    return function != (const void *)(uintptr_t)is_missing;
+}
+
+/* Where a file is in memory that has this place. */
+static const void *file_of(const void *place)
+{
+    Dl_info found;
+    return dladdr(place, &found) ? found.dli_fbase : NULL;
+}
+
+const void *find_first(const char *name)
+{
+    return dlsym(RTLD_DEFAULT, name);
+}
+
+const void *find_behind(const char *name)
+{
+    return dlsym(RTLD_NEXT, name);
+}
+
+bool is_in_one_file(const void *one, const void *other)
+{
+    return file_of(one) == file_of(other);
+}
+
+bool is_here(const void *function)
+{
+    return is_in_one_file(function, &no_attachment);
 }
 
 /* `dlsym` finds the newest version of a name. A program that was linked with ThreadSanitizer's library asks for no version, and would

@@ -23,6 +23,10 @@ struct attachment {
     struct ring *ring;
     bool orders; /* what orders threads is recorded as well */
     _Atomic bool has_fences; /* some file of the program asks for fences */
+    bool was_refused; /* this process asked for a ring, and there is none for it */
+    bool shakes; /* threads wait at random, as `seed` says */
+    bool notes_atomics; /* it orders or shakes, and atomic operations have a part in it */
+    uint64_t seed;
 };
 extern struct attachment *attached;
 
@@ -38,6 +42,8 @@ struct self {
     uint64_t head_seen;
     uint64_t pending; /* the ticket that this thread has drawn and not yet published, stored as its complement */
     void *pending_frame;
+    uint64_t random; /* the state of what it draws at random, and how often it has */
+    uint64_t calls;
 };
 /* Of the initial-exec model, since the dynamic loader calls in before it could make room for any other. */
 extern __thread struct self self __attribute__((tls_model("initial-exec")));
@@ -48,6 +54,11 @@ void emit_lost(struct ring *ring, struct self *me);
 void emit_end_of_thread(void);
 void emit_maps(void);
 void attach(void);
+/* Whether a child that was forked is recorded from here on. */
+bool attach_child(void);
+bool has_instrumented_file(void);
+/* Tells the writer which files the program has, if they have changed since, or if it is a new one. */
+void note_files(bool is_new);
 
 static inline bool is_recording(void)
 {
@@ -57,6 +68,15 @@ static inline bool is_recording(void)
 static inline bool is_ordering(void)
 {
     return attached->orders;
+}
+
+void shake_thread(void);
+
+/* Before a thread acquires, signals or starts something. */
+static inline void shake(void)
+{
+    if (UNLIKELY(attached->shakes))
+        shake_thread();
 }
 
 /* A load that doesn't acquire means something to a fence alone, so it is recorded only in a program that has fences. */
@@ -157,20 +177,38 @@ static inline __attribute__((always_inline)) void emit_write(const volatile void
         emit(EVENT_WRITE, size, (uintptr_t)address, site);
 }
 
-static inline void emit_reuse(const volatile void *address, uint64_t size)
+/* Whether memory can be in an event. No program has other memory. */
+static inline bool is_memory(const volatile void *address, uint64_t size)
 {
-    if (size)
-        emit(EVENT_REUSE, 0, (uintptr_t)address, size);
+    return size && size <= REUSE_MASK && (uintptr_t)address <= REUSE_MASK;
 }
 
-/* A block that a call gives back. */
-static inline void emit_free(const volatile void *block, size_t size, uint64_t site)
+/* How memory stands in an event, beside the lower bits of its size. */
+static inline uint64_t packed(const volatile void *address, uint64_t size)
 {
-    if (size <= UINT32_MAX)
-        emit(EVENT_FREE, (uint32_t)size, (uintptr_t)block, site);
-    else
-        emit_reuse(block, size);
+    return (uintptr_t)address | (size >> 32) << REUSE_BITS;
 }
+
+/* Memory gets a new use by a call at this place, or by none if it is 0. */
+static inline void emit_memory(const volatile void *address, uint64_t size, uint64_t place)
+{
+    if (is_memory(address, size))
+        emit(EVENT_REUSE, (uint32_t)size, packed(address, size), place);
+}
+
+/* A block that a call gives back, as an allocator has it. */
+static inline void emit_free(const volatile void *block, uint64_t size, uint64_t place)
+{
+    emit(EVENT_FREE, (uint32_t)size, packed(block, size), place);
+}
+
+static inline void emit_reuse(const volatile void *address, uint64_t size)
+{
+    emit_memory(address, size, 0);
+}
+
+/* The program or an allocator says that memory changes hands, by an order that may be in no event. */
+void emit_hand_over(const volatile void *address, uint64_t size);
 
 /* A signal is recorded before what it stands for happens, an await after it. So the await of whoever saw what another thread did comes
  * after that thread's signal. */
@@ -211,6 +249,18 @@ void *find_real(void **place, const char *name);
         void *found = __atomic_load_n(&place_of_##function, __ATOMIC_ACQUIRE);                    \
         (__typeof__(&function))(LIKELY(found != NULL) ? found : find_real(&place_of_##function, #function)); \
     }))
+
+/* The same, or NULL if there is none. */
+#define NEXT(function) (__extension__({ __typeof__(&function) next_found = REAL(function); is_found((void *)(uintptr_t)next_found) ? next_found : NULL; }))
+bool is_found(const void *function);
+
+/* The definition of a name that other files find. The program's own file is searched first, and then this library. */
+const void *find_first(const char *name);
+/* The definition behind this library's. */
+const void *find_behind(const char *name);
+bool is_in_one_file(const void *one, const void *other);
+/* Whether this is a function of this library. */
+bool is_here(const void *function);
 
 /* FIND_EARLY(function) defines find_FUNCTION, for a function that a signal handler may call. Finding it takes a lock of the dynamic
  * loader, which the interrupted thread may hold, so that is done before there is a handler. */

@@ -44,6 +44,7 @@ static inline __attribute__((always_inline)) void begin_sending(struct sending *
     sending->object = is_ordering() ? object_of(file) : NULL;
     if (!sending->object)
         return;
+    shake();
     if (fcntl(file, F_GETFL) & O_NONBLOCK)
         sending->is_drawn = emit_draw(&sending->draft);
     else

@@ -45,6 +45,7 @@ static void emit_end(volatile void *lock, uint64_t site)
 #define ACQUIRE(emit_it, kind, name, parameters, arguments)  \
     HOOK int name parameters                                 \
     {                                                        \
+        shake();                                             \
         int result = REAL(name) arguments;                   \
         if (is_acquired(result))                             \
             emit_it(kind, lock);                             \
@@ -104,6 +105,7 @@ static void emit_twice(void *lock, uint64_t site)
 HOOK int pthread_mutex_lock(pthread_mutex_t *lock)
 {
     emit_twice(lock, CALLER);
+    shake();
     int result = REAL(pthread_mutex_lock)(lock);
     if (is_acquired(result))
         emit_lock(LOCK_MUTEX, lock);
@@ -174,6 +176,7 @@ INITIALISE(mtx_init, (mtx_t *lock, int kind), (lock, kind))
 HOOK int mtx_lock(mtx_t *lock)
 {
     emit_twice(lock, CALLER);
+    shake();
     int result = REAL(mtx_lock)(lock);
     if (is_acquired(result))
         emit_lock(LOCK_MUTEX, lock);

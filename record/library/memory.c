@@ -1,77 +1,182 @@
 /* Memory that is given back. It is recorded as put to a new use before anybody else can get it. */
-#include "emit.h"
+#include "memory.h"
 
-#include <malloc.h>
+#include <errno.h>
 #include <stdarg.h>
-#include <stdlib.h>
 #include <string.h>
 #include <sys/mman.h>
 
+/* ---- The allocator ---- */
+
 extern void __libc_free(void *);
+extern void *__libc_malloc(size_t);
+extern void *__libc_calloc(size_t, size_t);
 
-typedef void free_function(void *);
+static const struct allocator of_c_library = {.malloc = __libc_malloc, .calloc = __libc_calloc, .free = __libc_free, .is_first = true};
+struct allocator allocator;
+static atomic_bool is_allocator_known;
 
-/* Finding the real function may free something itself: then the C library's own serves. */
-static free_function *find_free(void)
+static void look_for_allocator(struct allocator *found)
 {
-    static __thread bool is_finding __attribute__((tls_model("initial-exec")));
-    if (is_finding)
-        return __libc_free;
-    is_finding = true;
-    free_function *found = REAL(free);
-    is_finding = false;
-    return found;
+    const void *used = find_first("free");
+    found->malloc = REAL(malloc);
+    found->calloc = REAL(calloc);
+    found->free = REAL(free);
+    found->is_first = is_here(used);
+    found->is_foreign = !is_in_one_file(found->free, of_c_library.free);
+    found->is_plain = found->is_first && !found->is_foreign && is_here(find_first("malloc"));
+    found->size_of = is_in_one_file(REAL(malloc_usable_size), found->free) ? REAL(malloc_usable_size) : NULL;
+    found->size_in_front = is_in_one_file(malloc_usable_size, used) ? malloc_usable_size : NULL;
 }
 
-HOOK void free(void *block)
+/* Looking for it may take memory and free it: then the C library's own serves. */
+static __attribute__((noinline)) const struct allocator *find_allocator(void)
 {
-    free_function *real = find_free();
-    if (block && is_recording())
-        emit_free(block, malloc_usable_size(block), CALLER);
-    real(block);
+    static __thread bool is_looking __attribute__((tls_model("initial-exec")));
+    if (is_looking)
+        return &of_c_library;
+    is_looking = true;
+    look_for_allocator(&allocator);
+    atomic_store_explicit(&is_allocator_known, true, memory_order_release);
+    is_looking = false;
+    return &allocator;
+}
+
+static inline const struct allocator *get_allocator(void)
+{
+    return LIKELY(atomic_load_explicit(&is_allocator_known, memory_order_acquire)) ? &allocator : find_allocator();
+}
+
+/* What is freed there may be what the dynamic loader kept of a name that it didn't find, and it would be freed twice. So this comes before any such
+ * name. */
+static __attribute__((constructor)) void look_early(void) { get_allocator(); }
+
+bool is_of_allocator(const void *function)
+{
+    return is_in_one_file(function, get_allocator()->malloc);
+}
+
+bool is_free_seen(void)
+{
+    const struct allocator *its = get_allocator();
+    return its->is_first && its->size_of;
+}
+
+/* ---- Memory that is given out ---- */
+
+static __attribute__((noinline)) void *note_foreign(void *block)
+{
+    if (block && allocator.size_of && is_recording())
+        emit_hand_over(block, allocator.size_of(block));
+    return block;
+}
+
+inline void *note_taken(void *block)
+{
+    return LIKELY(!allocator.is_foreign) ? block : note_foreign(block);
+}
+
+/* Nearly always the C library's, of which there is nothing to note. */
+HOOK void *malloc(size_t size) { return LIKELY(allocator.is_plain) ? allocator.malloc(size) : note_taken(get_allocator()->malloc(size)); }
+HOOK void *calloc(size_t count, size_t size) { return LIKELY(allocator.is_plain) ? allocator.calloc(count, size) : note_taken(get_allocator()->calloc(count, size)); }
+HOOK void *aligned_alloc(size_t alignment, size_t size) { return note_taken(REAL(aligned_alloc)(alignment, size)); }
+HOOK void *memalign(size_t alignment, size_t size) { return note_taken(REAL(memalign)(alignment, size)); }
+HOOK void *valloc(size_t size) { return note_taken(REAL(valloc)(size)); }
+HOOK void *pvalloc(size_t size) { return note_taken(REAL(pvalloc)(size)); }
+
+HOOK int posix_memalign(void **block, size_t alignment, size_t size)
+{
+    int result = REAL(posix_memalign)(block, alignment, size);
+    if (result == 0)
+        note_taken(*block);
+    return result;
+}
+
+/* ---- Blocks that are given back ---- */
+
+static inline void note_free(void *block, size_function size_of, uint64_t site)
+{
+    if (block && size_of && is_recording())
+        emit_free(block, size_of(block), site);
+}
+
+static inline void free_behind(void *block, uint64_t site)
+{
+    const struct allocator *its = get_allocator();
+    note_free(block, its->size_of, site);
+    its->free(block);
+}
+
+HOOK void free(void *block) { free_behind(block, CALLER); }
+
+/* The program's own `free` may call this library's. */
+void give_back(void *block, uint64_t site)
+{
+    if (LIKELY(get_allocator()->is_first)) {
+        free_behind(block, site);
+        return;
+    }
+    note_free(block, allocator.size_in_front, site);
+    free(block);
 }
 
 /* A block that shrinks stays where it is, as a rule, and gives back its end. If it moves, others may have its old place before that is known. So
  * the place of that event is drawn first. */
-static void *shrink(void *block, size_t had, size_t size)
+static void *shrink(void *block, size_t had, size_t size, uint64_t place)
 {
     void *(*real)(void *, size_t) = REAL(realloc);
-    size_t kept = (size + 15) & ~(size_t)15;
+    size_t kept = (size + 15) & ~(size_t)15, moves = had < kept ? had : kept;
     struct draft draft;
     if (had > kept)
-        emit_reuse((char *)block + kept, had - kept);
+        emit_memory((char *)block + kept, had - kept, place);
     bool is_drawn = emit_draw(&draft);
     void *now = real(block, size);
     if (is_drawn)
-        emit_publish(&draft, now && now != block ? EVENT_REUSE : EVENT_VOID, 0, (uintptr_t)block, had < kept ? had : kept);
+        emit_publish(&draft, now && now != block ? EVENT_REUSE : EVENT_VOID, (uint32_t)moves, packed(block, moves), place);
     return now;
 }
 
 /* The real function would give the old block back before this library could say so. So a block that grows is moved here. */
-HOOK void *realloc(void *block, size_t size)
+static void *resize(void *block, size_t size, uint64_t site)
 {
-    if (!block || !is_recording())
+    size_function size_of = get_allocator()->size_of;
+    if (!block)
+        return note_taken(REAL(realloc)(NULL, size));
+    if (!is_recording() || !size_of)
         return REAL(realloc)(block, size);
-    size_t had = malloc_usable_size(block);
+    size_t had = size_of(block);
     if (size == 0) {
-        emit_free(block, had, CALLER);
+        emit_free(block, had, site);
         return REAL(realloc)(block, 0);
     }
     if (size <= had)
-        return shrink(block, had, size);
+        return shrink(block, had, size, CALLER);
     void *now = malloc(size);
     if (now) {
         memcpy(now, block, had);
-        emit_free(block, had, CALLER);
-        find_free()(block);
+        free_behind(block, site);
     }
     return now;
 }
 
+HOOK void *realloc(void *block, size_t size) { return resize(block, size, CALLER); }
+
+HOOK void *reallocarray(void *block, size_t count, size_t size)
+{
+    size_t bytes;
+    if (__builtin_mul_overflow(count, size, &bytes)) {
+        errno = ENOMEM;
+        return NULL;
+    }
+    return resize(block, bytes, CALLER);
+}
+
+/* ---- Pages ---- */
+
 HOOK int munmap(void *begin, size_t size)
 {
     if (is_recording())
-        emit_reuse(begin, (size + 4095) & ~(size_t)4095);
+        emit_memory(begin, (size + 4095) & ~(size_t)4095, CALLER);
     return REAL(munmap)(begin, size);
 }
 
@@ -81,10 +186,14 @@ HOOK void *mremap(void *begin, size_t had, size_t size, int how, ...)
     va_start(rest, how);
     void *wanted = how & MREMAP_FIXED ? va_arg(rest, void *) : NULL;
     va_end(rest);
+    void *(*real)(void *, size_t, size_t, int, ...) = REAL(mremap);
+    struct draft draft;
     if (is_recording() && size < had)
-        emit_reuse((char *)begin + size, had - size);
-    void *now = REAL(mremap)(begin, had, size, how, wanted);
-    if (is_recording() && now != MAP_FAILED && now != begin)
-        emit_reuse(begin, had);
+        emit_memory((char *)begin + size, had - size, CALLER);
+    /* As in a block that shrinks: others may have the old place at once. */
+    bool is_drawn = is_memory(begin, had) && emit_draw(&draft);
+    void *now = real(begin, had, size, how, wanted);
+    if (is_drawn)
+        emit_publish(&draft, now != MAP_FAILED && now != begin ? EVENT_REUSE : EVENT_VOID, (uint32_t)had, packed(begin, had), CALLER);
     return now;
 }

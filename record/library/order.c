@@ -2,10 +2,14 @@
  * and await. Without `record/run --order` these functions only call the real ones. */
 #include "emit.h"
 
+#include <limits.h>
+#include <linux/futex.h>
 #include <pthread.h>
 #include <semaphore.h>
+#include <sys/syscall.h>
 #include <threads.h>
 #include <time.h>
+#include <unistd.h>
 
 typedef const struct timespec *until;
 
@@ -14,6 +18,7 @@ typedef const struct timespec *until;
 #define SIGNAL(kind, type, name)                             \
     HOOK int name(type *object)                              \
     {                                                        \
+        shake();                                             \
         emit_signal(kind, object);                           \
         return REAL(name)(object);                           \
     }
@@ -22,6 +27,7 @@ typedef const struct timespec *until;
 #define AWAIT(kind, name, parameters, arguments)             \
     HOOK int name parameters                                 \
     {                                                        \
+        shake();                                             \
         int result = REAL(name) arguments;                   \
         if (result == 0)                                     \
             emit_await(kind, object);                        \
@@ -64,6 +70,7 @@ HOOK int sem_post(sem_t *object)
 {
     int (*post)(sem_t *) = find_sem_post();
     struct draft draft;
+    shake();
     bool is_drawn = is_ordering() && emit_draw(&draft);
     int result = post(object);
     if (is_drawn)
@@ -87,6 +94,7 @@ HOOK int pthread_barrier_init(pthread_barrier_t *restrict object, const pthread_
 
 HOOK int pthread_barrier_wait(pthread_barrier_t *object)
 {
+    shake();
     emit_signal(OBJECT_BARRIER, object);
     int result = REAL(pthread_barrier_wait)(object);
     if (result == 0 || result == PTHREAD_BARRIER_SERIAL_THREAD)
@@ -170,22 +178,48 @@ int __cxa_guard_acquire(void *object);
 void __cxa_guard_release(void *object);
 void __cxa_guard_abort(void *object);
 
+/* Where the C++ library is in no file of its own, the program has none of the three. The first byte of a guard says that the variable is made, and the
+ * second one that a thread makes it. */
+#define GUARD_MADE 1u
+#define GUARD_TAKEN 256u
+
+static int take_guard(void *object)
+{
+    uint32_t found = 0;
+    while (!atomic_compare_exchange_strong((_Atomic uint32_t *)object, &found, GUARD_TAKEN)) {
+        if (found == GUARD_MADE)
+            return 0;
+        syscall(SYS_futex, object, FUTEX_WAIT_PRIVATE, found, NULL, NULL, 0);
+        found = 0;
+    }
+    return 1;
+}
+
+static void leave_guard(void *object, uint32_t state)
+{
+    atomic_store((_Atomic uint32_t *)object, state);
+    syscall(SYS_futex, object, FUTEX_WAKE_PRIVATE, INT_MAX, NULL, NULL, 0);
+}
+
 HOOK int __cxa_guard_acquire(void *object)
 {
-    int is_first = REAL(__cxa_guard_acquire)(object);
+    __typeof__(&__cxa_guard_acquire) next = NEXT(__cxa_guard_acquire);
+    int is_first = next ? next(object) : take_guard(object);
     emit_await(OBJECT_ONCE, object);
     return is_first;
 }
 
-HOOK void __cxa_guard_release(void *object)
-{
-    emit_signal(OBJECT_ONCE, object);
-    REAL(__cxa_guard_release)(object);
-}
+/* If it ends by an exception, the next thread that comes makes the variable. */
+#define LEAVE_GUARD(name, state)                             \
+    HOOK void name(void *object)                             \
+    {                                                        \
+        __typeof__(&name) next = NEXT(name);                 \
+        emit_signal(OBJECT_ONCE, object);                    \
+        if (next)                                            \
+            next(object);                                    \
+        else                                                 \
+            leave_guard(object, state);                      \
+    }
 
-/* An exception: the next thread that comes makes the variable. */
-HOOK void __cxa_guard_abort(void *object)
-{
-    emit_signal(OBJECT_ONCE, object);
-    REAL(__cxa_guard_abort)(object);
-}
+LEAVE_GUARD(__cxa_guard_release, GUARD_MADE)
+LEAVE_GUARD(__cxa_guard_abort, 0)

@@ -134,6 +134,7 @@ static struct task take_start(void *given)
         self.number = start->number;
     leave_start(start);
     begin_thread();
+    shake();
     return task;
 }
 
@@ -151,11 +152,12 @@ static int run_c11_thread(void *given)
 
 HOOK int pthread_create(pthread_t *restrict thread, const pthread_attr_t *restrict how, void *(*body)(void *), void *restrict argument)
 {
-    if (!is_recording())
+    if (!is_recording() && !attach_child())
         return REAL(pthread_create)(thread, how, body, argument);
     struct start *start = make_start((struct task){body, NULL, argument});
     if (!start)
         return EAGAIN;
+    shake();
     int result = REAL(pthread_create)(thread, how, run_thread, start);
     end_start(start, result == 0, thread);
     return result;
@@ -163,11 +165,12 @@ HOOK int pthread_create(pthread_t *restrict thread, const pthread_attr_t *restri
 
 HOOK int thrd_create(thrd_t *thread, thrd_start_t body, void *argument)
 {
-    if (!is_recording())
+    if (!is_recording() && !attach_child())
         return REAL(thrd_create)(thread, body, argument);
     struct start *start = make_start((struct task){NULL, body, argument});
     if (!start)
         return thrd_nomem;
+    shake();
     int result = REAL(thrd_create)(thread, run_c11_thread, start);
     end_start(start, result == thrd_success, thread);
     return result;

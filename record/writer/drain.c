@@ -17,6 +17,8 @@
 /* What goes to a reader that waits for it: at most so many events are kept back. */
 #define FLUSH_STEP 65536
 
+bool drain_has_frees;
+
 /* A text that comes in parts of 16 bytes from one thread, with other threads' events in between. */
 struct text {
     struct text *next;
@@ -253,6 +255,13 @@ static void take_rare(const struct slot *slot)
     }
 }
 
+static void reuse(const struct slot *slot)
+{
+    struct reuse reuse = {slot->thread, slot->second, slot->kind == EVENT_FREE};
+    drain_has_frees |= slot->kind == EVENT_FREE;
+    pages_reuse(&reuse, slot->first & REUSE_MASK, reuse_size(slot));
+}
+
 static void take(const struct slot *slot)
 {
     switch (slot->kind) {
@@ -270,8 +279,8 @@ static void take(const struct slot *slot)
         break;
     case EVENT_SIGNAL: signal_object(slot, (enum object_kind)(slot->size % OBJECT_KINDS)); break;
     case EVENT_AWAIT: await_object(slot, (enum object_kind)(slot->size % OBJECT_KINDS)); break;
-    case EVENT_REUSE: pages_reuse(slot->thread, slot->first, slot->second, 0); break;
-    case EVENT_FREE: pages_reuse(slot->thread, slot->first, slot->size, slot->second); break;
+    case EVENT_REUSE:
+    case EVENT_FREE: reuse(slot); break;
     default: take_rare(slot); break;
     }
 }

@@ -6,6 +6,9 @@
 
 #include "../ring.h"
 
+/* Whether a block was given back. */
+extern bool drain_has_frees;
+
 /* Takes all events that are published. True if there were any. */
 bool drain(struct ring *ring);
 /* True if tickets were drawn for which nothing is published yet. */

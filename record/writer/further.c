@@ -17,7 +17,9 @@
 #include <time.h>
 #include <unistd.h>
 
+#include "drain.h"
 #include "kept.h"
+#include "merge.h"
 #include "options.h"
 #include "recording.h"
 #include "replay.h"
@@ -32,6 +34,7 @@ struct shared {
     _Atomic uint32_t count;     /* programs that found a ring, with the first */
     _Atomic uint32_t is_ending; /* the command and the first program have ended */
     _Atomic uint32_t has_folder;
+    _Atomic uint32_t run;       /* of the command, from 1 on */
     struct outcome outcomes[MOST_PROGRAMS];
 };
 static struct shared *shared;
@@ -210,7 +213,9 @@ void further_write_list(bool has_reports)
     const char *reports = further_report_folder(), *traces = further_trace_folder();
     bool is_one = traces && strcmp(reports, traces) == 0;
     has_reports &= options.replays;
-    if (has_reports)
+    if (has_reports && options.runs > 1)
+        merge_reports();
+    else if (has_reports)
         for_each_file(tell_file, further_report, NULL);
     if (has_reports)
         write_list_in(reports, true, is_one);
@@ -229,6 +234,11 @@ unsigned further_count(void)
 struct outcome *further_outcome(unsigned number)
 {
     return &shared->outcomes[number - 1];
+}
+
+void further_begin_run(unsigned run)
+{
+    atomic_store(&shared->run, run);
 }
 
 /* ---- One further program ---- */
@@ -273,13 +283,14 @@ static bool give_ring(struct asker *asker)
     return is_taken;
 }
 
-static void end_outcome(struct outcome *outcome, int error)
+void further_fill(struct outcome *outcome)
 {
+    const struct ring *ring = recording.ring;
     outcome->events = trace_events;
     outcome->lost = recording_lost();
-    outcome->forks = atomic_load(&recording.ring->forks);
-    outcome->replay_status = replay.has_ended ? exit_status(replay.status) : -1;
-    outcome->error = output.file_error ? output.file_error : error;
+    outcome->forks = atomic_load(&ring->forks);
+    outcome->unseen = ring->unseen & (drain_has_frees || !outcome->events ? ~UNSEEN_FREES : ~0u);
+    outcome->error = output.file_error;
 }
 
 /* Nothing of it is kept. */
@@ -300,10 +311,12 @@ static void record_further(struct asker *asker, unsigned number)
     char *trace = options.has_trace_folder ? further_trace(outcome) : NULL, *report = further_report(outcome);
     bool is_kept = options.is_for_people || trace;
     outcome->replay_status = -1;
+    outcome->run = atomic_load(&shared->run);
     outcome->error = is_kept ? kept_open(trace) : 0;
     if (outcome->error)
         _exit(STATUS_FAILED);
     recording_make_ring(number);
+    recording_shake(outcome->run);
     recording.has_command_ended = true;
     signals_set(interrupt, interrupt);
     if (options.replays && !options.shows_places)
@@ -317,11 +330,12 @@ static void record_further(struct asker *asker, unsigned number)
     if (options.replays && options.shows_places && trace_events && !output.file_error)
         kept_replay();
     replay_end();
-    end_outcome(outcome, 0);
+    further_fill(outcome);
+    outcome->replay_status = replay.has_ended ? exit_status(replay.status) : -1;
     if (!outcome->events && !outcome->lost)
         drop_outcome(outcome, trace);
-    else if (options.replays)
-        end_outcome(outcome, replay_save_report(report));
+    else if (options.replays && !outcome->error)
+        outcome->error = replay_save_report(report);
     _exit(0);
 }
 
@@ -450,6 +464,8 @@ void further_end(void)
     atomic_store(&shared->is_ending, 1);
     atomic_fetch_add(&recording.ring->bell, 1);
     syscall(SYS_futex, &recording.ring->bell, FUTEX_WAKE, 1, NULL, NULL, 0);
+    if (recording.is_to_end)
+        further_stop();
     while (waitpid(server, NULL, 0) < 0 && errno == EINTR)
         ;
     atomic_store(&recording.ring->server, 0);

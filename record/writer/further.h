@@ -10,7 +10,9 @@
 struct outcome {
     char name[64];     /* of its files, without folder and ending; empty if there is nothing of it */
     uint64_t events, lost;
+    uint32_t run;      /* of the command in which it was started */
     uint32_t forks;
+    uint32_t unseen;   /* what is not recorded of it: UNSEEN_LOCKS, UNSEEN_FREES */
     int replay_status; /* as an exit status, or -1 if there was no replay */
     int error;         /* errno if its trace or its report could not be written */
 };
@@ -19,6 +21,8 @@ struct outcome {
 void further_open_folders(void);
 /* Starts who gives out further rings. Before anything is recorded. */
 void further_begin(void);
+/* What is started from here on belongs to this run of the command. */
+void further_begin_run(unsigned run);
 /* The command has ended, and nobody waits for what it started any longer. A signal handler may call it. */
 void further_stop(void);
 /* Waits for all further programs and their replays. */
@@ -27,6 +31,9 @@ void further_end(void);
 unsigned further_count(void);
 /* The outcome of a program, by its number from 1 on. The first one's is for the caller to fill. */
 struct outcome *further_outcome(unsigned number);
+
+/* What was recorded of the program whose trace this process has written. */
+void further_fill(struct outcome *outcome);
 
 /* Makes the name of a program's files: its number and what its own file is called. */
 void further_name(struct outcome *outcome, unsigned number, const char *program);

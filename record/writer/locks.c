@@ -240,8 +240,9 @@ void locks_release(uint32_t thread, uint64_t address, struct release release)
     struct holder *holder = lock ? find_holder(lock, thread) : NULL;
     if (!holder && releases_forgotten(thread, address))
         return;
-    /* A lock of the program's own may be one that another thread releases. */
-    if (!holder && release.kind != LOCK_USER && is_certain()) {
+    /* A lock of the program's own may be one that another thread releases. One that no line has named may have been taken before the recording. */
+    bool may_be_held = !lock && recording.ring->is_late;
+    if (!holder && release.kind != LOCK_USER && is_certain() && !may_be_held) {
         lock = get_lock(address, release.kind);
         release_of_other(lock, thread, release);
     }

@@ -3,6 +3,7 @@
 #include <errno.h>
 #include <fcntl.h>
 #include <getopt.h>
+#include <inttypes.h>
 #include <signal.h>
 #include <stdio.h>
 #include <stdlib.h>
@@ -24,6 +25,10 @@
 #define GIVEN_AS_ANOTHER ", given as 123"
 
 static int start_error; /* errno if the program could not be started, or 0 */
+static int *statuses; /* of the command in each run, as `waitpid` gives it */
+static unsigned runs_made;
+static int worst_status; /* the one of these with the greatest exit status */
+static volatile sig_atomic_t was_interrupted; /* then the command is not run again */
 
 /* ---- The program ---- */
 
@@ -32,6 +37,7 @@ static int start_error; /* errno if the program could not be started, or 0 */
 static void interrupt(int number)
 {
     (void)number;
+    was_interrupted = 1;
     if (!recording.has_command_ended)
         return;
     recording.is_to_end = 1;
@@ -42,28 +48,52 @@ static void interrupt(int number)
 /* Who wants to end the recorder means the program. */
 static void pass_on(int number)
 {
+    was_interrupted = 1;
     if (recording.command > 0 && !recording.has_command_ended)
         kill(recording.command, number);
     else
         interrupt(number);
 }
 
-/* The program finds our libraries in front of the system's. */
-static void set_library_path(void)
+/* A list in the environment, with `first` in front of what stands there. */
+static void put_in_front(const char *name, const char *first)
 {
-    const char *ours = getenv("ERASER_RECORD_LIBRARIES"), *theirs = getenv("LD_LIBRARY_PATH");
-    char *path, *place;
-    unsetenv("ERASER_RECORD_LIBRARIES");
+    const char *rest = getenv(name);
+    char *list;
+    if (asprintf(&list, "%s%s%s", first, rest && *rest ? ":" : "", rest && *rest ? rest : "") < 0)
+        _exit(STATUS_FAILED);
+    setenv(name, list, 1);
+    free(list);
+}
+
+/* Our library is in front of all others, also in a program that isn't instrumented and loads what is. A path with a blank or a colon would be two, so
+ * then its name is looked up. AddressSanitizer's library wants to be the first one, and is asked not to. */
+static void preload(const char *folder)
+{
+    char *path;
+    if (asprintf(&path, "%s/liberaser_record.so", folder) < 0)
+        _exit(STATUS_FAILED);
+    put_in_front("LD_PRELOAD", strpbrk(path, " :") ? strrchr(path, '/') + 1 : path);
+    put_in_front("ASAN_OPTIONS", "verify_asan_link_order=0");
+    free(path);
+}
+
+/* The program finds our libraries in front of the system's. */
+static void set_libraries(void)
+{
+    const char *ours = getenv("ERASER_RECORD_LIBRARIES");
+    char *place;
     if (getenv("ERASER_RECORD_PREPARE"))
         unsetenv("ERASER"); /* set by record/run, not by the user */
     unsetenv("ERASER_RECORD_PREPARE");
     if (!ours)
         return;
-    if (asprintf(&path, "%s%s%s", ours, theirs && *theirs ? ":" : "", theirs && *theirs ? theirs : "") < 0 ||
-        asprintf(&place, "/proc/%ld/fd/%d", (long)getppid(), recording.file) < 0)
+    if (asprintf(&place, "/proc/%ld/fd/%d", (long)getppid(), recording.file) < 0)
         _exit(STATUS_FAILED);
-    setenv("LD_LIBRARY_PATH", path, 1);
+    put_in_front("LD_LIBRARY_PATH", ours);
+    preload(ours);
     setenv(RING_VARIABLE, place, 1);
+    unsetenv("ERASER_RECORD_LIBRARIES");
 }
 
 static void start_program(char **words)
@@ -79,13 +109,13 @@ static void start_program(char **words)
     }
     signals_reset();
     signal(SIGPIPE, SIG_DFL);
-    set_library_path();
+    set_libraries();
     start_execute(words, start[1]);
 }
 
 /* ---- What it says at the end ---- */
 
-static const struct outcome *first(void)
+static struct outcome *first(void)
 {
     return further_outcome(1);
 }
@@ -103,48 +133,86 @@ static void say_what_was_recorded(void)
                 lost ? ": the trace is incomplete, and says so in its last line" : "");
 }
 
+/* One file takes one trace, and then further programs are not recorded. */
+static bool has_room_for_one(void)
+{
+    return options.trace && !options.has_trace_folder;
+}
+
 /* Of all programs that were recorded. */
 struct sums {
+    unsigned runs; /* in which something was recorded */
     unsigned recorded, racing, broken; /* broken: not all of it was recorded or written */
     uint64_t forks;
+    bool leaves_child; /* there is room for one trace, and a child that was forked goes on */
+    uint32_t unseen; /* of one program or another */
     int replay_status; /* the greatest that is no answer, or 0 */
 };
 
-static struct sums add_up(void)
+/* Of one run, or of all if it is 0. */
+static struct sums add_up(unsigned run)
 {
-    struct sums sums = {0, 0, 0, 0, 0};
-    for (unsigned number = 1; number <= further_count(); number++) {
+    struct sums sums = {0};
+    for (unsigned number = 1, last = 0; number <= further_count(); number++) {
         const struct outcome *outcome = further_outcome(number);
+        if (run && outcome->run != run)
+            continue;
         sums.forks += outcome->forks;
-        sums.broken += outcome->error != 0 || outcome->lost != 0;
+        sums.unseen |= outcome->unseen;
+        sums.broken += outcome->error != 0 || outcome->lost != 0 || outcome->unseen & UNSEEN_LOCKS;
         if (outcome->replay_status > STATUS_RACE && outcome->replay_status > sums.replay_status)
             sums.replay_status = outcome->replay_status;
         if (!outcome->events && !outcome->lost)
             continue;
         sums.recorded++;
+        sums.runs += outcome->run != last;
+        last = outcome->run;
         sums.racing += outcome->replay_status == STATUS_RACE;
     }
+    sums.leaves_child = has_room_for_one() && recording_has_programs();
     return sums;
 }
 
 /* The files that programs have in folders, and not one report. */
 static bool has_files(void)
 {
-    return further_count() > 1 || options.has_report_folder;
+    return further_count() > 1 || options.has_report_folder || options.runs > 1;
+}
+
+/* `3 programs`, or with --runs `2 runs of 1 program`, or `2 runs with 6 programs`. */
+static const char *what_was_recorded(struct sums sums, char text[64])
+{
+    const char *plural = sums.recorded == 1 ? "" : "s";
+    if (options.runs == 1)
+        snprintf(text, 64, "%u program%s", sums.recorded, plural);
+    else if (sums.runs == sums.recorded)
+        snprintf(text, 64, "%u run%s of 1 program", sums.runs, plural);
+    else
+        snprintf(text, 64, "%u run%s with %u programs", sums.runs, sums.runs == 1 ? "" : "s", sums.recorded);
+    return text;
 }
 
 static void say_what_programs_were_recorded(struct sums sums)
 {
-    const char *plural = sums.recorded == 1 ? "" : "s", *folder = options.replays ? further_report_folder() : further_trace_folder();
+    const char *folder = options.replays ? further_report_folder() : further_trace_folder();
     const char *slash = folder[strlen(folder) - 1] == '/' ? "" : "/";
+    char text[64];
     if (!sums.recorded)
         say_what_was_recorded();
     else if (options.replays && !options.is_quiet)
-        fprintf(stderr, "record: %u program%s recorded, %u with races; reports in %s%s\n", sums.recorded, plural, sums.racing, folder, slash);
+        fprintf(stderr, "record: %s recorded, %u with races; reports in %s%s\n", what_was_recorded(sums, text), sums.racing, folder, slash);
     else if (!options.is_quiet)
-        fprintf(stderr, "record: %u program%s recorded; traces in %s%s\n", sums.recorded, plural, folder, slash);
+        fprintf(stderr, "record: %s recorded; traces in %s%s\n", what_was_recorded(sums, text), folder, slash);
     if (sums.broken)
         fprintf(stderr, "record: %u of them not whole\n", sums.broken);
+}
+
+static void say_what_is_unseen(uint32_t unseen)
+{
+    if (unseen & UNSEEN_LOCKS)
+        fputs("record: LD_PRELOAD was taken from a program that isn't instrumented and loads what is: its locks, threads and frees are not recorded\n", stderr);
+    else if (unseen & UNSEEN_FREES)
+        fputs("record: what the program frees is not recorded, since it has a `free` of its own: memory that changes hands may be reported\n", stderr);
 }
 
 static void say_end(struct sums sums, const char *name)
@@ -164,28 +232,35 @@ static void say_end(struct sums sums, const char *name)
         fprintf(stderr, "record: cannot write %s: %s\n", replay_place(), strerror(replay_place_error()));
     if (others)
         fprintf(stderr, "record: %u further program%s started by it %s not recorded\n", others, others == 1 ? "" : "s", others == 1 ? "was" : "were");
+    else if (sums.leaves_child)
+        fputs("record: a child that it forked goes on, and is not recorded\n", stderr);
     if (sums.forks)
-        fprintf(stderr, "record: the program forked %llu time%s: what its children did is not recorded\n", (unsigned long long)sums.forks, sums.forks == 1 ? "" : "s");
+        fprintf(stderr, "record: the program forked %llu time%s: %s\n", (unsigned long long)sums.forks, sums.forks == 1 ? "" : "s",
+                has_room_for_one() ? "what its children did is not recorded" : "a child is recorded from its first thread on");
+    say_what_is_unseen(sums.unseen);
+    if (options.shakes && !options.is_quiet)
+        fprintf(stderr, "record: shaken by --shake=%" PRIu64 "\n", options.seed);
 }
 
 /* How the program failed, if it did. Its exit status alone is worth a line only if another one is expected in its place. */
 static void say_end_of_program(void)
 {
     const char *whole = options.replays && first()->events ? "; the report is of the run up to there" : "";
-    int status = exit_status(recording.command_status);
+    int status = exit_status(worst_status);
     if (start_error || !status || (options.is_quiet && !options.ends_as_report))
         return;
-    if (WIFSIGNALED(recording.command_status))
-        fprintf(stderr, "record: the program was ended by signal %d (%s)%s\n", WTERMSIG(recording.command_status), strsignal(WTERMSIG(recording.command_status)), whole);
+    if (WIFSIGNALED(worst_status))
+        fprintf(stderr, "record: the program was ended by signal %d (%s)%s\n", WTERMSIG(worst_status), strsignal(WTERMSIG(worst_status)), whole);
     else if (options.ends_as_report)
         fprintf(stderr, "record: the program ended with status %d%s%s\n", status, status == STATUS_RACE ? GIVEN_AS_ANOTHER : "", whole);
 }
 
 /* docs/RECORDING.md has a row for each case of these two. */
-static int status_of_report(struct sums sums)
+static int status_of_report(unsigned run)
 {
-    int of_program = exit_status(recording.command_status);
-    bool is_whole = sums.recorded && !sums.broken && !atomic_load(&recording.ring->others);
+    struct sums sums = add_up(run);
+    int of_program = exit_status(statuses[run - 1]);
+    bool is_whole = sums.recorded && !sums.broken && !sums.leaves_child && !atomic_load(&recording.ring->others);
     if (of_program)
         return of_program == STATUS_RACE ? STATUS_OF_ONE : of_program;
     if (sums.replay_status)
@@ -193,13 +268,23 @@ static int status_of_report(struct sums sums)
     return !is_whole ? STATUS_FAILED : sums.racing ? STATUS_RACE : 0;
 }
 
-static int last_status(struct sums sums)
+static int greatest_status(void)
+{
+    int greatest = 0;
+    for (unsigned run = 1; run <= runs_made; run++) {
+        int status = options.ends_as_report ? status_of_report(run) : exit_status(statuses[run - 1]);
+        greatest = status > greatest ? status : greatest;
+    }
+    return greatest;
+}
+
+static int last_status(void)
 {
     if (start_error)
-        return exit_status(recording.command_status);
+        return exit_status(worst_status);
     if (output.file_error || replay_place_error())
         return STATUS_FAILED;
-    return options.ends_as_report ? status_of_report(sums) : exit_status(recording.command_status);
+    return greatest_status();
 }
 
 /* ---- The parts of a run ---- */
@@ -237,18 +322,53 @@ static bool replays_later;
 
 static void end_trace(void)
 {
-    uint64_t lost = recording_lost();
-    trace_end(lost);
+    trace_end(recording_lost());
     trace_close();
     if (replays_later && trace_events && !output.file_error)
         kept_replay();
     replay_end();
     struct outcome *outcome = further_outcome(1);
-    outcome->events = trace_events;
-    outcome->lost = lost;
-    outcome->forks = atomic_load(&recording.ring->forks);
-    outcome->error = output.file_error;
+    further_fill(outcome);
     outcome->replay_status = replay.has_ended ? exit_status(replay.status) : options.replays ? STATUS_FAILED : -1;
+}
+
+/* After this many pauses it says what it waits for. */
+#define PAUSE 20000000
+#define MANY_PAUSES 100
+
+/* Programs and forked children that go on may be recorded further, or from now on. */
+static void wait_for_programs(void)
+{
+    for (unsigned pauses = 0; !has_room_for_one() && !recording.is_to_end && recording_has_programs(); pauses++) {
+        if (pauses == MANY_PAUSES && !options.is_quiet)
+            fputs("record: the command has ended, and a program that it started goes on: an interrupt ends the recording\n", stderr);
+        sleep_for(PAUSE);
+    }
+}
+
+/* Runs the command as often as it is wanted. The first program that is recorded has the first ring, and its trace ends with the run. */
+static void run_all(char **words)
+{
+    bool has_ended = false;
+    statuses = get_memory(NULL, options.runs * sizeof *statuses);
+    for (unsigned run = 1; run <= options.runs && !start_error && !was_interrupted; run++) {
+        recording_begin_run(run);
+        start_program(words);
+        recording_run();
+        if (!has_ended && atomic_load(&recording.ring->owner)) {
+            has_ended = true;
+            first()->run = run;
+            end_trace();
+        }
+        wait_for_programs();
+        statuses[runs_made++] = recording.command_status;
+        if (exit_status(recording.command_status) >= exit_status(worst_status))
+            worst_status = recording.command_status;
+    }
+    if (has_ended)
+        return;
+    first()->run = runs_made;
+    end_trace();
 }
 
 /* Files of the first program get its name. */
@@ -291,23 +411,20 @@ int main(int count, char **words)
     open_trace();
     if (options.replays)
         replay_open_report();
-    /* One file takes one trace. */
-    if (!options.trace || options.has_trace_folder)
+    if (!has_room_for_one())
         further_begin();
     signals_set(interrupt, pass_on);
     replays_later = options.shows_places && kept_is_readable();
     if (options.replays && !replays_later)
         replay_start(-1, NULL);
-    start_program(words + optind);
     trace_begin(words[optind]);
-    recording_run();
-    end_trace();
+    run_all(words + optind);
     further_end();
     pass_reports();
-    struct sums sums = add_up();
+    struct sums sums = add_up(0);
     say_end(sums, words[optind]);
     if (options.replays)
         replay_say_end();
     say_end_of_program();
-    return last_status(sums);
+    return last_status();
 }

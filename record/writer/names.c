@@ -15,12 +15,17 @@ struct use {
 };
 static struct use *uses[4096];
 
-static unsigned count_use(const char *name)
+uint32_t hash_name(const char *name)
 {
     uint32_t hash = 2166136261u;
     for (const char *c = name; *c; c++)
         hash = (hash ^ (unsigned char)*c) * 16777619u;
-    struct use **at = &uses[hash % 4096];
+    return hash;
+}
+
+static unsigned count_use(const char *name)
+{
+    struct use **at = &uses[hash_name(name) % 4096];
     for (struct use *use = *at; use; use = use->next)
         if (strcmp(use->name, name) == 0)
             return ++use->count;

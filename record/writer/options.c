@@ -14,8 +14,9 @@
 
 /* How many bytes of text are kept in a file if nothing else is said: what a replay takes if nothing else is said. */
 #define USUAL_LIMIT 268435456u
+#define MOST_RUNS 10000
 
-struct options options;
+struct options options = {.runs = 1};
 
 /* That of the program `eraser`. tests/shell_tests.py compares them. */
 static const char version[] = "eraser-record 0.1.0\n";
@@ -36,6 +37,8 @@ static const char usage[] =
     "      --strict            end the replay with 2 if the trace is damaged, and write no report\n"
     "      --until-fault       report the steps before the first faulty line of the trace, and then its fault\n"
     "      --exit-status WHOSE end with the status of the `program` (the default) or of the `report`\n"
+    "      --shake             let threads wait for short random times before they acquire, signal or start, so that more of them meet; --shake=SEED repeats them\n"
+    "      --runs N            run the program N times, and report of each site in how many of the runs it was reported\n"
     "      --order             record what orders threads as well: starts and joins, semaphores, atomic operations ..\n"
     "      --limit BYTES       of a trace that is kept: keep at most BYTES of text; 0: no limit. With -o the default is 268435456\n"
     "      --root DIR          name sites by their paths below DIR. The default is the folder that has all sources of the program\n"
@@ -62,16 +65,28 @@ void fail(const char *what, const char *name)
     exit(STATUS_FAILED);
 }
 
-static uint64_t read_bytes(const char *text)
+/* A number of an option. Otherwise the option is called and what it wants. */
+static uint64_t read_number(const char *text, uint64_t least, uint64_t most, const char *wants)
 {
     char *end;
     errno = 0;
     unsigned long long value = strtoull(text, &end, 10);
-    if (errno || *end || end == text || *text == '-') {
-        fprintf(stderr, "record: --limit wants a number of bytes, not '%s'\n", text);
+    if (errno || *end || end == text || *text == '-' || value < least || value > most) {
+        fprintf(stderr, "record: %s, not '%s'\n", wants, text);
         exit(STATUS_FAILED);
     }
     return value;
+}
+
+/* A seed that nobody named is short, since somebody may want to type it. */
+static void set_shaking(const char *text)
+{
+    uint32_t drawn;
+    options.shakes = true;
+    if (text)
+        options.seed = read_number(text, 0, UINT64_MAX, "--shake wants a number as its seed");
+    else if (getentropy(&drawn, sizeof drawn) == 0)
+        options.seed = drawn;
 }
 
 static const char *read_folder(const char *text)
@@ -168,13 +183,30 @@ static void end_printed(void)
     exit(0);
 }
 
+static void refuse(const char *text)
+{
+    fprintf(stderr, "record: %s\n", text);
+    exit(STATUS_FAILED);
+}
+
+/* Options that don't go together. */
+static void check_together(void)
+{
+    if (options.format && options.by_site)
+        refuse("--by-site and --format are not given together");
+    if (options.runs > 1 && options.format && strcmp(options.format, "text") != 0)
+        refuse("--runs makes a text of its reports: it does not go with --format");
+    if (options.runs > 1 && options.trace && !is_folder(options.trace))
+        refuse("--runs makes several traces: -o names a folder for them, with a slash behind it");
+}
+
 void read_options(int count, char **words)
 {
-    enum { REPLAY = 256, REPORT, SUPPRESS, EXPLAIN, BY_SITE, STRICT, UNTIL_FAULT, FORMAT, ANALYSIS, EXIT_STATUS, ORDER, LIMIT, ROOT, PATHS };
+    enum { REPLAY = 256, REPORT, SUPPRESS, EXPLAIN, BY_SITE, STRICT, UNTIL_FAULT, FORMAT, ANALYSIS, EXIT_STATUS, ORDER, LIMIT, ROOT, PATHS, SHAKE, REPEAT };
     static const struct option names[] = {
         {"output", 1, NULL, 'o'},         {"replay", 0, NULL, REPLAY}, {"report", 1, NULL, REPORT}, {"suppress", 1, NULL, SUPPRESS},
         {"exit-status", 1, NULL, EXIT_STATUS}, {"limit", 1, NULL, LIMIT},   {"paths", 0, NULL, PATHS},   {"quiet", 0, NULL, 'q'},
-        {"root", 1, NULL, ROOT},
+        {"root", 1, NULL, ROOT},          {"shake", 2, NULL, SHAKE},   {"runs", 1, NULL, REPEAT},
         {"explain", 0, NULL, EXPLAIN},    {"by-site", 0, NULL, BY_SITE}, {"format", 1, NULL, FORMAT}, {"help", 0, NULL, 'h'},
         {"order", 0, NULL, ORDER},        {"analysis", 1, NULL, ANALYSIS}, {"strict", 0, NULL, STRICT},
         {"until-fault", 0, NULL, UNTIL_FAULT}, {"version", 0, NULL, 'V'},
@@ -194,18 +226,17 @@ void read_options(int count, char **words)
         case FORMAT: options.format = read_format(optarg); break;
         case EXIT_STATUS: options.ends_as_report = is_report(optarg); break;
         case ORDER: options.orders = true; break;
-        case LIMIT: options.limit = read_bytes(optarg); options.has_limit = true; break;
+        case LIMIT: options.limit = read_number(optarg, 0, UINT64_MAX, "--limit wants a number of bytes"); options.has_limit = true; break;
         case ROOT: sites_set_root(read_folder(optarg)); break;
+        case SHAKE: set_shaking(optarg); break;
+        case REPEAT: options.runs = (unsigned)read_number(optarg, 1, MOST_RUNS, "--runs wants a number from 1 to 10000"); break;
         case PATHS: sites_have_paths = true; break;
         case 'q': options.is_quiet = true; break;
         case 'h': print_usage(words[0], stdout); end_printed(); break;
         case 'V': fputs(version, stdout); end_printed(); break;
         default: fputs("record: --help says what there is\n", stderr); exit(STATUS_FAILED);
         }
-    if (options.format && options.by_site) {
-        fputs("record: --by-site and --format are not given together\n", stderr);
-        exit(STATUS_FAILED);
-    }
+    check_together();
     if (optind == count) {
         print_usage(words[0], stderr);
         exit(STATUS_FAILED);

@@ -24,6 +24,9 @@ struct options {
     bool ends_as_report;
     bool orders; /* what orders threads is recorded as well */
     bool is_quiet;
+    unsigned runs; /* how often the command is run */
+    bool shakes;   /* threads wait at random */
+    uint64_t seed;
     bool has_limit;
     uint64_t limit; /* what --limit says */
     bool has_report_folder, has_trace_folder; /* --report and --output name folders, for files of several programs */

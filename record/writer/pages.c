@@ -63,15 +63,14 @@ void pages_mark_lock(uint64_t address)
 
 /* A run of pages with accessed words, for one or few lines. */
 struct run {
-    uint32_t thread;
-    uint64_t place; /* of the call that frees them, or 0 */
+    const struct reuse *reuse;
     uint64_t begin, end;
 };
 
 static void end_run(struct run *run)
 {
     if (run->begin < run->end)
-        trace_reuse(trace_thread(run->thread), run->begin, run->end - run->begin);
+        trace_reuse(trace_thread(run->reuse->thread), run->begin, run->end - run->begin, run->reuse->place);
     run->begin = run->end = 0;
 }
 
@@ -82,7 +81,7 @@ static void reuse_in_page(struct run *run, struct region *region, uint64_t begin
     uint64_t bit = UINT64_C(1) << at % 64;
     bool is_whole = end - begin == UINT64_C(1) << PAGE_BITS;
     if (region->locked[at / 64] & bit) {
-        locks_forget(begin, end - begin, run->thread, run->place);
+        locks_forget(begin, end - begin, run->reuse->thread, run->reuse->is_free ? run->reuse->place : 0);
         objects_forget(begin, end - begin);
         if (is_whole)
             region->locked[at / 64] &= ~bit;
@@ -98,10 +97,10 @@ static void reuse_in_page(struct run *run, struct region *region, uint64_t begin
     run->end = end;
 }
 
-void pages_reuse(uint32_t thread, uint64_t address, uint64_t bytes, uint64_t place)
+void pages_reuse(const struct reuse *reuse, uint64_t address, uint64_t bytes)
 {
-    struct run run = {thread, place, 0, 0};
-    uint64_t end = bytes < UINT64_C(1) << ADDRESS_BITS ? address + bytes : 0;
+    struct run run = {reuse, 0, 0};
+    uint64_t end = address + bytes;
     last_marked = UINT64_MAX;
     if (end > UINT64_C(1) << ADDRESS_BITS)
         return;

@@ -2,6 +2,7 @@
 #ifndef ERASER_PAGES_H
 #define ERASER_PAGES_H
 
+#include <stdbool.h>
 #include <stdint.h>
 
 #include "trace.h"
@@ -10,8 +11,12 @@
 void pages_mark(uint64_t address, uint64_t bytes);
 /* A lock or another object that threads wait for is at this address. */
 void pages_mark_lock(uint64_t address);
-/* These bytes are put to a new use: writes the lines for it, and forgets the locks and objects in them. `place` is that of the call that frees
- * them, or 0 if none does. */
-void pages_reuse(uint32_t thread, uint64_t address, uint64_t bytes, uint64_t place);
+struct reuse {
+    uint32_t thread;
+    uint64_t place; /* of the call, or 0 */
+    bool is_free;   /* the call gives back a block, and locks in it are no more */
+};
+/* These bytes are put to a new use: writes the lines for it, and forgets the locks and objects in them. */
+void pages_reuse(const struct reuse *reuse, uint64_t address, uint64_t bytes);
 
 #endif

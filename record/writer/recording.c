@@ -1,6 +1,8 @@
 #define _GNU_SOURCE
 #include "recording.h"
 
+#include <errno.h>
+#include <fcntl.h>
 #include <signal.h>
 #include <stdio.h>
 #include <string.h>
@@ -10,11 +12,44 @@
 #include <unistd.h>
 
 #include "drain.h"
+#include "further.h"
 #include "options.h"
 #include "replay.h"
 #include "trace.h"
 
 struct recording recording;
+
+/* A file that somebody has mapped can't be sealed. */
+static int make_presence(void)
+{
+    int file = memfd_create(PRESENCE_FILE_NAME, MFD_CLOEXEC | MFD_ALLOW_SEALING);
+    if (file < 0 || ftruncate(file, PRESENCE_BYTES) != 0)
+        fail("cannot make a file in memory", NULL);
+    return file;
+}
+
+bool recording_has_programs(void)
+{
+    return fcntl(recording.presence, F_ADD_SEALS, F_SEAL_WRITE) != 0 && errno == EBUSY;
+}
+
+void recording_shake(unsigned run)
+{
+    recording.ring->shakes = options.shakes;
+    recording.ring->seed = options.seed + run - 1;
+}
+
+void recording_begin_run(unsigned run)
+{
+    if (run > 1)
+        close(recording.presence);
+    recording.presence = make_presence();
+    recording.ring->presence = (uint32_t)recording.presence;
+    recording.command_status = 0;
+    recording.has_command_ended = false;
+    recording_shake(run);
+    further_begin_run(run);
+}
 
 void recording_make_ring(unsigned number)
 {

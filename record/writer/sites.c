@@ -26,7 +26,7 @@ static size_t block_used;
 
 /* ---- Files ---- */
 
-static int free_ranges(Dwfl_Module *file, void **place, const char *name, Dwarf_Addr begin, void *nothing);
+static int free_facts(Dwfl_Module *file, void **place, const char *name, Dwarf_Addr begin, void *nothing);
 
 static char *debug_path;
 static const Dwfl_Callbacks callbacks = {
@@ -35,17 +35,30 @@ static const Dwfl_Callbacks callbacks = {
     .debuginfo_path = &debug_path,
 };
 
+/* Memory without a name that lies right behind that of a file is the file's own: what it has beside its contents, as variables that are 0 at first. So
+ * the line of the file, which begins at `kept`, is given its end. */
+static void join_line(char *kept, const char *line)
+{
+    size_t begin = strcspn(line, "-"), end = strcspn(line, " ");
+    char *kept_end = kept + strcspn(kept, "-") + 1;
+    size_t length = strcspn(kept_end, " ");
+    if (length == begin && end == 2 * begin + 1 && memcmp(kept_end, line, begin) == 0)
+        memcpy(kept_end, line + begin + 1, begin);
+}
+
 /* Keeps the lines of files: a heap that grows changes none of them. */
 static size_t keep_files(char *text, size_t bytes)
 {
-    size_t kept = 0;
+    size_t kept = 0, last = SIZE_MAX;
     for (size_t at = 0; at < bytes;) {
         char *end = memchr(text + at, '\n', bytes - at);
         size_t length = end ? (size_t)(end - text) + 1 - at : bytes - at;
         if (memchr(text + at, '/', length) && !memmem(text + at, length, "/memfd:", 7)) {
             memmove(text + kept, text + at, length);
+            last = kept;
             kept += length;
-        }
+        } else if (end && last != SIZE_MAX && !memchr(text + at, '[', length))
+            join_line(text + last, text + at);
         at += length;
     }
     return kept;
@@ -79,7 +92,7 @@ void sites_set_maps(const char *text, size_t bytes)
     maps_bytes = bytes;
     forget_sites();
     if (files) {
-        dwfl_getmodules(files, free_ranges, NULL, 0);
+        dwfl_getmodules(files, free_facts, NULL, 0);
         dwfl_end(files);
     }
     files = NULL;
@@ -159,8 +172,8 @@ static const char *folder_of(Dwarf_Die *unit)
     return dwarf_formstring(dwarf_attr(unit, DW_AT_comp_dir, &found));
 }
 
-/* Whether a file is instrumented: it asks for names that begin with __tsan_. */
-static bool is_instrumented(Dwfl_Module *file)
+/* Whether a file asks for names that begin with __tsan_. */
+static bool asks_for_hooks(Dwfl_Module *file)
 {
     GElf_Sym symbol;
     int count = dwfl_module_getsymtab(file);
@@ -203,7 +216,7 @@ static int look_for_sources(Dwfl_Module *file, void **place, const char *name, D
     Dwarf_Addr bias;
     char path[PATH_BYTES];
     (void)place, (void)begin;
-    if (is_of_system(name, *(int *)turn) || !is_instrumented(file))
+    if (is_of_system(name, *(int *)turn) || !asks_for_hooks(file))
         return DWARF_CB_OK;
     for (Dwarf_Die *unit = NULL; (unit = dwfl_module_nextcu(file, unit, &bias)) != NULL;) {
         const char *source = dwarf_diename(unit);
@@ -238,6 +251,32 @@ struct ranges {
     struct range *all;
 };
 
+/* What was found out about a file. */
+struct facts {
+    bool has_ranges;
+    char is_instrumented; /* 'y', 'n', or 0: not known */
+    struct ranges ranges;
+};
+
+static struct facts *get_facts(Dwfl_Module *file)
+{
+    void **place;
+    dwfl_module_info(file, &place, NULL, NULL, NULL, NULL, NULL, NULL);
+    if (!*place) {
+        *place = get_memory(NULL, sizeof(struct facts));
+        memset(*place, 0, sizeof(struct facts));
+    }
+    return *place;
+}
+
+static bool is_instrumented(Dwfl_Module *file)
+{
+    struct facts *facts = get_facts(file);
+    if (!facts->is_instrumented)
+        facts->is_instrumented = asks_for_hooks(file) ? 'y' : 'n';
+    return facts->is_instrumented == 'y';
+}
+
 static void add_range(struct ranges *ranges, struct range range)
 {
     if (ranges->count == ranges->room) {
@@ -253,30 +292,28 @@ static int compare_begins(const void *one, const void *other)
     return first < second ? -1 : first > second;
 }
 
-static struct ranges *get_ranges(Dwfl_Module *file)
+static const struct ranges *get_ranges(Dwfl_Module *file)
 {
-    void **place;
-    dwfl_module_info(file, &place, NULL, NULL, NULL, NULL, NULL, NULL);
-    if (*place)
-        return *place;
-    struct ranges *ranges = get_memory(NULL, sizeof *ranges);
-    *ranges = (struct ranges){0, 0, NULL};
+    struct facts *facts = get_facts(file);
+    if (facts->has_ranges)
+        return &facts->ranges;
     Dwarf_Addr base, begin, end, bias;
     for (Dwarf_Die *unit = NULL; (unit = dwfl_module_nextcu(file, unit, &bias)) != NULL;)
         for (ptrdiff_t at = 0; (at = dwarf_ranges(unit, at, &base, &begin, &end)) > 0;)
-            add_range(ranges, (struct range){begin + bias, end + bias, bias, unit});
-    qsort(ranges->all, ranges->count, sizeof *ranges->all, compare_begins);
-    *place = ranges;
-    return ranges;
+            add_range(&facts->ranges, (struct range){begin + bias, end + bias, bias, unit});
+    if (facts->ranges.count)
+        qsort(facts->ranges.all, facts->ranges.count, sizeof *facts->ranges.all, compare_begins);
+    facts->has_ranges = true;
+    return &facts->ranges;
 }
 
-static int free_ranges(Dwfl_Module *file, void **place, const char *name, Dwarf_Addr begin, void *nothing)
+static int free_facts(Dwfl_Module *file, void **place, const char *name, Dwarf_Addr begin, void *nothing)
 {
     (void)file, (void)name, (void)begin, (void)nothing;
-    struct ranges *ranges = *place;
-    if (ranges)
-        free(ranges->all);
-    free(ranges);
+    struct facts *facts = *place;
+    if (facts)
+        free(facts->ranges.all);
+    free(facts);
     return DWARF_CB_OK;
 }
 
@@ -285,7 +322,7 @@ static Dwarf_Die *unit_of(Dwfl_Module *file, uint64_t place, Dwarf_Addr *bias)
     Dwarf_Die *unit = dwfl_module_addrdie(file, place, bias);
     if (unit)
         return unit;
-    struct ranges *ranges = get_ranges(file);
+    const struct ranges *ranges = get_ranges(file);
     size_t low = 0, high = ranges->count; /* all before `low` begin at or below the place, all from `high` on above it */
     while (low < high) {
         size_t middle = low + (high - low) / 2;
@@ -383,6 +420,13 @@ static void grow(void)
     free(old);
 }
 
+static bool is_in_instrumented(uint64_t place)
+{
+    Dwfl *all = get_files();
+    Dwfl_Module *file = all ? dwfl_addrmodule(all, place) : NULL;
+    return file && is_instrumented(file);
+}
+
 const struct site *site_of(uint64_t place)
 {
     if (2 * table_count >= table_room)
@@ -393,7 +437,7 @@ const struct site *site_of(uint64_t place)
         describe(place, text, sizeof text);
         name[0] = ' ';
         size_t bytes = 1 + legal_site(name + 1, text);
-        *site = (struct site){place, keep_text(name, bytes), (uint32_t)bytes};
+        *site = (struct site){place, keep_text(name, bytes), (uint32_t)bytes, is_in_instrumented(place)};
         table_count++;
     }
     return site;

@@ -11,6 +11,7 @@ struct site {
     uint64_t place;
     const char *text;
     uint32_t bytes;
+    bool is_instrumented; /* the code there is in a file that is */
 };
 
 /* If set before the first look-up, sites have their paths as the compiler has them. */

@@ -232,8 +232,9 @@ void trace_access(struct thread *thread, bool is_write, uint64_t address, uint64
     }
 }
 
-void trace_reuse(struct thread *thread, uint64_t address, uint64_t bytes)
+void trace_reuse(struct thread *thread, uint64_t address, uint64_t bytes, uint64_t place)
 {
+    const struct site *site = place ? site_of(place) : NULL;
     while (bytes) {
         uint64_t part = bytes < REUSE_BYTES ? bytes : REUSE_BYTES;
         char *at = address + part <= ADDRESS_END ? line() : NULL;
@@ -241,7 +242,8 @@ void trace_reuse(struct thread *thread, uint64_t address, uint64_t bytes)
             at = put(put_thread(at, thread), "reuse ", 6);
             at = put_address(at, address);
             *at++ = ' ';
-            end_line(put_number(at, part));
+            at = put_number(at, part);
+            end_line(site && site->is_instrumented ? put(at, site->text, site->bytes) : at);
         } else
             trace_lost++;
         address += part;

@@ -48,7 +48,8 @@ struct thread *trace_thread(uint32_t number);
 /* True if it has a line, or a line that names it. */
 bool trace_has_thread(uint32_t number);
 void trace_access(struct thread *thread, bool is_write, uint64_t address, uint64_t bytes, uint64_t site);
-void trace_reuse(struct thread *thread, uint64_t address, uint64_t bytes);
+/* The line names the place of the call that makes the reuse, unless that is 0 or not in instrumented code. */
+void trace_reuse(struct thread *thread, uint64_t address, uint64_t bytes, uint64_t place);
 void trace_lock(struct thread *thread, const char *verb, const char *lock);
 void trace_other_thread(uint32_t number, const char *verb, uint32_t other);
 void trace_ignore(struct thread *thread, const char *verb);

@@ -4,7 +4,7 @@ use Rattle.std.specs.List.{All}
 use Rattle.std.proofs.lemmas.List.{take-append-le, length-take-le, get_or_append_left, get_or-append-add}
 use Rattle.std.proofs.Math.Seq.{take-append_seam, take-length}
 use Rattle.std.proofs.lemmas.List.Elements.{All-append}
-use Rattle.std.proofs.lemmas.Option.{slice_get_within, slice_get-get_or}
+use Rattle.std.proofs.lemmas.Option.{get_or_from_slice_get, slice_get_read, slice_get_within, slice_get-get_or}
 use Rattle.er_batch.specs.Inner.Answering.{Answers, HasAnswered}
 use Rattle.er_batch.specs.Runs.{MayStopAt, HasRun, recorded}
 use Rattle.er_event.proofs.Lists.{get_front}
@@ -27,7 +27,7 @@ use Rattle.er_text.specs.declared.reading.Batch.{Batch}
 use Rattle.er_text.specs.declared.reading.Batch.TheVariants.{More, End}
 use Rattle.er_text.specs.Named.{KeepsNumbers, KeepsNames}
 use Rattle.er_trace.specs.Names.{NameTable}
-use Rattle.er_trace.specs.Trace.{Recording, IsNamed, HasNames, HasOrderNames, without_steps}
+use Rattle.er_trace.specs.Trace.{Recording, IsNamed, HasSiteName, HasNames, HasOrderNames, without_steps}
 
 -- numbers that have names still have them
 still : (old new : List (List ℕ)) (n : ℕ) → KeepsNumbers old new → n < length old → n < length new
@@ -62,23 +62,43 @@ step-named old new kept step named =
 pub all-named : (old new : NameTable) → KeepsNames old new → (steps : List Step) → All (IsNamed old) steps → All (IsNamed new) steps
 all-named old new kept steps all = λ k x within. step-named old new kept _ (all k x within)
 
--- the line of a step in a batch
+pub all-known : (old new : NameTable) → KeepsNames old new → (sites : List ℕ) → All (HasSiteName old) sites → All (HasSiteName new) sites
+all-known old new kept sites all = λ k x within. still-site old.sites new.sites _ kept.sites (all k x within)
+
+-- the line or the site of a step in a batch
 pub number-behind : (lines more : List ℕ) (n k : ℕ) → length lines ≡ n → slice_index more k ≡ slice_index (lines ++ more) (n + k)
 number-behind lines more n k long = sym (ap (λ (m : ℕ). slice_index (lines ++ more) (m + k)) (sym long) ∙ get_or-append-add lines more k 0)
+
+pub site-behind : (read sites more : List ℕ) (n k site : ℕ) → read ≡ more → length sites ≡ n → k < length read → site ≡ get_or read k site → site ≡ slice_index (sites ++ more) (n + k)
+site-behind read sites more n k site same long within is =
+    sym (get_or_from_slice_get read k site 0 (slice_get_read read (length read) k site refl within is)) ∙ ap (λ (xs : List ℕ). slice_index xs k) same ∙ number-behind sites more n k long
 
 -- a stop in front of later steps is one of the longer list
 stop-front : (steps more : List Step) (s : Stopped) → s.at < length steps → MayStopAt steps s → MayStopAt (steps ++ more) s
 stop-front steps more s within lacks = rw (get_front steps more s.at within, take-append-le s.at steps more (omega arith)) lacks
 
 -- a batch of steps behind those that are past
-module _ (past : List Step) (lines : List ℕ) (names : NameTable) (trace : Recording) (kept : KeepsNames names trace.names)
+module _ (past : List Step) (lines sites : List ℕ) (names : NameTable) (trace : Recording) (kept : KeepsNames names trace.names)
     (told : All (IsNamed trace.names) trace.steps) (even : length trace.lines ≡ length trace.steps)
-    (old : Replayed) (oldest : Built) (stop : Option (ℕ × NoRoom)) (run : HasRun old oldest stop (recorded past lines names)) where
+    (seen : All (HasSiteName trace.names) trace.sites) (level : length trace.sites ≡ length trace.steps)
+    (old : Replayed) (oldest : Built) (stop : Option (ℕ × NoRoom)) (run : HasRun old oldest stop (recorded past lines sites names)) where
   abbrev after : Recording
-  after = joined past lines trace
+  after = joined past lines sites trace
 
-  on : GoesOn (recorded past lines names) after
-  on = record { named = run.named; long = run.long; more = trace.steps; others = trace.lines; steps = refl; lines = refl; sites = kept.sites }
+  on : GoesOn (recorded past lines sites names) after
+  on = record {
+    named = run.named;
+    long = run.long;
+    one_each = run.one_each;
+    known = run.known;
+    more = trace.steps;
+    others = trace.lines;
+    other_sites = trace.sites;
+    steps = refl;
+    lines = refl;
+    places = refl;
+    sites = kept.sites;
+  }
 
   named : All (IsNamed trace.names) (past ++ trace.steps)
   named = All-append (IsNamed trace.names) past trace.steps (all-named names trace.names kept past run.named) told
@@ -86,9 +106,15 @@ module _ (past : List Step) (lines : List ℕ) (names : NameTable) (trace : Reco
   long : length (lines ++ trace.lines) ≡ length (past ++ trace.steps)
   long = (let a : length lines ≡ length past = run.long in omega (arith, length-append lines trace.lines, length-append past trace.steps, even))
 
+  known : All (HasSiteName trace.names) (sites ++ trace.sites)
+  known = All-append (HasSiteName trace.names) sites trace.sites (all-known names trace.names kept sites run.known) seen
+
+  one_each : length (sites ++ trace.sites) ≡ length (past ++ trace.steps)
+  one_each = (let a : length sites ≡ length past = run.one_each in omega (arith, length-append sites trace.sites, length-append past trace.steps, level))
+
   -- a run that has stopped stays where it is
   stays-by : (o : Option Stopped) → run.stopped ≡ o → (stop ≡ None → ⊥) → HasRun old oldest stop after
-  stays-by None is some = absurd (some (run.line ∙ ap (stop_line (recorded past lines names)) is))
+  stays-by None is some = absurd (some (run.line ∙ ap (stop_line (recorded past lines sites names)) is))
   stays-by (Some s) is some =
       let within : s.at < length past = rw is at run.within in
       let same : length lines ≡ length past = run.long in
@@ -96,7 +122,7 @@ module _ (past : List Step) (lines : List ℕ) (names : NameTable) (trace : Reco
       let most : length (take s.at past) ≤ length past = omega (arith, length-take-le s.at past (omega arith)) in
       record {
         stopped = Some s;
-        line = run.line ∙ ap (stop_line (recorded past lines names)) is
+        line = run.line ∙ ap (stop_line (recorded past lines sites names)) is
             ∙ ap (λ (n : ℕ). Some (n, s.cause)) (sym (get_or_append_left lines trace.lines 0 s.at (omega arith)));
         within = omega (arith, length-append past trace.steps);
         cause = stop-front past trace.steps s within (rw is at run.cause);
@@ -105,6 +131,8 @@ module _ (past : List Step) (lines : List ℕ) (names : NameTable) (trace : Reco
         stands = λ none. absurd (cc);
         named = named;
         long = long;
+        known = known;
+        one_each = one_each;
       }
 
   pub stays : (stop ≡ None → ⊥) → HasRun old oldest stop after
@@ -117,13 +145,16 @@ module _ (past : List Step) (lines : List ℕ) (names : NameTable) (trace : Reco
         stands = subst (Stands old) (sym (take-append_seam past trace.steps)) (run.stands is);
         reported = reported-on oldest _ after (length past) on (omega arith) (rw is at run.reported);
       }
-  goes-by (Some s) is none = absurd (let clash = sym none ∙ run.line ∙ ap (stop_line (recorded past lines names)) is in cc)
+  goes-by (Some s) is none = absurd (let clash = sym none ∙ run.line ∙ ap (stop_line (recorded past lines sites names)) is in cc)
 
   pub goes : stop ≡ None → HasAnswered old oldest after (length past)
   goes = goes-by run.stopped refl
 
   pub long-past : length lines ≡ length past
   long-past = run.long
+
+  pub each-past : length sites ≡ length past
+  each-past = run.one_each
 
   -- and goes on to the end of the batch, or stops in it
   pub whole : (machine : Replayed) (builder : Built) → Answers machine builder after (length past) None → HasRun machine builder None after
@@ -137,6 +168,8 @@ module _ (past : List Step) (lines : List ℕ) (names : NameTable) (trace : Reco
         stands = λ none. subst (Stands machine) (take-length (past ++ trace.steps)) answered.stands;
         named = named;
         long = long;
+        known = known;
+        one_each = one_each;
       }
 
   pub part : (machine : Replayed) (builder : Built) (s : Stopped) (number : ℕ) → number ≡ slice_index trace.lines s.at → Answers machine builder after (length past) (Some s)
@@ -151,6 +184,8 @@ module _ (past : List Step) (lines : List ℕ) (names : NameTable) (trace : Reco
         stands = λ none. absurd (cc);
         named = named;
         long = long;
+        known = known;
+        one_each = one_each;
       }
 
 pub none-by : {X : Type 0} (o : Option X) → is_some o ≡ false → o ≡ None
@@ -158,25 +193,25 @@ none-by None none = refl
 none-by (Some x) none = absurd (cc)
 
 -- what a batch gives of the text, if the text is known
-module _ (told : Option (List ℕ)) (past : List Step) (lines : List ℕ) (old new : Reached) (known rest : Option (List ℕ)) (t u : Recording) (batch : Batch) where
+module _ (told : Option (List ℕ)) (past : List Step) (lines sites : List ℕ) (old new : Reached) (known rest : Option (List ℕ)) (t u : Recording) (batch : Batch) where
   abbrev Gives : Type 0
-  Gives = (text : List ℕ) (steps : List Step) (numbers : List ℕ) → HasRead text steps numbers old known t → GivesBatch text steps numbers new rest u (Ok batch)
+  Gives = (text : List ℕ) (steps : List Step) (numbers sites : List ℕ) → HasRead text steps numbers sites old known t → GivesBatch text steps numbers sites new rest u (Ok batch)
 
-  pub read-whole : batch ≡ End → new.place.limit ≡ old.place.limit → Gives → IfSome told (λ text. HasRead text past lines old known t)
-      → IfSome told (λ text. IsTrace text old.place.limit (joined past lines u))
+  pub read-whole : batch ≡ End → new.place.limit ≡ old.place.limit → Gives → IfSome told (λ text. HasRead text past lines sites old known t)
+      → IfSome told (λ text. IsTrace text old.place.limit (joined past lines sites u))
   read-whole is limit gives read = by told read
     where
-      by : (o : Option (List ℕ)) → IfSome o (λ text. HasRead text past lines old known t) → IfSome o (λ text. IsTrace text old.place.limit (joined past lines u))
+      by : (o : Option (List ℕ)) → IfSome o (λ text. HasRead text past lines sites old known t) → IfSome o (λ text. IsTrace text old.place.limit (joined past lines sites u))
       by None read = tt
       by (Some text) read =
-          subst (λ (n : ℕ). IsTrace text n (joined past lines u)) limit
-          (subst (λ (b : Batch). GivesBatch text past lines new rest u (Ok b)) is (gives text past lines read))
+          subst (λ (n : ℕ). IsTrace text n (joined past lines sites u)) limit
+          (subst (λ (b : Batch). GivesBatch text past lines sites new rest u (Ok b)) is (gives text past lines sites read))
 
-  pub read-part : batch ≡ More → Gives → IfSome told (λ text. HasRead text past lines old known t)
-      → IfSome told (λ text. HasRead text (past ++ u.steps) (lines ++ u.lines) new rest (without_steps u))
+  pub read-part : batch ≡ More → Gives → IfSome told (λ text. HasRead text past lines sites old known t)
+      → IfSome told (λ text. HasRead text (past ++ u.steps) (lines ++ u.lines) (sites ++ u.sites) new rest (without_steps u))
   read-part is gives read = by told read
     where
-      by : (o : Option (List ℕ)) → IfSome o (λ text. HasRead text past lines old known t) → IfSome o (λ text. HasRead text (past ++ u.steps) (lines ++ u.lines) new rest (without_steps u))
+      by : (o : Option (List ℕ)) → IfSome o (λ text. HasRead text past lines sites old known t) → IfSome o (λ text. HasRead text (past ++ u.steps) (lines ++ u.lines) (sites ++ u.sites) new rest (without_steps u))
       by None read = tt
       by (Some text) read =
-          forgotten text past lines new rest u (subst (λ (b : Batch). GivesBatch text past lines new rest u (Ok b)) is (gives text past lines read))
+          forgotten text past lines sites new rest u (subst (λ (b : Batch). GivesBatch text past lines sites new rest u (Ok b)) is (gives text past lines sites read))

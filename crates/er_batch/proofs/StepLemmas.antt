@@ -108,14 +108,15 @@ module _ (steps : List Step) (k : ℕ) (step : Step) (here : slice_get steps k �
       let word = access-word step.event accesses in
       (word.0, ap word_of here ∙ word.1, sym (state-behind word.0) ∙ same word.0 ∙ state-before word.0)
 
-pub step-at : (r : Recording) (k : ℕ) (names : NameTable) (number : ℕ) (step : Step) (given : Result Reply Refusal) (locks : List ℕ)
-    → slice_get r.steps k ≡ Some step → number ≡ slice_index r.lines k → names ≡ r.names → given ≡ answer_next (take k r.steps) step
-    → locks ≡ (holdings_end (take k r.steps ++ step ∷ []) step.thread).held → IsStepAt r k names number step given locks
-step-at r k names number step given locks here line named answered locked =
+pub step-at : (r : Recording) (k : ℕ) (names : NameTable) (number site : ℕ) (step : Step) (given : Result Reply Refusal) (locks : List ℕ)
+    → slice_get r.steps k ≡ Some step → number ≡ slice_index r.lines k → site ≡ slice_index r.sites k → names ≡ r.names → given ≡ answer_next (take k r.steps) step
+    → locks ≡ (holdings_end (take k r.steps ++ step ∷ []) step.thread).held → IsStepAt r k names number site step given locks
+step-at r k names number site step given locks here line at named answered locked =
     let known : given ≡ answer r.steps k = answered ∙ answer-here r.steps k step here in
     record {
       here = here;
       line = line;
+      site = at;
       named = named;
       answered = known;
       locked = λ race. locked ∙ held-here r.steps k step here step.thread (sym known ∙ race-is given race);

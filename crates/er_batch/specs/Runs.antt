@@ -9,7 +9,7 @@ use Rattle.er_report.specs.Builder.{Built, IsReported}
 use Rattle.er_report.specs.Report.{answered_steps, stop_line}
 use Rattle.er_text.specs.Trace.{IsTrace}
 use Rattle.er_trace.specs.Names.{NameTable}
-use Rattle.er_trace.specs.Trace.{Recording, IsNamed}
+use Rattle.er_trace.specs.Trace.{Recording, IsNamed, HasSiteName}
 
 -- a run of these steps may stop so: the definitions don't refuse the step there, and it may want what had no room
 abbrev pub MayStopAt : List Step → Stopped → Type 0
@@ -21,9 +21,9 @@ pub record IsRunOf (text : List ℕ) (limit : ℕ) (recording : Recording) (stop
   pub within : IfSome stop (λ s. s.at < length recording.steps)
   pub cause : IfSome stop (λ s. MayStopAt recording.steps s)
 
--- these steps and their lines, under these names
-abbrev pub recorded : List Step → List ℕ → NameTable → Recording
-recorded steps lines names = record { steps = steps; lines = lines; names = names }
+-- these steps, their lines and sites, under these names
+abbrev pub recorded : List Step → List ℕ → List ℕ → NameTable → Recording
+recorded steps lines sites names = record { steps = steps; lines = lines; sites = sites; names = names }
 
 -- a run over a recording's steps, which has answered all of them or stopped at one that found no room
 pub record HasRun (machine : Replayed) (builder : Built) (stop : Option (ℕ × NoRoom)) (r : Recording) : Type 0 where
@@ -35,3 +35,5 @@ pub record HasRun (machine : Replayed) (builder : Built) (stop : Option (ℕ × 
   pub stands : stopped ≡ None → Stands machine r.steps
   pub named : All (IsNamed r.names) r.steps
   pub long : length r.lines ≡ length r.steps
+  pub known : All (HasSiteName r.names) r.sites
+  pub one_each : length r.sites ≡ length r.steps

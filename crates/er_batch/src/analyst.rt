@@ -30,8 +30,8 @@ pub trait Analyst<R> {
 
     /// Answers the steps of a batch, behind those of the batches before.
     fn answer(&mut self, rt: &R, trace: &Trace) -> Result<(), AllocError>
-        ensures goes_on { (asked : Asked) (past : List Steps) (lines : List ℕ) (names : NameTable) → KeepsNames names trace.now.names → stands self.old asked (recorded past lines names)
-            → OnOk result (stands self.new asked (joined past lines trace.now)) };
+        ensures goes_on { (asked : Asked) (past : List Steps) (lines sites : List ℕ) (names : NameTable) → KeepsNames names trace.now.names → stands self.old asked (recorded past lines sites names)
+            → OnOk result (stands self.new asked (joined past lines sites trace.now)) };
 
     /// How many steps it has answered.
     fn steps(&self) -> u64

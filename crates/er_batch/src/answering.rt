@@ -1,5 +1,5 @@
 //! Answers the steps of a batch by one machine, and adds them to a report.
-ghost use Rattle.std.specs.Prelude.{◌≡◌, ◌+◌, ◌<◌, ◌^◌, nat_lt, ℕ, List, length, is_some, IfSome, IfOk, IsTrue, OnOk, false, true};
+ghost use Rattle.std.specs.Prelude.{◌≡◌, ◌+◌, ◌<◌, ◌≤◌, ◌^◌, nat_lt, ℕ, List, length, is_some, IfSome, IfOk, IsTrue, OnOk, false, true};
 ghost use Rattle.er_batch.specs.Inner.Answering.{Answers, HasAnswered, Lags};
 ghost use Rattle.er_batch.specs.Runs.{HasRun, recorded};
 ghost use Rattle.er_event.specs.declared.steps.Step.{Step as Steps};
@@ -11,7 +11,7 @@ ghost use Rattle.er_text.specs.Named.{KeepsNames};
 ghost use Rattle.er_trace.specs.Names.{NameTable};
 ghost use Rattle.er_trace.specs.Trace.{Recording};
 
-use er_event::{Event, Lockset, NoRoom, Refusal, Reply, Step};
+use er_event::{Event, Lockset, NoRoom, Refusal, Reply, Site, Step};
 use er_journal::Stopped;
 use er_replay::{Machine, no_room};
 use er_report::ReportBuilder;
@@ -30,12 +30,13 @@ pub fn answer_batch<R: Wait>(
 ) -> Result<Option<(u64, NoRoom)>, AllocError>
     ensures rules { OnOk result (builder.new.rules ≡ builder.old.rules) }
     ensures explains { OnOk result (is_some builder.new.kept ≡ is_some builder.old.kept) }
-    ensures run { (past : List Steps) (lines : List ℕ) (names : NameTable) → KeepsNames names trace.now.names → HasRun machine.old builder.old stop (recorded past lines names)
-        → IfOk result (λ stop. HasRun machine.new builder.new stop (joined past lines trace.now)) }
+    ensures run { (past : List Steps) (lines sites : List ℕ) (names : NameTable) → KeepsNames names trace.now.names → HasRun machine.old builder.old stop (recorded past lines sites names)
+        → IfOk result (λ stop. HasRun machine.new builder.new stop (joined past lines sites trace.now)) }
 {
     let steps = trace.steps();
     let lines = trace.lines();
     prove!(steps.len() == lines.len());
+    prove!(steps.len() == trace.sites().len());
     if stop.is_some() {
         return Ok(stop);
     }
@@ -78,22 +79,24 @@ fn add_answer(
     builder: &mut ReportBuilder<'_>,
     names: &Names,
     line: u64,
+    site: Site,
     step: &Step,
     answer: &Result<Reply, Refusal>,
     held: &Lockset,
 ) -> Result<(), AllocError>
     requires room { builder.old.report.steps + 1 < 2 ^ 64 }
     requires site { HasSiteName names.now step.now.event }
+    requires at { site ≤ length names.now.sites }
     ensures rules { OnOk result (builder.new.rules ≡ builder.old.rules) }
     ensures steps { OnOk result (builder.new.report.steps ≡ builder.old.report.steps + 1) }
-    ensures built { (r : Recording) (k : ℕ) → IsBuilt builder.old r k → IsStepAt r k names.now line step.now answer.now held.now → OnOk result (IsBuilt builder.new r (k + 1)) }
+    ensures built { (r : Recording) (k : ℕ) → IsBuilt builder.old r k → IsStepAt r k names.now line site step.now answer.now held.now → OnOk result (IsBuilt builder.new r (k + 1)) }
     ensures kept { OnOk result (builder.new.kept ≡ builder.old.kept) }
 {
     if is_plain(answer) {
         builder.add_plain(1);
         return Ok(());
     }
-    builder.add(names, line, step, answer, held)
+    builder.add(names, line, site, step, answer, held)
 }
 
 // Adds `plain` steps at once that the report has no line for, and then one that has a line.
@@ -102,19 +105,21 @@ fn add_behind(
     plain: u64,
     names: &Names,
     line: u64,
+    site: Site,
     step: &Step,
     answer: &Result<Reply, Refusal>,
     held: &Lockset,
 ) -> Result<(), AllocError>
     requires room { builder.old.report.steps + plain + 1 < 2 ^ 64 }
     requires site { HasSiteName names.now step.now.event }
+    requires at { site ≤ length names.now.sites }
     ensures rules { OnOk result (builder.new.rules ≡ builder.old.rules) }
     ensures steps { OnOk result (builder.new.report.steps ≡ builder.old.report.steps + plain + 1) }
     ensures explains { OnOk result (is_some builder.new.kept ≡ is_some builder.old.kept) }
-    ensures reported { (r : Recording) (n : ℕ) → Lags builder.old r n plain → IsStepAt r n names.now line step.now answer.now held.now → OnOk result (IsReported builder.new r (n + 1)) }
+    ensures reported { (r : Recording) (n : ℕ) → Lags builder.old r n plain → IsStepAt r n names.now line site step.now answer.now held.now → OnOk result (IsReported builder.new r (n + 1)) }
 {
     builder.add_plain(plain);
-    add_answer(builder, names, line, step, answer, held)?;
+    add_answer(builder, names, line, site, step, answer, held)?;
     builder.explain(line, step)?;
     Ok(())
 }
@@ -130,8 +135,8 @@ fn answer_steps<R: Wait>(
     ensures rules { OnOk result (builder.new.rules ≡ builder.old.rules) }
     ensures explains { OnOk result (is_some builder.new.kept ≡ is_some builder.old.kept) }
     ensures within { IfOk result (λ stopped. IfSome stopped (λ stop. stop.at < length trace.now.steps)) }
-    ensures run { (past : List Steps) (lines : List ℕ) → length lines ≡ length past → HasAnswered machine.old builder.old (joined past lines trace.now) (length past)
-        → IfOk result (λ stopped. Answers machine.new builder.new (joined past lines trace.now) (length past) stopped) }
+    ensures run { (past : List Steps) (lines sites : List ℕ) → length lines ≡ length past → length sites ≡ length past → HasAnswered machine.old builder.old (joined past lines sites trace.now) (length past)
+        → IfOk result (λ stopped. Answers machine.new builder.new (joined past lines sites trace.now) (length past) stopped) }
 {
     let steps = trace.steps();
     if !has_room(builder, steps) {
@@ -154,7 +159,17 @@ fn answer_steps<R: Wait>(
         } else {
             let held = machine.held(step.thread).held();
             let line = trace.lines()[k];
-            add_behind(builder, plain, trace.names(), line, step, &answer, held)?;
+            let site = trace.sites()[k];
+            add_behind(
+                builder,
+                plain,
+                trace.names(),
+                line,
+                site,
+                step,
+                &answer,
+                held,
+            )?;
             plain = 0;
         }
     }

@@ -1,4 +1,8 @@
 pub mod ClockLemmas
-pub mod Blocks
+pub mod Parts
 pub mod Maps
 pub mod TableLemmas
+pub mod Counts
+pub mod Outcomes
+pub mod Standing
+pub mod Notes

@@ -2,19 +2,20 @@
 use Rattle.std.proofs.Common.{◌≡◌, ℕ, [], Bool, true, false, cond, List, Option, Some, None, unwrap_or, refl, ap, sym, ◌∙◌, eqb}
 use Rattle.std.proofs.lemmas.Bool.{eqb-true}
 use Rattle.std.specs.Map.{lookup}
-use Rattle.er_clock.specs.Clock.{Counts, count_in}
+use Rattle.er_clock.specs.Clock.{Counts, nothing, count_in}
 use Rattle.er_clock.specs.Table.{clock_at, known_by}
+use Rattle.er_clock.proofs.Parts.{counts_nothing}
 
 -- what is found is the number's
 pub clock_found : (clocks : List (ℕ × Counts)) (n : ℕ) (c : Counts) → Some c ≡ lookup (eqb n) clocks → c ≡ clock_at clocks n
 unfolding clock_at
 clock_found clocks n c found = rw (← found) refl
 
-clock_absent : (clocks : List (ℕ × Counts)) (n : ℕ) → None ≡ lookup (eqb n) clocks → [] ≡ clock_at clocks n
+clock_absent : (clocks : List (ℕ × Counts)) (n : ℕ) → None ≡ lookup (eqb n) clocks → nothing ≡ clock_at clocks n
 unfolding clock_at
 clock_absent clocks n absent = rw (← absent) refl
 
-unwrap_cond : (b : Bool) (c : Counts) (o : Option Counts) → unwrap_or (cond b (Some c) o) [] ≡ cond b c (unwrap_or o [])
+unwrap_cond : (b : Bool) (c : Counts) (o : Option Counts) → unwrap_or (cond b (Some c) o) nothing ≡ cond b c (unwrap_or o nothing)
 unwrap_cond true c o = refl
 unwrap_cond false c o = refl
 
@@ -23,7 +24,7 @@ clock_written : (clocks more : List (ℕ × Counts)) (number : ℕ) (c : Counts)
     ((q : ℕ) → lookup (eqb q) more ≡ cond (eqb number q) (Some c) (lookup (eqb q) clocks)) →
     (n : ℕ) → clock_at more n ≡ cond (eqb number n) c (clock_at clocks n)
 unfolding clock_at
-clock_written clocks more number c written n = ap (λ o. unwrap_or o []) (written n) ∙ unwrap_cond (eqb number n) c (lookup (eqb n) clocks)
+clock_written clocks more number c written n = ap (λ o. unwrap_or o nothing) (written n) ∙ unwrap_cond (eqb number n) c (lookup (eqb n) clocks)
 
 -- what is written has of each thread a count that is made of its count before
 pub count_written : (f : ℕ → ℕ → ℕ) (clocks more : List (ℕ × Counts)) (number : ℕ) (c : Counts) →
@@ -50,8 +51,8 @@ count_rewritten clocks more number c written is n u = count_written (λ v x. x) 
 -- if no clock is there
 pub count_empty : (clocks : List (ℕ × Counts)) (n u : ℕ) → clocks ≡ [] → known_by clocks n u ≡ 0
 unfolding clock_at
-count_empty clocks n u none = rw none refl
+count_empty clocks n u none = rw none (counts_nothing u)
 
 -- a number that isn't there has counts of 0
 pub count_absent : (clocks : List (ℕ × Counts)) (n : ℕ) → None ≡ lookup (eqb n) clocks → (u : ℕ) → known_by clocks n u ≡ 0
-count_absent clocks n absent u = ap (λ counts. count_in counts u) (sym (clock_absent clocks n absent))
+count_absent clocks n absent u = ap (λ counts. count_in counts u) (sym (clock_absent clocks n absent)) ∙ counts_nothing u

@@ -1,16 +1,28 @@
--- A clock as its counts in blocks of 128.
-use Rattle.std.specs.Prelude.{ℕ, ◌≡◌, ◌+◌, ◌/◌, ◌%◌, ◌==◌, max, cond, List, [], get_or}
+-- A clock as its counts: those of the first 128 threads, and those of the others in rows of blocks.
+use Rattle.std.specs.Prelude.{ℕ, ◌≡◌, ◌+◌, ◌-◌, ◌/◌, ◌%◌, ◌==◌, max, cond, nat_lt, List, [], get_or, map}
 
 abbrev pub Counts : Type 0
-Counts = List (List ℕ)
+Counts = List ℕ × List (List (List ℕ))
 
--- the count at this place of a block; past each end it is 0
-abbrev pub count_at : Counts → ℕ → ℕ → ℕ
-count_at counts block place = get_or (get_or counts block []) place 0
+-- no counts: all are 0
+abbrev pub nothing : Counts
+nothing = ([], [])
+
+-- the count at a place of the part with this number; past each end it is 0
+abbrev pub count_in_part : {P : Type 0} → (P → ℕ → ℕ) → List P → ℕ → ℕ → ℕ
+count_in_part counts parts part place = get_or (map (λ p. counts p place) parts) part 0
+
+-- the count at a place of a row of parts, of which each has so many places
+abbrev pub count_in_row : {P : Type 0} → (P → ℕ → ℕ) → ℕ → List P → ℕ → ℕ
+count_in_row counts width parts place = count_in_part counts parts (place / width) (place % width)
+
+-- the count at a place of a block
+abbrev pub count_in_block : List ℕ → ℕ → ℕ
+count_in_block block place = get_or block place 0
 
 -- the count of the thread
-abbrev pub count_in : Counts → ℕ → ℕ
-count_in counts thread = count_at counts (thread / 128) (thread % 128)
+unfoldable pub count_in : Counts → ℕ → ℕ
+count_in (first, rest) thread = cond (nat_lt thread 128) (count_in_block first thread) (count_in_row (count_in_row count_in_block 128) 4096 rest (thread - 128))
 
 -- all counts are 0
 abbrev pub IsZero : Counts → Type 0

@@ -1,2 +1,2 @@
 pub mod Merging
-pub mod Blocks
+pub mod Taken

@@ -1,11 +1,16 @@
 //! Blocks of counts.
 ghost use Rattle.std.specs.Prelude.{◌≡◌, ◌≤◌, ◌<◌, ◌-◌, ◌^◌, ◌==◌, ℕ, suc, max, [], length, get_or, IsTrue, OnOk, OnErr, IfOk, IsOk};
 ghost use Rattle.er_order.specs.ClockLists.{merged, ticked};
+ghost use Rattle.er_clock.specs.Clock.{count_in_block};
 ghost use Rattle.er_clock.specs.Inner.Merging.{padded, lengthened};
 
+use crate::rows::Part;
 use std::alloc::{AllocError, Global};
 use std::marker::Model;
 use std::rc::Rc;
+
+/// How many counts of a clock lie in a block.
+pub(crate) const BLOCK: usize = 128;
 
 /// Some counts, by place. Those past the end are 0.
 #[derive(Drop)]
@@ -74,7 +79,7 @@ impl Block {
 
     /// Adds one to the count at the place.
     pub(crate) fn tick(&mut self, place: usize) -> Result<(), AllocError>
-        requires low { place < 2 ^ 30 }
+        requires low { place < 2 ^ 32 }
         requires room { get_or self.old place 0 < 2 ^ 32 - 1 }
         ensures ok { OnOk result (self.new ≡ ticked place self.old) }
         ensures err { OnErr result (self.new ≡ self.old) }
@@ -102,7 +107,7 @@ impl Block {
 
 // Makes a place for the count of this number.
 fn reach(counts: &mut Vec<u32>, place: usize) -> Result<(), AllocError>
-    requires { place < 2 ^ 30 }
+    requires { place < 2 ^ 32 }
     ensures ok { OnOk result (counts.new.items ≡ padded (suc place) counts.old.items) }
     ensures err { OnErr result (counts.new.items ≡ counts.old.items) }
 {
@@ -152,8 +157,8 @@ impl Model for Shared {
 }
 
 impl Shared {
-    /// The block, to be shared.
-    pub(crate) fn new(alloc: Global, block: Block) -> Result<Shared, AllocError>
+    // The block, to be shared.
+    fn new(alloc: Global, block: Block) -> Result<Shared, AllocError>
         ensures { IfOk result (λ shared. shared ≡ block) }
     {
         match Rc::new(alloc, block) {
@@ -162,17 +167,36 @@ impl Shared {
         }
     }
 
-    /// The block, to look at.
-    pub(crate) fn block(&self) -> &Block
+    // The block, to look at.
+    fn block(&self) -> &Block
         ensures { result.now ≡ self.now }
     {
         self.block.as_ref()
     }
+}
 
-    /// The same block for one clock more.
-    pub(crate) fn again(&self) -> Result<Shared, AllocError>
-        ensures { IfOk result (λ shared. shared ≡ self.now) }
-    {
+impl Part for Shared {
+    ghost use Rattle.std.proofs.Common.{rules};
+
+    ghost WIDTH = { 128 };
+
+    ghost counts = { count_in_block };
+
+    const WIDTH: usize = BLOCK;
+
+    fn empty(alloc: Global) -> Result<Self, AllocError> {
+        Shared::new(alloc, Block::new(alloc))
+    }
+
+    fn count(&self, place: usize) -> u32 {
+        self.block().count(place)
+    }
+
+    fn covers(&self, other: &Self) -> bool {
+        self.block().covers(other.block())
+    }
+
+    fn again(&self) -> Result<Self, AllocError> {
         let block = self.block.clone()?;
         Ok(Shared {
             block,
@@ -180,10 +204,7 @@ impl Shared {
         })
     }
 
-    /// A block with the greater count at each place: one of the two, if that has them.
-    pub(crate) fn joined(&self, other: &Shared) -> Result<Shared, AllocError>
-        ensures { IfOk result (λ shared. (u : ℕ) → get_or shared u 0 ≡ max (get_or self.now u 0) (get_or other.now u 0)) }
-    {
+    fn joined(&self, other: &Self) -> Result<Self, AllocError> {
         let (one, two) = (self.block(), other.block());
         if two.covers(one) {
             return other.again();
@@ -195,4 +216,12 @@ impl Shared {
         block.join(two)?;
         Shared::new(self.alloc, block)
     }
+
+    fn ticked(&self, place: usize) -> Result<Self, AllocError> {
+        let mut block = self.block().copy()?;
+        block.tick(place)?;
+        Shared::new(self.alloc, block)
+    }
+
+    ghost is_wide = { Prim.search rules };
 }

@@ -5,16 +5,13 @@ ghost use Rattle.er_clock.specs.Clock.{count_in, IsZero, Stays, Joins, Ticks};
 ghost use Rattle.er_clock.specs.NoTick.{text_of};
 ghost use Rattle.er_clock.specs.declared.clock.NoTick.TheVariants.{OutOfMemory};
 
-use crate::block::Block;
-use crate::rest::Rest;
+use crate::block::{BLOCK, Block, Shared};
+use crate::rows::{Part, Row};
 use er_event::ThreadId;
 use std::alloc::{AllocError, Global};
 use std::error::Error;
 use std::fmt;
 use std::marker::Model;
-
-// How many counts lie in a block.
-const BLOCK: usize = 128;
 
 /// A thread and a count of its own: the steps that the thread takes between two ticks of its clock share one.
 #[derive(Clone, Copy, Debug, PartialEq, Eq)]
@@ -25,22 +22,21 @@ pub struct Epoch {
     pub count: u32,
 }
 
-/// Of each thread a count. Contracts see the count of each thread. The first ones lie in the clock; the others lie in blocks. Clocks share a block,
-/// and the whole list of them, until one of them changes, so a clock takes little memory of its own for what it has in common with others.
+/// Of each thread a count. Contracts see the count of each thread. The first ones lie in the clock; the others lie in blocks, in a row of rows of
+/// them. Clocks share a block, and a row, until one of them changes, so a clock takes little memory of its own for what it has in common with others.
 #[derive(Drop)]
 pub struct Clock {
     first: Block,
-    rest: Rest,
+    rest: Row<Row<Shared>>,
     alloc: Global,
 }
 
 impl Model for Clock {
-    ghost use Rattle.std.specs.Prelude.{◌∷◌};
     ghost use Rattle.er_clock.specs.Clock.{Counts};
 
     ghost Value = { Counts };
 
-    ghost view = { λ c. c.first ∷ c.rest };
+    ghost view = { λ c. (c.first, c.rest) };
 }
 
 /// Why a step doesn't move its clocks. They are then as they were.
@@ -78,12 +74,13 @@ impl From<AllocError> for NoTick {
 
 impl Clock {
     /// The clock whose counts are all 0. It takes no memory.
+    #[tactic(auto, using(crate::proofs::Parts::counts_nothing))]
     pub fn new(alloc: Global) -> Self
         ensures { IsZero result }
     {
         Clock {
             first: Block::new(alloc),
-            rest: Rest::new(alloc),
+            rest: Row::new(alloc),
             alloc,
         }
     }
@@ -100,6 +97,7 @@ impl Clock {
     }
 
     /// The count of the thread.
+    #[tactic(auto, unfolding(crate::specs::Clock::count_in))]
     pub fn count(&self, thread: ThreadId) -> u32
         ensures value { result ≡ count_in self.now thread }
     {
@@ -107,26 +105,7 @@ impl Clock {
         if number < BLOCK {
             return self.first.count(number);
         }
-        self.rest.count(number / BLOCK - 1, number % BLOCK)
-    }
-
-    /// The epoch of the thread whose own clock this is.
-    pub fn epoch(&self, thread: ThreadId) -> Epoch
-        ensures { result ≡ (record { thread = thread; count = count_in self.now thread }) }
-    {
-        Epoch {
-            thread,
-            count: self.count(thread),
-        }
-    }
-
-    /// Whether the clock has the epoch's count of its thread, or a greater one: what the thread did in the epoch then happens before
-    /// what this clock's thread does now.
-    pub fn covers(&self, epoch: Epoch) -> bool
-        ensures { result ≡ covers (count_in self.now) (epoch.thread, epoch.count) }
-    {
-        let Epoch { thread, count } = epoch;
-        count <= self.count(thread)
+        self.rest.count(number - BLOCK)
     }
 
     /// Takes of each thread the greater count. `AllocError`: memory was refused, and the clock is as it was.
@@ -170,6 +149,7 @@ impl Clock {
     }
 
     // Adds one to the count of this number.
+    #[tactic(auto, unfolding(crate::specs::Clock::count_in))]
     fn raise(&mut self, number: usize) -> Result<(), AllocError>
         requires low { number < 2 ^ 32 }
         requires room { count_in self.old number < 2 ^ 32 - 1 }
@@ -179,7 +159,7 @@ impl Clock {
         if number < BLOCK {
             return self.first.tick(number);
         }
-        let rest = self.rest.ticked(number / BLOCK - 1, number % BLOCK)?;
+        let rest = self.rest.ticked(number - BLOCK)?;
         self.rest = rest;
         Ok(())
     }
@@ -189,6 +169,6 @@ impl Clock {
         ensures { IsZero self.new }
     {
         self.first.clear();
-        self.rest = Rest::new(self.alloc);
+        self.rest = Row::new(self.alloc);
     }
 }

@@ -1,19 +1,29 @@
 //! Vector clocks: what each thread, lock and object knows of the threads' steps.
 //!
-//! Begin with [`Clock`]. [`ClockTable`] keeps the clocks of what is in use, by number. It finds them by [`Hints`] and [`index_of`], without a
-//! hash as a rule.
+//! Begin with [`Clocks`], the clocks of a list of steps. It goes on by one step at a time, and a thread's [`ThreadClock`] says which epochs
+//! happen before what the thread does now. [`Hints`] and [`index_of`] find what a number names, without a hash as a rule.
 //!
-//! What it promises: a join has of each thread the greater count, a tick adds one to one thread's count, and a clock covers an epoch
-//! exactly if it has the count of the epoch's thread, or a greater one. A call on one clock of a table leaves the others, and a call
-//! that fails changes nothing.
+//! What it promises, by the names of clauses: clocks that stand for a list of steps stand for the longer list after one more step
+//! (`goes_on`), where a refused step moves nothing; an error names what is lacking and changes no count (`err`, `full`).
+//!
+//! ```text
+//! let mut clocks = Clocks::new(alloc);
+//! clocks.follow(&Step { thread, event: Event::Sync(Sync::Signal(object)) }, true)?;
+//! clocks.clock(other).covers(epoch)
+//! ```
 #![tactic(auto)]
 
 pub use clock::{Clock, Epoch, NoTick};
+pub use clocks::Clocks;
 pub use hints::{Hints, index_of};
 pub use table::ClockTable;
+pub use threads::ThreadClock;
 
 mod block;
 mod clock;
+mod clocks;
 mod hints;
-mod rest;
+mod rows;
 mod table;
+mod takers;
+mod threads;

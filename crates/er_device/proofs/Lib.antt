@@ -1,1 +1,3 @@
 pub mod WrittenLemmas
+pub mod PrefixLemmas
+pub mod ReadLemmas

@@ -1,1 +1,4 @@
 pub mod Device
+pub mod Prefix
+pub mod Keeping
+pub mod Inner

@@ -5,9 +5,8 @@ use Rattle.std.proofs.lemmas.Bool.Decides.{nat_tests}
 use borrow.Author.Tests.{eqb-true, eqb-false}
 use Rattle.er_event.specs.declared.addresses.PageRange.{PageRange}
 use Rattle.er_model.specs.Words.{is_within}
-use Rattle.er_order.specs.Following.{fresh}
 use Rattle.er_epochs.proofs.Maps.{Puts}
-use Rattle.er_epochs.specs.Epochs.{Stored, Accesses, untouched, plain}
+use Rattle.er_epochs.specs.Epochs.{Stored, Accesses, untouched}
 use Rattle.er_epochs.specs.Words.{blank, BlockWords, WordBlocks, AllWords, word_at, word_in_block, word_among, list_of, stored_with, stored_beside, stored_among, is_place_in}
 
 module _ {A : Type 0} where
@@ -194,8 +193,3 @@ module _ {A : Type 0} where
   pub no_words : (all : AllWords A) → all.blocks ≡ [] → (w : ℕ) → stored_among all w ≡ (Accesses untouched)
   unfolding stored_among
   no_words all none w = ap (λ (blocks : WordBlocks A). stored_beside all.lists w (word_among blocks w)) none
-
-  -- without the tags
-  pub plain_cond : (b : Bool) (stored : Stored A) → plain (cond b (Accesses untouched) stored) ≡ cond b fresh (plain stored)
-  plain_cond true stored = refl
-  plain_cond false stored = refl

@@ -1,5 +1,5 @@
 -- Which tag is found, by what the reads and the write find.
-use Rattle.std.proofs.Common.{◌≡◌, ◌∙◌, ◌^◌, ◌&&◌, ℕ, Bool, true, false, ◌||◌, nat_lt, cond, List, [], ◌++◌, is_some, Option, Some, None, refl, sym, ap}
+use Rattle.std.proofs.Common.{◌≡◌, ◌∙◌, ◌^◌, ◌&&◌, ℕ, Bool, true, false, ◌||◌, nat_lt, cond, List, [], ◌∷◌, ◌++◌, filter, is_some, Option, Some, None, refl, sym, ap}
 use Rattle.std.proofs.lemmas.List.Folds.{find-append}
 use Rattle.std.specs.List.{find, list_any}
 use Rattle.std.specs.Option.{option_map, option_or, option_to_list}
@@ -9,7 +9,7 @@ use Rattle.er_order.specs.Following.{is_unordered}
 use Rattle.er_order.specs.Keeping.{IsNoted}
 use Rattle.er_order.proofs.Keeping.{any-found}
 use Rattle.er_epochs.specs.declared.reads.Tagged.{Tagged}
-use Rattle.er_epochs.specs.Epochs.{Stored, Accesses, Told, Listed, untouched, tag_found, tagged, access_in, pair_of, is_apart, some_apart, is_raced, latest_by, stored_by, reads_beside, tag_of_first, IsStoredBy}
+use Rattle.er_epochs.specs.Epochs.{Stored, Accesses, Told, Alone, Listed, tag_found, tagged, access_in, pair_of, is_apart, some_apart, is_raced, latest_by, stored_by, reads_beside, tag_of_first, IsStoredBy}
 use Rattle.er_epochs.specs.Words.{Said, stored_with}
 
 module _ {A : Type 0} (clock : ℕ → ℕ) where
@@ -42,6 +42,10 @@ found_in {A} clock number count tag = by (nat_lt number (2 ^ 30)) (is_unordered 
     by true false is = rw is refl
     by false c is = refl
 
+none_if : {X : Type 0} (o : Option X) → is_some o ≡ false → None ≡ o
+none_if None is = refl
+none_if (Some x) is = cc
+
 or_true : (b : Bool) → (b || true) ≡ true
 or_true true = refl
 or_true false = refl
@@ -59,28 +63,6 @@ module _ {A : Type 0} (clock : ℕ → ℕ) where
   none_tag (Some x) is = cc
   none_tag None is = refl
 
-  -- a word of which no race was reported, whose last write the clock covers, and whose reads were put into a list
-  module _ (word : Said A) (before gathered : List (Tagged A)) (quiet : word.told ≡ false) (ordered : some_apart clock word.write ≡ false) (is : gathered ≡ reads_beside word.readers before) where
-    raced_any : is_raced clock (stored_with word before) writing ≡ is_some (find (is_apart clock) gathered)
-    raced_any = rw (quiet, ordered, ← is) (any-found (is_apart clock) gathered)
-
-    pub listed_raced : (a : A) → tag_of_first clock gathered ≡ Some a → is_raced clock (stored_with word before) writing ≡ true
-    listed_raced a some = raced_any ∙ some_tag (find (is_apart clock) gathered) a some
-
-    pub listed_quiet : tag_of_first clock gathered ≡ None → is_raced clock (stored_with word before) writing ≡ false
-    listed_quiet none = raced_any ∙ none_tag (find (is_apart clock) gathered) none
-
-    pub listed_told : (x : Tagged A) (a : A) → tag_of_first clock gathered ≡ Some a → stored_by clock (stored_with word before) x writing ≡ Told
-    listed_told x a some = told_by (stored_with word before) x writing (listed_raced a some)
-
-    pub listed_written : (x : Tagged A) → tag_of_first clock gathered ≡ None → stored_by clock (stored_with word before) x writing ≡ Accesses (record { write = Some x; reads = [] })
-    listed_written x none =
-        rw quiet (ap (λ b. cond b Told (Accesses (record { write = Some x; reads = [] }))) (rw quiet at listed_quiet none))
-
-    pub listed_read : (x : Tagged A) (noted : List (Tagged A)) → IsNoted pair_of clock gathered x noted
-        → IsStoredBy clock (stored_with word before) x reading (stored_with (record { told = word.told; write = word.write; readers = Listed }) noted)
-    listed_read x noted may = rw (quiet, ordered) (noted, refl, rw is at may)
-
   one_if : (y : Tagged A) (b : Bool) → is_some (cond b (Some y) None) ≡ (b || false)
   one_if y true = refl
   one_if y false = refl
@@ -93,10 +75,11 @@ module _ {A : Type 0} (clock : ℕ → ℕ) where
   some_mapped None = refl
   some_mapped (Some x) = refl
 
-  -- a write is reported exactly if it finds something
-  pub some_raced : (stored : Stored A) → is_some (tag_found clock stored writing) ≡ is_raced clock stored writing
-  some_raced Told = refl
-  some_raced (Accesses latest) =
+  -- an access is reported exactly if it finds something
+  pub some_raced : (stored : Stored A) (kind : Kind) → is_some (tag_found clock stored kind) ≡ is_raced clock stored kind
+  some_raced Told kind = refl
+  some_raced (Accesses latest) reading = some_mapped (find (is_apart clock) (option_to_list latest.write)) ∙ one latest.write
+  some_raced (Accesses latest) writing =
       some_mapped (find (is_apart clock) (latest.reads ++ option_to_list latest.write))
       ∙ ap is_some (find-append (is_apart clock) latest.reads (option_to_list latest.write))
       ∙ by (find (is_apart clock) latest.reads) refl
@@ -110,7 +93,50 @@ module _ {A : Type 0} (clock : ℕ → ℕ) where
           ap (λ o. is_some (option_or o (find (is_apart clock) (option_to_list latest.write)))) e
           ∙ (one latest.write ∙ sym (ap (λ b. some_apart clock latest.write || b) (any-found (is_apart clock) latest.reads ∙ ap is_some e)))
 
-  -- a word with no access
-  pub found-nothing : (kind : Kind) → None ≡ tag_found {A = A} clock (Accesses untouched) kind
-  found-nothing reading = refl
-  found-nothing writing = refl
+  pub found_raced : (stored : Stored A) (kind : Kind) (a : A) → Some a ≡ tag_found clock stored kind → is_raced clock stored kind ≡ true
+  found_raced stored kind a is = sym (some_raced stored kind) ∙ ap is_some (sym is)
+
+  pub found_quiet : (stored : Stored A) (kind : Kind) → None ≡ tag_found clock stored kind → is_raced clock stored kind ≡ false
+  found_quiet stored kind is = sym (some_raced stored kind) ∙ ap is_some (sym is)
+
+  pub quiet_found : (stored : Stored A) (kind : Kind) → is_raced clock stored kind ≡ false → None ≡ tag_found clock stored kind
+  quiet_found stored kind quiet = none_if (tag_found clock stored kind) (some_raced stored kind ∙ quiet)
+
+  -- a word that has no list says the same beside any
+  pub alone_any : (word : Said A) (o : Option (Tagged A)) (a b : List (Tagged A)) → word.readers ≡ Alone o → stored_with word a ≡ stored_with word b
+  alone_any word o a b alone = rw alone refl
+
+  -- a word of which no race was reported goes on by a write that makes no race
+  pub quiet_written : (word : Said A) (listed : List (Tagged A)) (x : Tagged A) → word.told ≡ false → is_raced clock (stored_with word listed) writing ≡ false
+      → stored_by clock (stored_with word listed) x writing ≡ Accesses (record { write = Some x; reads = [] })
+  quiet_written word listed x told quiet = rw told (ap (λ b. cond b Told (Accesses (record { write = Some x; reads = [] }))) (rw told at quiet))
+
+  -- a word of which no race was reported, whose last write the clock covers, and whose reads were put into a list
+  module _ (word : Said A) (before gathered : List (Tagged A)) (quiet : word.told ≡ false) (ordered : some_apart clock word.write ≡ false) (is : gathered ≡ reads_beside word.readers before) where
+    raced_any : is_raced clock (stored_with word before) writing ≡ is_some (find (is_apart clock) gathered)
+    raced_any = rw (quiet, ordered, ← is) (any-found (is_apart clock) gathered)
+
+    listed_raced : (a : A) → tag_of_first clock gathered ≡ Some a → is_raced clock (stored_with word before) writing ≡ true
+    listed_raced a some = raced_any ∙ some_tag (find (is_apart clock) gathered) a some
+
+    listed_quiet : tag_of_first clock gathered ≡ None → is_raced clock (stored_with word before) writing ≡ false
+    listed_quiet none = raced_any ∙ none_tag (find (is_apart clock) gathered) none
+
+    pub listed_told : (x : Tagged A) (a : A) → tag_of_first clock gathered ≡ Some a → stored_by clock (stored_with word before) x writing ≡ Told
+    listed_told x a some = told_by (stored_with word before) x writing (listed_raced a some)
+
+    pub listed_written : (x : Tagged A) → tag_of_first clock gathered ≡ None → stored_by clock (stored_with word before) x writing ≡ Accesses (record { write = Some x; reads = [] })
+    listed_written x none = quiet_written word before x quiet (listed_quiet none)
+
+    pub listed_read : (x : Tagged A) (noted : List (Tagged A)) → IsNoted pair_of clock gathered x noted
+        → IsStoredBy clock (stored_with word before) x reading (stored_with (record { told = word.told; write = word.write; readers = Listed }) noted)
+    listed_read x noted may = rw (quiet, ordered) (noted, refl, rw is at may)
+
+    pub listed_found : (a : A) → tag_of_first clock gathered ≡ Some a → Some a ≡ tag_found clock (stored_with word before) writing
+    listed_found a some = rw (quiet, ← is) (found-read clock gathered (option_to_list word.write) a some)
+
+    pub listed_none : tag_of_first clock gathered ≡ None → None ≡ tag_found clock (stored_with word before) writing
+    listed_none none = quiet_found (stored_with word before) writing (listed_quiet none)
+
+    pub read_none : None ≡ tag_found clock (stored_with word before) reading
+    read_none = quiet_found (stored_with word before) reading (rw (quiet, ordered) refl)

@@ -1,19 +1,16 @@
 -- The lowest word that a write would be reported on: found place by place in a block, and block by block in a range.
-use Rattle.std.proofs.Common.{◌≡◌, ◌≢◌, ◌∙◌, ℕ, ◌+◌, ◌*◌, ◌<◌, ◌≤◌, ◌/◌, ◌%◌, ◌&&◌, nat_eq, nat_le, nat_lt, Bool, true, false, cond, Option, Some, None, refl, sym, ap, subst, true≢false, arith}
+use Rattle.std.proofs.Common.{◌≡◌, ◌≢◌, ◌∙◌, ℕ, ◌+◌, ◌*◌, ◌<◌, ◌≤◌, ◌/◌, ◌%◌, ◌&&◌, nat_eq, nat_le, nat_lt, Bool, true, false, cond, Option, Some, None, IfSome, refl, sym, ap, true≢false, arith}
 use Rattle.std.proofs.lemmas.Bool.Decides.{nat_tests}
 use Rattle.std.specs.Option.{option_map, option_or}
 use borrow.Author.Tests.{eqb-true, eqb-false}
 use Rattle.std.specs.Map.{lookup}
-use Rattle.std.proofs.Math.Path.{fun_ext}
-use Rattle.er_order.specs.Following.{reports_at}
 use Rattle.er_event.specs.declared.addresses.PageRange.{PageRange}
 use Rattle.er_event.specs.declared.steps.Kind.TheVariants.{Write}
 use Rattle.er_model.specs.Words.{is_within}
 use Rattle.er_epochs.proofs.Blocks.{AreResetTo, absent_block}
-use Rattle.er_epochs.proofs.Noted.{plain-raced}
 use Rattle.er_epochs.proofs.Places.{in_block, at_place}
-use Rattle.er_epochs.specs.Epochs.{Accesses, untouched, is_raced}
-use Rattle.er_epochs.specs.Words.{AllWords, BlockWords, IsLowest, is_place_in, kept_among, stored_among, stored_beside, word_among, word_at, word_in_block}
+use Rattle.er_epochs.specs.Epochs.{Accesses, untouched, is_raced, tag_found}
+use Rattle.er_epochs.specs.Words.{AllWords, BlockWords, IsLowest, is_place_in, stored_among, stored_beside, word_among, word_at, word_in_block}
 
 -- none of the places from lo on, below this one, passes
 abbrev pub IsNoneBelow : (ℕ → Bool) → ℕ → ℕ → Type 0
@@ -176,6 +173,27 @@ module _ {A : Type 0} where
       else : (w : ℕ) → nat_eq number (w / 128) ≡ false → (is_place_in number lo hi w && is_raced clock (stored_beside all.lists w (word_among all.blocks w)) Write) ≡ false
       else w apart = ap (λ b. (b && (nat_le lo (w % 128) && nat_le (w % 128) hi)) && is_raced clock (stored_beside all.lists w (word_among all.blocks w)) Write) apart
 
+  -- and what is found at its place is found of the word
+  pub named_in_block : (all : AllWords A) (number lo hi : ℕ) (was : BlockWords A) (clock : ℕ → ℕ) (place : Option (ℕ × A))
+      → Some was ≡ lookup (nat_eq number) all.blocks → hi < 128
+      → IsLowest (λ i. (nat_le lo i && nat_le i hi) && is_raced clock (stored_beside all.lists (number * 128 + i) (word_at was i)) Write) (option_map (λ (found : ℕ × A). found.0) place)
+      → IfSome place (λ found. Some found.1 ≡ tag_found clock (stored_beside all.lists (number * 128 + found.0) (word_at was found.0)) Write)
+      → IfSome {T = ℕ × A} (option_map (λ (found : ℕ × A). (number * 128 + found.0, found.1)) place) (λ found. Some found.1 ≡ tag_found clock (stored_among all found.0) Write)
+  unfolding stored_among
+  named_in_block all number lo hi was clock None found within lowest named = tt
+  named_in_block all number lo hi was clock (Some (i, a)) found within lowest named =
+      named ∙ (λ k. tag_found clock (stored_beside all.lists (number * 128 + i) (word_in_block (same_block k) (sym (at_place number i short) k))) Write)
+    where
+      short : i < 128
+      short = short_by (is_raced clock (stored_beside all.lists (number * 128 + i) (word_at was i)) Write) lowest.0
+        where
+          short_by : (b : Bool) → ((nat_le lo i && nat_le i hi) && b) ≡ true → i < 128
+          short_by true e = grind (arith, nat_tests)
+          short_by false e = grind (arith, nat_tests)
+
+      same_block : Some was ≡ lookup (nat_eq ((number * 128 + i) / 128)) all.blocks
+      same_block = found ∙ ap (λ q. lookup (nat_eq q) all.blocks) (sym (in_block number i short))
+
   -- or there is none
   pub none_in_absent : (all : AllWords A) (number lo hi : ℕ) (clock : ℕ → ℕ) → lookup (nat_eq number) all.blocks ≡ None
       → (w : ℕ) → (is_place_in number lo hi w && is_raced clock (stored_among all w) Write) ≡ false
@@ -255,25 +273,34 @@ module _ {A : Type 0} where
           ∙ ap (λ b. (b && (nat_le lo (w % 128) && nat_le (w % 128) hi)) && is_raced clock (stored_among now w) Write) (sym (at_number w at))
 
   -- where the blocks before this one were reset
-  pub lowest_next : (old now : AllWords A) (range : PageRange) (clock : ℕ → ℕ) (number lo hi : ℕ) (first second : Option ℕ)
-      → ((w : ℕ) → number ≡ w / 128 → nat_le lo (w % 128) ≡ nat_le range.lo w)
-      → ((w : ℕ) → number ≡ w / 128 → nat_le (w % 128) hi ≡ nat_le w range.hi)
-      → AreResetTo old now range number
-      → IsLowestBelow old range clock number first
-      → IsLowest (λ w. is_place_in number lo hi w && is_raced clock (stored_among now w) Write) second
-      → IsLowestBelow old range clock (number + 1) (option_or first second)
-  lowest_next old now range clock number lo hi first second low high so_far found more =
-      lowest_more old now range clock number lo hi first second low high as_before found more
-    where
-      not_before : (w : ℕ) → number ≤ w / 128 → nat_lt (w / 128) number ≡ false
-      not_before w past = grind (arith, nat_tests)
+  module _ (old now : AllWords A) (range : PageRange) (clock : ℕ → ℕ) (number lo hi : ℕ) (so_far : AreResetTo old now range number) where
+    as_before : (w : ℕ) → number ≡ w / 128 → stored_among now w ≡ stored_among old w
+    as_before w at = so_far w ∙ ap (λ b. cond b (Accesses untouched) (stored_among old w)) (ap (λ b. is_within w range && b) not_before ∙ no_more (is_within w range))
+      where
+        not_before : nat_lt (w / 128) number ≡ false
+        not_before = grind (arith, nat_tests)
 
-      as_before : (w : ℕ) → number ≡ w / 128 → stored_among now w ≡ stored_among old w
-      as_before w at = so_far w ∙ ap (λ b. cond b (Accesses untouched) (stored_among old w)) (ap (λ b. is_within w range && b) (not_before w (omega (arith, at))) ∙ no_more (is_within w range))
-        where
-          no_more : (b : Bool) → (b && false) ≡ false
-          no_more true = refl
-          no_more false = refl
+        no_more : (b : Bool) → (b && false) ≡ false
+        no_more true = refl
+        no_more false = refl
+
+    pub lowest_next : (first second : Option ℕ)
+        → ((w : ℕ) → number ≡ w / 128 → nat_le lo (w % 128) ≡ nat_le range.lo w)
+        → ((w : ℕ) → number ≡ w / 128 → nat_le (w % 128) hi ≡ nat_le w range.hi)
+        → IsLowestBelow old range clock number first
+        → IsLowest (λ w. is_place_in number lo hi w && is_raced clock (stored_among now w) Write) second
+        → IsLowestBelow old range clock (number + 1) (option_or first second)
+    lowest_next first second low high found more = lowest_more old now range clock number lo hi first second low high as_before found more
+
+    -- what is found of a word there was found before
+    pub named_before : (found : Option (ℕ × A)) → IsLowest (λ w. is_place_in number lo hi w && is_raced clock (stored_among now w) Write) (option_map (λ (found : ℕ × A). found.0) found)
+        → IfSome found (λ found. Some found.1 ≡ tag_found clock (stored_among now found.0) Write) → IfSome found (λ found. Some found.1 ≡ tag_found clock (stored_among old found.0) Write)
+    named_before None lowest named = tt
+    named_before (Some (w, a)) lowest named = named ∙ ap (λ stored. tag_found clock stored Write) (as_before w (in_number (nat_eq number (w / 128)) refl lowest.0))
+      where
+        in_number : (b : Bool) → nat_eq number (w / 128) ≡ b → ((b && (nat_le lo (w % 128) && nat_le (w % 128) hi)) && is_raced clock (stored_among now w) Write) ≡ true → number ≡ w / 128
+        in_number true e is = eqb-true number (w / 128) e
+        in_number false e is = cc
 
   pub lowest_end : (old : AllWords A) (range : PageRange) (clock : ℕ → ℕ) (number : ℕ) (found : Option ℕ) → range.hi / 128 + 1 ≤ number
       → IsLowestBelow old range clock number found → IsLowest (λ w. is_within w range && is_raced clock (stored_among old w) Write) found
@@ -289,8 +316,15 @@ module _ {A : Type 0} where
       by (Some w) lowest = (same w ∙ lowest.0, λ k below. same k ∙ lowest.1 k below)
       by None none = λ w. same w ∙ none w
 
-  -- the same without the tags
-  pub lowest-plain : (all : AllWords A) (within : ℕ → Bool) (clock : ℕ → ℕ) (found : Option ℕ) → IsLowest (λ w. within w && is_raced clock (stored_among all w) Write) found
-      → IsLowest (λ w. within w && reports_at clock (kept_among all w) Write) found
-  lowest-plain all within clock found lowest =
-      subst (λ (test : ℕ → Bool). IsLowest test found) (fun_ext (λ w. ap (λ b. within w && b) (plain-raced clock (stored_among all w) Write))) lowest
+-- what was found beside the numbers
+pub found_or : {A : Type 0} (first second : Option (ℕ × A)) → option_map (λ (found : ℕ × A). found.0) (option_or first second) ≡ option_or (option_map (λ (found : ℕ × A). found.0) first) (option_map (λ (found : ℕ × A). found.0) second)
+found_or (Some found) second = refl
+found_or None second = refl
+
+pub found_in : {A : Type 0} (number : ℕ) (found : Option (ℕ × A)) → option_map (λ (found : ℕ × A). found.0) (option_map (λ (found : ℕ × A). (number * 128 + found.0, found.1)) found) ≡ option_map (λ i. number * 128 + i) (option_map (λ (found : ℕ × A). found.0) found)
+found_in number (Some found) = refl
+found_in number None = refl
+
+pub all_or : {X : Type 0} (P : X → Type 0) (first second : Option X) → IfSome first P → IfSome second P → IfSome (option_or first second) P
+all_or P (Some x) second here there = here
+all_or P None second here there = there

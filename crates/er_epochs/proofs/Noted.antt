@@ -9,12 +9,11 @@ use Rattle.er_event.specs.declared.steps.Kind.{Kind}
 use Rattle.er_event.specs.declared.steps.Kind.TheVariants.{Read as reading, Write as writing}
 use Rattle.er_model.specs.Words.{is_writing}
 use Rattle.er_order.specs.Clocks.{Epoch, covers}
-use Rattle.er_order.specs.Following.{Seen, Reported, is_unordered, write_is_unordered, reports_at, seen_by, kept_by}
-use Rattle.er_order.specs.Keeping.{first_apart, IsNoted, IsKeptBy}
-use Rattle.er_order.specs.Keeping.{reads_of as plain_reads, with_reads as with_plain}
-use Rattle.er_order.proofs.Keeping.{found-mapped, behind-read, covered-later, noted-filter}
+use Rattle.er_order.specs.Following.{Kept, Seen, Reported, is_unordered, write_is_unordered, reports_at}
+use Rattle.er_order.specs.Keeping.{first_apart, IsNoted}
+use Rattle.er_order.proofs.Keeping.{behind-read, covered-later, noted-filter}
 use Rattle.er_epochs.specs.declared.reads.Tagged.{Tagged}
-use Rattle.er_epochs.specs.Epochs.{Latest, Stored, Accesses, Told, plain, pair_of, is_apart, some_apart, is_raced, is_replaced, stored_by, latest_by, reads_of, with_reads, IsStoredBy}
+use Rattle.er_epochs.specs.Epochs.{Latest, Stored, Accesses, Told, pair_of, is_apart, some_apart, is_raced, is_replaced, stored_by, latest_by, reads_of, with_reads, IsStoredBy}
 
 module _ {A : Type 0} where
   -- what the definitions make of it may be stored
@@ -170,7 +169,11 @@ leaves_none clock counts empty = record {
   known = λ t n is later none. let clash : None ≡ Some n = sym (empty t) ∙ is in cc;
 }
 
--- without the tags
+-- what is stored, without the tags
+abbrev pub plain : {A : Type 0} → Stored A → Kept
+plain Told = Reported
+plain (Accesses latest) = Seen (option_map pair_of latest.write) (map pair_of latest.reads)
+
 module _ {A : Type 0} (clock : ℕ → ℕ) where
   plain_any : (xs : List (Tagged A)) → list_any (is_apart clock) xs ≡ list_any (is_unordered clock) (map pair_of xs)
   plain_any [] = refl
@@ -183,52 +186,3 @@ module _ {A : Type 0} (clock : ℕ → ℕ) where
   pub plain-raced : (s : Stored A) (kind : Kind) → is_raced clock s kind ≡ reports_at clock (plain s) kind
   plain-raced Told kind = refl
   plain-raced (Accesses latest) kind = ap₂ (λ a b. a || (is_writing kind && b)) (plain_write latest.write) (plain_any latest.reads)
-
-  plain_filter : (xs : List (Tagged A)) → map pair_of (filter (is_apart clock) xs) ≡ filter (is_unordered clock) (map pair_of xs)
-  plain_filter [] = refl
-  plain_filter (x ∷ xs) = by (is_apart clock x) (plain_filter xs)
-    where
-      by : (b : Bool) → map pair_of (filter (is_apart clock) xs) ≡ filter (is_unordered clock) (map pair_of xs)
-          → map pair_of (cond b (x ∷ filter (is_apart clock) xs) (filter (is_apart clock) xs)) ≡ cond b (pair_of x ∷ filter (is_unordered clock) (map pair_of xs)) (filter (is_unordered clock) (map pair_of xs))
-      by true rest = ap (λ ys. pair_of x ∷ ys) rest
-      by false rest = rest
-
-  plain_noted : (before after : List (Tagged A)) (x : Tagged A) → IsNoted pair_of clock before x after → IsNoted (λ e. e) clock (map pair_of before) (pair_of x) (map pair_of after)
-  plain_noted before after x noted = record {
-    noted = λ later knows.
-        found-mapped (is_unordered later) pair_of after
-        ∙ ap (option_map pair_of) (noted.noted later knows)
-        ∙ sym (found-mapped (is_unordered later) pair_of (x ∷ before));
-  }
-
-  plain_cond : (b : Bool) (s : Stored A) → plain (cond b Told s) ≡ cond b Reported (plain s)
-  plain_cond true s = refl
-  plain_cond false s = refl
-
-  plain_latest : (latest : Latest A) (x : Tagged A) (t : ℕ) (kind : Kind) → pair_of x ≡ (t, clock t)
-      → plain (Accesses (latest_by clock latest x kind)) ≡ seen_by clock (option_map pair_of latest.write) (map pair_of latest.reads) t kind
-  plain_latest latest x t reading own = ap₂ (λ e rest. Seen (option_map pair_of latest.write) (e ∷ rest)) own (plain_filter latest.reads)
-  plain_latest latest x t writing own = ap (λ e. Seen (Some e) []) own
-
-  pub plain-by : (s : Stored A) (x : Tagged A) (t : ℕ) (kind : Kind) → pair_of x ≡ (t, clock t) → plain (stored_by clock s x kind) ≡ kept_by clock (plain s) t kind
-  plain-by Told x t kind own = refl
-  plain-by (Accesses latest) x t kind own =
-      plain_cond (is_raced clock (Accesses latest) kind) (Accesses (latest_by clock latest x kind))
-      ∙ ap₂ (λ b s. cond b Reported s) (plain-raced (Accesses latest) kind) (plain_latest latest x t kind own)
-
-  plain_with : (s : Stored A) (reads : List (Tagged A)) → plain (with_reads s reads) ≡ with_plain (plain s) (map pair_of reads)
-  plain_with Told reads = refl
-  plain_with (Accesses latest) reads = refl
-
-  plain_reads_of : (s : Stored A) → map pair_of (reads_of s) ≡ plain_reads (plain s)
-  plain_reads_of Told = refl
-  plain_reads_of (Accesses latest) = refl
-
-  pub plain-stored : (before after : Stored A) (x : Tagged A) (t : ℕ) (kind : Kind) → pair_of x ≡ (t, clock t) → IsStoredBy clock before x kind after → IsKeptBy clock (plain before) t kind (plain after)
-  plain-stored before after x t writing own is = ap plain is ∙ plain-by before x t writing own
-  plain-stored before after x t reading own (noted, is, may) = (
-    map pair_of noted,
-    ap plain is ∙ plain_with (stored_by clock before x reading) noted ∙ ap (λ k. with_plain k (map pair_of noted)) (plain-by before x t reading own),
-    subst (λ (e : Epoch). IsNoted (λ e. e) clock (plain_reads (plain before)) e (map pair_of noted)) own
-        (subst (λ (reads : List Epoch). IsNoted (λ e. e) clock reads (pair_of x) (map pair_of noted)) (plain_reads_of before) (plain_noted (reads_of before) noted x may)),
-  )

@@ -4,8 +4,7 @@ use Rattle.std.proofs.lemmas.Bool.{eq-eqb, or_left, or_right, and_parts}
 use Rattle.std.specs.List.{find}
 use Rattle.std.specs.Option.{option_map, option_to_list}
 use Rattle.er_event.specs.Lockset.{has}
-use Rattle.er_event.specs.declared.steps.Event.{Event}
-use Rattle.er_event.specs.declared.steps.Event.TheVariants.{Acquire, Release, Access, Reuse, IgnoreOn, IgnoreOff, Show, Level, Sync}
+use Rattle.er_event.specs.declared.steps.Event.TheVariants.{Access, Reuse}
 use Rattle.er_event.specs.declared.addresses.PageRange.{PageRange}
 use Rattle.er_event.specs.declared.steps.Kind.{Kind}
 use Rattle.er_event.specs.declared.steps.Kind.TheVariants.{Write as writing}
@@ -15,7 +14,7 @@ use Rattle.er_event.proofs.Lists.{get_last}
 use Rattle.er_model.specs.Words.{Counted, Nothing, Reading, counts, thread_of, writes, era, counted_from, is_writing}
 use Rattle.er_model.specs.Holdings.{Holdings, holdings_at}
 use Rattle.er_model.specs.Answers.{reading_of}
-use Rattle.er_model.specs.Explanations.{word_in, word_of}
+use Rattle.er_model.specs.Explanations.{word_of}
 use Rattle.er_model.specs.Following.{locks_for, marked}
 use Rattle.er_order.specs.Order.{Acts, acts_of, happens_before}
 use Rattle.er_order.specs.Clocks.{OfThread, clocks_at}
@@ -25,19 +24,15 @@ use Rattle.er_order.proofs.RaceLemmas.{latest-in}
 use Rattle.er_order.proofs.Searches.{greatest-Some}
 use Rattle.er_order.proofs.StepLemmas.{agree-steps, clocks-front}
 use Rattle.er_order.proofs.Following.{mark-step}
-use Rattle.er_order.proofs.ReasonLemmas.{race-cases, race-reported, race-unordered, race-finds-it, reported-first, with-use}
+use Rattle.er_order.proofs.ReasonLemmas.{race-reported, race-finds-it, reported-first}
 use Rattle.er_order.proofs.Reuses.{reuse-acts, reuse-finds-it, reuse-parts}
 use Rattle.er_order.proofs.Rivals.{has-append, listed}
-use Rattle.er_clock.specs.Clock.{Counts}
-use Rattle.er_clocks.specs.Counts.{count_by}
 use Rattle.er_epochs.specs.declared.reads.Tagged.{Tagged}
 use Rattle.er_epochs.specs.Epochs.{Accesses, Told, is_apart, rivals_of, tag_found}
 use Rattle.er_epochs.specs.Words.{AllWords, stored_among}
-use Rattle.er_epochs.specs.Standing.{access_at, latest, stored_at, Follows, IsClockAfter}
-use Rattle.er_epochs.specs.Inner.Steps.{use_found}
+use Rattle.er_epochs.specs.Standing.{access_at, latest, stored_at, Follows}
 use Rattle.er_epochs.proofs.StepLemmas.{apart-known}
-use Rattle.er_epochs.proofs.FollowLemmas.{clock-before, clock-unmoved, found-kept}
-use Rattle.er_epochs.proofs.Serving.{stored-front}
+use Rattle.er_epochs.proofs.Serving.{clock, serves-found, stored-front}
 
 -- a rival stands earlier and is an access of the word
 module _ (order : Order) (r : Reading) (w k j : ℕ) where
@@ -117,21 +112,27 @@ module _ (h : Holdings) (t w word : ℕ) (kind : Kind) where
   marked-access true counted = cc
   marked-access false counted = (refl, refl)
 
-module _ {A : Type 0} (past : List Step) (s : Step) (tags : ℕ → A) (words : AllWords A) (clock : ℕ × Counts) where
+module _ {A : Type 0} (past : List Step) (s : Step) (tags : ℕ → A) (words : AllWords A) where
   abbrev longer : List Step
   longer = past ++ s ∷ []
 
   abbrev at : ℕ
   at = length past
 
-  module _ (follows : Follows tags words past) (race : order_answer longer at ≡ Ok Race) where
-    pub reason-found : (w site : ℕ) (kind : Kind) → s.event ≡ Access kind w site → IsClockAfter longer s.thread clock →
-        tag_found (count_by clock) (stored_among words w) kind ≡ option_map tags (unordered_with longer at)
-    reason-found w site kind event is =
-        found-kept past tags words s.thread (count_by clock) follows w kind (clock-before past s clock w site kind event is)
-        ∙ ap (λ stored. tag_found (count_by clock) stored kind) (sym (stored-front past (s ∷ []) tags tags w at (omega arith) (λ k low. refl)) ∙ untold)
-        ∙ ap (λ accesses. option_map (λ access. access.tag) (find (is_apart (count_by clock)) accesses)) (rivals-named (acts_of longer) (reading_of longer) tags w at kind parts.0)
-        ∙ ap (option_map (λ access. access.tag)) (find-mapped (λ j. not (happens_before (acts_of longer) j at)) (is_apart (count_by clock)) (access_at (acts_of longer) (reading_of longer) tags) (rivals (happens_before (acts_of longer)) (reading_of longer) w at) known)
+  abbrev own : ℕ → ℕ
+  own = clock past s.thread
+
+  own_is : own ≡ clocks_at (acts_of longer) at (OfThread s.thread)
+  own_is = rw (clocks-front past (s ∷ []) at (omega arith)) refl
+
+  module _ (follows : Follows tags words past) where
+    pub reason-found : (w site : ℕ) (kind : Kind) → s.event ≡ Access kind w site → order_answer longer at ≡ Ok Race →
+        tag_found own (stored_among words w) kind ≡ option_map tags (unordered_with longer at)
+    reason-found w site kind event race =
+        serves-found past s.thread (stored_among words w) (stored_at tags past w at) kind (follows w)
+        ∙ ap (λ stored. tag_found own stored kind) (sym (stored-front past (s ∷ []) tags tags w at (omega arith) (λ k low. refl)) ∙ untold)
+        ∙ ap (λ accesses. option_map (λ access. access.tag) (find (is_apart own) accesses)) (rivals-named (acts_of longer) (reading_of longer) tags w at kind parts.0)
+        ∙ ap (option_map (λ access. access.tag)) (find-mapped (λ j. not (happens_before (acts_of longer) j at)) (is_apart own) (access_at (acts_of longer) (reading_of longer) tags) (rivals (happens_before (acts_of longer)) (reading_of longer) w at) known)
         ∙ tag_named (acts_of longer) (reading_of longer) tags (find (λ j. not (happens_before (acts_of longer) j at)) (rivals (happens_before (acts_of longer)) (reading_of longer) w at))
         ∙ ap (option_map tags) (sym (race-finds-it longer at w race word))
       where
@@ -155,64 +156,31 @@ module _ {A : Type 0} (past : List Step) (s : Step) (tags : ℕ → A) (words : 
             rw marked_at
             (marked-access (holdings_at longer s.thread at) s.thread w w kind (nat_lt 0 (holdings_at longer s.thread at).depth) (rw marked_at at counted))
 
-        clock_is : count_by clock ≡ clocks_at (acts_of longer) at (OfThread s.thread)
-        clock_is = clock-before past s clock w site kind event is ∙ rw (clocks-front past (s ∷ []) at (omega arith)) refl
-
         known : (j : ℕ) → has (rivals (happens_before (acts_of longer)) (reading_of longer) w at) j ≡ true →
-            not (happens_before (acts_of longer) j at) ≡ is_apart (count_by clock) (access_at (acts_of longer) (reading_of longer) tags j)
+            not (happens_before (acts_of longer) j at) ≡ is_apart own (access_at (acts_of longer) (reading_of longer) tags j)
         known j member =
             let found = rival-in (happens_before (acts_of longer)) (reading_of longer) w at j member in
             apart-known (acts_of longer) (reading_of longer) (agree-steps longer) tags w j at s.thread found.0 found.1
             (agree-steps longer at w counted ∙ rw parts.1 refl)
-            ∙ ap (λ (c : ℕ → ℕ). is_apart c (access_at (acts_of longer) (reading_of longer) tags j)) (sym clock_is)
+            ∙ ap (λ (c : ℕ → ℕ). is_apart c (access_at (acts_of longer) (reading_of longer) tags j)) (sym own_is)
 
-    pub use-found : (range : PageRange) → s.event ≡ Reuse range → IsClockAfter longer s.thread clock → (o : Option ℕ) → o ≡ word_raced longer at →
-        use_found (count_by clock) (stored_among words) o ≡ option_map tags (unordered_with longer at)
-    use-found range event is None none =
-        let there = race-unordered longer at race in
-        let word = with-use longer at there.0 there.1 in
-        let clash = none ∙ word.1 in
-        cc
-    use-found range event is (Some w) raced =
-        found-kept past tags words s.thread (count_by clock) follows w writing (clock-unmoved past s clock range event is)
-        ∙ ap (λ stored. tag_found (count_by clock) stored writing) (sym (stored-front past (s ∷ []) tags tags w at (omega arith) (λ k low. refl)) ∙ untold)
-        ∙ ap (λ accesses. option_map (λ access. access.tag) (find (is_apart (count_by clock)) accesses)) (users-named (acts_of longer) (reading_of longer) tags w at)
-        ∙ ap (option_map (λ access. access.tag)) (find-mapped (λ j. not (happens_before (acts_of longer) j at)) (is_apart (count_by clock)) (access_at (acts_of longer) (reading_of longer) tags) (users (happens_before (acts_of longer)) (reading_of longer) w at) known)
+    pub use-found : (range : PageRange) → s.event ≡ Reuse range → (w : ℕ) → word_raced longer at ≡ Some w →
+        tag_found own (stored_among words w) writing ≡ option_map tags (unordered_with longer at)
+    use-found range event w raced =
+        serves-found past s.thread (stored_among words w) (stored_at tags past w at) writing (follows w)
+        ∙ ap (λ stored. tag_found own stored writing) (sym (stored-front past (s ∷ []) tags tags w at (omega arith) (λ k low. refl)) ∙ untold)
+        ∙ ap (λ accesses. option_map (λ access. access.tag) (find (is_apart own) accesses)) (users-named (acts_of longer) (reading_of longer) tags w at)
+        ∙ ap (option_map (λ access. access.tag)) (find-mapped (λ j. not (happens_before (acts_of longer) j at)) (is_apart own) (access_at (acts_of longer) (reading_of longer) tags) (users (happens_before (acts_of longer)) (reading_of longer) w at) known)
         ∙ tag_named (acts_of longer) (reading_of longer) tags (find (λ j. not (happens_before (acts_of longer) j at)) (users (happens_before (acts_of longer)) (reading_of longer) w at))
-        ∙ ap (option_map tags) (sym (reuse-finds-it longer at s (get_last past s) range event w (sym raced)))
+        ∙ ap (option_map tags) (sym (reuse-finds-it longer at s (get_last past s) range event w raced))
       where
         untold : stored_at tags longer w at ≡ Accesses (latest (acts_of longer) (reading_of longer) tags w at)
-        untold = ap (λ b. cond b Told (Accesses (latest (acts_of longer) (reading_of longer) tags w at))) (reuse-parts longer at s (get_last past s) range event w (sym raced)).1
-
-        clock_is : count_by clock ≡ clocks_at (acts_of longer) at (OfThread s.thread)
-        clock_is = clock-unmoved past s clock range event is ∙ rw (clocks-front past (s ∷ []) at (omega arith)) refl
+        untold = ap (λ b. cond b Told (Accesses (latest (acts_of longer) (reading_of longer) tags w at))) (reuse-parts longer at s (get_last past s) range event w raced).1
 
         known : (j : ℕ) → has (users (happens_before (acts_of longer)) (reading_of longer) w at) j ≡ true →
-            not (happens_before (acts_of longer) j at) ≡ is_apart (count_by clock) (access_at (acts_of longer) (reading_of longer) tags j)
+            not (happens_before (acts_of longer) j at) ≡ is_apart own (access_at (acts_of longer) (reading_of longer) tags j)
         known j member =
             let found = user-in (happens_before (acts_of longer)) (reading_of longer) w at j member in
             apart-known (acts_of longer) (reading_of longer) (agree-steps longer) tags w j at s.thread found.0 found.1
             (reuse-acts longer at s (get_last past s) range event)
-            ∙ ap (λ (c : ℕ → ℕ). is_apart c (access_at (acts_of longer) (reading_of longer) tags j)) (sym clock_is)
-
-    -- a step that is neither an access nor a reuse is no race
-    accesses : (e : Event) (w : ℕ) → word_in e ≡ Some w → (site : ℕ) × (kind : Kind) × (e ≡ Access kind w site)
-    accesses (Access kind v site) w is = let same : v ≡ w = cc in (site, kind, ap (λ x. Access kind x site) same)
-    accesses (Acquire l m) w is = cc
-    accesses (Release l m) w is = cc
-    accesses (Reuse range) w is = cc
-    accesses IgnoreOn w is = cc
-    accesses IgnoreOff w is = cc
-    accesses (Show v) w is = cc
-    accesses (Level n) w is = cc
-    accesses (Sync sync) w is = cc
-
-    pub no-other : ((w site : ℕ) (kind : Kind) → s.event ≡ Access kind w site → ⊥) → ((range : PageRange) → s.event ≡ Reuse range → ⊥) → ⊥
-    no-other never never_reused =
-        ⊎_elim
-        (λ told. let found = accesses s.event told.0 (ap word_of (sym (get_last past s)) ∙ told.1) in never told.0 found.0 found.1 found.2)
-        (λ reused.
-        let both : Some reused.0 ≡ Some s = sym reused.3 ∙ get_last past s in
-        let same : reused.0 ≡ s = cc in
-        never_reused reused.1 (ap (λ (step : Step). step.event) (sym same) ∙ reused.4))
-        (race-cases longer at race)
+            ∙ ap (λ (c : ℕ → ℕ). is_apart c (access_at (acts_of longer) (reading_of longer) tags j)) (sym own_is)

@@ -21,14 +21,13 @@ use Rattle.er_order.proofs.StepLemmas.{held-front, clocks-front}
 use Rattle.er_order.proofs.Growing.{kept-front, kept-grow}
 use Rattle.er_order.proofs.Keeping.{any-found, alike-here, alike-itself, alike-grow, alike-noted}
 use Rattle.er_epochs.specs.declared.reads.Tagged.{Tagged}
-use Rattle.er_epochs.specs.Epochs.{Latest, Stored, Accesses, Told, untouched, tagged, pair_of, plain, is_apart, some_apart, is_raced, latest_by, stored_by, reads_of, with_reads, IsStoredBy, tag_found}
-use Rattle.er_epochs.specs.Standing.{access_at, latest, latest_at, stored_at, ServesFor}
-use Rattle.er_epochs.specs.Inner.Steps.{latest_moved, IsStoredMoved}
-use Rattle.er_epochs.proofs.Noted.{plain-raced}
-use Rattle.er_epochs.proofs.StepLemmas.{latest-step, latest-front, latest-none}
+use Rattle.er_epochs.specs.Epochs.{Latest, Stored, Accesses, Told, untouched, tagged, pair_of, is_apart, some_apart, is_raced, latest_by, stored_by, reads_of, with_reads, IsStoredBy, tag_found}
+use Rattle.er_epochs.specs.Standing.{access_at, latest, latest_at, stored_at, IsStoredMoved, ServesFor}
+use Rattle.er_epochs.proofs.Noted.{plain, plain-raced}
+use Rattle.er_epochs.proofs.StepLemmas.{latest_moved, latest-step, latest-front, latest-none}
 
 -- the clock of thread t at the end of the list
-abbrev clock : List Step → ℕ → ℕ → ℕ
+abbrev pub clock : List Step → ℕ → ℕ → ℕ
 clock steps t = clocks_at (acts_of steps) (length steps) (OfThread t)
 
 module _ {A : Type 0} (steps : List Step) (t : ℕ) where
@@ -39,6 +38,9 @@ module _ {A : Type 0} (steps : List Step) (t : ℕ) where
   raced_same stored (Accesses latest) writing serves =
       ap (λ b. some_apart (clock steps t) latest.write || b)
       (any-found (is_apart (clock steps t)) (reads_of stored) ∙ ap is_some (alike-here pair_of steps (reads_of stored) latest.reads t serves.reads) ∙ sym (any-found (is_apart (clock steps t)) latest.reads))
+
+  pub serves-raced : (stored wanted : Stored A) (kind : Kind) → ServesFor steps stored wanted → is_raced (clock steps t) stored kind ≡ is_raced (clock steps t) wanted kind
+  serves-raced stored wanted kind serves = ap (λ k. is_raced (clock steps t) k kind) serves.same ∙ raced_same stored wanted kind serves
 
   -- and it finds the same
   found_same : (stored wanted : Stored A) (kind : Kind) → ServesFor steps stored wanted → tag_found (clock steps t) (with_reads wanted (reads_of stored)) kind ≡ tag_found (clock steps t) wanted kind
@@ -131,7 +133,7 @@ module _ {A : Type 0} (tags : ℕ → A) (steps : List Step) (w n : ℕ) where
   cond_plain true latest = refl
   cond_plain false latest = refl
 
-  plain-at : plain (stored_at tags steps w n) ≡ kept_at steps w n
+  pub plain-at : plain (stored_at tags steps w n) ≡ kept_at steps w n
   unfolding kept latest
   plain-at =
       cond_plain (had_race (happens_before (acts_of steps)) (reading_of steps) w n) (latest_at tags steps w n)

@@ -24,7 +24,13 @@ use Rattle.er_order.proofs.Following.{write-step, latest_other, latest_read, lat
 use Rattle.er_epochs.specs.declared.reads.Tagged.{Tagged}
 use Rattle.er_epochs.specs.Epochs.{Latest, untouched, tagged, is_apart, latest_by}
 use Rattle.er_epochs.specs.Standing.{access_at, latest, latest_at}
-use Rattle.er_epochs.specs.Inner.Steps.{latest_moved}
+
+-- the latest accesses after a position that is this to the words, by a thread whose clock this is, with this tag
+abbrev pub latest_moved : {A : Type 0} → (ℕ → ℕ) → A → Latest A → ℕ → Mark → Latest A
+latest_moved clock a before w (Counted t kind word cover) = cond (word == w) (latest_by clock before (tagged t (clock t) a) kind) before
+latest_moved clock a before w (Reused range) = cond (is_within w range) untouched before
+latest_moved clock a before w (Shown word) = before
+latest_moved clock a before w Nothing = before
 
 pub latest-none : {A : Type 0} (acts : Acts) (r : Reading) (tags : ℕ → A) (w : ℕ) → latest acts r tags w zero ≡ untouched
 unfolding latest last_write greatest_below latest_reads latest_from

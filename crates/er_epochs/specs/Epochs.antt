@@ -1,12 +1,12 @@
 -- The accesses that are kept of a word, and what one more makes of them.
-use Rattle.std.specs.Prelude.{ℕ, ◌≡◌, ◌+◌, ◌^◌, nat_lt, nat_le, nat_eq, Bool, false, ◌&&◌, ◌||◌, cond, List, [], ◌∷◌, ◌++◌, filter, map, Option, Some, None}
+use Rattle.std.specs.Prelude.{ℕ, ◌≡◌, ◌+◌, ◌^◌, nat_lt, nat_le, nat_eq, Bool, false, ◌&&◌, ◌||◌, cond, List, [], ◌∷◌, ◌++◌, filter, Option, Some, None}
 use Rattle.std.specs.List.{find, list_any}
 use Rattle.std.specs.Option.{option_map, option_to_list}
 use Rattle.er_event.specs.declared.steps.Kind.{Kind}
 use Rattle.er_event.specs.declared.steps.Kind.TheVariants.{Read as reading, Write as writing}
 use Rattle.er_model.specs.Words.{is_writing}
 use Rattle.er_order.specs.Clocks.{Epoch}
-use Rattle.er_order.specs.Following.{Kept, Seen, Reported, is_unordered}
+use Rattle.er_order.specs.Following.{is_unordered}
 use Rattle.er_order.specs.Keeping.{IsNoted}
 use Rattle.er_epochs.specs.declared.reads.Tagged.{Tagged}
 
@@ -31,11 +31,6 @@ tagged t n a = record { epoch = record { thread = t; count = n }; tag = a }
 -- its thread and its count
 abbrev pub pair_of : {A : Type 0} → Tagged A → Epoch
 pair_of access = (access.epoch.thread, access.epoch.count)
-
--- what is stored, without the tags
-abbrev pub plain : {A : Type 0} → Stored A → Kept
-plain Told = Reported
-plain (Accesses latest) = Seen (option_map pair_of latest.write) (map pair_of latest.reads)
 
 -- that of a thread's number and its count; from 2^30 on no thread has the number
 abbrev pub access_in : {A : Type 0} → ℕ → ℕ → A → Option (Tagged A)

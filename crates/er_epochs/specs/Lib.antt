@@ -1,4 +1,3 @@
 pub mod Epochs
 pub mod Words
 pub mod Standing
-pub mod Inner

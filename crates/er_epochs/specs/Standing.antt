@@ -1,20 +1,16 @@
 -- The lists of steps that what is stored of all words stands for.
-use Rattle.std.specs.Prelude.{ℕ, ◌≡◌, Bool, true, false, cond, List, length, map, Result, Ok}
+use Rattle.std.specs.Prelude.{ℕ, ◌≡◌, ◌==◌, cond, List, length, map}
+use Rattle.std.specs.Bool.{MatchBool}
 use Rattle.std.specs.Option.{option_map}
-use Rattle.er_event.specs.declared.refusals.Refusal.{Refusal}
-use Rattle.er_event.specs.declared.steps.Reply.{Reply}
-use Rattle.er_event.specs.declared.steps.Reply.TheVariants.{Quiet, Race}
 use Rattle.er_event.specs.declared.steps.Step.{Step}
-use Rattle.er_model.specs.Words.{Reading, thread_of}
+use Rattle.er_model.specs.Words.{Mark, Counted, Reused, Shown, Nothing, Reading, thread_of, is_within}
 use Rattle.er_model.specs.Answers.{reading_of}
 use Rattle.er_order.specs.Order.{Acts, acts_of, happens_before}
-use Rattle.er_order.specs.Clocks.{OfThread, clocks_at, own_count}
+use Rattle.er_order.specs.Clocks.{own_count}
 use Rattle.er_order.specs.Races.{had_race, last_write, latest_reads}
 use Rattle.er_order.specs.Keeping.{AreAlike}
-use Rattle.er_clock.specs.Clock.{Counts}
-use Rattle.er_clocks.specs.Counts.{count_by}
 use Rattle.er_epochs.specs.declared.reads.Tagged.{Tagged}
-use Rattle.er_epochs.specs.Epochs.{Latest, Stored, Accesses, Told, tagged, pair_of, reads_of, with_reads}
+use Rattle.er_epochs.specs.Epochs.{Latest, Stored, Accesses, Told, IsStoredBy, tagged, untouched, pair_of, reads_of, with_reads}
 use Rattle.er_epochs.specs.Words.{AllWords, stored_among}
 
 -- the access at position k, with its tag
@@ -42,13 +38,9 @@ pub record ServesFor {A : Type 0} (steps : List Step) (stored wanted : Stored A)
 abbrev pub Follows : {A : Type 0} → (ℕ → A) → AllWords A → List Step → Type 0
 Follows tags words steps = (w : ℕ) → ServesFor steps (stored_among words w) (stored_at tags steps w (length steps))
 
--- it is the clock of thread t at the end of the list
-pub record IsClockAfter (steps : List Step) (t : ℕ) (clock : ℕ × Counts) : Type 0 where
-  pub thread : clock.0 ≡ t
-  pub counts : (u : ℕ) → count_by clock u ≡ clocks_at (acts_of steps) (length steps) (OfThread t) u
-
--- the answer is that to a counted access
-abbrev pub is_counted : Result Reply Refusal → Bool
-is_counted (Ok Quiet) = true
-is_counted (Ok Race) = true
-is_counted _ = false
+-- what may be stored of word w after a position that is this to the words, by a thread whose clock this is, with this tag
+abbrev pub IsStoredMoved : {A : Type 0} → (ℕ → ℕ) → A → Stored A → ℕ → Mark → Stored A → Type 0
+IsStoredMoved clock a before w (Counted t kind word cover) after = MatchBool (word == w) (IsStoredBy clock before (tagged t (clock t) a) kind after) (after ≡ before)
+IsStoredMoved clock a before w (Reused range) after = after ≡ cond (is_within w range) (Accesses untouched) before
+IsStoredMoved clock a before w (Shown word) after = after ≡ before
+IsStoredMoved clock a before w Nothing after = after ≡ before

@@ -2,10 +2,9 @@
 use Rattle.std.specs.Prelude.{ℕ, ◌≡◌, ◌<◌, ◌+◌, ◌^◌, ◌/◌, ◌%◌, ◌&&◌, nat_eq, nat_le, Bool, true, false, cond, List, [], slice_index_or, Option, Some, None}
 use Rattle.std.specs.Map.{lookup}
 use Rattle.std.specs.Option.{unwrap_or}
-use Rattle.er_order.specs.Following.{Kept}
 use Rattle.er_epochs.specs.declared.reads.Tagged.{Tagged}
 use Rattle.er_epochs.specs.declared.word.OrderWord.{OrderWord}
-use Rattle.er_epochs.specs.Epochs.{Stored, Accesses, Told, Readers, Alone, plain, access_in, readers_in, reads_beside}
+use Rattle.er_epochs.specs.Epochs.{Stored, Accesses, Told, Readers, Alone, access_in, readers_in, reads_beside}
 
 -- what a word says: whether a race was reported, its last write, and its reads
 pub record Said (A : Type 0) : Type 0 where
@@ -73,10 +72,6 @@ pub record AllWords (A : Type 0) : Type 0 where
 -- what is stored of the word
 unfoldable pub stored_among : {A : Type 0} → AllWords A → ℕ → Stored A
 stored_among all w = stored_beside all.lists w (word_among all.blocks w)
-
--- the same without the tags
-abbrev pub kept_among : {A : Type 0} → AllWords A → ℕ → Kept
-kept_among all w = plain (stored_among all w)
 
 -- the word stands in the block of this number, at one of these places
 abbrev pub is_place_in : ℕ → ℕ → ℕ → ℕ → Bool

@@ -1,6 +1,7 @@
 //! Words that lie side by side.
-ghost use Rattle.std.specs.Prelude.{◌≡◌, ◌+◌, ◌*◌, ◌<◌, ◌≤◌, ◌^◌, ◌&&◌, ℕ, nat_eq, nat_le, nat_lt, cond, false, get_or, length, map, IfOk, OnOk, OnErr};
-ghost use Rattle.er_clocks.specs.Counts.{count_by};
+ghost use Rattle.std.specs.Prelude.{◌≡◌, ◌+◌, ◌*◌, ◌<◌, ◌≤◌, ◌^◌, ◌&&◌, ℕ, nat_eq, nat_le, nat_lt, cond, false, get_or, length, map, Some, IfOk, IfSome, OnOk, OnErr};
+ghost use Rattle.std.specs.Option.{option_map};
+ghost use Rattle.er_clock.specs.Counts.{count_by};
 ghost use Rattle.er_epochs.specs.Epochs.{is_raced, tag_found, tagged, IsStoredBy};
 ghost use Rattle.er_epochs.specs.declared.word.OrderWord.{OrderWord as Stored};
 ghost use Rattle.er_epochs.specs.Words.{IsButForTags, blank, said, word_at, list_of, stored_beside, is_place_in, IsLowest};
@@ -8,7 +9,7 @@ ghost use Rattle.er_epochs.specs.Words.{IsButForTags, blank, said, word_at, list
 use crate::finding::start_of;
 use crate::lists::ReadLists;
 use crate::word::OrderWord;
-use er_clocks::ThreadClock;
+use er_clock::ThreadClock;
 use er_event::Kind;
 use std::alloc::{AllocError, Global};
 use std::marker::Model;
@@ -45,8 +46,8 @@ impl<A: Copy> Block<A> {
         Ok(Block { words })
     }
 
-    /// One counted access of the word of this number, at this place, by the thread whose clock this is. Returns whether it is reported as a
-    /// race. `AllocError`: memory was refused, and the word says what it said.
+    /// One counted access of the word of this number, at this place, by the thread whose clock this is. Returns the tag of the last
+    /// access that it is a race with, if it is reported as one. `AllocError`: memory was refused, and the word says what it said.
     #[inline]
     pub(crate) fn access(
         &mut self,
@@ -56,10 +57,10 @@ impl<A: Copy> Block<A> {
         clock: &ThreadClock<'_>,
         kind: Kind,
         tag: A,
-    ) -> Result<bool, AllocError>
+    ) -> Result<Option<A>, AllocError>
         requires { place < 128 }
         ensures ok { OnOk result (IsStoredBy (count_by clock.now) (stored_beside lists.old number (word_at self.old place)) (tagged clock.now.0 (count_by clock.now clock.now.0) tag) kind (stored_beside lists.new number (word_at self.new place))) }
-        ensures reported { IfOk result (λ reported. reported ≡ is_raced (count_by clock.now) (stored_beside lists.old number (word_at self.old place)) kind) }
+        ensures found { IfOk result (λ rival. rival ≡ tag_found (count_by clock.now) (stored_beside lists.old number (word_at self.old place)) kind) }
         ensures err { OnErr result (stored_beside lists.new number (word_at self.new place) ≡ stored_beside lists.old number (word_at self.old place)) }
         ensures places { (i : ℕ) → nat_eq place i ≡ false → word_at self.new i ≡ word_at self.old i }
         ensures lists { (w : ℕ) → nat_eq number w ≡ false → list_of lists.new w ≡ list_of lists.old w }
@@ -67,11 +68,11 @@ impl<A: Copy> Block<A> {
         let word = get(&self.words, place);
         if let Some(next) = word.settled(clock, kind, tag) {
             put_tags(&mut self.words, place, next);
-            return Ok(false);
+            return Ok(None);
         }
-        let (next, reported) = advance(lists, number, word, clock, kind, tag)?;
+        let (next, rival) = advance(lists, number, word, clock, kind, tag)?;
         put(&mut self.words, place, next);
-        Ok(reported)
+        Ok(rival)
     }
 
     /// Reads the word at a place, for an access of it that comes soon.
@@ -82,30 +83,8 @@ impl<A: Copy> Block<A> {
         get(&self.words, place).peek()
     }
 
-    /// The tag of the last access of the word of this number, at this place, that one of this kind conflicts with and that doesn't happen before
-    /// what the clock's thread does now.
-    #[inline]
-    pub(crate) fn find(
-        &self,
-        lists: &ReadLists<A>,
-        number: u64,
-        place: usize,
-        clock: &ThreadClock<'_>,
-        kind: Kind,
-    ) -> Option<A>
-        requires { place < 128 }
-        ensures { result ≡ tag_found (count_by clock.now) (stored_beside lists.now number (word_at self.now place)) kind }
-    {
-        let word = get(&self.words, place);
-        if word.has_list() {
-            word.find(clock, kind, lists.find(word.hint(), number, clock))
-        } else {
-            word.find(clock, kind, None)
-        }
-    }
-
-    /// The lowest place from `lo` to `hi`, both included, of a word of which a write by the clock's thread would be reported, where this is the
-    /// block of this number.
+    /// The lowest place from `lo` to `hi`, both included, of a word of which a write by the clock's thread would be reported, and the tag of the
+    /// last access that the write would be a race with, where this is the block of this number.
     pub(crate) fn first_in_use(
         &self,
         lists: &ReadLists<A>,
@@ -113,36 +92,40 @@ impl<A: Copy> Block<A> {
         lo: usize,
         hi: usize,
         clock: &ThreadClock<'_>,
-    ) -> Option<usize>
+    ) -> Option<(usize, A)>
         requires hi { hi < 128 }
         requires number { number < 2 ^ 39 }
-        ensures { IsLowest (λ i. (nat_le lo i && nat_le i hi) && is_raced (count_by clock.now) (stored_beside lists.now (number * 128 + i) (word_at self.now i)) Kind.Write) result }
+        ensures lowest { IsLowest (λ i. (nat_le lo i && nat_le i hi) && is_raced (count_by clock.now) (stored_beside lists.now (number * 128 + i) (word_at self.now i)) Kind.Write) (option_map (λ found. found.0) result) }
+        ensures named { IfSome result (λ found. Some found.1 ≡ tag_found (count_by clock.now) (stored_beside lists.now (number * 128 + found.0) (word_at self.now found.0)) Kind.Write) }
     {
         for place in lo..hi + 1 {
-            if self.is_in_use(lists, number * 128 + place as u64, place, clock) {
-                return Some(place);
+            if let Some(tag) = self.last_use(lists, number * 128 + place as u64, place, clock) {
+                return Some((place, tag));
             }
         }
         None
     }
 
-    // Whether a write of the word of this number, at this place, by the clock's thread would be reported.
+    // The tag of the last access of the word of this number, at this place, that a write by the clock's thread would be a race with.
     #[inline]
-    fn is_in_use(
+    fn last_use(
         &self,
         lists: &ReadLists<A>,
         number: u64,
         place: usize,
         clock: &ThreadClock<'_>,
-    ) -> bool
+    ) -> Option<A>
         requires { place < 128 }
-        ensures { result ≡ is_raced (count_by clock.now) (stored_beside lists.now number (word_at self.now place)) Kind.Write }
+        ensures { result ≡ tag_found (count_by clock.now) (stored_beside lists.now number (word_at self.now place)) Kind.Write }
     {
-        if get(&self.words, place).is_blank() {
-            return false;
+        let word = get(&self.words, place);
+        if word.is_blank() {
+            None
+        } else if word.has_list() {
+            word.find(clock, Kind::Write, lists.find(word.hint(), number, clock))
+        } else {
+            word.find(clock, Kind::Write, None)
         }
-        self.find(lists, number, place, clock, Kind::Write)
-            .is_some()
     }
 
     /// Ends the era of the words from `lo` to `hi`, both included.
@@ -171,7 +154,7 @@ impl<A: Copy> Block<A> {
     }
 }
 
-// One counted access of the word of this number. Returns the word after it, and whether it is reported as a race.
+// One counted access of the word of this number. Returns the word after it, and the tag of the last access that it is a race with.
 #[inline]
 fn advance<A: Copy>(
     lists: &mut ReadLists<A>,
@@ -180,9 +163,9 @@ fn advance<A: Copy>(
     clock: &ThreadClock<'_>,
     kind: Kind,
     tag: A,
-) -> Result<(OrderWord<A>, bool), AllocError>
+) -> Result<(OrderWord<A>, Option<A>), AllocError>
     ensures kept { IfOk result (λ r. IsStoredBy (count_by clock.now) (stored_beside lists.old number (said word)) (tagged clock.now.0 (count_by clock.now clock.now.0) tag) kind (stored_beside lists.new number (said r.0))) }
-    ensures reported { IfOk result (λ r. r.1 ≡ is_raced (count_by clock.now) (stored_beside lists.old number (said word)) kind) }
+    ensures found { IfOk result (λ r. r.1 ≡ tag_found (count_by clock.now) (stored_beside lists.old number (said word)) kind) }
     ensures err { OnErr result (stored_beside lists.new number (said word) ≡ stored_beside lists.old number (said word)) }
     ensures others { (w : ℕ) → nat_eq number w ≡ false → list_of lists.new w ≡ list_of lists.old w }
 {

@@ -2,11 +2,11 @@
 //!
 //! Begin with [`OrderWords`]. `OrderWord` is one of them, in 16 bytes and two tags. Who wants no tags takes `()`, which has no bytes.
 //!
-//! What it promises, by the names of clauses: an access is reported exactly if the definitions report it by what is kept and by its
-//! thread's clock (`reported`), what is then kept is what they keep or serves as well (`ok`, `kept`), and an error changes nothing (`err`).
-//! A call on one word leaves the others (`others`). A reset says which word of its range was still in use (`in_use`). With the tags of the
-//! steps of a list it goes on by one step at a time (`goes_on`), and at a race it names the access that the definitions name
-//! (`reason`). How an entry is found without a hash as a rule (`index_of`) serves other maps too. That the last write and the latest reads are enough for this is a law of the definitions (`a_reason_is_found` of `er_order`).
+//! What it promises, by the names of clauses: an access finds the tag of the last access that it is a race with, exactly if it is reported as one by
+//! what is kept and by its thread's clock (`found`), what is then kept is what the definitions make of it or serves as well (`ok`), and an error
+//! changes nothing (`err`). A call on one word leaves the others (`others`). A reset says which word of its range was still in use (`in_use`), and
+//! names the last access of that word that the clock doesn't cover (`named`). How an entry is found without a hash as a rule (`index_of`) serves other maps too. That the last write and the
+//! latest reads are enough for this is a law of the definitions (`a_reason_is_found` of `er_order`).
 #![tactic(auto)]
 
 pub use finding::index_of;
@@ -15,7 +15,6 @@ pub use words::OrderWords;
 
 mod block;
 mod finding;
-mod following;
 mod lists;
 mod reads;
 mod word;

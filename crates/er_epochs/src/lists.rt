@@ -1,14 +1,14 @@
 //! The lists of reads of the words that have several.
 ghost use Rattle.std.specs.Prelude.{◌≡◌, ◌<◌, ℕ, nat_eq, slice_get, false, Some, [], IsTrue, IfOk, OnErr};
 ghost use Rattle.indexmap.specs.IndexMap.{keys, index_map_len, IsUnique};
-ghost use Rattle.er_clocks.specs.Counts.{count_by};
-ghost use Rattle.er_epochs.specs.Epochs.{is_raced, tag_of_first, tagged, IsStoredBy};
+ghost use Rattle.er_clock.specs.Counts.{count_by};
+ghost use Rattle.er_epochs.specs.Epochs.{tag_found, tag_of_first, tagged, IsStoredBy};
 ghost use Rattle.er_epochs.specs.Words.{list_of, said, stored_beside};
 
 use crate::finding::index_of;
 use crate::reads::Reads;
 use crate::word::OrderWord;
-use er_clocks::ThreadClock;
+use er_clock::ThreadClock;
 use er_event::Kind;
 use er_keys::{HashKeys, NumberHasher};
 use indexmap::IndexMap;
@@ -51,8 +51,8 @@ impl<A: Copy> ReadLists<A> {
         self.lists.is_empty()
     }
 
-    /// One counted access, by the thread whose clock this is, of a word that has a list or gets one. Returns the word after it, and whether it
-    /// is reported as a race. `AllocError`: memory was refused, and the word says what it said.
+    /// One counted access, by the thread whose clock this is, of a word that has a list or gets one. Returns the word after it, and the
+    /// tag of the last access that it is a race with, if it is reported as one. `AllocError`: memory was refused, and the word says what it said.
     pub(crate) fn access(
         &mut self,
         number: u64,
@@ -60,17 +60,17 @@ impl<A: Copy> ReadLists<A> {
         clock: &ThreadClock<'_>,
         kind: Kind,
         tag: A,
-    ) -> Result<(OrderWord<A>, bool), AllocError>
+    ) -> Result<(OrderWord<A>, Option<A>), AllocError>
         ensures kept { IfOk result (λ r. IsStoredBy (count_by clock.now) (stored_beside self.old number (said word)) (tagged clock.now.0 (count_by clock.now clock.now.0) tag) kind (stored_beside self.new number (said r.0))) }
-        ensures reported { IfOk result (λ r. r.1 ≡ is_raced (count_by clock.now) (stored_beside self.old number (said word)) kind) }
+        ensures found { IfOk result (λ r. r.1 ≡ tag_found (count_by clock.now) (stored_beside self.old number (said word)) kind) }
         ensures err { OnErr result (stored_beside self.new number (said word) ≡ stored_beside self.old number (said word)) }
         ensures others { (w : ℕ) → nat_eq number w ≡ false → list_of self.new w ≡ list_of self.old w }
     {
-        let (next, reported) = self.advance(number, word, clock, kind, tag)?;
+        let (next, rival) = self.advance(number, word, clock, kind, tag)?;
         if !next.has_list() {
             self.forget(word.hint(), number);
         }
-        Ok((next, reported))
+        Ok((next, rival))
     }
 
     // The same, where the list stays even if the word has no use for it any more.
@@ -81,9 +81,9 @@ impl<A: Copy> ReadLists<A> {
         clock: &ThreadClock<'_>,
         kind: Kind,
         tag: A,
-    ) -> Result<(OrderWord<A>, bool), AllocError>
+    ) -> Result<(OrderWord<A>, Option<A>), AllocError>
         ensures kept { IfOk result (λ r. IsStoredBy (count_by clock.now) (stored_beside self.old number (said word)) (tagged clock.now.0 (count_by clock.now clock.now.0) tag) kind (stored_beside self.new number (said r.0))) }
-        ensures reported { IfOk result (λ r. r.1 ≡ is_raced (count_by clock.now) (stored_beside self.old number (said word)) kind) }
+        ensures found { IfOk result (λ r. r.1 ≡ tag_found (count_by clock.now) (stored_beside self.old number (said word)) kind) }
         ensures err { OnErr result (stored_beside self.new number (said word) ≡ stored_beside self.old number (said word)) }
         ensures others { (w : ℕ) → nat_eq number w ≡ false → list_of self.new w ≡ list_of self.old w }
     {

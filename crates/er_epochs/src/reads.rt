@@ -3,12 +3,11 @@ ghost use Rattle.std.specs.Prelude.{◌≡◌, ◌≤◌, ℕ, ◌∷◌, ◌++�
 ghost use Rattle.indexmap.specs.IndexMap.{get};
 ghost use Rattle.er_order.specs.Following.{is_unordered};
 ghost use Rattle.er_order.specs.Keeping.{IsNoted, first_apart};
-ghost use Rattle.er_clocks.specs.Counts.{count_by};
+ghost use Rattle.er_clock.specs.Counts.{count_by};
 ghost use Rattle.er_epochs.specs.Epochs.{is_apart, is_replaced, pair_of, readers_in, reads_beside, tag_of_first, tagged};
 
 use crate::word::{NONE, SEVERAL};
-use er_clock::Epoch;
-use er_clocks::ThreadClock;
+use er_clock::{Epoch, ThreadClock};
 use er_event::ThreadId;
 use er_keys::{HashKeys, NumberHasher};
 use indexmap::IndexMap;

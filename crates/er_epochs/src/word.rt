@@ -3,14 +3,13 @@ ghost use Rattle.std.specs.Prelude.{◌≡◌, ◌^◌, ◌&&◌, List, [], Some
 ghost use Rattle.std.specs.Option.{option_to_list};
 ghost use Rattle.er_model.specs.Words.{is_writing};
 ghost use Rattle.er_order.specs.Following.{is_unordered};
-ghost use Rattle.er_clocks.specs.Counts.{count_by};
+ghost use Rattle.er_clock.specs.Counts.{count_by};
 ghost use Rattle.er_epochs.specs.declared.reads.Tagged.{Tagged as Access};
 ghost use Rattle.er_epochs.specs.Epochs.{access_in, is_raced, reads_beside, readers_in, rivals_of, some_apart, stored_by, tag_found, tag_of_first, tagged, Readers, Told, IsStoredBy};
 ghost use Rattle.er_epochs.specs.Words.{said, blank, stored_in, IsButForTags};
 
 use crate::reads::{Reads, Tagged, access_by};
-use er_clock::Epoch;
-use er_clocks::ThreadClock;
+use er_clock::{Epoch, ThreadClock};
 use er_event::{Kind, ThreadId};
 use er_keys::HashKeys;
 use std::alloc::{AllocError, Global};
@@ -122,36 +121,41 @@ impl<A: Copy> OrderWord<A> {
         }
     }
 
-    /// The word after a counted access by the thread whose clock this is, and whether the access is reported as a race: it is the first of
-    /// its era that some conflicting access doesn't happen before. `None`: that depends on the list of reads, or changes it.
+    /// The word after a counted access by the thread whose clock this is, and the tag of the last access that it is a race with, if it is reported as
+    /// one: it is the first of its era that some conflicting access doesn't happen before. `None`: that depends on the list of reads, or changes it.
     #[inline]
-    pub(crate) fn access(self, clock: &ThreadClock<'_>, kind: Kind, tag: A) -> Option<(Self, bool)>
+    pub(crate) fn access(
+        self,
+        clock: &ThreadClock<'_>,
+        kind: Kind,
+        tag: A,
+    ) -> Option<(Self, Option<A>)>
         ensures kept { IfSome result (λ r. (listed : List (Access A)) → stored_in r.0 listed ≡ stored_by (count_by clock.now) (stored_in self listed) (tagged clock.now.0 (count_by clock.now clock.now.0) tag) kind) }
-        ensures reported { IfSome result (λ r. (listed : List (Access A)) → r.1 ≡ is_raced (count_by clock.now) (stored_in self listed) kind) }
+        ensures found { IfSome result (λ r. (listed : List (Access A)) → r.1 ≡ tag_found (count_by clock.now) (stored_in self listed) kind) }
     {
         if self.reader == SEVERAL {
             return None;
         }
         if self.writer == TOLD {
-            return Some((self, false));
+            return Some((self, None));
         }
         if !self.is_write_ordered(clock) {
-            return Some((self.told(), true));
+            return Some((self.told(), self.find(clock, kind, None)));
         }
         let is_alone = self.is_read_ordered(clock);
         match kind {
             Kind::Read => {
                 if is_alone {
-                    Some((self.read(access_by(clock, tag)), false))
+                    Some((self.read(access_by(clock, tag)), None))
                 } else {
                     None
                 }
             }
             Kind::Write => {
                 if is_alone {
-                    Some((self.written(access_by(clock, tag)), false))
+                    Some((self.written(access_by(clock, tag)), None))
                 } else {
-                    Some((self.told(), true))
+                    Some((self.told(), self.find(clock, kind, None)))
                 }
             }
         }
@@ -168,33 +172,33 @@ impl<A: Copy> OrderWord<A> {
         clock: &ThreadClock<'_>,
         kind: Kind,
         tag: A,
-    ) -> Result<(Self, bool), AllocError>
+    ) -> Result<(Self, Option<A>), AllocError>
         ensures kept { IfOk result (λ r. IsStoredBy (count_by clock.now) (stored_in self reads.old) (tagged clock.now.0 (count_by clock.now clock.now.0) tag) kind (stored_in r.0 reads.new)) }
-        ensures reported { IfOk result (λ r. r.1 ≡ is_raced (count_by clock.now) (stored_in self reads.old) kind) }
+        ensures found { IfOk result (λ r. r.1 ≡ tag_found (count_by clock.now) (stored_in self reads.old) kind) }
         ensures err { OnErr result (stored_in self reads.new ≡ stored_in self reads.old) }
     {
         if self.writer == TOLD {
-            return Ok((self, false));
+            return Ok((self, None));
         }
         if !self.is_write_ordered(clock) {
-            return Ok((self.told(), true));
+            let rival = self.find(clock, kind, reads.find(clock));
+            return Ok((self.told(), rival));
         }
         reads.gather(self.reader, self.read_count, self.read_tag)?;
         match kind {
             Kind::Read => {
                 reads.note(alloc, keys, clock, tag)?;
-                Ok((self.listed(index), false))
+                Ok((self.listed(index), None))
             }
             Kind::Write => match reads.find(clock) {
-                Some(_) => Ok((self.told(), true)),
-                None => Ok((self.written(access_by(clock, tag)), false)),
+                Some(rival) => Ok((self.told(), Some(rival))),
+                None => Ok((self.written(access_by(clock, tag)), None)),
             },
         }
     }
 
     /// The tag of the last access that one of this kind conflicts with and that doesn't happen before what the clock's thread does now. If a list
     /// has the reads, the caller says the tag of the last one of it that doesn't.
-    #[inline]
     pub(crate) fn find(self, clock: &ThreadClock<'_>, kind: Kind, listed: Option<A>) -> Option<A>
         ensures { (reads : List (Access A)) → listed ≡ tag_of_first (count_by clock.now) reads → result ≡ tag_found (count_by clock.now) (stored_in self reads) kind }
     {
@@ -280,6 +284,7 @@ impl<A: Copy> OrderWord<A> {
             ..self
         }
     }
+
     // The word, once a race was reported.
     #[inline]
     fn told(self) -> Self

@@ -1,18 +1,16 @@
 //! What is kept of each word.
-ghost use Rattle.std.specs.Prelude.{◌≡◌, [], ◌+◌, ◌*◌, ◌<◌, ◌^◌, ◌&&◌, ℕ, ◌==◌, cond, false, OnOk, OnErr, IfOk};
-ghost use Rattle.std.specs.Option.{ForSome, option_map};
+ghost use Rattle.std.specs.Prelude.{◌≡◌, [], ◌+◌, ◌*◌, ◌<◌, ◌^◌, ◌&&◌, ℕ, ◌==◌, cond, false, Some, OnOk, OnErr, IfOk, IfSome};
+ghost use Rattle.std.specs.Option.{option_map};
 ghost use Rattle.er_model.specs.Words.{is_within};
-ghost use Rattle.er_order.specs.Following.{fresh, reports_at};
-ghost use Rattle.er_order.specs.Keeping.{IsKeptBy};
-ghost use Rattle.er_clocks.specs.Counts.{count_by};
+ghost use Rattle.er_clock.specs.Counts.{count_by};
 ghost use Rattle.er_epochs.specs.Epochs.{is_raced, tag_found, tagged, untouched, Accesses, IsStoredBy};
 ghost use Rattle.er_epochs.specs.Standing.{Follows};
-ghost use Rattle.er_epochs.specs.Words.{kept_among, stored_among, is_place_in, IsLowest};
+ghost use Rattle.er_epochs.specs.Words.{stored_among, is_place_in, IsLowest};
 
 use crate::block::Block;
 use crate::finding::{BlockHints, block_of, from_in, index_of, place_of, to_in};
 use crate::lists::ReadLists;
-use er_clocks::ThreadClock;
+use er_clock::ThreadClock;
 use er_event::{Kind, PageRange, Word};
 use er_keys::{HashKeys, NumberHasher};
 use indexmap::IndexMap;
@@ -20,7 +18,7 @@ use std::alloc::{AllocError, Global};
 use std::marker::Model;
 
 /// What is stored of each word, 16 bytes and two tags in a block of 128 words that is made at the first access of one of them. Contracts see
-/// it by `stored_among`, and without the tags by `kept_among`. Whoever wants no tags takes `()`.
+/// it by `stored_among`. Whoever wants no tags takes `()`.
 /// Only a word that several threads have read, where neither read happens before the other, has a list besides, until it is written or reset.
 #[derive(Drop)]
 pub struct OrderWords<A> {
@@ -44,7 +42,6 @@ impl<A: Copy> OrderWords<A> {
     /// No word was accessed, and each word will be found by these keys. If whoever chooses the words knows the keys, that can be slow.
     pub fn keyed(alloc: Global, keys: HashKeys) -> Self
         ensures stored { (w : ℕ) → stored_among result w ≡ Accesses untouched }
-        ensures kept { (w : ℕ) → kept_among result w ≡ fresh }
         ensures follows { (tags : ℕ → A) → Follows tags result [] }
     {
         OrderWords {
@@ -56,37 +53,18 @@ impl<A: Copy> OrderWords<A> {
         }
     }
 
-    /// One counted access of a word by the thread whose clock this is, with its tag. Returns whether it is reported as a race: it is the first
-    /// of its era that some conflicting access doesn't happen before. `AllocError`: memory was refused, and what is stored is as it was.
+    /// One counted access of a word by the thread whose clock this is, with its tag. If it is reported as a race, it is the first of its era that some
+    /// conflicting access doesn't happen before, and the tag of the last such access is returned. `AllocError`: memory was refused, and what is
+    /// stored is as it was.
     pub fn access(
         &mut self,
         word: Word,
         clock: &ThreadClock<'_>,
         kind: Kind,
         tag: A,
-    ) -> Result<bool, AllocError>
+    ) -> Result<Option<A>, AllocError>
         ensures ok { OnOk result (IsStoredBy (count_by clock.now) (stored_among self.old word) (tagged clock.now.0 (count_by clock.now clock.now.0) tag) kind (stored_among self.new word)) }
-        ensures raced { IfOk result (λ reported. reported ≡ is_raced (count_by clock.now) (stored_among self.old word) kind) }
-        ensures others { (w : ℕ) → (word == w) ≡ false → stored_among self.new w ≡ stored_among self.old w }
-        ensures err { OnErr result ((w : ℕ) → stored_among self.new w ≡ stored_among self.old w) }
-
-        // The same without the tags.
-        ensures kept { OnOk result (IsKeptBy (count_by clock.now) (kept_among self.old word) clock.now.0 kind (kept_among self.new word)) }
-        ensures reported { IfOk result (λ reported. reported ≡ reports_at (count_by clock.now) (kept_among self.old word) kind) }
-    {
-        self.advance(word, clock, kind, tag)
-    }
-
-    // The same, with the tags.
-    fn advance(
-        &mut self,
-        word: Word,
-        clock: &ThreadClock<'_>,
-        kind: Kind,
-        tag: A,
-    ) -> Result<bool, AllocError>
-        ensures ok { OnOk result (IsStoredBy (count_by clock.now) (stored_among self.old word) (tagged clock.now.0 (count_by clock.now clock.now.0) tag) kind (stored_among self.new word)) }
-        ensures raced { IfOk result (λ reported. reported ≡ is_raced (count_by clock.now) (stored_among self.old word) kind) }
+        ensures found { IfOk result (λ rival. rival ≡ tag_found (count_by clock.now) (stored_among self.old word) kind) }
         ensures others { (w : ℕ) → (word == w) ≡ false → stored_among self.new w ≡ stored_among self.old w }
         ensures err { OnErr result ((w : ℕ) → stored_among self.new w ≡ stored_among self.old w) }
     {
@@ -101,27 +79,12 @@ impl<A: Copy> OrderWords<A> {
             None => {
                 let mut block = Block::new(self.alloc, tag)?;
                 let lists = &mut self.lists;
-                let reported = block.access(lists, word.number(), place, clock, kind, tag)?;
+                let rival = block.access(lists, word.number(), place, clock, kind, tag)?;
                 self.hints.make_room()?;
                 self.hints.note(number, self.blocks.len());
                 self.blocks.insert(number, block)?;
-                Ok(reported)
+                Ok(rival)
             }
-        }
-    }
-
-    /// The tag of the last access of the word that one of this kind conflicts with and that doesn't happen before what the clock's thread does
-    /// now.
-    pub fn find(&self, word: Word, clock: &ThreadClock<'_>, kind: Kind) -> Option<A>
-        ensures { result ≡ tag_found (count_by clock.now) (stored_among self.now word) kind }
-    {
-        let number = block_of(word);
-        match index_of(&self.blocks, self.hints.hint(number), number) {
-            Some(index) => {
-                let block = &self.blocks[index];
-                block.find(&self.lists, word.number(), place_of(word), clock, kind)
-            }
-            None => None,
         }
     }
 
@@ -138,12 +101,12 @@ impl<A: Copy> OrderWords<A> {
         }
     }
 
-    /// Ends the era of the words of a range, and returns the lowest of them that was still in use: some access of its era doesn't happen before
-    /// what the clock's thread does now, and no race of that era was reported. It takes no memory.
-    pub fn reset(&mut self, range: PageRange, clock: &ThreadClock<'_>) -> Option<Word>
+    /// Ends the era of the words of a range. Returns the lowest of them that was still in use, and the tag of its last access that doesn't happen
+    /// before what the clock's thread does now: no race of its era was reported, and there is such an access. It takes no memory.
+    pub fn reset(&mut self, range: PageRange, clock: &ThreadClock<'_>) -> Option<(Word, A)>
         ensures reset { (w : ℕ) → stored_among self.new w ≡ cond (is_within w range) (Accesses untouched) (stored_among self.old w) }
-        ensures kept { (w : ℕ) → kept_among self.new w ≡ cond (is_within w range) fresh (kept_among self.old w) }
-        ensures in_use { IsLowest (λ w. is_within w range && reports_at (count_by clock.now) (kept_among self.old w) Kind.Write) result }
+        ensures in_use { IsLowest (λ w. is_within w range && is_raced (count_by clock.now) (stored_among self.old w) Kind.Write) (option_map (λ found. found.0) result) }
+        ensures named { IfSome result (λ found. Some found.1 ≡ tag_found (count_by clock.now) (stored_among self.old found.0) Kind.Write) }
     {
         let PageRange { lo, hi } = range;
         let first = block_of(lo);
@@ -156,55 +119,19 @@ impl<A: Copy> OrderWords<A> {
         found
     }
 
-    /// The lowest word of a range that is still in use, as `reset` returns it.
-    pub fn in_use(&self, range: PageRange, clock: &ThreadClock<'_>) -> Option<Word>
-        ensures { IsLowest (λ w. is_within w range && reports_at (count_by clock.now) (kept_among self.now w) Kind.Write) result }
-    {
-        let PageRange { lo, hi } = range;
-        let first = block_of(lo);
-        let last = block_of(hi);
-        let mut found = None;
-        for number in first..last + 1 {
-            let next = self.in_use_in(number, from_in(number, lo), to_in(number, hi), clock);
-            found = found.or(next);
-        }
-        found
-    }
-
-    // The lowest word of a block that is still in use, both ends included.
-    fn in_use_in(
-        &self,
-        number: u64,
-        from: usize,
-        to: usize,
-        clock: &ThreadClock<'_>,
-    ) -> Option<Word>
-        requires to { to < 128 }
-        requires number { number < 2 ^ 39 }
-        ensures { IsLowest (λ w. is_place_in number from to w && is_raced (count_by clock.now) (stored_among self.now w) Kind.Write) result }
-    {
-        match index_of(&self.blocks, self.hints.hint(number), number) {
-            Some(index) => {
-                let block = &self.blocks[index];
-                let found = block.first_in_use(&self.lists, number, from, to, clock);
-                word_in(number, found)
-            }
-            None => None,
-        }
-    }
-
-    // Ends the era of words of a block, both ends included. Returns the lowest of them that was still in use.
+    // Ends the era of words of a block, both ends included. Returns the lowest of them that was still in use, with its last access.
     fn empty(
         &mut self,
         number: u64,
         from: usize,
         to: usize,
         clock: &ThreadClock<'_>,
-    ) -> Option<Word>
+    ) -> Option<(Word, A)>
         requires to { to < 128 }
         requires number { number < 2 ^ 39 }
         ensures reset { (w : ℕ) → stored_among self.new w ≡ cond (is_place_in number from to w) (Accesses untouched) (stored_among self.old w) }
-        ensures in_use { IsLowest (λ w. is_place_in number from to w && is_raced (count_by clock.now) (stored_among self.old w) Kind.Write) result }
+        ensures in_use { IsLowest (λ w. is_place_in number from to w && is_raced (count_by clock.now) (stored_among self.old w) Kind.Write) (option_map (λ found. found.0) result) }
+        ensures named { IfSome result (λ found. Some found.1 ≡ tag_found (count_by clock.now) (stored_among self.old found.0) Kind.Write) }
     {
         match index_of(&self.blocks, self.hints.hint(number), number) {
             Some(index) => {
@@ -219,14 +146,14 @@ impl<A: Copy> OrderWords<A> {
     }
 }
 
-// The word at a place in the block of this number.
-fn word_in(number: u64, place: Option<usize>) -> Option<Word>
+// The word at a place in the block of this number, with what was found of it.
+fn word_in<A: Copy>(number: u64, found: Option<(usize, A)>) -> Option<(Word, A)>
     requires number { number < 2 ^ 39 }
-    requires place { ForSome place (λ place. place < 128) }
-    ensures { result ≡ option_map (λ place. number * 128 + place) place }
+    requires place { IfSome found (λ found. found.0 < 128) }
+    ensures { result ≡ option_map (λ found. (number * 128 + found.0, found.1)) found }
 {
-    match place {
-        Some(place) => Some(Word::new(number * 128 + place as u64)),
+    match found {
+        Some((place, tag)) => Some((Word::new(number * 128 + place as u64), tag)),
         None => None,
     }
 }

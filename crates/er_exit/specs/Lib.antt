@@ -1,6 +1,10 @@
 pub mod Demos
+pub mod Excerpts
 pub mod Faults
 pub mod Lines
 pub mod Notes
+pub mod Plain
+pub mod Quote
 pub mod Statuses
 pub mod Writes
+pub mod Written

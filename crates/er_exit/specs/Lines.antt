@@ -40,15 +40,11 @@ abbrev pub lost_line : Option Lost → List ℕ
 lost_line None = []
 lost_line (Some lost) = codes "line " ++ (decimal lost.line ++ (codes ": events lost: " ++ (decimal lost.events ++ codes "\n")))
 
--- a line for each kind of damage of its steps and of its end, in this order
-abbrev pub step_and_end_lines : Damage → List ℕ
-step_and_end_lines damage =
-    damage_line damage.refused (codes "refused step") ++ (damage_line damage.held_twice (codes "lock held twice")
-    ++ (damage_line damage.no_line_feed (codes "no line feed") ++ damage_line damage.no_end (codes "no end")))
-
--- a line for each kind of damage that a trace has
+-- a line for each kind of damage that a trace has, in this order
 abbrev pub damage_lines : Damage → List ℕ
-damage_lines damage = step_and_end_lines damage ++ lost_line damage.lost
+damage_lines damage =
+    damage_line damage.refused (codes "refused step") ++ (damage_line damage.held_twice (codes "lock held twice")
+    ++ (damage_line damage.no_line_feed (codes "no line feed") ++ (damage_line damage.no_end (codes "no end") ++ lost_line damage.lost)))
 
 -- a fault's line: a text's fault has the number of its line, and so has a line without a step, a fault of one of several files of suppressions the number of the file, and a
 -- demo's refusal or settling fault says what it is

@@ -58,51 +58,39 @@ impl Fault {
     pub fn status(self) -> u8
         ensures { result ≡ fault_status self }
     {
-        match self {
-            Fault::Arguments
-            | Fault::Text(_)
-            | Fault::Suppressions(..)
-            | Fault::Damaged(_)
-            | Fault::NoStep(_) => 2,
-            Fault::Memory
-            | Fault::TableFull
-            | Fault::CountFull
-            | Fault::ThreadsFull
-            | Fault::Refused(_)
-            | Fault::WorkerNotStarted
-            | Fault::WorkerLost
-            | Fault::Unsettled(_) => 3,
-            Fault::OpenTrace
-            | Fault::OpenSuppressions(_)
-            | Fault::Read
-            | Fault::ReadSuppressions(_)
-            | Fault::Write
-            | Fault::WriteRules => 4,
-        }
+        self.row().0
     }
 
     /// The fault in words.
     pub fn text(self) -> &'static str
         ensures { result.now ≡ text_of self }
     {
+        self.row().1
+    }
+
+    // The exit status, and the fault in words.
+    fn row(self) -> (u8, &'static str)
+        ensures status { result.0 ≡ fault_status self }
+        ensures text { result.1.now ≡ text_of self }
+    {
         match self {
-            Fault::Arguments => "the arguments are not text",
-            Fault::Text(fault) | Fault::Suppressions(_, fault) => fault.kind.text(),
-            Fault::Damaged(_) => "damaged trace",
-            Fault::NoStep(_) => "no step",
-            Fault::Memory => "out of memory",
-            Fault::TableFull => "table full",
-            Fault::CountFull => "count full",
-            Fault::ThreadsFull => "too many threads",
-            Fault::OpenTrace => "cannot open trace",
-            Fault::OpenSuppressions(_) => "cannot open suppressions",
-            Fault::Read | Fault::ReadSuppressions(_) => "read fault",
-            Fault::Write => "write fault",
-            Fault::WriteRules => "cannot write rules",
-            Fault::Refused(refusal) => refusal.text(),
-            Fault::WorkerNotStarted => "worker not started",
-            Fault::WorkerLost => "worker lost",
-            Fault::Unsettled(unsettled) => unsettled.text(),
+            Fault::Arguments => (2, "the arguments are not text"),
+            Fault::Text(fault) | Fault::Suppressions(_, fault) => (2, fault.kind.text()),
+            Fault::Damaged(_) => (2, "damaged trace"),
+            Fault::NoStep(_) => (2, "no step"),
+            Fault::Memory => (3, "out of memory"),
+            Fault::TableFull => (3, "table full"),
+            Fault::CountFull => (3, "count full"),
+            Fault::ThreadsFull => (3, "too many threads"),
+            Fault::Refused(refusal) => (3, refusal.text()),
+            Fault::WorkerNotStarted => (3, "worker not started"),
+            Fault::WorkerLost => (3, "worker lost"),
+            Fault::Unsettled(unsettled) => (3, unsettled.text()),
+            Fault::OpenTrace => (4, "cannot open trace"),
+            Fault::OpenSuppressions(_) => (4, "cannot open suppressions"),
+            Fault::Read | Fault::ReadSuppressions(_) => (4, "read fault"),
+            Fault::Write => (4, "write fault"),
+            Fault::WriteRules => (4, "cannot write rules"),
         }
     }
 

@@ -1,7 +1,7 @@
 //! The lines that the program writes by itself: that of a fault, and that of a demo.
 ghost use Rattle.std.specs.Prelude.{◌≡◌, IfOk, false, string_bytes};
 ghost use Rattle.er_device.specs.Device.{inner_of, has_failed};
-ghost use Rattle.er_exit.specs.Lines.{damage_line, damage_lines, demo_line, fault_line, lost_line, step_and_end_lines};
+ghost use Rattle.er_exit.specs.Lines.{damage_line, damage_lines, demo_line, fault_line, lost_line};
 ghost use Rattle.er_exit.specs.Statuses.{fault_status};
 ghost use Rattle.er_exit.specs.Writes.{GetsLine, WritesBytes, WritesLine};
 
@@ -38,20 +38,12 @@ fn line_of(alloc: Global, fault: Fault) -> Result<String, AllocError>
 fn damage_lines(alloc: Global, damage: &Damage) -> Result<String, AllocError>
     ensures { IfOk result (λ lines. string_bytes lines ≡ damage_lines damage.now) }
 {
-    let steps_and_ends = step_and_end_lines(alloc, damage)?;
-    let lost = lost_line(alloc, damage.lost)?;
-    format!(in alloc; "{steps_and_ends}{lost}")
-}
-
-// Those of steps, and of how the text ends.
-fn step_and_end_lines(alloc: Global, damage: &Damage) -> Result<String, AllocError>
-    ensures { IfOk result (λ lines. string_bytes lines ≡ step_and_end_lines damage.now) }
-{
     let refused = damage_line(alloc, damage.refused, "refused step")?;
     let held_twice = damage_line(alloc, damage.held_twice, "lock held twice")?;
     let no_line_feed = damage_line(alloc, damage.no_line_feed, "no line feed")?;
     let no_end = damage_line(alloc, damage.no_end, "no end")?;
-    format!(in alloc; "{refused}{held_twice}{no_line_feed}{no_end}")
+    let lost = lost_line(alloc, damage.lost)?;
+    format!(in alloc; "{refused}{held_twice}{no_line_feed}{no_end}{lost}")
 }
 
 fn lost_line(alloc: Global, lost: Option<Lost>) -> Result<String, AllocError>

@@ -329,22 +329,6 @@ module _ {A : Type 0} where
   unfolding kept_books
   emptied_books places left books fewer now test seen less = some_emptied (book_of places books) (book_of left fewer) now test seen less
 
-  -- a whole block is emptied
-  pub all_emptied : (places left : List ℕ) (books none now : List (Book A)) (lo hi : ℕ) → kept_books places books ≡ now → none ≡ [] → lo ≡ 0 → hi ≡ 127
-      → (i : ℕ) → book_at_place (kept_books left none) i ≡ cond (nat_le lo i && nat_le i hi) Untouched (book_at_place now i)
-  all_emptied places left books none now lo hi seen gone low high i = nothing_kept left none gone i ∙ by (nat_lt i 128) refl
-    where
-      within : nat_lt i 128 ≡ true → (nat_le lo i && nat_le i hi) ≡ true
-      within e = grind (arith, nat_tests)
-
-      still : (b : Bool) (book : Book A) → book ≡ Untouched → Untouched ≡ cond b Untouched book
-      still true book empty = refl
-      still false book empty = sym empty
-
-      by : (b : Bool) → nat_lt i 128 ≡ b → Untouched ≡ cond (nat_le lo i && nat_le i hi) Untouched (book_at_place now i)
-      by true e = ap (λ b. cond b Untouched (book_at_place now i)) (sym (within e))
-      by false e = still (nat_le lo i && nat_le i hi) (book_at_place now i) (past_block places books now i seen e)
-
   -- one book of a block goes on
   pub goes_on : (places left : List ℕ) (books more now : List (Book A)) (place : ℕ) (after : Book A) (f : Book A → Book A)
       → kept_books places books ≡ now → place < 128

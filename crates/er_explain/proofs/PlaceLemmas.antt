@@ -1,5 +1,6 @@
 -- Where the places of a block's books stand, and what a book more or one less changes.
 use Rattle.std.proofs.Common.{◌≡◌, ◌≢◌, ◌∙◌, ◌==◌, ℕ, ◌+◌, ◌<◌, ◌≤◌, ◌&&◌, nat_eq, nat_le, nat_lt, Bool, true, false, cond, List, [], ◌∷◌, ◌++◌, length, slice_index_or, slice_set, ◌⊎◌, inl, inr, refl, sym, ap, subst, arith, length-append}
+use Rattle.std.proofs.lemmas.Bool.Decides.{nat_tests}
 use Rattle.std.proofs.lemmas.List.{get_or-set_same, get_or-set_other, length-set}
 use Rattle.std.proofs.lemmas.Simd.{run_in_chunk_fails, run_in_chunk_stops}
 use Rattle.std.specs.List.{position_or_len}
@@ -304,6 +305,15 @@ module _ (ps left : List ℕ) (number last : ℕ) (was : AreApart ps (last + 1))
 -- the place is one of those from lo to hi
 abbrev pub is_between : ℕ → ℕ → ℕ → Bool
 is_between lo hi i = nat_le lo i && nat_le i hi
+
+pub between_in : (lo hi i : ℕ) → lo ≤ i → i ≤ hi → is_between lo hi i ≡ true
+between_in lo hi i low high = grind (arith, nat_tests)
+
+pub between_low : (lo hi i : ℕ) → i < lo → is_between lo hi i ≡ false
+between_low lo hi i low = grind (arith, nat_tests)
+
+pub between_high : (lo hi i : ℕ) → hi < i → is_between lo hi i ≡ false
+between_high lo hi i high = grind (arith, nat_tests)
 
 -- those of them that are left have numbers below this one
 pub record AreEmptiedFrom {A : Type 0} (ps : List ℕ) (books : List (Book A)) (left : List ℕ) (fewer : List (Book A)) (lo hi number : ℕ) : Type 0 where

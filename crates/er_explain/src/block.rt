@@ -1,6 +1,6 @@
 //! `Block`, the books of words that lie side by side.
 ghost use Rattle.std.specs.Prelude.{◌≡◌, ◌<◌, ◌≤◌, ◌+◌, ◌&&◌, ℕ, nat_eq, nat_le, cond, [], length, slice_set, slice_index_or, option_copied, OnOk};
-ghost use Rattle.er_explain.specs.Book.{Untouched, access_named};
+ghost use Rattle.er_explain.specs.Book.{Untouched};
 ghost use Rattle.er_explain.specs.Books.{book_accessed};
 ghost use Rattle.er_explain.specs.Inner.Places.{book_of, number_at, place_at, AreApart};
 ghost use Rattle.er_explain.specs.WordBooks.{book_at_place, joining_in};
@@ -9,7 +9,6 @@ ghost use Rattle.er_model.specs.Following.{locks_for};
 
 use crate::book::{Access, Book, Joint};
 use crate::places::number_at;
-use er_event::{Kind, ThreadId};
 use er_held::ThreadLocks;
 use std::alloc::{AllocError, Global};
 use std::marker::Model;
@@ -62,23 +61,21 @@ impl<A: Copy> Block<A> {
         spare: &mut Vec<Joint<Access<A>>>,
         locks: &ThreadLocks,
         place: usize,
-        at: A,
-        thread: ThreadId,
-        kind: Kind,
+        access: Access<A>,
     ) -> Result<(), AllocError>
         requires { place < 128 }
-        ensures { OnOk result ((i : ℕ) → book_at_place self.new i ≡ cond (nat_eq place i) (book_accessed (book_at_place self.old place) (access_named at thread kind) thread kind (locks_for (held_by locks.now thread) kind)) (book_at_place self.old i)) }
+        ensures { OnOk result ((i : ℕ) → book_at_place self.new i ≡ cond (nat_eq place i) (book_accessed (book_at_place self.old place) access access.thread access.kind (locks_for (held_by locks.now access.thread) access.kind)) (book_at_place self.old i)) }
     {
         let count = self.books.len();
         let number = number_at(&self.places, count, place as u8);
         if number < count {
-            return self.books[number].access(alloc, spare, locks, at, thread, kind);
+            return self.books[number].access(alloc, spare, locks, access);
         }
         // No two books have the same place, so there is room for this one, and this refusal never comes. That isn't proved.
         if count >= 128 {
             return Err(AllocError);
         }
-        self.books.push(Book::begin(at, thread, kind))?;
+        self.books.push(Book::begin(access))?;
         put(&mut self.places, count, place as u8);
         Ok(())
     }
@@ -88,10 +85,6 @@ impl<A: Copy> Block<A> {
         requires { hi < 128 }
         ensures { (i : ℕ) → book_at_place self.new i ≡ cond (nat_le lo i && nat_le i hi) Untouched (book_at_place self.old i) }
     {
-        if lo == 0 && hi == 127 {
-            let_go(&mut self.books, spare);
-            return;
-        }
         remove_between(&mut self.books, &mut self.places, spare, lo, hi);
     }
 
@@ -115,15 +108,6 @@ fn joining_at<A>(books: &[Book<A>], number: usize) -> Option<&Joint<Access<A>>>
     }
 }
 
-// Lets go of all books, and keeps their joinings for others. It doesn't look at what a joining says.
-fn let_go<A: Copy>(books: &mut Vec<Book<A>>, spare: &mut Vec<Joint<Access<A>>>)
-    ensures { books.new.items ≡ [] }
-{
-    while let Some(book) = books.pop() {
-        keep(book, spare);
-    }
-}
-
 // Keeps the joining of a book that nobody needs, if it has one. Without memory for it, it is dropped.
 fn keep<A: Copy>(book: Book<A>, spare: &mut Vec<Joint<Access<A>>>) {
     if let Some(joint) = book.into_joining() {
@@ -137,21 +121,6 @@ fn put(places: &mut [u8; 128], number: usize, place: u8)
     ensures { places.new ≡ slice_set places.old number place }
 {
     places[number] = place;
-}
-
-// The place of the book of this number.
-fn place_at(places: &[u8; 128], number: usize) -> usize
-    requires { number < 128 }
-    ensures { result ≡ place_at places.now number }
-{
-    places[number] as usize
-}
-
-// Whether a place is one of those from `lo` to `hi`, both included.
-fn is_between(lo: usize, hi: usize, place: usize) -> bool
-    ensures { result ≡ (nat_le lo place && nat_le place hi) }
-{
-    lo <= place && place <= hi
 }
 
 // Removes the books of the places from `lo` to `hi`, both included. It looks at the books and not at the places without one.
@@ -169,7 +138,8 @@ fn remove_between<A: Copy>(
     let mut left = books.len();
     while left > 0 {
         left -= 1;
-        if is_between(lo, hi, place_at(places, left)) {
+        let place = places[left] as usize;
+        if lo <= place && place <= hi {
             remove(books, places, spare, left);
         }
     }

@@ -1,15 +1,12 @@
 //! `Book`, what one pass over a list of steps keeps of a word.
 ghost use Rattle.std.specs.Prelude.{◌≡◌, ◌<◌, ◌≤◌, ◌↔◌, ℕ, length, map, IfOk, OnOk, None, Some, option_copied};
-ghost use Rattle.er_explain.specs.Book.{Joined, Owned, Untouched, access_named, access_of, name_of};
-ghost use Rattle.er_explain.specs.Books.{begun, gone_on, pair_after, book_accessed, book_after, joining_of};
-ghost use Rattle.er_explain.specs.Naming.{named_book, named_joining};
+ghost use Rattle.er_explain.specs.Book.{Owned};
+ghost use Rattle.er_explain.specs.Books.{begun, gone_on, pair_after, book_accessed};
 ghost use Rattle.er_explain.specs.WordBooks.{joining_in};
 ghost use Rattle.er_held.specs.ThreadLocks.{held_by};
-ghost use Rattle.er_model.specs.Explanations.{Explanation as Explained};
-ghost use Rattle.er_model.specs.Following.{locks_for, marked};
+ghost use Rattle.er_model.specs.Following.{locks_for};
 
-use crate::{Explanation, Uncovered};
-use er_event::{Event, Kind, LockId, Lockset, Step, ThreadId, Word};
+use er_event::{Kind, LockId, Lockset, ThreadId};
 use er_held::ThreadLocks;
 use std::alloc::{AllocError, Global};
 use std::marker::Model;
@@ -60,19 +57,17 @@ impl<A> Model for Joint<A> {
     ghost view = { λ j. record { first = j.parts.value.first; join = j.parts.value.join; write = j.parts.value.write; pairs = j.parts.value.pairs.items } };
 }
 
-// What is kept of a word since it was last reused. The kind stands before the thread, and both before the name: so they fill the space beside
+// What is kept of a word that was accessed since it was last reused. The kind stands before the thread, and both before the name: so they fill the space beside
 // the tag.
 #[derive(Drop)]
 enum Packed<A> {
-    // No access counts yet.
-    Empty,
     // The first access, whose thread alone has accessed the word.
     Alone(Kind, ThreadId, A),
     // A second thread has joined.
     Together(Joint<Access<A>>),
 }
 
-/// What is kept of a word since it was last reused.
+/// What is kept of a word that was accessed since it was last reused.
 #[derive(Drop)]
 pub(crate) struct Book<A> {
     packed: Packed<A>,
@@ -90,51 +85,6 @@ impl<A> Model for Book<A> {
 }
 
 impl<A: Copy> Joint<A> {
-    // A second thread has joined, under these locks. It takes a spare joining over, if there is one.
-    fn begin(
-        alloc: Global,
-        spare: &mut Vec<Joint<A>>,
-        first: A,
-        join: A,
-        kind: Kind,
-        cover: &Lockset,
-    ) -> Result<Joint<A>, AllocError>
-        ensures { IfOk result (λ joint. joint ≡ begun first join kind cover.now) }
-    {
-        let mut joint = match spare.pop() {
-            Some(joint) => joint,
-            None => Joint::blank(alloc, join)?,
-        };
-        joint.restart(first, join, kind, cover)?;
-        Ok(joint)
-    }
-
-    // One that is to be begun.
-    fn blank(alloc: Global, any: A) -> Result<Joint<A>, AllocError> {
-        let parts = Parts {
-            first: any,
-            join: any,
-            write: None,
-            pairs: Vec::new(alloc),
-        };
-        Ok(Joint {
-            parts: Box::new(alloc, parts)?,
-        })
-    }
-
-    // Forgets what it says and begins anew.
-    fn restart(&mut self, first: A, join: A, kind: Kind, cover: &Lockset) -> Result<(), AllocError>
-        ensures { OnOk result (self.new ≡ begun first join kind cover.now) }
-    {
-        self.parts.first = first;
-        self.parts.join = join;
-        self.parts.write = match kind {
-            Kind::Read => None,
-            Kind::Write => Some(join),
-        };
-        put_locks(&mut self.parts.pairs, cover.as_slice())
-    }
-
     /// The first access since the word's last reuse.
     pub fn first(&self) -> A
         ensures { result ≡ self.now.first }
@@ -162,15 +112,67 @@ impl<A: Copy> Joint<A> {
     {
         &self.parts.pairs
     }
+}
+
+impl<A: Copy> Joint<Access<A>> {
+    // A second thread has joined, under the locks that it holds. It takes a spare joining over, if there is one.
+    fn begin(
+        alloc: Global,
+        spare: &mut Vec<Joint<Access<A>>>,
+        locks: &ThreadLocks,
+        first: Access<A>,
+        join: Access<A>,
+    ) -> Result<Joint<Access<A>>, AllocError>
+        ensures { IfOk result (λ joint. joint ≡ begun first join join.kind (locks_for (held_by locks.now join.thread) join.kind)) }
+    {
+        let cover = locks.cover_of(alloc, join.thread, join.kind)?;
+        let mut joint = match spare.pop() {
+            Some(joint) => joint,
+            None => Joint::blank(alloc, join)?,
+        };
+        joint.restart(first, join, &cover)?;
+        Ok(joint)
+    }
+
+    // One that is to be begun.
+    fn blank(alloc: Global, any: Access<A>) -> Result<Joint<Access<A>>, AllocError> {
+        let parts = Parts {
+            first: any,
+            join: any,
+            write: None,
+            pairs: Vec::new(alloc),
+        };
+        Ok(Joint {
+            parts: Box::new(alloc, parts)?,
+        })
+    }
+
+    // Forgets what it says and begins anew.
+    fn restart(
+        &mut self,
+        first: Access<A>,
+        join: Access<A>,
+        cover: &Lockset,
+    ) -> Result<(), AllocError>
+        ensures { OnOk result (self.new ≡ begun first join join.kind cover.now) }
+    {
+        self.parts.first = first;
+        self.parts.join = join;
+        self.parts.write = match join.kind {
+            Kind::Read => None,
+            Kind::Write => Some(join),
+        };
+        put_locks(&mut self.parts.pairs, cover.as_slice())
+    }
 
     // A later access.
-    fn go_on(&mut self, locks: &ThreadLocks, at: A, thread: ThreadId, kind: Kind)
-        ensures { self.new ≡ gone_on self.old at kind (locks_for (held_by locks.now thread) kind) }
+    fn go_on(&mut self, locks: &ThreadLocks, access: Access<A>)
+        ensures { self.new ≡ gone_on self.old access access.kind (locks_for (held_by locks.now access.thread) access.kind) }
     {
-        if let (None, Kind::Write) = (self.parts.write, kind) {
-            self.parts.write = Some(at);
+        if let (None, Kind::Write) = (self.parts.write, access.kind) {
+            self.parts.write = Some(access);
         }
-        look_for_uncovered(&mut self.parts.pairs, locks, at, thread, kind);
+        look_for_uncovered(&mut self.parts.pairs, locks, access);
     }
 }
 
@@ -187,76 +189,42 @@ fn put_locks<A: Copy>(pairs: &mut Vec<Pair<A>>, locks: &[LockId]) -> Result<(), 
 
 // The pairs after a later access.
 fn look_for_uncovered<A: Copy>(
-    pairs: &mut [Pair<A>],
+    pairs: &mut [Pair<Access<A>>],
     locks: &ThreadLocks,
-    at: A,
-    thread: ThreadId,
-    kind: Kind,
+    access: Access<A>,
 )
-    ensures { pairs.new ≡ map (pair_after at (locks_for (held_by locks.now thread) kind)) pairs.old }
+    ensures { pairs.new ≡ map (pair_after access (locks_for (held_by locks.now access.thread) access.kind)) pairs.old }
 {
     for i in 0..pairs.len() {
-        pairs[i] = pair_after(pairs[i], locks, at, thread, kind);
+        pairs[i] = pair_after(pairs[i], locks, access);
     }
 }
 
 // The pair after a later access. What was found stays.
 fn pair_after<A: Copy>(
-    pair: Pair<A>,
+    pair: Pair<Access<A>>,
     locks: &ThreadLocks,
-    at: A,
-    thread: ThreadId,
-    kind: Kind,
-) -> Pair<A>
-    ensures { result ≡ pair_after at (locks_for (held_by locks.now thread) kind) pair }
+    access: Access<A>,
+) -> Pair<Access<A>>
+    ensures { result ≡ pair_after access (locks_for (held_by locks.now access.thread) access.kind) pair }
 {
     let Pair { lock, at: found } = pair;
-    if found.is_some() || locks.covers(thread, kind, lock) {
+    if found.is_some() || locks.covers(access.thread, access.kind, lock) {
         return pair;
     }
-    Pair { lock, at: Some(at) }
-}
-
-// A second thread has joined by an access, under the locks that its thread holds.
-fn join_under<A: Copy>(
-    alloc: Global,
-    spare: &mut Vec<Joint<Access<A>>>,
-    locks: &ThreadLocks,
-    first: Access<A>,
-    join: Access<A>,
-) -> Result<Joint<Access<A>>, AllocError>
-    ensures { IfOk result (λ joint. joint ≡ begun first join join.kind (locks_for (held_by locks.now join.thread) join.kind)) }
-{
-    let cover = locks.cover_of(alloc, join.thread, join.kind)?;
-    let joint = Joint::begin(alloc, spare, first, join, join.kind, &cover);
-    drop(cover);
-    joint
-}
-
-// Puts something else in place of what is kept of a word.
-#[inline(always)]
-fn put<A: Copy>(packed: &mut Packed<A>, new: Packed<A>)
-    ensures { packed.new ≡ new }
-{
-    drop(mem::replace(packed, new));
+    Pair {
+        lock,
+        at: Some(access),
+    }
 }
 
 impl<A: Copy> Book<A> {
-    /// No access counts yet.
-    pub(crate) fn new() -> Book<A>
-        ensures { result ≡ Untouched }
-    {
-        Book {
-            packed: Packed::Empty,
-        }
-    }
-
     /// One access counts.
-    pub(crate) fn begin(at: A, thread: ThreadId, kind: Kind) -> Book<A>
-        ensures { result ≡ Owned thread (access_named at thread kind) }
+    pub(crate) fn begin(access: Access<A>) -> Book<A>
+        ensures { result ≡ Owned access.thread access }
     {
         Book {
-            packed: Packed::Alone(kind, thread, at),
+            packed: Packed::Alone(access.kind, access.thread, access.at),
         }
     }
 
@@ -266,60 +234,23 @@ impl<A: Copy> Book<A> {
         alloc: Global,
         spare: &mut Vec<Joint<Access<A>>>,
         locks: &ThreadLocks,
-        at: A,
-        thread: ThreadId,
-        kind: Kind,
+        access: Access<A>,
     ) -> Result<(), AllocError>
-        ensures { OnOk result (self.new ≡ book_accessed self.old (access_named at thread kind) thread kind (locks_for (held_by locks.now thread) kind)) }
+        ensures { OnOk result (self.new ≡ book_accessed self.old access access.thread access.kind (locks_for (held_by locks.now access.thread) access.kind)) }
     {
         match &mut self.packed {
-            Packed::Empty => put(&mut self.packed, Packed::Alone(kind, thread, at)),
-            Packed::Alone(first_kind, owner, first) => {
-                if *owner != thread {
+            Packed::Alone(kind, owner, at) => {
+                if *owner != access.thread {
                     let first = Access {
-                        at: *first,
+                        at: *at,
                         thread: *owner,
-                        kind: *first_kind,
+                        kind: *kind,
                     };
-                    let join = Access { at, thread, kind };
-                    let joint = join_under(alloc, spare, locks, first, join)?;
-                    put(&mut self.packed, Packed::Together(joint));
+                    let joint = Joint::begin(alloc, spare, locks, first, access)?;
+                    drop(mem::replace(&mut self.packed, Packed::Together(joint)));
                 }
             }
-            Packed::Together(joint) => joint.go_on(
-                locks,
-                Access { at, thread, kind },
-                thread,
-                kind,
-            ),
-        }
-        Ok(())
-    }
-
-    /// Goes on by a step, where this is the word that the book is kept of.
-    pub(crate) fn follow(
-        &mut self,
-        alloc: Global,
-        spare: &mut Vec<Joint<Access<A>>>,
-        locks: &ThreadLocks,
-        word: Word,
-        at: A,
-        step: &Step,
-    ) -> Result<(), AllocError>
-        ensures { OnOk result (self.new ≡ book_after self.old word (access_of at step.now) (marked (held_by locks.now step.now.thread) step.now.thread step.now.event)) }
-    {
-        match step.event {
-            Event::Access(kind, accessed, _) => {
-                if accessed == word && !locks.is_ignoring(step.thread) {
-                    self.access(alloc, spare, locks, at, step.thread, kind)?;
-                }
-            }
-            Event::Reuse(range) => {
-                if range.contains(word) {
-                    put(&mut self.packed, Packed::Empty);
-                }
-            }
-            _ => {}
+            Packed::Together(joint) => joint.go_on(locks, access),
         }
         Ok(())
     }
@@ -328,7 +259,7 @@ impl<A: Copy> Book<A> {
     pub(crate) fn into_joining(self) -> Option<Joint<Access<A>>> {
         match self.packed {
             Packed::Together(joint) => Some(joint),
-            Packed::Empty | Packed::Alone(..) => None,
+            Packed::Alone(..) => None,
         }
     }
 }
@@ -340,44 +271,7 @@ impl<A> Book<A> {
     {
         match &self.packed {
             Packed::Together(joint) => Some(joint),
-            Packed::Empty | Packed::Alone(..) => None,
-        }
-    }
-}
-
-// What a joining says of a race, if it has found all that an explanation needs.
-fn told_by(alloc: Global, joint: &Joint<Access<u64>>) -> Result<Option<Explanation>, AllocError>
-    ensures { IfOk result (λ found. (e : Explained) → (found ≡ Some e) ↔ (named_joining name_of joint.now ≡ joining_of e)) }
-{
-    let Some(write) = joint.write() else {
-        return Ok(None);
-    };
-    let mut uncovered = Vec::with_capacity(alloc, joint.pairs().len())?;
-    for pair in joint.pairs() {
-        let Some(access) = pair.at else {
-            return Ok(None);
-        };
-        uncovered.push(Uncovered {
-            lock: pair.lock,
-            at: access.at,
-        })?;
-    }
-    Ok(Some(Explanation {
-        first: joint.first().at,
-        join: joint.join().at,
-        write: write.at,
-        uncovered,
-    }))
-}
-
-impl Book<u64> {
-    /// What explains a race, if the book has found all that it takes.
-    pub(crate) fn explanation(&self, alloc: Global) -> Result<Option<Explanation>, AllocError>
-        ensures { IfOk result (λ found. (e : Explained) → (found ≡ Some e) ↔ (named_book name_of self.now ≡ Joined (joining_of e))) }
-    {
-        match self.joining() {
-            Some(joint) => told_by(alloc, joint),
-            None => Ok(None),
+            Packed::Alone(..) => None,
         }
     }
 }

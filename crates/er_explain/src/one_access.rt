@@ -1,15 +1,16 @@
 //! The explanation of one access.
 ghost use Rattle.std.specs.Prelude.{◌≡◌, ◌<◌, ◌≤◌, ◌↔◌, ℕ, IfOk, IfSome, IsNone, IsSome, Ok, Some, length, slice_get};
 ghost use Rattle.er_event.specs.Lockset.{IsRising};
-ghost use Rattle.er_explain.specs.Book.{name_of};
-ghost use Rattle.er_explain.specs.Books.{book_at};
+ghost use Rattle.er_explain.specs.Book.{Joined, name_of};
+ghost use Rattle.er_explain.specs.Books.{book_at, joining_of};
 ghost use Rattle.er_explain.specs.Explaining.{explanation_at};
-ghost use Rattle.er_explain.specs.Naming.{named_book};
+ghost use Rattle.er_explain.specs.Naming.{named_book, named_joining};
+ghost use Rattle.er_explain.specs.WordBooks.{book_in};
 ghost use Rattle.er_model.specs.Answers.{answer, reading_of};
-ghost use Rattle.er_model.specs.Explanations.{Explanation as Explained, Explains, latest, locks_listed, word_in, word_of};
+ghost use Rattle.er_model.specs.Explanations.{Explanation as Explained, Explains, latest, locks_listed, word_of};
 
-use crate::Explanation;
-use crate::book::Book;
+use crate::book::{Access, Joint};
+use crate::{Explanation, Uncovered, WordBooks};
 use er_event::{Event, Reply, Step, Word};
 use er_held::ThreadLocks;
 use std::alloc::{AllocError, Global};
@@ -26,8 +27,8 @@ pub fn explain(alloc: Global, steps: &[Step], k: u64) -> Result<Option<Explanati
     };
     let place = k as usize;
     prove!(place < steps.len());
-    let book = book_of(alloc, steps, place + 1, word)?;
-    let found = book.explanation(alloc)?;
+    let books = books_of(alloc, steps, place + 1)?;
+    let found = told_of(alloc, &books, word)?;
     Ok(ending_at(found, k))
 }
 
@@ -36,17 +37,7 @@ fn word_at(steps: &[Step], place: u64) -> Option<Word>
     ensures word { result ≡ word_of (slice_get steps.now place) }
     ensures within { IsSome result → place < length steps.now }
 {
-    match steps.get(place as usize) {
-        Some(step) => word_in(step.event),
-        None => None,
-    }
-}
-
-// The word that an event accesses, if it is an access.
-fn word_in(event: Event) -> Option<Word>
-    ensures { result ≡ word_in event }
-{
-    match event {
+    match steps.get(place as usize)?.event {
         Event::Access(_, word, _) => Some(word),
         _ => None,
     }
@@ -62,17 +53,55 @@ fn ending_at(found: Option<Explanation>, place: u64) -> Option<Explanation>
     }
 }
 
-// The book of a word after the first `end` steps.
-fn book_of(alloc: Global, steps: &[Step], end: usize, word: Word) -> Result<Book<u64>, AllocError>
+// What explains a race of a word, if its book has found all that it takes.
+fn told_of(
+    alloc: Global,
+    books: &WordBooks<u64>,
+    word: Word,
+) -> Result<Option<Explanation>, AllocError>
+    ensures { IfOk result (λ found. (e : Explained) → (found ≡ Some e) ↔ (named_book name_of (book_in books.now word) ≡ Joined (joining_of e))) }
+{
+    match books.joining(word) {
+        Some(joint) => told_by(alloc, joint),
+        None => Ok(None),
+    }
+}
+
+// What a joining says of a race, if it has found all that an explanation needs.
+fn told_by(alloc: Global, joint: &Joint<Access<u64>>) -> Result<Option<Explanation>, AllocError>
+    ensures { IfOk result (λ found. (e : Explained) → (found ≡ Some e) ↔ (named_joining name_of joint.now ≡ joining_of e)) }
+{
+    let Some(write) = joint.write() else {
+        return Ok(None);
+    };
+    let mut uncovered = Vec::with_capacity(alloc, joint.pairs().len())?;
+    for pair in joint.pairs() {
+        let Some(access) = pair.at else {
+            return Ok(None);
+        };
+        uncovered.push(Uncovered {
+            lock: pair.lock,
+            at: access.at,
+        })?;
+    }
+    Ok(Some(Explanation {
+        first: joint.first().at,
+        join: joint.join().at,
+        write: write.at,
+        uncovered,
+    }))
+}
+
+// The books of all words after the first `end` steps.
+fn books_of(alloc: Global, steps: &[Step], end: usize) -> Result<WordBooks<u64>, AllocError>
     requires { end ≤ length steps.now }
-    ensures { IfOk result (λ book. named_book name_of book ≡ book_at (reading_of steps.now) word end) }
+    ensures { IfOk result (λ books. (w : ℕ) → named_book name_of (book_in books w) ≡ book_at (reading_of steps.now) w end) }
 {
     let mut locks = ThreadLocks::new(alloc);
-    let mut spare = Vec::new(alloc);
-    let mut book = Book::new();
+    let mut books = WordBooks::new(alloc);
     for (at, step) in steps[..end].iter().enumerate() {
-        book.follow(alloc, &mut spare, &locks, word, at as u64, step)?;
+        books.follow(&locks, at as u64, step)?;
         locks.follow(alloc, step)?;
     }
-    Ok(book)
+    Ok(books)
 }

@@ -1,7 +1,7 @@
 //! `WordBooks`, the books of all words.
 ghost use Rattle.std.specs.Prelude.{◌≡◌, ◌==◌, ◌<◌, ◌≤◌, ◌/◌, ◌%◌, ℕ, nat_eq, nat_le, cond, slice_get, option_copied, Some, None, IfSome, IfNone, OnOk};
 ghost use Rattle.indexmap.specs.IndexMap.{get, keys, index_map_len, IsUnique};
-ghost use Rattle.er_explain.specs.Book.{Untouched, access_named, access_of};
+ghost use Rattle.er_explain.specs.Book.{Untouched, access_of};
 ghost use Rattle.er_explain.specs.Books.{book_accessed, book_after};
 ghost use Rattle.er_explain.specs.WordBooks.{book_in, is_place_in, joining_in};
 ghost use Rattle.er_held.specs.ThreadLocks.{held_by};
@@ -10,7 +10,7 @@ ghost use Rattle.er_model.specs.Words.{is_within, Reused};
 
 use crate::block::Block;
 use crate::book::{Access, Joint};
-use er_event::{Event, Kind, PageRange, Step, ThreadId, Word};
+use er_event::{Event, PageRange, Step, Word};
 use er_held::ThreadLocks;
 use er_keys::{HashKeys, NumberHasher};
 use indexmap::IndexMap;
@@ -75,7 +75,12 @@ impl<A: Copy> WordBooks<A> {
         match step.event {
             Event::Access(kind, word, _) => {
                 if !locks.is_ignoring(step.thread) {
-                    self.access(locks, at, word, step.thread, kind)?;
+                    let access = Access {
+                        at,
+                        thread: step.thread,
+                        kind,
+                    };
+                    self.access(locks, word, access)?;
                 }
             }
             Event::Reuse(range) => self.reuse(range),
@@ -88,25 +93,23 @@ impl<A: Copy> WordBooks<A> {
     fn access(
         &mut self,
         locks: &ThreadLocks,
-        at: A,
         word: Word,
-        thread: ThreadId,
-        kind: Kind,
+        access: Access<A>,
     ) -> Result<(), AllocError>
-        ensures { OnOk result ((w : ℕ) → book_in self.new w ≡ cond (word == w) (book_accessed (book_in self.old word) (access_named at thread kind) thread kind (locks_for (held_by locks.now thread) kind)) (book_in self.old w)) }
+        ensures { OnOk result ((w : ℕ) → book_in self.new w ≡ cond (word == w) (book_accessed (book_in self.old word) access access.thread access.kind (locks_for (held_by locks.now access.thread) access.kind)) (book_in self.old w)) }
     {
         let number = block_of(word);
         let place = place_of(word);
-        match index_of_block(&self.blocks, hint(&self.hints, number), number) {
+        match index_of_block(&self.blocks, &self.hints, number) {
             Some(index) => {
                 note(&mut self.hints, number, index);
                 let block = &mut self.blocks[index];
-                block.access(self.alloc, &mut self.spare, locks, place, at, thread, kind)?;
+                block.access(self.alloc, &mut self.spare, locks, place, access)?;
                 Ok(())
             }
             None => {
                 let mut block = Block::new(self.alloc);
-                block.access(self.alloc, &mut self.spare, locks, place, at, thread, kind)?;
+                block.access(self.alloc, &mut self.spare, locks, place, access)?;
                 make_room(self.alloc, &mut self.hints)?;
                 note(&mut self.hints, number, self.blocks.len());
                 self.blocks.insert(number, block)?;
@@ -132,7 +135,7 @@ impl<A: Copy> WordBooks<A> {
         requires { to < 128 }
         ensures { (w : ℕ) → book_in self.new w ≡ cond (is_place_in number from to w) Untouched (book_in self.old w) }
     {
-        if let Some(index) = index_of_block(&self.blocks, hint(&self.hints, number), number) {
+        if let Some(index) = index_of_block(&self.blocks, &self.hints, number) {
             self.blocks[index].empty(&mut self.spare, from, to);
         }
     }
@@ -142,7 +145,7 @@ impl<A: Copy> WordBooks<A> {
         ensures { option_copied result ≡ joining_in (book_in self.now word) }
     {
         let number = block_of(word);
-        match index_of_block(&self.blocks, hint(&self.hints, number), number) {
+        match index_of_block(&self.blocks, &self.hints, number) {
             Some(index) => self.blocks[index].joining(place_of(word)),
             None => None,
         }
@@ -157,15 +160,6 @@ fn make_room(alloc: Global, hints: &mut Vec<u32>) -> Result<(), AllocError> {
     Ok(())
 }
 
-// Where the block of this number stands, as a rule.
-#[inline(always)]
-fn hint(hints: &[u32], number: u64) -> usize {
-    match hints.get((number % HINTS) as usize) {
-        Some(&index) => index as usize,
-        None => 0,
-    }
-}
-
 // Notes where the block of this number stands.
 #[inline(always)]
 fn note(hints: &mut [u32], number: u64, index: usize) {
@@ -174,11 +168,11 @@ fn note(hints: &mut [u32], number: u64, index: usize) {
     }
 }
 
-// Where the block of this number stands. It looks at the one at `hint` first, and needs no hash if that is the one.
+// Where the block of this number stands. It looks first where it stood when it was last noted, and needs no hash if it still does.
 #[inline]
 fn index_of_block<A>(
     blocks: &IndexMap<u64, Block<A>, NumberHasher>,
-    hint: usize,
+    hints: &[u32],
     number: u64,
 ) -> Option<usize>
     ensures key { IfSome result (λ index. slice_get (keys blocks.now) index ≡ Some number) }
@@ -186,6 +180,10 @@ fn index_of_block<A>(
     ensures none { IfNone result (get nat_eq blocks.now number ≡ None) }
     ensures unique { IsUnique nat_eq blocks.now }
 {
+    let hint = match hints.get((number % HINTS) as usize) {
+        Some(&index) => index as usize,
+        None => 0,
+    };
     match blocks.as_slice().get_index(hint) {
         Some((key, _)) if *key == number => Some(hint),
         _ => blocks.get_index_of(&number),

@@ -11,14 +11,14 @@ function dataOf(id) {
 
 const counted = (count, one, many) => `${count.toLocaleString("en")} ${count === 1 ? one : many}`;
 
-// The sites of the races, most words first. Sites with as many words stay in the order of their first races. Reuses stand by their addresses.
+// The sites of the races, most words first. Sites with as many words stay in the order of their first races. Reuses without a site stand by their addresses.
 function sitesOf(races) {
   const sites = new Map();
   for (const race of races) {
-    const name = isReuse(race) ? race.reuse : race.site === null ? "-" : race.site;
+    const name = race.site ?? race.reuse ?? "-";
     let site = sites.get(name);
     if (!site) {
-      site = { name, words: 0, kinds: new Set(), threads: new Set(), locks: new Set(), races: [], isReuse: isReuse(race) };
+      site = { name, words: 0, kinds: new Set(), threads: new Set(), locks: new Set(), races: [], isReuse: isReuse(race) && race.site === undefined };
       sites.set(name, site);
     }
     site.words += 1;

@@ -17,7 +17,7 @@ use Rattle.er_places.specs.Places.{PlaceTable}
 use Rattle.er_places.specs.Reasons.{reason_place}
 use Rattle.er_places.specs.declared.place.Place.{Place}
 use Rattle.er_print.specs.Printed.{address_text, bytes_between, kind_text, lost_text, order_text}
-use Rattle.er_print.specs.Styles.{lock_in, locks_in, site_in, thread_in}
+use Rattle.er_print.specs.Styles.{lock_in, locks_in, named_site, site_in, thread_in}
 use Rattle.er_print.specs.Values.{values_text}
 use Rattle.er_print.specs.declared.styles.Style.TheVariants as style
 use Rattle.er_report.specs.Lines.{LineView, RaceView, ReusedView, RefusedView, ShownView}
@@ -75,11 +75,12 @@ race_front names number thread kind word site held =
     ++ codes "\",\"address\":\"" ++ address_text word ++ codes "\",\"site\":" ++ site_in style.Json names site
     ++ codes ",\"held\":" ++ locks_in style.Json names held ++ codes ",\"reasons\":["
 
--- who gave back which bytes, and which locks it held
-unfoldable pub reused_front : NameTable → ℕ → ℕ → PageRange → List ℕ → List ℕ
-reused_front names number thread range held =
+-- who gave back which bytes, where, if that has a name, and which locks it held
+unfoldable pub reused_front : NameTable → ℕ → ℕ → PageRange → ℕ → List ℕ → List ℕ
+reused_front names number thread range site held =
     codes "{\"line\":" ++ decimal number ++ codes ",\"thread\":" ++ thread_in style.Json names thread ++ codes ",\"reuse\":\"" ++ address_text range.lo
-    ++ codes "\",\"bytes\":" ++ decimal (bytes_between range.lo range.hi) ++ codes ",\"held\":" ++ locks_in style.Json names held ++ codes ",\"reasons\":["
+    ++ codes "\",\"bytes\":" ++ decimal (bytes_between range.lo range.hi)
+    ++ named_site style.Json names (codes ",\"site\":") site ++ codes ",\"held\":" ++ locks_in style.Json names held ++ codes ",\"reasons\":["
 
 -- why it is a race
 abbrev pub reasons_end : NameTable → PlaceTable → List Because → List ℕ
@@ -144,25 +145,25 @@ shown_text names number word state = shown_front number word ++ state_member nam
 -- the object of a line
 abbrev pub row_text : NameTable → PlaceTable → LineView → List ℕ
 row_text names table (RaceView number thread kind word site held explained) = race_text names table number thread kind word site held explained
-row_text names table (ReusedView number thread range held explained) = reused_front names number thread range held ++ reasons_end names table explained
+row_text names table (ReusedView number thread range site held explained) = reused_front names number thread range site held ++ reasons_end names table explained
 row_text names table (RefusedView number step refusal) = refused_text names number step refusal
 row_text names table (ShownView number word state) = shown_text names number word state
 
 abbrev pub is_race : LineView → Bool
 is_race (RaceView number thread kind word site held explained) = true
-is_race (ReusedView number thread range held explained) = true
+is_race (ReusedView number thread range site held explained) = true
 is_race (RefusedView number step refusal) = false
 is_race (ShownView number word state) = false
 
 abbrev pub is_refused : LineView → Bool
 is_refused (RaceView number thread kind word site held explained) = false
-is_refused (ReusedView number thread range held explained) = false
+is_refused (ReusedView number thread range site held explained) = false
 is_refused (RefusedView number step refusal) = true
 is_refused (ShownView number word state) = false
 
 abbrev pub is_shown : LineView → Bool
 is_shown (RaceView number thread kind word site held explained) = false
-is_shown (ReusedView number thread range held explained) = false
+is_shown (ReusedView number thread range site held explained) = false
 is_shown (RefusedView number step refusal) = false
 is_shown (ShownView number word state) = true
 

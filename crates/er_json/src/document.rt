@@ -238,10 +238,11 @@ fn put_row(out: &mut Vec<u8>, names: &Names, places: &Places, line: &Line) -> Re
             line,
             thread,
             range,
+            site,
             held,
             explained,
         } => {
-            put_reused(out, names, *line, *thread, range, held.as_slice())?;
+            put_reused(out, names, *line, *thread, range, *site, held.as_slice())?;
             put_reasons(out, names, places, explained)
         }
         Line::Refused {

@@ -8,7 +8,7 @@ ghost use Rattle.er_report.specs.Names.{HasEventNames, HasLabelName, HasLockName
 
 use er_event::{Event, Kind, LockId, Lockset, Mode, PageRange, Refusal, ThreadId, Word, WordState};
 use er_places::{Place, Places};
-use er_print::Piece::{Address, Lock, Locks, Number, Site, Text, Thread, Verb};
+use er_print::Piece::{Address, Lock, Locks, NamedSite, Number, Site, Text, Thread, Verb};
 use er_print::{Style, bytes_of, comma_before, order_verb, put_all, verb};
 use er_report::{Because, Label};
 use er_trace::Names;
@@ -51,17 +51,20 @@ pub(crate) fn put_reused(
     line: u64,
     thread: ThreadId,
     range: &PageRange,
+    site: er_event::Site,
     held: &[LockId],
 ) -> Result<(), AllocError>
     requires thread { thread < length names.now.threads }
+    requires site { site ≤ length names.now.sites }
     requires held { HasLockNames names.now held.now }
-    ensures { OnOk result (out.new.items ≡ out.old.items ++ reused_front names.now line thread range.now held.now) }
+    ensures { OnOk result (out.new.items ≡ out.old.items ++ reused_front names.now line thread range.now site held.now) }
 {
     let pieces = [
         Number(b"{\"line\":", line),
         Thread(b",\"thread\":", thread),
         Address(b",\"reuse\":\"", range.lo),
         Number(b"\",\"bytes\":", bytes_of(range)),
+        NamedSite(b",\"site\":", site),
         Locks(b",\"held\":", held),
         Text(b",\"reasons\":["),
     ];

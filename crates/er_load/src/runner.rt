@@ -10,7 +10,7 @@ ghost use Rattle.er_seat.specs.Seats.{holdings_of};
 use crate::scripts::{Action, script_of};
 use crate::workloads::Task;
 use er_detector::{Detector, Gate};
-use er_event::{Kind, LockId, Refusal, Reply, Site, Word, WordRange};
+use er_event::{LockId, Refusal, Site};
 use er_seat::Seat;
 use std::alloc::Global;
 use std::sync::Wait;
@@ -46,12 +46,7 @@ impl<'a, 't, G: Gate> Runner for DetectorRunner<'a, 't, G> {
         alloc: Global,
         task: Task,
         mut seat: Seat,
-    ) -> Result<Seat, Refusal>
-        requires number { task.thread < thread_count task.workload }
-        requires before { IsSeatAt task.thread (done_before task.workload task.stage task.thread) seat }
-        ensures seat { IfOk result (λ seat. IsSeatAt task.thread (done_after task.workload task.stage task.thread) seat) }
-        ensures refusals { IfErr result (λ why. IsTrue (may_meet why)) }
-    {
+    ) -> Result<Seat, Refusal> {
         let script = match script_of(alloc, task) {
             Ok(script) => script,
             Err(_) => {
@@ -107,41 +102,14 @@ fn make_calls<R: Wait>(
         Action::Acquire(mode) => seat.acquire(lock, mode),
         Action::Release(mode) => seat.release(lock, mode),
         Action::Access(kind, word) => {
-            access(rt, detector, seat, kind, word)?;
+            detector.access(rt, seat, word, kind, Site::MISSING)?;
             Ok(())
         }
-        Action::Reuse(range) => reuse(rt, detector, seat, range),
+        Action::Reuse(range) => match detector.reuse(rt, seat, &range) {
+            Ok(()) => Ok(()),
+            Err(stopped) => Err(stopped.cause),
+        },
         Action::IgnoreOn => seat.ignore_on(),
         Action::IgnoreOff => seat.ignore_off(),
-    }
-}
-
-// Reads or writes a word.
-fn access<R: Wait>(
-    rt: &R,
-    detector: &Detector<'_>,
-    seat: &mut Seat,
-    kind: Kind,
-    word: Word,
-) -> Result<Reply, Refusal>
-    ensures made { OnOk result (HasMade seat.old seat.new (events_by (Action.Access kind word))) }
-    ensures refusals { IfErr result (λ why. IsTrue (may_meet why)) }
-{
-    detector.access(rt, seat, word, kind, Site::MISSING)
-}
-
-// Puts words to a new use.
-fn reuse<R: Wait>(
-    rt: &R,
-    detector: &Detector<'_>,
-    seat: &mut Seat,
-    range: WordRange,
-) -> Result<(), Refusal>
-    ensures made { OnOk result (HasMade seat.old seat.new (events_by (Action.Reuse range))) }
-    ensures refusals { IfErr result (λ why. IsTrue (may_meet why)) }
-{
-    match detector.reuse(rt, seat, &range) {
-        Ok(()) => Ok(()),
-        Err(stopped) => Err(stopped.cause),
     }
 }

@@ -99,34 +99,17 @@ fn run_stages<G: Gate, R: Threads + Wait + Sync>(
     ensures faults { IfErr result MayFail }
 {
     let runner = DetectorRunner { detector, gate };
-    let seats = open_seats(alloc, detector, workload)?;
+    let mut seats = Vec::new(alloc);
+    if let Err(fault) = open_seats(detector, workload, &mut seats) {
+        drop(seats);
+        return Err(fault);
+    }
     let seats = run_stage(rt, alloc, &runner, workload, Stage::First, seats)?;
     run_stage(rt, alloc, &runner, workload, Stage::Second, seats)
 }
 
-// A seat for each thread, by its number.
+// Opens a seat for each thread, by its number, and puts them into an empty list.
 fn open_seats(
-    alloc: Global,
-    detector: &Detector<'_>,
-    workload: Workload,
-) -> Result<Vec<Seat>, LoadFault>
-    requires { detector.now.name ≡ detector_name }
-    ensures count { IfOk result (λ seats. vec_len seats ≡ thread_count workload) }
-    ensures seats { IfOk result (λ seats. AreSeatsAt (done_before workload Stage.First) seats.items) }
-    ensures faults { IfErr result MayFail }
-{
-    let mut seats = Vec::new(alloc);
-    match fill_seats(detector, workload, &mut seats) {
-        Ok(()) => Ok(seats),
-        Err(fault) => {
-            drop(seats);
-            Err(fault)
-        }
-    }
-}
-
-// Opens a seat for each thread, and puts them into an empty list.
-fn fill_seats(
     detector: &Detector<'_>,
     workload: Workload,
     seats: &mut Vec<Seat>,

@@ -1,31 +1,45 @@
 -- What all workers of a crew did in a batch.
-use Rattle.std.proofs.Common.{IsTrue, ◌≡◌, ℕ, zero, suc, ◌+◌, ◌<◌, ◌≤◌, Bool, true, false, if◌then◌else◌, List, [], ◌∷◌, ◌++◌, length, map, take, drop, get_or, slice_get, Option, Some, None, IfSome, MatchOption, refl, ap, sym, subst, ◌∙◌, arith, ⊎_elim, ◌⊎◌, inl, inr}
+use Rattle.std.proofs.Common.{IsTrue, ◌≡◌, ℕ, zero, suc, ◌+◌, ◌<◌, ◌≤◌, Bool, true, false, if◌then◌else◌, List, [], ◌∷◌, ◌++◌, length, map, take, drop, get_or, slice_get, Option, Some, None, IfSome, MatchOption, Result, Ok, Err, OnOk, IfOk, IfErr, refl, ap, sym, subst, ◌∙◌, arith, ⊎_elim, ◌⊎◌, inl, inr}
 use Rattle.std.proofs.lemmas.List.{length-map}
 use Rattle.std.proofs.lemmas.Option.{slice_get-get_or, get_or_from_slice_get}
 use Rattle.er_event.proofs.Lists.{get_front, get_last, length_push}
+use Rattle.er_event.specs.declared.refusals.NoRoom.{NoRoom}
+use Rattle.er_event.specs.declared.refusals.NoRoom.TheVariants.{TableFull, JournalFull, OutOfMemory}
 use Rattle.er_event.specs.declared.steps.Step.{Step}
 use Rattle.er_model.specs.Answers.{answer}
 use Rattle.er_model.proofs.Parts.{in_range}
 use Rattle.er_model.proofs.Search.{below_or_at}
-use Rattle.er_parallel.specs.Crews.{AreNoted, AreUnusual, Crewed, HasFollowed, HaveAnswered, IsAmong, IsAnswered}
-use Rattle.er_parallel.specs.Faults.{MayFail, fault_of}
-use Rattle.er_parallel.specs.Found.{usual}
-use Rattle.er_parallel.specs.Inner.Crewing.{AreFresh, HasFault, IsLeastFault, NoFaultBelow}
+use Rattle.er_parallel.specs.Crews.{AreNoted, AreUnusual, HasFollowed, HaveAnswered, IsAmong, IsAnswered}
+use Rattle.er_parallel.specs.Faults.{AsksForSet, MayFail, fault_of}
+use Rattle.er_parallel.specs.Inner.Crewing.{AreFresh, crewed}
+use Rattle.er_parallel.specs.Inner.Faults.{HasFault, IsFaultOf, IsLeastFault, IsLesser, MayBeFull, NoFaultBelow}
 use Rattle.er_parallel.specs.Inner.Merging.{AreApart, AreMerged, HasItem, NoHeadBelow, machines_of}
 use Rattle.er_parallel.specs.Inner.Taking.{HasDone, HasTaken}
 use Rattle.er_parallel.specs.Tasks.{worker_for}
-use Rattle.er_parallel.specs.Work.{IsLesser, MayBeFull}
+use Rattle.er_parallel.specs.Usual.{usual}
 use Rattle.er_parallel.specs.declared.faults.ReplayFault.{ReplayFault}
 use Rattle.er_parallel.specs.declared.task.Share.{Share}
 use Rattle.er_parallel.specs.declared.unusual.Unusual.{Unusual}
-use Rattle.er_parallel.specs.declared.worked.WorkFault.{WorkFault}
+use Rattle.er_parallel.specs.declared.worker.WorkFault.{WorkFault}
 use Rattle.er_parallel.specs.declared.worker.Worker.{Worker}
-use Rattle.er_parallel.proofs.AnswerLemmas.{get_some}
-use Rattle.er_parallel.proofs.WorkLemmas.{may-fail}
+use Rattle.er_parallel.proofs.GatheringLemmas.{get_some}
 use Rattle.er_replay.specs.Standing.{Replayed, Stands}
 
 some_same : {A : Type 0} (x y : A) → Some x ≡ Some y → x ≡ y
 some_same x y e = cc
+
+-- what holds of an outcome
+pub on-ok : {A E : Type 0} (Q : Type 0) (r : Result A E) → ((a : A) → r ≡ Ok a → Q) → OnOk r Q
+on-ok Q (Ok a) is = is a refl
+on-ok Q (Err e) is = tt
+
+pub if-ok : {A E : Type 0} (P : A → Type 0) (r : Result A E) → ((a : A) → r ≡ Ok a → P a) → IfOk r P
+if-ok P (Ok a) is = is a refl
+if-ok P (Err e) is = tt
+
+pub if-err : {A E : Type 0} (P : E → Type 0) (r : Result A E) → ((e : E) → r ≡ Err e → P e) → IfErr r P
+if-err P (Ok a) is = tt
+if-err P (Err e) is = is e refl
 
 -- the least fault among the first n workers
 abbrev pub IsLeastKnown : ℕ → List Worker → Option WorkFault → Type 0
@@ -96,9 +110,6 @@ map_at f (y ∷ ys) zero x is = ap Some (ap f (some_same y x is))
 map_at f (y ∷ ys) (suc i) x is = map_at f ys i x is
 
 -- a new crew
-abbrev pub crewed : ℕ → List Worker → Crewed
-crewed shards workers = record { shards = shards; machines = machines_of workers }
-
 pub new-crew : (shards : ℕ) (workers : List Worker) → AreFresh workers → HaveAnswered (crewed shards workers) []
 new-crew shards workers fresh i machine is =
     let one = map_there (λ (w : Worker). w.machine) workers i machine is in
@@ -124,6 +135,15 @@ whole-back n [] (y ∷ ys) same is = absurd (omega (arith, same))
 whole-back n (x ∷ xs) [] same is = absurd (omega (arith, same))
 whole-back n (x ∷ xs) (y ∷ ys) same is = rw is (ap (λ rest. x ∷ rest) (whole-back (length ys) xs ys (omega (arith, same)) refl))
 
+-- the fault of a replay that a worker's fault makes
+may_fail : (steps : List Step) (fault : WorkFault) (given : ReplayFault) → given ≡ fault_of fault.cause → MayBeFull steps fault → MayFail steps given
+may_fail steps fault given is full = rw is (by fault.cause full)
+  where
+    by : (cause : NoRoom) → (cause ≡ TableFull → AsksForSet steps) → MayFail steps (fault_of cause)
+    by TableFull full = full refl
+    by JournalFull full = tt
+    by OutOfMemory full = tt
+
 -- what each worker did
 abbrev pub AreTaken : ℕ → Bool → List Step → List Worker → List Worker → Type 0
 AreTaken shards noting batch old new = (past : List Step) (i : ℕ) (d : Worker) → i < length old → HasFollowed shards (length old) i past (get_or old i d).machine →
@@ -143,8 +163,10 @@ module _ (past batch : List Step) (shards : ℕ) (noting : Bool) (old new : List
   full_at : (i : ℕ) (worker : Worker) (fault : WorkFault) → worker.fault ≡ Some fault → HasTaken past batch (share i) worker → MayBeFull (past ++ batch) fault
   full_at i worker fault is has = rw is at has
 
-  pub taken-fault : (n : ℕ) (fault : WorkFault) (given : ReplayFault) → IsLeastFault n new fault → given ≡ fault_of fault.cause → MayFail (past ++ batch) given
-  taken-fault n fault given least is = may-fail (past ++ batch) fault given is (full_at least.at least.there.worker fault least.there.is (taken_at least.at least.there.worker least.there.there))
+  pub taken-fault : (given : ReplayFault) → IsFaultOf new given → MayFail (past ++ batch) given
+  taken-fault given (inl (fault, (least, is))) =
+      may_fail (past ++ batch) fault given is (full_at least.at least.there.worker fault least.there.is (taken_at least.at least.there.worker least.there.there))
+  taken-fault given (inr (none, is)) = rw is tt
 
   module _ (none : NoFaultBelow (length new) new) where
     done_by : (i : ℕ) (worker : Worker) (o : Option WorkFault) → slice_get new i ≡ Some worker → worker.fault ≡ o → HasTaken past batch (share i) worker → HasDone past batch (share i) worker.found.items worker.machine

@@ -1,8 +1,5 @@
-pub mod AnswerLemmas
 pub mod CrewLemmas
 pub mod FollowingLemmas
+pub mod GatheringLemmas
 pub mod MergingLemmas
-pub mod PuttingLemmas
-pub mod ReplayLemmas
 pub mod TakingLemmas
-pub mod WorkLemmas

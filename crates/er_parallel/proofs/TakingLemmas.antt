@@ -27,7 +27,7 @@ use Rattle.er_model.proofs.Search.{below_or_at}
 use Rattle.er_model.proofs.Threads.{holdings-step}
 use Rattle.er_parallel.specs.Crews.{IsAmong, IsAnswered, HasFollowed, LeavesWord}
 use Rattle.er_parallel.specs.Faults.{AsksForSet}
-use Rattle.er_parallel.specs.Found.{usual}
+use Rattle.er_parallel.specs.Usual.{usual}
 use Rattle.er_parallel.specs.Inner.Taking.{AreIdle, HasCome, HasDone, IsFoundSoFar, IsIdle, IsKept, IsOwn}
 use Rattle.er_parallel.specs.Tasks.{worker_for}
 use Rattle.er_parallel.specs.declared.task.Share.{Share}

@@ -1,4 +1,5 @@
 pub mod Crewing
-pub mod Following
+pub mod Faults
+pub mod Gathering
 pub mod Merging
 pub mod Taking

@@ -4,7 +4,6 @@ use Rattle.er_event.specs.declared.steps.Event.{Event}
 use Rattle.er_event.specs.declared.steps.Event.TheVariants.{Acquire, Release, Access, Reuse, IgnoreOn, IgnoreOff, Show, Level, Sync}
 use Rattle.er_journal.specs.Merges.{shard_of}
 use Rattle.er_parallel.specs.declared.task.Share.{Share}
-use Rattle.er_parallel.specs.declared.task.Task.{Task}
 
 -- the shard of an event's words; an event on no word goes with shard 0
 abbrev pub shard_for : ℕ → Event → ℕ
@@ -23,9 +22,5 @@ abbrev pub worker_for : ℕ → ℕ → Event → ℕ
 worker_for shards workers event = shard_for shards event % workers
 
 -- there are some shards and workers, and few of them, and the worker is one of them
-abbrev pub IsTask : Task → Type 0
-IsTask task = (1 ≤ task.shards) × (task.shards ≤ 64) × (task.worker < task.workers) × (task.workers ≤ 16)
-
--- the same of a share
 abbrev pub IsShare : Share → Type 0
 IsShare share = (1 ≤ share.shards) × (share.shards ≤ 64) × (share.worker < share.workers) × (share.workers ≤ 16)

@@ -1,21 +1,19 @@
 //! Workers that answer the steps of a list, one batch after another.
 ghost use Rattle.std.specs.Prelude.{◌≡◌, ◌⊎◌, ◌<◌, ◌≤◌, ◌+◌, ◌++◌, [], ℕ, List, length, slice_get, slice_index_or, IfOk, OnOk, IfErr, IsTrue, MatchOption, Some};
 ghost use Rattle.er_event.specs.declared.steps.Step.{Step as Steps};
-ghost use Rattle.er_parallel.specs.Crews.{AreNoted, AreUnusual, HaveAnswered};
+ghost use Rattle.er_parallel.specs.Crews.{AreNoted, AreUnusual, HasFollowed, HaveAnswered};
 ghost use Rattle.er_parallel.specs.Faults.{MayFail};
-ghost use Rattle.er_parallel.specs.Crews.{HasFollowed};
-ghost use Rattle.er_parallel.specs.Inner.Crewing.{AreFresh, IsLeastFault, NoFaultBelow};
-ghost use Rattle.er_parallel.specs.Inner.Merging.{machines_of};
+ghost use Rattle.er_parallel.specs.Inner.Crewing.{AreFresh, crewed};
 ghost use Rattle.er_parallel.specs.Inner.Taking.{HasTaken};
 ghost use Rattle.er_parallel.specs.declared.worker.Worker.{Worker as Workers};
 ghost use Rattle.er_replay.specs.Standing.{Stands};
 
 use crate::merging::merge;
 use crate::task::Share;
-use crate::worked::{WorkFault, lesser};
 use crate::worker::{Fresh, Worker};
 use crate::{ReplayConfig, ReplayFault, Unusual};
 use er_event::Step;
+use er_gate::{Gate, OpenGate};
 use er_keys::HashKeys;
 use er_table::LocksetTable;
 use std::alloc::{AllocError, Global};
@@ -99,38 +97,34 @@ impl<'t> Crew<'t> {
             self.workers.as_mut_slice(),
             steps,
             noting,
+            &OpenGate,
         )
     }
 }
 
-// What `take` does, on the workers themselves.
-fn take_batch<R: Threads + Wait + Sync>(
+/// What `take` does, on the workers themselves. Each of them first enters the gate of each of its shards, by rising number.
+pub(crate) fn take_batch<R: Threads + Wait + Sync, G: Gate>(
     rt: &R,
     alloc: Global,
     shards: u32,
     workers: &mut [Worker<'_>],
     steps: &[Step],
     noting: bool,
+    gate: &G,
 ) -> Result<Vec<Unusual>, ReplayFault>
     requires { (1 ≤ shards) × (shards ≤ 64) × (1 ≤ length workers.old) × (length workers.old ≤ 16) }
     ensures count { length workers.new ≡ length workers.old }
-    ensures goes_on { (past : List Steps) → HaveAnswered (record { shards = shards; machines = machines_of workers.old }) past → OnOk result (HaveAnswered (record { shards = shards; machines = machines_of workers.new }) (past ++ steps.now)) }
-    ensures answers { (past : List Steps) → HaveAnswered (record { shards = shards; machines = machines_of workers.old }) past → IfOk result (λ unusual. AreUnusual past steps.now unusual.items) }
-    ensures noted { (past : List Steps) → HaveAnswered (record { shards = shards; machines = machines_of workers.old }) past → IsTrue noting → IfOk result (λ unusual. AreNoted past steps.now unusual.items) }
-    ensures fault { (past : List Steps) → HaveAnswered (record { shards = shards; machines = machines_of workers.old }) past → IfErr result (λ why. MayFail (past ++ steps.now) why) }
+    ensures goes_on { (past : List Steps) → HaveAnswered (crewed shards workers.old) past → OnOk result (HaveAnswered (crewed shards workers.new) (past ++ steps.now)) }
+    ensures answers { (past : List Steps) → HaveAnswered (crewed shards workers.old) past → IfOk result (λ unusual. AreUnusual past steps.now unusual.items) }
+    ensures noted { (past : List Steps) → HaveAnswered (crewed shards workers.old) past → IsTrue noting → IfOk result (λ unusual. AreNoted past steps.now unusual.items) }
+    ensures fault { (past : List Steps) → HaveAnswered (crewed shards workers.old) past → IfErr result (λ why. MayFail (past ++ steps.now) why) }
 {
-    answer_each(rt, alloc, shards, workers, steps, noting);
-    if let Some(fault) = least_fault(workers) {
-        return Err(ReplayFault::from(fault.cause));
-    }
-    match merge(alloc, workers) {
-        Ok(items) => Ok(items),
-        Err(refused) => Err(ReplayFault::from(refused)),
-    }
+    answer_each(rt, alloc, shards, workers, steps, noting, gate);
+    merge(alloc, workers)
 }
 
-// Workers that have answered no step. A thread of each makes it. All threads that were started are joined.
-fn start<'t, R: Threads + Wait + Sync>(
+/// Workers that have answered no step. A thread of each makes it. All threads that were started are joined.
+pub(crate) fn start<'t, R: Threads + Wait + Sync>(
     rt: &R,
     alloc: Global,
     table: &'t LocksetTable,
@@ -218,13 +212,14 @@ fn add<'t>(all: &mut Vec<Worker<'t>>, made: Result<Worker<'t>, AllocError>) -> b
 }
 
 // Each worker answers its steps of the batch, in a thread of its own if one can be started.
-fn answer_each<R: Threads + Wait + Sync>(
+fn answer_each<R: Threads + Wait + Sync, G: Gate>(
     rt: &R,
     alloc: Global,
     shards: u32,
     workers: &mut [Worker<'_>],
     steps: &[Step],
     noting: bool,
+    gate: &G,
 )
     requires { (1 ≤ shards) × (shards ≤ 64) × (1 ≤ length workers.old) × (length workers.old ≤ 16) }
     ensures count { length workers.new ≡ length workers.old }
@@ -240,30 +235,18 @@ fn answer_each<R: Threads + Wait + Sync>(
             requires { (1 ≤ shards) × (shards ≤ 64) × (at < count) × (count ≤ 16) }
             ensures { (past : List Steps) → HasFollowed shards count at past worker.entry.now.machine → HasTaken past steps.entry.now (record { shards = shards; worker = at; workers = count; noting = noting }) worker.exit.now }
         {
-            worker.take(
-                rt,
-                alloc,
-                steps,
-                Share {
-                    shards,
-                    worker: at as u32,
-                    workers: count as u32,
-                    noting,
-                },
-            );
+            let share = Share {
+                shards,
+                worker: at as u32,
+                workers: count as u32,
+                noting,
+            };
+            for shard in 0..shards {
+                if shard % share.workers == share.worker {
+                    gate.enter(shard);
+                }
+            }
+            worker.take(rt, alloc, steps, share);
         },
     );
-}
-
-// The fault of the least shard that has one. Of two faults of one shard it is the later worker's.
-fn least_fault(workers: &[Worker<'_>]) -> Option<WorkFault>
-    ensures { MatchOption result (NoFaultBelow (length workers.now) workers.now) (λ fault. IsLeastFault (length workers.now) workers.now fault) }
-{
-    let mut least = None;
-    for worker in workers {
-        if let Some(fault) = worker.fault {
-            least = Some(lesser(least, fault));
-        }
-    }
-    least
 }

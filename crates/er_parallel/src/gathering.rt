@@ -1,52 +1,43 @@
-//! The answers of all workers, put in their places.
-ghost use Rattle.std.specs.Prelude.{◌≡◌, List, length, IfOk, OnOk};
-ghost use Rattle.er_event.specs.declared.steps.Step.{Step as Steps};
-ghost use Rattle.er_parallel.specs.Found.{usual};
-ghost use Rattle.er_parallel.specs.Putting.{AreAllPut, AreAsLong, AreOf, usual_answers};
+//! The answers to all steps of a list.
+ghost use Rattle.std.specs.Prelude.{◌≡◌, [], IfOk};
+ghost use Rattle.er_model.specs.Answers.{answers};
+ghost use Rattle.er_parallel.specs.Crews.{AreUnusual};
+ghost use Rattle.er_parallel.specs.Usual.{usual_answers};
 
-use crate::worked::Worked;
-use er_event::{Event, Refusal, Reply, Step};
+use crate::Unusual;
+use crate::unusual::usual_answer;
+use er_event::Step;
 use er_journal::Answers;
 use std::alloc::{AllocError, Global};
 
-/// The usual answer to each step.
-pub(crate) fn usual_answers(alloc: Global, steps: &[Step]) -> Result<Answers, AllocError>
-    ensures { IfOk result (λ answers. answers ≡ usual_answers steps.now) }
+/// The answers to all steps of a list, of which these aren't the usual ones.
+pub(crate) fn gather(
+    alloc: Global,
+    steps: &[Step],
+    unusual: Vec<Unusual>,
+) -> Result<Answers, AllocError>
+    requires { AreUnusual [] steps.now unusual.items }
+    ensures { IfOk result (λ given. given ≡ answers steps.now) }
 {
-    let mut answers = Answers::new(alloc);
-    answers.reserve(steps.len())?;
+    let Ok(mut given) = usual_answers(alloc, steps) else {
+        drop(unusual);
+        return Err(AllocError);
+    };
+    for item in unusual {
+        let Unusual { at, answer, .. } = item;
+        given.set(at, answer)?;
+    }
+    Ok(given)
+}
+
+// The usual answer to each step.
+fn usual_answers(alloc: Global, steps: &[Step]) -> Result<Answers, AllocError>
+    ensures { IfOk result (λ given. given ≡ usual_answers steps.now) }
+{
+    let mut given = Answers::new(alloc);
+    given.reserve(steps.len())?;
     for step in steps {
-        answers.push(usual_answer(step.event))?;
+        given.push(usual_answer(step))?;
     }
-    Ok(answers)
-}
-
-// The usual answer to a step with this event.
-#[inline]
-fn usual_answer(event: Event) -> Result<Reply, Refusal>
-    ensures { result ≡ usual event }
-{
-    match event {
-        Event::Access(..) => Ok(Reply::Quiet),
-        Event::Acquire(..)
-        | Event::Release(..)
-        | Event::Reuse(_)
-        | Event::IgnoreOn
-        | Event::IgnoreOff
-        | Event::Show(_)
-        | Event::Level(_)
-        | Event::Sync(_) => Ok(Reply::Done),
-    }
-}
-
-/// Puts the answers of all workers in their places.
-pub(crate) fn gather(answers: &mut Answers, all: &[Worked<'_>]) -> Result<(), AllocError>
-    requires { AreAsLong (length answers.old) all.now }
-    ensures put { OnOk result ((steps : List Steps) → AreOf steps all.now → AreAllPut steps all.now answers.old answers.new) }
-    ensures length { length answers.new ≡ length answers.old }
-{
-    for worked in all {
-        worked.put(answers)?;
-    }
-    Ok(())
+    Ok(given)
 }

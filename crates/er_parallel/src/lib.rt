@@ -43,6 +43,4 @@ mod merging;
 mod replay;
 mod task;
 mod unusual;
-mod worked;
 mod worker;
-mod workers;

@@ -1,11 +1,12 @@
 //! The replay of a list of steps by several workers.
-ghost use Rattle.std.specs.Prelude.{◌≡◌, ◌≤◌, IfOk, IsErrOf, None};
+ghost use Rattle.std.specs.Prelude.{◌≡◌, ◌≤◌, [], IfErr, IfOk, IsErrOf, None};
 ghost use Rattle.er_model.specs.Answers.{answers};
-ghost use Rattle.er_parallel.specs.Faults.{AsksForSet};
+ghost use Rattle.er_parallel.specs.Crews.{AreUnusual};
+ghost use Rattle.er_parallel.specs.Faults.{AsksForSet, MayFail};
 
+use crate::crew::{start, take_batch};
 use crate::gathering::gather;
-use crate::workers::work_all;
-use crate::{ReplayConfig, ReplayFault};
+use crate::{ReplayConfig, ReplayFault, Unusual};
 use er_event::Step;
 use er_gate::Gate;
 use er_journal::Outcome;
@@ -14,19 +15,18 @@ use std::alloc::Global;
 use std::sync::Wait;
 use std::thread::Threads;
 
-/// Answers a list of steps by this number of workers, 1 to 16. The words are in shards by their pages, and worker `w` answers the
-/// steps of the shards whose number is `w` modulo the number of workers, on words of its own. A worker first enters the gate under the
-/// number of each of its shards, by rising number, also if no step is in the shard. Then it goes once over the whole list, since it
-/// needs the locks of every thread.
+/// Answers a list of steps by this number of workers, 1 to 16, as one batch of a [`Crew`](crate::Crew) of its own. A worker first enters
+/// the gate under the number of each of its shards, by rising number, also if no step is in the shard. Then it goes once over the whole
+/// list, since it needs the locks of every thread.
 ///
-/// If a worker can't be started the fault is `WorkerNotStarted`. Otherwise each worker stops at the first step, in the order of the
+/// If a thread can't be started to make a worker's machine, the fault is `WorkerNotStarted`; one that can't be started later has its part
+/// done by the caller. Otherwise each worker stops at the first step, in the order of the
 /// list, that finds no room: one that it answers, or one whose locks, bracket or level it follows. The fault is then that of the least
 /// shard whose step found none, `TableFull` or `Memory`. `Memory` also comes if the list of answers finds none. `TableFull` comes only
 /// if some step needs a set of locks, so never for a list on which each word has one thread.
 ///
-/// The clauses below don't say which worker's fault it is, since a caller never sees the workers' results. In `workers.rt` the clause
-/// `fault` of `all_or_fault`, which has the results as its argument, says that it is the fault of the least shard. If there is no
-/// memory for the list of results, the workers are joined one by one, and each time the fault of the lesser shard is kept (`lesser`).
+/// The clauses below don't say which worker's fault it is, since a caller never sees the workers. In `merging.rt` the clause `fault` of
+/// `merge`, which has the workers as its argument, says that it is the fault of the least shard.
 pub fn replay_parallel<G: Gate, R: Threads + Wait + Sync>(
     rt: &R,
     alloc: Global,
@@ -44,13 +44,19 @@ pub fn replay_parallel<G: Gate, R: Threads + Wait + Sync>(
     ensures none_lost { ¬ IsErrOf result ReplayFault.WorkerLost }
 {
     let table = LocksetTable::keyed(alloc, config.max_sets, config.keys)?;
-    let outcome = replay_over(rt, alloc, &table, config, steps, workers, gate);
+    let answered = answer_all(rt, alloc, &table, config, steps, workers, gate);
     drop(table);
-    outcome
+    match answered {
+        Ok(unusual) => Ok(Outcome {
+            answers: gather(alloc, steps, unusual)?,
+            stopped: None,
+        }),
+        Err(fault) => Err(fault),
+    }
 }
 
-// The same over this table. Split for the prover.
-fn replay_over<G: Gate, R: Threads + Wait + Sync>(
+// The answers that aren't the usual ones, by workers over this table.
+fn answer_all<G: Gate, R: Threads + Wait + Sync>(
     rt: &R,
     alloc: Global,
     table: &LocksetTable,
@@ -58,27 +64,17 @@ fn replay_over<G: Gate, R: Threads + Wait + Sync>(
     steps: &[Step],
     workers: u32,
     gate: &G,
-) -> Result<Outcome, ReplayFault>
+) -> Result<Vec<Unusual>, ReplayFault>
     requires { (1 ≤ workers) × (workers ≤ 16) }
-    ensures stopped { IfOk result (λ outcome. outcome.stopped ≡ None) }
-    ensures answers { IfOk result (λ outcome. outcome.answers ≡ answers steps.now) }
-    ensures table_full { IsErrOf result ReplayFault.TableFull → AsksForSet steps.now }
-    ensures none_lost { ¬ IsErrOf result ReplayFault.WorkerLost }
+    ensures answers { IfOk result (λ unusual. AreUnusual [] steps.now unusual.items) }
+    ensures fault { IfErr result (λ fault. MayFail steps.now fault) }
 {
-    let (mut given, all) = match work_all(rt, alloc, table, config, steps, workers, gate) {
-        Ok(worked) => worked,
+    let ReplayConfig { shards, keys, .. } = config;
+    let mut crew = match start(rt, alloc, table, keys, workers) {
+        Ok(crew) => crew,
         Err(fault) => return Err(fault),
     };
-    let gathered = gather(&mut given, all.as_slice());
-    drop(all);
-    match gathered {
-        Ok(()) => Ok(Outcome {
-            answers: given,
-            stopped: None,
-        }),
-        Err(refused) => {
-            drop(given);
-            Err(ReplayFault::from(refused))
-        }
-    }
+    let answered = take_batch(rt, alloc, shards, crew.as_mut_slice(), steps, false, gate);
+    drop(crew);
+    answered
 }

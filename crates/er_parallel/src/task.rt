@@ -3,17 +3,7 @@ ghost use Rattle.std.specs.Prelude.{◌≡◌, ◌<◌, ◌%◌};
 ghost use Rattle.er_journal.specs.Merges.{shard_of};
 ghost use Rattle.er_parallel.specs.Tasks.{shard_for, worker_for};
 
-use er_event::{Event, PageRange, Step, Word};
-
-/// What a worker is to do: of so many workers, the one of this number answers the steps of the shards that have its number modulo
-/// theirs. A step that is on no word goes with shard 0.
-#[derive(Clone, Copy)]
-pub(crate) struct Task<'s> {
-    pub(crate) steps: &'s [Step],
-    pub(crate) shards: u32,
-    pub(crate) worker: u32,
-    pub(crate) workers: u32,
-}
+use er_event::{Event, PageRange, Word};
 
 /// A worker's share of all steps: of so many workers, the one of this number answers the steps of the shards that have its number modulo
 /// theirs. A step that is on no word goes with shard 0. With `noting` it also keeps the accesses that changed their words' states.

@@ -3,10 +3,10 @@ ghost use Rattle.std.specs.Prelude.{◌≡◌, ◌+◌, ◌≤◌, ◌++◌, [],
 ghost use Rattle.er_event.specs.declared.steps.Step.{Step as Steps};
 ghost use Rattle.er_parallel.specs.Crews.{HasFollowed};
 ghost use Rattle.er_parallel.specs.Faults.{AsksForSet};
-ghost use Rattle.er_parallel.specs.Found.{usual};
+ghost use Rattle.er_parallel.specs.Inner.Faults.{MayBeFull};
 ghost use Rattle.er_parallel.specs.Inner.Taking.{AreIdle, HasCome, HasDone, HasTaken, IsBusy, IsIdle, IsKept, IsOwn};
 ghost use Rattle.er_parallel.specs.Tasks.{IsShare};
-ghost use Rattle.er_parallel.specs.Work.{MayBeFull};
+ghost use Rattle.er_parallel.specs.Usual.{usual};
 ghost use Rattle.er_model.specs.Following.{answered, state_after};
 ghost use Rattle.er_model.specs.Holdings.{after_step};
 ghost use Rattle.er_replay.specs.Standing.{found_no_room, holding, states, Stands};
@@ -14,8 +14,8 @@ ghost use Rattle.er_replay.specs.Wants.{asks_by, is_access};
 
 use crate::Unusual;
 use crate::task::{Share, shard_for, worker_for};
-use crate::worked::{WorkFault, is_usual};
-use er_event::{Event, Lockset, NoRoom, Refusal, Reply, Step, ThreadId};
+use crate::unusual::{is_access, is_usual};
+use er_event::{Lockset, NoRoom, Refusal, Reply, Step, ThreadId};
 use er_keys::HashKeys;
 use er_replay::{Machine, no_room};
 use er_table::LocksetTable;
@@ -33,6 +33,13 @@ impl<'t> Promise<Result<Worker<'t>, AllocError>> for Fresh {
     ghost use Rattle.er_replay.specs.Standing.{Stands};
 
     ghost kept_by = { λ _ r. IfOk r (λ worker. Stands worker.machine []) };
+}
+
+/// Why a worker has no answers, and the shard of the step that found no room.
+#[derive(Clone, Copy, Debug, Drop)]
+pub(crate) struct WorkFault {
+    pub(crate) shard: u32,
+    pub(crate) cause: NoRoom,
 }
 
 /// A worker: its machine, and what it found in the last batch.
@@ -228,15 +235,6 @@ fn answer_one<R: Wait>(
     } else {
         (machine.step(rt, *step), false)
     }
-}
-
-// Whether the step reads or writes a word.
-#[inline]
-fn is_access(step: &Step) -> bool
-    ensures { result ≡ is_access step.now.event }
-{
-    let Step { event, .. } = *step;
-    matches!(event, Event::Access(..))
 }
 
 // Whether the step isn't kept: its answer is the usual one, and it isn't noted.

@@ -12,7 +12,7 @@ use Rattle.er_report.specs.declared.report.Line.TheVariants.{Race, Reused, Refus
 -- sites that agree ask alike
 same-asks : (one other : ℕ → Kind → Bool) (number : ℕ) (line : Line) → ((s : ℕ) (k : Kind) → one s k ≡ other s k) → asks_unless one number line ≡ asks_unless other number line
 same-asks one other number (Race n thread kind word site held explained) same = ap (λ (b : Bool). not b && (nat_eq n number || name_line explained.items number)) (same site kind)
-same-asks one other number (Reused n thread range held explained) same = refl
+same-asks one other number (Reused n thread range site held explained) same = refl
 same-asks one other number (Refused n step refusal) same = refl
 same-asks one other number (Shown n word state) same = refl
 

@@ -49,12 +49,12 @@ finished : (limit : ℕ) (left : List Placed) (p : Progress) (r : Recording) (re
 finished limit left p r (Ok q) is e = subst (Grows p.told) (ended q.stage q r e) (lines-on limit left p q is)
 finished limit left p r (Err fault) is e = absurd (cc)
 
-pub in-front : (text : List ℕ) (past : List Step) (lines : List ℕ) (reader : Reached) (known : Option (List ℕ)) (trace r : Recording) → HasRead text past lines reader known trace
-    → IsTrace text reader.place.limit r → Grows (joined past lines trace) r
-in-front text past lines reader known trace r read is = by (lines_left reader.place known) read.0
+pub in-front : (text : List ℕ) (past : List Step) (lines sites : List ℕ) (reader : Reached) (known : Option (List ℕ)) (trace r : Recording) → HasRead text past lines sites reader known trace
+    → IsTrace text reader.place.limit r → Grows (joined past lines sites trace) r
+in-front text past lines sites reader known trace r read is = by (lines_left reader.place known) read.0
   where
-    by : (left : Option (List Placed)) → Continues reader.place.limit read_content (Some (placed text)) left at_front (progress reader (joined past lines trace)) → Grows (joined past lines trace) r
+    by : (left : Option (List Placed)) → Continues reader.place.limit read_content (Some (placed text)) left at_front (progress reader (joined past lines sites trace)) → Grows (joined past lines sites trace) r
     by None on = absurd on
     by (Some left) on =
-        finished reader.place.limit left (progress reader (joined past lines trace)) r (read_lines reader.place.limit read_content left (progress reader (joined past lines trace))) refl
+        finished reader.place.limit left (progress reader (joined past lines sites trace)) r (read_lines reader.place.limit read_content left (progress reader (joined past lines sites trace))) refl
         (ap finish (sym on) ∙ trace_read reader.place.limit text r is)

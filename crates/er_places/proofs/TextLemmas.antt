@@ -25,17 +25,17 @@ use Rattle.er_trace.specs.Trace.{IsNamed, Recording, no_steps, without_steps}
 -- a batch
 module _ (wants : ℕ → Bool) (told : Option (List ℕ)) (old new : Reached) (known rest : Option (List ℕ)) (t u : Recording) (batch : Batch) (seen after_it : Followed)
     (state : HasCome wants told known old t seen)
-    (gives : (text : List ℕ) (steps : List Step) (numbers : List ℕ) → HasRead text steps numbers old known t → GivesBatch text steps numbers new rest u (Ok batch))
+    (gives : (text : List ℕ) (steps : List Step) (numbers sites : List ℕ) → HasRead text steps numbers sites old known t → GivesBatch text steps numbers sites new rest u (Ok batch))
     (kept : KeepsNames t.names u.names) (level : length u.lines ≡ length u.steps) (named : All (IsNamed u.names) u.steps)
     (stands : StandsFor wants after_it (state.past ++ u.steps) (state.lines ++ u.lines)) where
   all : All (IsNamed u.names) (state.past ++ u.steps)
   all = All-append (IsNamed u.names) state.past u.steps (all-named t.names u.names kept state.past state.named) named
 
-  part : batch ≡ More → (o : Option (List ℕ)) → IfSome o (λ text. HasRead text state.past state.lines old known t)
-      → IfSome o (λ text. HasRead text (state.past ++ u.steps) (state.lines ++ u.lines) new rest (without_steps u))
+  part : batch ≡ More → (o : Option (List ℕ)) → IfSome o (λ text. HasRead text state.past state.lines state.sites old known t)
+      → IfSome o (λ text. HasRead text (state.past ++ u.steps) (state.lines ++ u.lines) (state.sites ++ u.sites) new rest (without_steps u))
   part is None read = tt
   part is (Some text) read =
-      forgotten text state.past state.lines new rest u (subst (λ (b : Batch). GivesBatch text state.past state.lines new rest u (Ok b)) is (gives text state.past state.lines read))
+      forgotten text state.past state.lines state.sites new rest u (subst (λ (b : Batch). GivesBatch text state.past state.lines state.sites new rest u (Ok b)) is (gives text state.past state.lines state.sites read))
 
   pub come-part : batch ≡ More → HasCome wants told rest new (without_steps u) after_it
   come-part is =
@@ -43,6 +43,7 @@ module _ (wants : ℕ → Bool) (told : Option (List ℕ)) (old new : Reached) (
       record {
         past = state.past ++ u.steps;
         lines = state.lines ++ u.lines;
+        sites = state.sites ++ u.sites;
         read = part is told state.read;
         even = omega (arith, length-append state.past u.steps, length-append state.lines u.lines);
         named = all;
@@ -56,14 +57,14 @@ module _ (wants : ℕ → Bool) (told : Option (List ℕ)) (old new : Reached) (
   names_kept = record { threads = λ n name is. is; locks = λ n name is. is; sites = λ n name is. is }
 
   -- the last batch has the rest of the text's steps
-  whole : batch ≡ End → new.place.limit ≡ old.place.limit → (o : Option (List ℕ)) → IfSome o (λ text. HasRead text state.past state.lines old known t)
+  whole : batch ≡ End → new.place.limit ≡ old.place.limit → (o : Option (List ℕ)) → IfSome o (λ text. HasRead text state.past state.lines state.sites old known t)
       → IfSome o (λ text. ArePlaces wants text old.place.limit found)
   whole is limit None read = tt
   whole is limit (Some text) read = λ r trace.
-      let here : IsTrace text old.place.limit (joined state.past state.lines u) =
-      subst (λ (n : ℕ). IsTrace text n (joined state.past state.lines u)) limit
-      (subst (λ (b : Batch). GivesBatch text state.past state.lines new rest u (Ok b)) is (gives text state.past state.lines read)) in
-      subst (λ (x : Recording). HasPlaces wants x found) (same_trace text old.place.limit (joined state.past state.lines u) r here trace)
+      let here : IsTrace text old.place.limit (joined state.past state.lines state.sites u) =
+      subst (λ (n : ℕ). IsTrace text n (joined state.past state.lines state.sites u)) limit
+      (subst (λ (b : Batch). GivesBatch text state.past state.lines state.sites new rest u (Ok b)) is (gives text state.past state.lines state.sites read)) in
+      subst (λ (x : Recording). HasPlaces wants x found) (same_trace text old.place.limit (joined state.past state.lines state.sites u) r here trace)
       (record { places = stands.places; names = names_kept })
 
   pub come-whole : batch ≡ End → new.place.limit ≡ old.place.limit → HasEnded wants told old.place.limit u after_it
@@ -74,12 +75,12 @@ module _ (wants : ℕ → Bool) (told : Option (List ℕ)) (old new : Reached) (
       }
 
   -- and where each wanted line has its place, later batches change nothing
-  enough : batch ≡ More → new.place.limit ≡ old.place.limit → HasAll wants after_it.places → (o : Option (List ℕ)) → IfSome o (λ text. HasRead text state.past state.lines old known t)
+  enough : batch ≡ More → new.place.limit ≡ old.place.limit → HasAll wants after_it.places → (o : Option (List ℕ)) → IfSome o (λ text. HasRead text state.past state.lines state.sites old known t)
       → IfSome o (λ text. ArePlaces wants text old.place.limit found)
   enough is limit has None read = tt
   enough is limit has (Some text) read = λ r trace.
-      let so_far : HasRead text state.past state.lines new rest u = subst (λ (b : Batch). GivesBatch text state.past state.lines new rest u (Ok b)) is (gives text state.past state.lines read) in
-      let grows : Grows (joined state.past state.lines u) r = in-front text state.past state.lines new rest u r so_far (subst (λ (n : ℕ). IsTrace text n r) (sym limit) trace) in
+      let so_far : HasRead text state.past state.lines state.sites new rest u = subst (λ (b : Batch). GivesBatch text state.past state.lines state.sites new rest u (Ok b)) is (gives text state.past state.lines state.sites read) in
+      let grows : Grows (joined state.past state.lines state.sites u) r = in-front text state.past state.lines state.sites new rest u r so_far (subst (λ (n : ℕ). IsTrace text n r) (sym limit) trace) in
       let even : length state.lines ≡ length state.past = state.even in
       let level_all : length (state.lines ++ u.lines) ≡ length (state.past ++ u.steps) = omega (arith, length-append state.past u.steps, length-append state.lines u.lines) in
       record {
@@ -98,13 +99,13 @@ module _ (wants : ℕ → Bool) (told : Option (List ℕ)) (old new : Reached) (
       }
 
 -- before the first batch
-pub come-start : (wants : ℕ → Bool) (reader : Reached) (trace : Recording) (seen : Followed) → trace ≡ no_steps → ((text : List ℕ) → HasRead text [] [] reader (Some text) no_steps)
+pub come-start : (wants : ℕ → Bool) (reader : Reached) (trace : Recording) (seen : Followed) → trace ≡ no_steps → ((text : List ℕ) → HasRead text [] [] [] reader (Some text) no_steps)
     → StandsFor wants seen [] [] → (told : Option (List ℕ)) → HasCome wants told told reader trace seen
 come-start wants reader trace seen empty starts stands told =
     subst (λ (t : Recording). HasCome wants told told reader t seen) (sym empty)
-    (record { past = []; lines = []; read = read-by told; even = refl; named = All-nil (IsNamed no_names); stands = stands })
+    (record { past = []; lines = []; sites = []; read = read-by told; even = refl; named = All-nil (IsNamed no_names); stands = stands })
   where
-    read-by : (o : Option (List ℕ)) → IfSome o (λ text. HasRead text [] [] reader o no_steps)
+    read-by : (o : Option (List ℕ)) → IfSome o (λ text. HasRead text [] [] [] reader o no_steps)
     read-by None = tt
     read-by (Some text) = starts text
 

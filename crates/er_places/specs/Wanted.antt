@@ -23,7 +23,7 @@ same_kind kind.Write kind.Read = false
 -- the line is a race of this kind at this site
 abbrev pub is_race_at : ℕ → Kind → Line → Bool
 is_race_at s k (Race number thread kind word site held explained) = nat_eq site s && same_kind kind k
-is_race_at s k (Reused number thread range held explained) = false
+is_race_at s k (Reused number thread range site held explained) = false
 is_race_at s k (Refused number step refusal) = false
 is_race_at s k (Shown number word state) = false
 
@@ -35,7 +35,7 @@ name_line reasons line = list_any (λ (because : Because). nat_eq because.line l
 -- reasons name
 abbrev pub asks_unless : (ℕ → Kind → Bool) → ℕ → Line → Bool
 asks_unless known line (Race number thread kind word site held explained) = not (known site kind) && (nat_eq number line || name_line explained.items line)
-asks_unless known line (Reused number thread range held explained) = name_line explained.items line
+asks_unless known line (Reused number thread range site held explained) = name_line explained.items line
 asks_unless known line (Refused number step refusal) = false
 asks_unless known line (Shown number word state) = false
 

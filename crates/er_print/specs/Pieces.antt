@@ -1,9 +1,9 @@
 -- The parts of a text.
 use Rattle.std.specs.Prelude.{ℕ, ◌<◌, ◌≤◌, List, [], ◌∷◌, ◌++◌, flat_map, length, decimal}
 use Rattle.er_print.specs.Printed.{address_text, event_text, kind_text, state_text}
-use Rattle.er_print.specs.Styles.{label_in, lock_in, locks_in, name_in, site_in, thread_in}
+use Rattle.er_print.specs.Styles.{label_in, lock_in, locks_in, name_in, named_site, site_in, thread_in}
 use Rattle.er_print.specs.declared.pieces.Piece.{Piece}
-use Rattle.er_print.specs.declared.pieces.Piece.TheVariants.{Text, Number, Address, Verb, Name, Thread, Lock, Site, Locks, Label, Event, State}
+use Rattle.er_print.specs.declared.pieces.Piece.TheVariants.{Text, Number, Address, Verb, Name, Thread, Lock, Site, NamedSite, Locks, Label, Event, State}
 use Rattle.er_print.specs.declared.styles.Style.{Style}
 use Rattle.er_report.specs.Names.{HasEventNames, HasLabelName, HasLockName, HasLockNames, HasStateNames}
 use Rattle.er_trace.specs.Names.{NameTable}
@@ -11,6 +11,7 @@ use Rattle.er_trace.specs.Names.{NameTable}
 -- the text before a value
 abbrev pub before_of : Piece → List ℕ
 before_of (Text text) = []
+before_of (NamedSite before site) = []
 before_of (Number before n) = before.now
 before_of (Address before word) = before.now
 before_of (Verb before kind) = before.now
@@ -33,6 +34,7 @@ value_text style names (Name before name) = name_in style 72 name.now
 value_text style names (Thread before thread) = thread_in style names thread
 value_text style names (Lock before lock) = lock_in style names lock
 value_text style names (Site before site) = site_in style names site
+value_text style names (NamedSite before site) = named_site style names before.now site
 value_text style names (Locks before locks) = locks_in style names locks.now
 value_text style names (Label before label) = label_in style names label
 value_text style names (Event before event) = event_text names event.now
@@ -55,6 +57,7 @@ HasPieceName names (Name before name) = Unit {0}
 HasPieceName names (Thread before thread) = thread < length names.threads
 HasPieceName names (Lock before lock) = HasLockName names lock
 HasPieceName names (Site before site) = site ≤ length names.sites
+HasPieceName names (NamedSite before site) = site ≤ length names.sites
 HasPieceName names (Locks before locks) = HasLockNames names locks.now
 HasPieceName names (Label before label) = HasLabelName names label
 HasPieceName names (Event before event) = HasEventNames names event.now

@@ -23,7 +23,7 @@ use Rattle.er_report.specs.declared.report.Label.{Label}
 use Rattle.er_report.specs.declared.report.Report.{Report}
 use Rattle.er_report.specs.declared.reports.Reports.{Reports}
 use Rattle.er_rules.specs.Rules.{Target}
-use Rattle.er_print.specs.Styles.{label_in, lock_in, locks_in, site_in}
+use Rattle.er_print.specs.Styles.{label_in, lock_in, locks_in, named_site, site_in}
 use Rattle.er_print.specs.declared.lines.ReportKind.{ReportKind}
 use Rattle.er_print.specs.declared.lines.ReportKind.TheVariants.{Lockset, Unordered}
 use Rattle.er_print.specs.declared.styles.Style.TheVariants as style
@@ -111,9 +111,11 @@ access_text names thread kind word site held =
     name_at names.threads thread ++ codes " " ++ kind_text kind ++ codes " " ++ address_text word ++ codes " at " ++ site_text names site
     ++ codes ", holds " ++ locks_text names held ++ 10 ∷ []
 
--- who gave back these words, by the address of the first byte and the number of bytes
-abbrev pub reuse_text : NameTable → ℕ → ℕ → ℕ → List ℕ
-reuse_text names thread lo hi = name_at names.threads thread ++ codes " reuse " ++ address_text lo ++ codes " " ++ decimal (bytes_between lo hi) ++ 10 ∷ []
+-- who gave back these words, by the address of the first byte and the number of bytes, and where, if that has a name
+abbrev pub reuse_text : NameTable → ℕ → ℕ → ℕ → ℕ → List ℕ
+reuse_text names thread lo hi site =
+    name_at names.threads thread ++ codes " reuse " ++ address_text lo ++ codes " " ++ decimal (bytes_between lo hi)
+    ++ named_site style.Plain names (codes " at ") site ++ 10 ∷ []
 
 -- what a report calls a race
 abbrev pub race_label : ReportKind → List ℕ
@@ -124,7 +126,7 @@ race_label Unordered = codes "unordered: "
 abbrev pub own_text : ReportKind → NameTable → LineView → List ℕ
 own_text of names (RaceView number thread kind word site held explained) =
     place_text number ++ race_label of ++ access_text names thread kind word site held
-own_text of names (ReusedView number thread range held explained) = place_text number ++ race_label of ++ reuse_text names thread range.lo range.hi
+own_text of names (ReusedView number thread range site held explained) = place_text number ++ race_label of ++ reuse_text names thread range.lo range.hi site
 own_text of names (RefusedView number step refusal) =
     place_text number ++ codes "refused: " ++ name_at names.threads step.thread ++ codes " "
     ++ event_text names step.event ++ codes ": " ++ text_of refusal ++ 10 ∷ []
@@ -134,7 +136,7 @@ own_text of names (ShownView number word state) =
 -- and why it is a race
 abbrev pub reasons_text : NameTable → LineView → List ℕ
 reasons_text names (RaceView number thread kind word site held explained) = flat_map (reason_text names) explained
-reasons_text names (ReusedView number thread range held explained) = flat_map (reason_text names) explained
+reasons_text names (ReusedView number thread range site held explained) = flat_map (reason_text names) explained
 reasons_text names (RefusedView number step refusal) = []
 reasons_text names (ShownView number word state) = []
 

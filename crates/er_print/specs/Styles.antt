@@ -60,6 +60,11 @@ abbrev pub site_in : Style → NameTable → ℕ → List ℕ
 site_in style names zero = missing_in style
 site_in style names (suc n) = name_in style 72 (name_at names.sites n)
 
+-- a site that has a name, behind these bytes; of the missing one nothing
+unfoldable pub named_site : Style → NameTable → List ℕ → ℕ → List ℕ
+named_site style names before zero = []
+named_site style names before (suc n) = before ++ site_in style names (suc n)
+
 -- locks with spaces between them
 abbrev pub spaced_in : Style → NameTable → List ℕ → List ℕ
 spaced_in style names [] = codes "none"

@@ -8,7 +8,7 @@ ghost use Rattle.er_print.specs.Printed.{name_at, access_text, address_text, eve
 
 use crate::numbers::put_number;
 use crate::pieces::Piece::{
-    Address, Event, Label, Locks, Name, Number, Site, State, Text, Thread, Verb,
+    Address, Event, Label, Locks, Name, NamedSite, Number, Site, State, Text, Thread, Verb,
 };
 use crate::pieces::put_all;
 use crate::styles::Style;
@@ -83,12 +83,13 @@ fn put_own_line(
             line,
             thread,
             range,
+            site,
             held: _,
             explained: _,
         } => {
             put_place(out, *line)?;
             out.extend_from_slice(race_label(of))?;
-            put_reuse(out, names, *thread, range)
+            put_reuse(out, names, *thread, range, *site)
         }
         Line::Refused {
             line,
@@ -141,20 +142,23 @@ fn put_access(
     put_all(out, Style::Plain, names, &pieces)
 }
 
-// Puts who gave back which bytes.
+// Puts who gave back which bytes, and where.
 fn put_reuse(
     out: &mut Vec<u8>,
     names: &Names,
     thread: ThreadId,
     range: &PageRange,
+    site: er_event::Site,
 ) -> Result<(), AllocError>
-    requires { thread < length names.now.threads }
-    ensures { OnOk result (out.new.items ≡ out.old.items ++ reuse_text names.now thread range.now.lo range.now.hi) }
+    requires thread { thread < length names.now.threads }
+    requires site { site ≤ length names.now.sites }
+    ensures { OnOk result (out.new.items ≡ out.old.items ++ reuse_text names.now thread range.now.lo range.now.hi site) }
 {
     let pieces = [
         Thread(b"", thread),
         Address(b" reuse ", range.lo),
         Number(b" ", bytes_of(range)),
+        NamedSite(b" at ", site),
         Text(b"\n"),
     ];
     put_all(out, Style::Plain, names, &pieces)

@@ -5,7 +5,9 @@ ghost use Rattle.er_print.specs.Pieces.{HasPieceName, HavePieceNames, before_of,
 
 use crate::naming::{put_event, put_state, verb};
 use crate::numbers::{put_address, put_number};
-use crate::styles::{Style, put_label_in, put_lock_in, put_locks_in, put_name, put_site_in};
+use crate::styles::{
+    Style, put_label_in, put_lock_in, put_locks_in, put_name, put_named_site, put_site_in,
+};
 use er_event::{Kind, LockId, ThreadId, Word, WordState};
 use er_trace::Names;
 use std::alloc::AllocError;
@@ -29,6 +31,8 @@ pub enum Piece<'a> {
     Lock(&'a [u8], LockId),
     /// A site by its name.
     Site(&'a [u8], er_event::Site),
+    /// A site by its name. Of the missing one nothing is put, not even these bytes.
+    NamedSite(&'a [u8], er_event::Site),
     /// Locks by their names.
     Locks(&'a [u8], &'a [LockId]),
     /// What an access has to do with a race.
@@ -85,7 +89,7 @@ fn before_of<'a>(piece: &Piece<'a>) -> &'a [u8]
     ensures { result.now ≡ before_of piece.now }
 {
     match piece {
-        Piece::Text(_) => b"".as_slice(),
+        Piece::Text(_) | Piece::NamedSite(_, _) => b"".as_slice(),
         Piece::Number(before, _)
         | Piece::Address(before, _)
         | Piece::Verb(before, _)
@@ -120,6 +124,7 @@ fn put_value(
         }
         Piece::Lock(_, lock) => put_lock_in(out, style, names, *lock),
         Piece::Site(_, site) => put_site_in(out, style, names, *site),
+        Piece::NamedSite(before, site) => put_named_site(out, style, names, before, *site),
         Piece::Locks(_, locks) => put_locks_in(out, style, names, locks),
         Piece::Label(_, label) => put_label_in(out, style, names, *label),
         Piece::Event(_, event) => put_event(out, names, **event),

@@ -1,6 +1,6 @@
 //! How names are written.
 ghost use Rattle.std.specs.Prelude.{◌≡◌, ◌++◌, ◌≤◌, length, OnOk};
-ghost use Rattle.er_print.specs.Styles.{escaped, escaped_text, label_in, level_in, lock_in, locks_in, missing_in, name_in, short, site_in, spaced_in, string_text};
+ghost use Rattle.er_print.specs.Styles.{escaped, escaped_text, label_in, level_in, lock_in, locks_in, missing_in, named_site, name_in, short, site_in, spaced_in, string_text};
 ghost use Rattle.er_print.specs.Values.{comma_before, more_text, values_text};
 ghost use Rattle.er_report.specs.Names.{HasLabelName, HasLockName, HasLockNames};
 
@@ -128,6 +128,25 @@ pub(crate) fn put_site_in(
         return out.extend_from_slice(missing(style));
     }
     put_name(out, style, names.site_name(site).as_bytes(), 72)
+}
+
+/// Puts the name of a site behind these bytes, and of the missing one nothing.
+#[tactic(auto, unfolding(crate::specs::Styles::named_site))]
+pub(crate) fn put_named_site(
+    out: &mut Vec<u8>,
+    style: Style,
+    names: &Names,
+    before: &[u8],
+    site: Site,
+) -> Result<(), AllocError>
+    requires { site ≤ length names.now.sites }
+    ensures { OnOk result (out.new.items ≡ out.old.items ++ named_site style names.now before.now site) }
+{
+    if site.number() == 0 {
+        return Ok(());
+    }
+    out.extend_from_slice(before)?;
+    put_site_in(out, style, names, site)
 }
 
 fn missing(style: Style) -> &'static [u8]

@@ -5,10 +5,10 @@ use Rattle.std.proofs.Math.Seq.{drop-append_seam}
 use Rattle.std.proofs.lemmas.List.{length-take-le, take-append-drop, take-append-le, take_all}
 use Rattle.std.proofs.lemmas.List.Elements.{All-nil, All-cons, All-head, All-tail}
 use Rattle.er_event.specs.declared.steps.Step.{Step}
-use Rattle.er_trace.proofs.AppendedSteps.{new_named, still_named}
-use Rattle.er_trace.specs.Appended.{AreNumbers, renumbered_step, with_table}
+use Rattle.er_trace.proofs.AppendedSteps.{new_named, still_named, new_sites_named, sites_still_named}
+use Rattle.er_trace.specs.Appended.{AreNumbers, renumbered_site, renumbered_step, with_table}
 use Rattle.er_trace.specs.Names.{NameTable}
-use Rattle.er_trace.specs.Trace.{Recording, IsNamed, with_steps}
+use Rattle.er_trace.specs.Trace.{Recording, IsNamed, HasSiteName, no_steps, with_steps}
 use Rattle.er_text.proofs.AppendedLemmas.{appended_grows}
 use Rattle.er_text.proofs.PieceGives.{past_piece, piece_few, piece_small}
 use Rattle.er_text.specs.Batches.{HasRead}
@@ -28,8 +28,11 @@ ready_of before names p q z entered numbered =
       steps = subst (λ (r : Recording). z.steps ≡ map (renumbered_step r.names names) r.steps) entered.told (numbered.steps names known);
       places = subst (λ (r : Recording). z.places ≡ map (λ line. before + line) r.lines) entered.told
           (subst (λ (n : ℕ). z.places ≡ map (λ line. n + line) q.told.lines) entered.before_is numbered.places);
+      sites = subst (λ (r : Recording). z.sites ≡ map (renumbered_site r.names.sites names.sites) r.sites) entered.told (numbered.sites names known);
       level = numbered.level;
+      level_sites = numbered.level_sites;
       named = subst (λ (r : Recording). All (IsNamed r.names) r.steps) entered.told numbered.named;
+      named_sites = subst (λ (r : Recording). All (HasSiteName r.names) r.sites) entered.told numbered.named_sites;
       lines = numbered.lines ∙ entered.lines;
       len = numbered.len ∙ entered.len;
       comment = numbered.comment ∙ entered.comment;
@@ -91,6 +94,11 @@ behind_named : (names : NameTable) (ps : List ReadPiece) (steps : List Step) →
 behind_named names [] steps named = named
 behind_named names (p ∷ ps) steps named = behind_named (with_table names p.told.names) ps steps (still_named names p.told.names steps named)
 
+-- and so have sites
+sites_behind_named : (names : NameTable) (ps : List ReadPiece) (sites : List ℕ) → All (HasSiteName names) sites → All (HasSiteName (names_behind names ps)) sites
+sites_behind_named names [] sites named = named
+sites_behind_named names (p ∷ ps) sites named = sites_behind_named (with_table names p.told.names) ps sites (sites_still_named names p.told.names sites named)
+
 -- the first piece
 first_by : (reader : Reached) (t : Recording) (z : ReadPiece) (zs : List ReadPiece) (names : NameTable) (read : List ReadPiece) → StandInFront reader read → All IsWhole read
     → AreReady reader.place.number names read (z ∷ zs) → t.names ≡ names_behind names read → MayBeAdded reader t z
@@ -99,6 +107,8 @@ first_by reader t z zs names (p ∷ ps) front whole ready named =
     let all : NameTable = with_table names p.told.names in
     let steps : All (IsNamed all) z.steps =
     subst (λ (s : List Step). All (IsNamed all) s) (sym ready.0.steps) (new_named names p.told.names p.told.steps ready.0.named) in
+    let sites : All (HasSiteName all) z.sites =
+    subst (λ (s : List ℕ). All (HasSiteName all) s) (sym ready.0.sites) (new_sites_named names p.told.names p.told.sites ready.0.named_sites) in
     record {
       read = p;
       names = all;
@@ -106,6 +116,7 @@ first_by reader t z zs names (p ∷ ps) front whole ready named =
       whole = All-head IsWhole p ps whole;
       ready = ready.0;
       named = subst (λ (n : NameTable). All (IsNamed n) z.steps) (sym named) (behind_named all ps z.steps steps);
+      named_sites = subst (λ (n : NameTable). All (HasSiteName n) z.sites) (sym named) (sites_behind_named all ps z.sites sites);
     }
 
 pub first_may : (reader : Reached) (t : Recording) (z : ReadPiece) (zs : List ReadPiece) → MayAllBeAdded reader t (z ∷ zs) → MayBeAdded reader t z
@@ -140,15 +151,15 @@ module _ (old mid : Reached) (t u : Recording) (z : ReadPiece) (zs : List ReadPi
   others_may may = others_by may.names may.read may.front may.whole may.ready may.named
 
   -- what the first piece gives, and then the others
-  pub told_on : (text : List ℕ) (steps : List Step) (numbers : List ℕ) (known : Option (List ℕ)) (G : Type 0)
+  pub told_on : (text : List ℕ) (steps : List Step) (numbers sites : List ℕ) (known : Option (List ℕ)) (G : Type 0)
       → ((names : NameTable) (read : ReadPiece) → StandsInFront old read → read.whole ≡ true → IsReady old.place.number (with_table names read.told.names) read z
-      → HasRead text steps numbers old known (record t { names = names }) → HasRead text steps numbers mid known (record u { names = with_table names read.told.names }))
+      → HasRead text steps numbers sites old known (record t { names = names }) → HasRead text steps numbers sites mid known (record u { names = with_table names read.told.names }))
       → ((names : NameTable) (read : List ReadPiece) → StandInFront mid read → All IsWhole read → AreReady mid.place.number names read zs → u.names ≡ names_behind names read
-      → HasRead text steps numbers mid known (record u { names = names }) → G)
+      → HasRead text steps numbers sites mid known (record u { names = names }) → G)
       → (names : NameTable) (read : List ReadPiece) → StandInFront old read → All IsWhole read → AreReady old.place.number names read (z ∷ zs) → t.names ≡ names_behind names read
-      → HasRead text steps numbers old known (record t { names = names }) → G
-  told_on text steps numbers known G one others names [] front whole ready named had = absurd ready
-  told_on text steps numbers known G one others names (p ∷ ps) front whole ready named had =
+      → HasRead text steps numbers sites old known (record t { names = names }) → G
+  told_on text steps numbers sites known G one others names [] front whole ready named had = absurd ready
+  told_on text steps numbers sites known G one others names (p ∷ ps) front whole ready named had =
       others (with_table names p.told.names) ps (next_front p ps names front ready) (All-tail IsWhole p ps whole) (next_ready p ps names front ready) (same ∙ named)
       (one names p (first_in_front old p ps front) (All-head IsWhole p ps whole) ready.0 had)
 
@@ -165,7 +176,7 @@ keeps_behind : (names : NameTable) (ps : List ReadPiece) → KeepsNames names (n
 keeps_behind names [] = record { threads = λ n x e. e; locks = λ n x e. e; sites = λ n x e. e }
 keeps_behind names (p ∷ ps) =
     let first : KeepsNames names (with_table names p.told.names) =
-    (appended_grows 0 (record { steps = []; lines = []; names = names }) (record { steps = []; lines = []; names = p.told.names })).names in
+    (appended_grows 0 (record no_steps { names = names }) (record no_steps { names = p.told.names })).names in
     let others = keeps_behind (with_table names p.told.names) ps in
     record {
       threads = λ n x e. others.threads n x (first.threads n x e);
@@ -178,17 +189,21 @@ names_grow t u ps is = subst (λ (r : Recording). Grows t r) (sym is) (record {
   names = keeps_behind t.names ps;
   more = [];
   others = [];
+  named = [];
   steps = sym (append-nil t.steps);
   lines = sym (append-nil t.lines);
+  sites = sym (append-nil t.sites);
 })
 
-pub steps_grow : (t u : Recording) (steps : List Step) (lines : List ℕ) → u ≡ with_steps t steps lines → Grows t u
-steps_grow t u steps lines is = subst (λ (r : Recording). Grows t r) (sym is) (record {
+pub steps_grow : (t u : Recording) (steps : List Step) (lines sites : List ℕ) → u ≡ with_steps t steps lines sites → Grows t u
+steps_grow t u steps lines sites is = subst (λ (r : Recording). Grows t r) (sym is) (record {
   names = record { threads = λ n x e. e; locks = λ n x e. e; sites = λ n x e. e };
   more = steps;
   others = lines;
+  named = sites;
   steps = refl;
   lines = refl;
+  sites = refl;
 })
 
 -- the first pieces in front of a reader
@@ -250,12 +265,12 @@ module _ (reader : Reached) (all some : List ReadPiece) (n before : ℕ) (front 
   }
 
   -- what they give, once they are added
-  pub told_some : (text : List ℕ) (steps : List Step) (numbers : List ℕ) (known : Option (List ℕ)) (t u : Recording) (qs zs : List ReadPiece) (G : Type 0) → before ≡ reader.place.number
+  pub told_some : (text : List ℕ) (steps : List Step) (numbers sites : List ℕ) (known : Option (List ℕ)) (t u : Recording) (qs zs : List ReadPiece) (G : Type 0) → before ≡ reader.place.number
       → AreEntered before t.names some qs → AreNumbered qs zs → u ≡ record t { names = names_behind t.names some }
       → ((names : NameTable) (read : List ReadPiece) → StandInFront reader read → All IsWhole read → AreReady reader.place.number names read zs → u.names ≡ names_behind names read
-      → HasRead text steps numbers reader known (record u { names = names }) → G)
-      → HasRead text steps numbers reader known t → G
-  told_some text steps numbers known t u qs zs G number entered numbered names gives read =
+      → HasRead text steps numbers sites reader known (record u { names = names }) → G)
+      → HasRead text steps numbers sites reader known t → G
+  told_some text steps numbers sites known t u qs zs G number entered numbered names gives read =
       let same : record u { names = t.names } ≡ t = ap (λ (r : Recording). record r { names = t.names }) names in
       gives t.names some some_front some_whole (subst (λ (n : ℕ). AreReady n t.names some zs) number (all_ready before t.names some qs zs entered numbered))
-      (ap (λ (r : Recording). r.names) names) (subst (λ (r : Recording). HasRead text steps numbers reader known r) (sym same) read)
+      (ap (λ (r : Recording). r.names) names) (subst (λ (r : Recording). HasRead text steps numbers sites reader known r) (sym same) read)

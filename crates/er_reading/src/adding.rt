@@ -51,10 +51,10 @@ fn add_numbered(
     requires front { MayAllBeAdded lines.old trace.old pieces.now }
     requires within { lines.old.place.start ≤ lines.old.place.limit }
     requires most { taken_by lines.old.place ≤ lines.old.place.limit + bytes_past_limit }
-    ensures told { (text : List ℕ) (steps : List Step) (numbers : List ℕ) (known : Option (List ℕ)) (names : NameTable) (read : List ReadPiece)
+    ensures told { (text : List ℕ) (steps : List Step) (numbers sites : List ℕ) (known : Option (List ℕ)) (names : NameTable) (read : List ReadPiece)
         → StandInFront lines.old read → All IsWhole read → AreReady lines.old.place.number names read pieces.now → trace.old.names ≡ names_behind names read
-        → HasRead text steps numbers lines.old known (record trace.old { names = names })
-        → OnOk result (HasRead text steps numbers lines.new known trace.new) }
+        → HasRead text steps numbers sites lines.old known (record trace.old { names = names })
+        → OnOk result (HasRead text steps numbers sites lines.new known trace.new) }
     ensures grows { OnOk result (Grows trace.old trace.new) }
     ensures limit { lines.new.place.limit ≡ lines.old.place.limit }
     ensures start { OnOk result (lines.old.place.start ≤ lines.new.place.start) }
@@ -80,9 +80,9 @@ pub(crate) fn add_pieces<R: Threads + Sync>(
     requires front { StandInFront lines.old pieces.old }
     requires within { lines.old.place.start ≤ lines.old.place.limit }
     requires most { taken_by lines.old.place ≤ lines.old.place.limit + bytes_past_limit }
-    ensures told { (text : List ℕ) (steps : List Step) (numbers : List ℕ) (known : Option (List ℕ))
-        → HasRead text steps numbers lines.old known trace.old
-        → OnOk result (HasRead text steps numbers lines.new known trace.new) }
+    ensures told { (text : List ℕ) (steps : List Step) (numbers sites : List ℕ) (known : Option (List ℕ))
+        → HasRead text steps numbers sites lines.old known trace.old
+        → OnOk result (HasRead text steps numbers sites lines.new known trace.new) }
     ensures grows { OnOk result (Grows trace.old trace.new) }
     ensures limit { lines.new.place.limit ≡ lines.old.place.limit }
     ensures start { OnOk result (lines.old.place.start ≤ lines.new.place.start) }

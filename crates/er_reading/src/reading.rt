@@ -73,7 +73,7 @@ impl PieceReader {
         ensures start { IfOk result (λ r. r.place.start ≡ 0) }
         ensures ahead { IfOk result (λ r. length r.place.ahead ≡ 0) }
         ensures tail { IfOk result (λ r. r.tail ≡ no_tail) }
-        ensures starts { IfOk result (λ r. (text : List ℕ) → HasRead text [] [] r (Some text) no_steps) }
+        ensures starts { IfOk result (λ r. (text : List ℕ) → HasRead text [] [] [] r (Some text) no_steps) }
     {
         let size = if workers == 1 {
             LINE_WINDOW_BYTES
@@ -97,9 +97,9 @@ impl PieceReader {
     ) -> Result<bool, AllocError>
         requires within { self.old.place.start ≤ self.old.place.limit }
         requires most { taken_by self.old.place ≤ self.old.place.limit + bytes_past_limit }
-        ensures told { (text : List ℕ) (steps : List Step) (lines : List ℕ) (known : Option (List ℕ))
-            → HasRead text steps lines self.old known trace.old
-            → OnOk result (HasRead text steps lines self.new known trace.new) }
+        ensures told { (text : List ℕ) (steps : List Step) (lines sites : List ℕ) (known : Option (List ℕ))
+            → HasRead text steps lines sites self.old known trace.old
+            → OnOk result (HasRead text steps lines sites self.new known trace.new) }
         ensures grows { OnOk result (Grows trace.old trace.new) }
         ensures limit { self.new.place.limit ≡ self.old.place.limit }
         ensures start { OnOk result (self.old.place.start ≤ self.new.place.start) }
@@ -131,13 +131,13 @@ impl PieceReader {
         requires { has_failed reader.old ≡ false }
 
         // Of a text that was read so far it gives more steps, or the whole trace at the end, or the first fault of the text.
-        ensures told { (text : List ℕ) (steps : List Step) (lines : List ℕ)
-            → HasRead text steps lines self.old (D.remaining (inner_of reader.old)) trace.old
-            → GivesBatch text steps lines self.new (D.remaining (inner_of reader.new)) trace.new result }
+        ensures told { (text : List ℕ) (steps : List Step) (lines sites : List ℕ)
+            → HasRead text steps lines sites self.old (D.remaining (inner_of reader.old)) trace.old
+            → GivesBatch text steps lines sites self.new (D.remaining (inner_of reader.new)) trace.new result }
 
         // At the end of the text it knows how the text ends.
-        ensures ends { (text : List ℕ) (steps : List Step) (lines : List ℕ)
-            → HasRead text steps lines self.old (D.remaining (inner_of reader.old)) trace.old
+        ensures ends { (text : List ℕ) (steps : List Step) (lines sites : List ℕ)
+            → HasRead text steps lines sites self.old (D.remaining (inner_of reader.old)) trace.old
             → IfOk result (λ batch. batch ≡ Batch.End → KnowsEnd text self.new) }
 
         // The steps that the trace had stay in front, and names keep their numbers.

@@ -11,7 +11,7 @@ use Rattle.er_event.specs.declared.steps.Reply.{Reply}
 use Rattle.er_event.specs.declared.steps.Step.{Step}
 use Rattle.std.specs.List.{All}
 use Rattle.std.proofs.lemmas.List.Elements.{All-same, All-nil, All-cons, All-head, All-tail}
-use Rattle.er_trace.specs.Trace.{Recording, IsNamed}
+use Rattle.er_trace.specs.Trace.{Recording, IsNamed, HasSiteName as IsSite}
 use Rattle.er_event.specs.declared.refusals.NoRoom.{NoRoom}
 use Rattle.er_report.specs.Lines.{LineView, line_view}
 use Rattle.er_journal.specs.declared.answers.Stopped.{Stopped}
@@ -87,48 +87,49 @@ report-start a r rules =
     same_summary _ _ _ _ _ _ _ _ _ _ _ _ _ _ refl refl (no_counts (rule_count a r rules 0) (λ i. refl) 0 (length rules)) refl refl refl refl
 
 -- locks matter to a race alone
-same_reply : (number : ℕ) (a b : List ℕ) (t : ℕ) (event : Event) (reply : Reply) → is_race (Ok reply) ≡ false
-    → reply_line number a [] t event reply ≡ reply_line number b [] t event reply
-same_reply number a b t (Access kind word site) Race none = cc
-same_reply number a b t (Reuse range) Race none = cc
-same_reply number a b t event reply none = refl
+same_reply : (number line_site : ℕ) (a b : List ℕ) (t : ℕ) (event : Event) (reply : Reply) → is_race (Ok reply) ≡ false
+    → reply_line number line_site a [] t event reply ≡ reply_line number line_site b [] t event reply
+same_reply number line_site a b t (Access kind word site) Race none = cc
+same_reply number line_site a b t (Reuse range) Race none = cc
+same_reply number line_site a b t event reply none = refl
 
-same_line : (number : ℕ) (locks known : List ℕ) (step : Step) (given : Result Reply Refusal) → (IsTrue (is_race given) → locks ≡ known)
-    → answer_line number locks [] step given ≡ answer_line number known [] step given
-same_line number locks known step (Ok Race) same = ap (λ (held : List ℕ). reply_line number held [] step.thread step.event Race) (same refl)
-same_line number locks known step (Ok Done) same = same_reply number locks known step.thread step.event Done refl
-same_line number locks known step (Ok Quiet) same = same_reply number locks known step.thread step.event Quiet refl
-same_line number locks known step (Ok Ignored) same = same_reply number locks known step.thread step.event Ignored refl
-same_line number locks known step (Ok (State state)) same = same_reply number locks known step.thread step.event (State state) refl
-same_line number locks known step (Err why) same = refl
+same_line : (number line_site : ℕ) (locks known : List ℕ) (step : Step) (given : Result Reply Refusal) → (IsTrue (is_race given) → locks ≡ known)
+    → answer_line number line_site locks [] step given ≡ answer_line number line_site known [] step given
+same_line number line_site locks known step (Ok Race) same = ap (λ (held : List ℕ). reply_line number line_site held [] step.thread step.event Race) (same refl)
+same_line number line_site locks known step (Ok Done) same = same_reply number line_site locks known step.thread step.event Done refl
+same_line number line_site locks known step (Ok Quiet) same = same_reply number line_site locks known step.thread step.event Quiet refl
+same_line number line_site locks known step (Ok Ignored) same = same_reply number line_site locks known step.thread step.event Ignored refl
+same_line number line_site locks known step (Ok (State state)) same = same_reply number line_site locks known step.thread step.event (State state) refl
+same_line number line_site locks known step (Err why) same = refl
 
 -- what a rule takes is a race
-taken_race : (rules : List Target) (names : NameTable) (event : Event) (a : Result Reply Refusal) (i : ℕ)
-    → answer_matching_rule rules names event a ≡ Some i → (is_race a ≡ true) × (is_refused a ≡ false)
-taken_race rules names event (Ok Race) i taken = (refl, refl)
-taken_race rules names event (Ok Done) i taken = absurd (cc)
-taken_race rules names event (Ok Quiet) i taken = absurd (cc)
-taken_race rules names event (Ok Ignored) i taken = absurd (cc)
-taken_race rules names event (Ok (State state)) i taken = absurd (cc)
-taken_race rules names event (Err refusal) i taken = absurd (cc)
+taken_race : (rules : List Target) (names : NameTable) (line_site : ℕ) (event : Event) (a : Result Reply Refusal) (i : ℕ)
+    → answer_matching_rule rules names line_site event a ≡ Some i → (is_race a ≡ true) × (is_refused a ≡ false)
+taken_race rules names line_site event (Ok Race) i taken = (refl, refl)
+taken_race rules names line_site event (Ok Done) i taken = absurd (cc)
+taken_race rules names line_site event (Ok Quiet) i taken = absurd (cc)
+taken_race rules names line_site event (Ok Ignored) i taken = absurd (cc)
+taken_race rules names line_site event (Ok (State state)) i taken = absurd (cc)
+taken_race rules names line_site event (Err refusal) i taken = absurd (cc)
 
 -- one step of a recording
-module _ (a : Answering) (r : Recording) (rules : List Target) (k : ℕ) (names : NameTable) (number : ℕ) (step : Step) (given : Result Reply Refusal) (locks : List ℕ)
-    (at : IsStepBy a r k names number step given locks) where
-  line-here : answer_line number locks [] step given ≡ line_at a no_reasons r k
+module _ (a : Answering) (r : Recording) (rules : List Target) (k : ℕ) (names : NameTable) (number line_site : ℕ) (step : Step) (given : Result Reply Refusal) (locks : List ℕ)
+    (at : IsStepBy a r k names number line_site step given locks) where
+  line-here : answer_line number line_site locks [] step given ≡ line_at a no_reasons r k
   unfolding line_at
   line-here =
-      same_line number locks (held (accepted r.steps k) step.thread) step given at.locked
-      ∙ ap (λ (n : ℕ). answer_line n (held (accepted r.steps k) step.thread) [] step given) at.line
-      ∙ ap (answer_line (slice_index r.lines k) (held (accepted r.steps k) step.thread) [] step) at.answered
+      same_line number line_site locks (held (accepted r.steps k) step.thread) step given at.locked
+      ∙ ap (λ (n : ℕ). answer_line n line_site (held (accepted r.steps k) step.thread) [] step given) at.line
+      ∙ ap (λ (s : ℕ). answer_line (slice_index r.lines k) s (held (accepted r.steps k) step.thread) [] step given) at.site
+      ∙ ap (answer_line (slice_index r.lines k) (slice_index r.sites k) (held (accepted r.steps k) step.thread) [] step) at.answered
       ∙ ap (line_of a no_reasons r k) (sym at.here)
 
-  rule-here : answer_matching_rule rules names step.event given ≡ matching_rule_by a r rules k
+  rule-here : answer_matching_rule rules names line_site step.event given ≡ matching_rule_by a r rules k
   unfolding matching_rule_by
-  rule-here = rw (at.here, at.named, at.answered) refl
+  rule-here = rw (at.here, at.named, at.site, at.answered) refl
 
   -- one step more, by what becomes of its race
-  more-by : (o : Option ℕ) → matching_rule_by a r rules k ≡ o → with_answer (report_below_by a r rules k) number locks step given o ≡ report_below_by a r rules (suc k)
+  more-by : (o : Option ℕ) → matching_rule_by a r rules k ≡ o → with_answer (report_below_by a r rules k) number line_site locks step given o ≡ report_below_by a r rules (suc k)
   unfolding report_below_by lines_by count_below
   more-by None taken =
       same_summary _ _ _ _ _ _ _ _ _ _ _ _ _ _
@@ -140,7 +141,7 @@ module _ (a : Answering) (r : Recording) (rules : List Target) (k : ℕ) (names 
       (rw taken (omega arith))
       (rw at.answered refl)
   more-by (Some i) taken =
-      let race : (is_race given ≡ true) × (is_refused given ≡ false) = taken_race rules names step.event given i (rule-here ∙ taken) in
+      let race : (is_race given ≡ true) × (is_refused given ≡ false) = taken_race rules names line_site step.event given i (rule-here ∙ taken) in
       let known : (is_race (a k) ≡ true) × (is_refused (a k) ≡ false) = rw at.answered at race in
       same_summary _ _ _ _ _ _ _ _ _ _ _ _ _ _
       (rw taken (sym (append-nil (lines_by a no_reasons r rules k))))
@@ -151,11 +152,11 @@ module _ (a : Answering) (r : Recording) (rules : List Target) (k : ℕ) (names 
       (rw taken refl)
       (rw known.1 (omega arith))
 
-  more : with_answer (report_below_by a r rules k) number locks step given (answer_matching_rule rules names step.event given) ≡ report_below_by a r rules (k + 1)
-  more = ap (with_answer (report_below_by a r rules k) number locks step given) rule-here ∙ more-by (matching_rule_by a r rules k) refl ∙ ap (report_below_by a r rules) (sym (add-one k))
+  more : with_answer (report_below_by a r rules k) number line_site locks step given (answer_matching_rule rules names line_site step.event given) ≡ report_below_by a r rules (k + 1)
+  more = ap (with_answer (report_below_by a r rules k) number line_site locks step given) rule-here ∙ more-by (matching_rule_by a r rules k) refl ∙ ap (report_below_by a r rules) (sym (add-one k))
 
   -- and the position of its race
-  race-here : places_below (is_printed_by a r rules) k ++ cond (is_race given && is_none (answer_matching_rule rules names step.event given)) (k ∷ []) []
+  race-here : places_below (is_printed_by a r rules) k ++ cond (is_race given && is_none (answer_matching_rule rules names line_site step.event given)) (k ∷ []) []
       ≡ places_below (is_printed_by a r rules) (k + 1)
   unfolding places_below
   race-here = rw (add-one k, rule-here, at.answered) refl
@@ -174,26 +175,26 @@ built-start builder n empty known none a r =
       races = none;
     }
 
-pub built-next : (a : Answering) (before after : Built) (r : Recording) (k : ℕ) (names : NameTable) (number : ℕ) (step : Step) (given : Result Reply Refusal) (locks : List ℕ)
-    → IsBuiltBy a before r k → IsStepBy a r k names number step given locks → after.rules ≡ before.rules
-    → after.report ≡ with_answer before.report number locks step given (answer_matching_rule before.rules names step.event given)
-    → after.races ≡ before.races ++ cond (is_race given && is_none (answer_matching_rule before.rules names step.event given)) (before.report.steps ∷ []) []
+pub built-next : (a : Answering) (before after : Built) (r : Recording) (k : ℕ) (names : NameTable) (number line_site : ℕ) (step : Step) (given : Result Reply Refusal) (locks : List ℕ)
+    → IsBuiltBy a before r k → IsStepBy a r k names number line_site step given locks → after.rules ≡ before.rules
+    → after.report ≡ with_answer before.report number line_site locks step given (answer_matching_rule before.rules names line_site step.event given)
+    → after.races ≡ before.races ++ cond (is_race given && is_none (answer_matching_rule before.rules names line_site step.event given)) (before.report.steps ∷ []) []
     → IsBuiltBy a after r (k + 1)
-built-next a before after r k names number step given locks built at kept added placed =
+built-next a before after r k names number line_site step given locks built at kept added placed =
     let count : before.report.steps ≡ k = ap (λ (s : Summary). s.steps) built.report ∙ report-steps a r before.rules k in
-    let rule : Option ℕ = answer_matching_rule before.rules names step.event given in
+    let rule : Option ℕ = answer_matching_rule before.rules names line_site step.event given in
     let printed : Bool = is_race given && is_none rule in
     record {
       report =
           added
-          ∙ ap (λ (s : Summary). with_answer s number locks step given rule) built.report
-          ∙ more a r before.rules k names number step given locks at
+          ∙ ap (λ (s : Summary). with_answer s number line_site locks step given rule) built.report
+          ∙ more a r before.rules k names number line_site step given locks at
           ∙ ap (λ (rules : List Target). report_below_by a r rules (k + 1)) (sym kept);
       races =
           placed
           ∙ ap (λ (n : ℕ). before.races ++ cond printed (n ∷ []) []) count
           ∙ ap (λ (places : List ℕ). places ++ cond printed (k ∷ []) []) built.races
-          ∙ race-here a r before.rules k names number step given locks at
+          ∙ race-here a r before.rules k names number line_site step given locks at
           ∙ ap (λ (rules : List Target). places_below (is_printed_by a r rules) (k + 1)) (sym kept);
     }
 
@@ -212,9 +213,9 @@ counted-start n rules s empty known = subst (λ (t : Summary). IsCounted t rules
     none (suc n) zero = omega arith
     none (suc n) (suc i) = none n i
 
-pub counted-next : (s : Summary) (rules number : ℕ) (locks : List ℕ) (step : Step) (given : Result Reply Refusal) (o : Option ℕ)
-    → IsCounted s rules → IsCounted (with_answer s number locks step given o) rules
-counted-next s rules number locks step given None counted =
+pub counted-next : (s : Summary) (rules number line_site : ℕ) (locks : List ℕ) (step : Step) (given : Result Reply Refusal) (o : Option ℕ)
+    → IsCounted s rules → IsCounted (with_answer s number line_site locks step given o) rules
+counted-next s rules number line_site locks step given None counted =
     record {
       races = bump (is_race given) s.races counted.races;
       suppressed = omega (arith, counted.suppressed);
@@ -226,7 +227,7 @@ counted-next s rules number locks step given None counted =
     bump : (b : Bool) (n : ℕ) → n ≤ s.steps → n + cond b 1 0 ≤ s.steps + 1
     bump true n low = omega arith
     bump false n low = omega arith
-counted-next s rules number locks step given (Some j) counted =
+counted-next s rules number line_site locks step given (Some j) counted =
     record {
       races = omega (arith, counted.races);
       suppressed = omega (arith, counted.suppressed);
@@ -276,31 +277,32 @@ lines_named names (line ∷ lines) all =
     (lines_named names lines (All-tail (HasViewNames names) (line_view line) (map line_view lines) all))
 
 pub report-named : (a : Answering) (reasons : ℕ → List Because) (r : Recording) (rules : List Target) (n : ℕ) (lines : List Line) → map line_view lines ≡ lines_by a reasons r rules n
-    → All (IsNamed r.names) r.steps → HaveStateNames r.names a → ((k : ℕ) → All (HasReasonNames r.names) (reasons k)) → All (HasNames r.names) lines
-report-named a reasons r rules n lines are all states because =
-    lines_named r.names lines (All-same (HasViewNames r.names) (map line_view lines) (lines_by a reasons r rules n) are (named_lines r all a reasons states because rules n))
+    → All (IsNamed r.names) r.steps → All (IsSite r.names) r.sites → HaveStateNames r.names a → ((k : ℕ) → All (HasReasonNames r.names) (reasons k)) → All (HasNames r.names) lines
+report-named a reasons r rules n lines are all sites states because =
+    lines_named r.names lines (All-same (HasViewNames r.names) (map line_view lines) (lines_by a reasons r rules n) are (named_lines r all sites a reasons states because rules n))
 
 -- by the lockset rule, whose states and reasons have their names
 pub report-named-at : (r : Recording) (rules : List Target) (explain : Bool) (n : ℕ) (lines : List Line) → map line_view lines ≡ lines_below r rules explain n
-    → All (IsNamed r.names) r.steps → All (HasNames r.names) lines
-report-named-at r rules explain n lines are all =
-    report-named (answer r.steps) (reasons_if explain r) r rules n lines are all (named_states r all) (named_reasons r all explain)
+    → All (IsNamed r.names) r.steps → All (IsSite r.names) r.sites → All (HasNames r.names) lines
+report-named-at r rules explain n lines are all sites =
+    report-named (answer r.steps) (reasons_if explain r) r rules n lines are all sites (named_states r all) (named_reasons r all explain)
 
 pub built-steps : (a : Answering) (builder : Built) (r : Recording) (n : ℕ) → IsBuiltBy a builder r n → builder.report.steps ≡ n
 built-steps a builder r n built = ap (λ (s : Summary). s.steps) built.report ∙ report-steps a r builder.rules n
 
 -- a step that was answered
-pub step-answered : (r : Recording) (stop : Option Stopped) (k : ℕ) (names : NameTable) (number : ℕ) (step : Step) (given : Result Reply Refusal) (locks : List ℕ) (h : Holdings)
+pub step-answered : (r : Recording) (stop : Option Stopped) (k : ℕ) (names : NameTable) (number line_site : ℕ) (step : Step) (given : Result Reply Refusal) (locks : List ℕ) (h : Holdings)
     (known : List (Result Reply Refusal)) → known ≡ answers (answered_steps r.steps stop) → slice_get known k ≡ Some given → slice_get r.steps k ≡ Some step
-    → number ≡ slice_index r.lines k → names ≡ r.names → (IsTrue (is_race given) → locks ≡ h.held) → h ≡ holdings_at r.steps step.thread k
-    → IsStepAt r k names number step given locks
+    → number ≡ slice_index r.lines k → line_site ≡ slice_index r.sites k → names ≡ r.names → (IsTrue (is_race given) → locks ≡ h.held) → h ≡ holdings_at r.steps step.thread k
+    → IsStepAt r k names number line_site step given locks
 unfolding holdings
-step-answered r stop k names number step given locks h known answered given_is here line named locked held =
+step-answered r stop k names number line_site step given locks h known answered given_is here line site named locked held =
     let n : ℕ = length (answered_steps r.steps stop) in
     let all : known ≡ answers_below r.steps n = answered ∙ answered_front r.steps stop in
     record {
       here = here;
       line = line;
+      site = site;
       named = named;
       answered = answer_known r.steps n k given (rw all at given_is);
       locked = λ race. locked race ∙ ap (λ (h : Holdings). h.held) held;

@@ -61,36 +61,36 @@ gains-append f g p q e d first second =
     }
 
 -- the line of a reply
-quiet-gains : (number : ℕ) (locks : List ℕ) (reasons : List Because) (t : ℕ) (event : Event) (reply : Reply) → IsFalse (is_race (Ok reply))
-    → Gains [] (reply_line number locks [] t event reply) (reply_line number locks reasons t event reply)
+quiet-gains : (number line_site : ℕ) (locks : List ℕ) (reasons : List Because) (t : ℕ) (event : Event) (reply : Reply) → IsFalse (is_race (Ok reply))
+    → Gains [] (reply_line number line_site locks [] t event reply) (reply_line number line_site locks reasons t event reply)
 unfolding with_told left_told
-quiet-gains number locks reasons t (Access kind w site) Race none = absurd (cc)
-quiet-gains number locks reasons t (Reuse range) Race none = absurd (cc)
-quiet-gains number locks reasons t (Show w) (State state) none = record { lines = λ more. refl; left = λ more. refl }
-quiet-gains number locks reasons t event reply none = record { lines = λ more. refl; left = λ more. refl }
+quiet-gains number line_site locks reasons t (Access kind w site) Race none = absurd (cc)
+quiet-gains number line_site locks reasons t (Reuse range) Race none = absurd (cc)
+quiet-gains number line_site locks reasons t (Show w) (State state) none = record { lines = λ more. refl; left = λ more. refl }
+quiet-gains number line_site locks reasons t event reply none = record { lines = λ more. refl; left = λ more. refl }
 
-race-gains : (number : ℕ) (locks : List ℕ) (reasons : List Because) (t : ℕ) (event : Event) → (may_race event ≡ false → ⊥)
-    → Gains (reasons ∷ []) (reply_line number locks [] t event Race) (reply_line number locks reasons t event Race)
+race-gains : (number line_site : ℕ) (locks : List ℕ) (reasons : List Because) (t : ℕ) (event : Event) → (may_race event ≡ false → ⊥)
+    → Gains (reasons ∷ []) (reply_line number line_site locks [] t event Race) (reply_line number line_site locks reasons t event Race)
 unfolding with_told left_told
-race-gains number locks reasons t (Access kind w site) accesses = record { lines = λ more. refl; left = λ more. refl }
-race-gains number locks reasons t (Acquire l m) accesses = absurd (accesses refl)
-race-gains number locks reasons t (Release l m) accesses = absurd (accesses refl)
-race-gains number locks reasons t (Reuse range) accesses = record { lines = λ more. refl; left = λ more. refl }
-race-gains number locks reasons t IgnoreOn accesses = absurd (accesses refl)
-race-gains number locks reasons t IgnoreOff accesses = absurd (accesses refl)
-race-gains number locks reasons t (Show w) accesses = absurd (accesses refl)
-race-gains number locks reasons t (Level n) accesses = absurd (accesses refl)
-race-gains number locks reasons t (Sync sync) accesses = absurd (accesses refl)
+race-gains number line_site locks reasons t (Access kind w site) accesses = record { lines = λ more. refl; left = λ more. refl }
+race-gains number line_site locks reasons t (Acquire l m) accesses = absurd (accesses refl)
+race-gains number line_site locks reasons t (Release l m) accesses = absurd (accesses refl)
+race-gains number line_site locks reasons t (Reuse range) accesses = record { lines = λ more. refl; left = λ more. refl }
+race-gains number line_site locks reasons t IgnoreOn accesses = absurd (accesses refl)
+race-gains number line_site locks reasons t IgnoreOff accesses = absurd (accesses refl)
+race-gains number line_site locks reasons t (Show w) accesses = absurd (accesses refl)
+race-gains number line_site locks reasons t (Level n) accesses = absurd (accesses refl)
+race-gains number line_site locks reasons t (Sync sync) accesses = absurd (accesses refl)
 
-answer-gains : (number : ℕ) (locks : List ℕ) (reasons : List Because) (step : Step) (given : Result Reply Refusal) → (given ≡ Ok Race → may_race step.event ≡ false → ⊥)
-    → Gains (cond (is_race given) (reasons ∷ []) []) (answer_line number locks [] step given) (answer_line number locks reasons step given)
+answer-gains : (number line_site : ℕ) (locks : List ℕ) (reasons : List Because) (step : Step) (given : Result Reply Refusal) → (given ≡ Ok Race → may_race step.event ≡ false → ⊥)
+    → Gains (cond (is_race given) (reasons ∷ []) []) (answer_line number line_site locks [] step given) (answer_line number line_site locks reasons step given)
 unfolding with_told left_told
-answer-gains number locks reasons step (Ok Race) accesses = race-gains number locks reasons step.thread step.event (accesses refl)
-answer-gains number locks reasons step (Ok Done) accesses = quiet-gains number locks reasons step.thread step.event Done refl
-answer-gains number locks reasons step (Ok Quiet) accesses = quiet-gains number locks reasons step.thread step.event Quiet refl
-answer-gains number locks reasons step (Ok Ignored) accesses = quiet-gains number locks reasons step.thread step.event Ignored refl
-answer-gains number locks reasons step (Ok (State state)) accesses = quiet-gains number locks reasons step.thread step.event (State state) refl
-answer-gains number locks reasons step (Err why) accesses = record { lines = λ more. refl; left = λ more. refl }
+answer-gains number line_site locks reasons step (Ok Race) accesses = race-gains number line_site locks reasons step.thread step.event (accesses refl)
+answer-gains number line_site locks reasons step (Ok Done) accesses = quiet-gains number line_site locks reasons step.thread step.event Done refl
+answer-gains number line_site locks reasons step (Ok Quiet) accesses = quiet-gains number line_site locks reasons step.thread step.event Quiet refl
+answer-gains number line_site locks reasons step (Ok Ignored) accesses = quiet-gains number line_site locks reasons step.thread step.event Ignored refl
+answer-gains number line_site locks reasons step (Ok (State state)) accesses = quiet-gains number line_site locks reasons step.thread step.event (State state) refl
+answer-gains number line_site locks reasons step (Err why) accesses = record { lines = λ more. refl; left = λ more. refl }
 
 -- past the list's end there is no race
 nothing-gains : (reasons : List Because) (given : Result Reply Refusal) → (given ≡ Ok Race → ⊥) → Gains (cond (is_race given) (reasons ∷ []) []) [] []
@@ -109,7 +109,7 @@ module _ (a : Answering) (why : ℕ → List Because) (r : Recording) (accesses 
       rw none (nothing-gains (why k) (a k) unraced)
   line-gains-by k (Some step) here =
       rw here
-      (answer-gains (slice_index r.lines k) (held (accepted r.steps k) step.thread) (why k) step (a k)
+      (answer-gains (slice_index r.lines k) (slice_index r.sites k) (held (accepted r.steps k) step.thread) (why k) step (a k)
       (λ race other. accesses k race (ap may_race_at here ∙ other)))
 
   line-gains : (k : ℕ) → Gains (cond (is_race (a k)) (why k ∷ []) []) (line_at a no_reasons r k) (line_at a why r k)

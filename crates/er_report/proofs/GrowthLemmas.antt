@@ -20,9 +20,9 @@ use Rattle.er_report.specs.Kept.{Kept, Follows, access_at, line_access, line_boo
 use Rattle.er_report.specs.Report.{Answering, answer_matching_rule, answer_line, event_matching_rule, site_name, matching_rule_of, matching_rule_by, line_of, line_at, lines_by, no_reasons, count_below, rule_count, is_printed_by, is_refused, is_rule}
 use Rattle.er_report.proofs.BuilderLemmas.{same_summary}
 use Rattle.er_report.proofs.CountLemmas.{same_counts}
-use Rattle.er_report.proofs.NamedLemmas.{site_named}
+use Rattle.er_report.proofs.NamedLemmas.{site_named, line_site_named}
 use Rattle.er_report.specs.Names.{HasSiteName}
-use Rattle.er_rules.specs.Rules.{Target, matching_rule}
+use Rattle.er_rules.specs.Rules.{Target, matching_rule, matching_reuse_rule}
 use Rattle.er_trace.specs.Trace.{Recording}
 
 -- counts and places below n, by tests that agree there
@@ -46,16 +46,17 @@ module _ (before after : Recording) (rules : List Target) (on : GoesOn before af
   site-same zero within = refl
   site-same (suc n) within = site-by n (slice_get before.names.sites n) refl (omega arith)
 
-  event-same : (event : Event) → HasSiteName before.names event → event_matching_rule rules before.names event ≡ event_matching_rule rules after.names event
-  event-same (Access kind word site) named = ap (λ (name : Option (List ℕ)). matching_rule rules name word) (site-same site named)
-  event-same (Acquire l m) named = refl
-  event-same (Release l m) named = refl
-  event-same (Reuse range) named = refl
-  event-same IgnoreOn named = refl
-  event-same IgnoreOff named = refl
-  event-same (Show w) named = refl
-  event-same (Level n) named = refl
-  event-same (Sync sync) named = refl
+  event-same : (line_site : ℕ) (event : Event) → line_site ≤ length before.names.sites → HasSiteName before.names event
+      → event_matching_rule rules before.names line_site event ≡ event_matching_rule rules after.names line_site event
+  event-same line_site (Access kind word site) at named = ap (λ (name : Option (List ℕ)). matching_rule rules name word) (site-same site named)
+  event-same line_site (Acquire l m) at named = refl
+  event-same line_site (Release l m) at named = refl
+  event-same line_site (Reuse range) at named = ap (λ (name : Option (List ℕ)). matching_reuse_rule rules name range.lo range.hi) (site-same line_site at)
+  event-same line_site IgnoreOn at named = refl
+  event-same line_site IgnoreOff at named = refl
+  event-same line_site (Show w) at named = refl
+  event-same line_site (Level n) at named = refl
+  event-same line_site (Sync sync) at named = refl
 
   step-there : (k : ℕ) → k < length before.steps → slice_get after.steps k ≡ slice_get before.steps k
   step-there k below = ap (λ (steps : List Step). slice_get steps k) on.steps ∙ get_front before.steps on.more k below
@@ -66,14 +67,20 @@ module _ (before after : Recording) (rules : List Target) (on : GoesOn before af
   number-there : (k : ℕ) → k < length before.steps → slice_index after.lines k ≡ slice_index before.lines k
   number-there k below = ap (λ (lines : List ℕ). slice_index lines k) on.lines ∙ get_or_append_left before.lines on.others 0 k (let long : length before.lines ≡ length before.steps = on.long in omega arith)
 
+  line_site-there : (k : ℕ) → k < length before.steps → slice_index after.sites k ≡ slice_index before.sites k
+  line_site-there k below =
+      ap (λ (sites : List ℕ). slice_index sites k) on.places ∙ get_or_append_left before.sites on.other_sites 0 k (let long : length before.sites ≡ length before.steps = on.one_each in omega arith)
+
 -- answers that agree below n give the same report
 module _ (before after : Recording) (rules : List Target) (on : GoesOn before after) (a b : Answering) (n : ℕ) (within : n ≤ length before.steps)
     (same : (k : ℕ) → k < n → a k ≡ b k) where
   matching_rule-by : (k : ℕ) (o : Option Step) → slice_get before.steps k ≡ o → k < n → matching_rule_of a before rules k o ≡ matching_rule_of b after rules k o
   matching_rule-by k None is below = refl
   matching_rule-by k (Some step) is below =
-      ap (λ (o : Option ℕ). cond (is_race (a k)) o None) (event-same before after rules on step.event (site_named before.names before.steps on.named k step is))
-      ∙ ap (answer_matching_rule rules after.names step.event) (same k below)
+      ap (λ (o : Option ℕ). cond (is_race (a k)) o None)
+      (event-same before after rules on (slice_index before.sites k) step.event (line_site_named before.names before.sites on.known k) (site_named before.names before.steps on.named k step is))
+      ∙ ap (λ (s : ℕ). answer_matching_rule rules after.names s step.event (a k)) (sym (line_site-there before after rules on k (omega arith)))
+      ∙ ap (answer_matching_rule rules after.names (slice_index after.sites k) step.event) (same k below)
 
   matching_rule-same : (k : ℕ) → k < n → matching_rule_by a before rules k ≡ matching_rule_by b after rules k
   unfolding matching_rule_by
@@ -83,9 +90,10 @@ module _ (before after : Recording) (rules : List Target) (on : GoesOn before af
   line-by : (k : ℕ) (o : Option Step) → k < n → line_of a no_reasons before k o ≡ line_of b no_reasons after k o
   line-by k None below = refl
   line-by k (Some step) below =
-      ap (λ (n : ℕ). answer_line n (held (accepted before.steps k) step.thread) [] step (a k)) (sym (number-there before after rules on k (omega arith)))
-      ∙ ap (λ (past : List Step). answer_line (slice_index after.lines k) (held past step.thread) [] step (a k)) (sym (accepted-there before after rules on k (omega arith)))
-      ∙ ap (answer_line (slice_index after.lines k) (held (accepted after.steps k) step.thread) [] step) (same k below)
+      ap (λ (n : ℕ). answer_line n (slice_index before.sites k) (held (accepted before.steps k) step.thread) [] step (a k)) (sym (number-there before after rules on k (omega arith)))
+      ∙ ap (λ (s : ℕ). answer_line (slice_index after.lines k) s (held (accepted before.steps k) step.thread) [] step (a k)) (sym (line_site-there before after rules on k (omega arith)))
+      ∙ ap (λ (past : List Step). answer_line (slice_index after.lines k) (slice_index after.sites k) (held past step.thread) [] step (a k)) (sym (accepted-there before after rules on k (omega arith)))
+      ∙ ap (answer_line (slice_index after.lines k) (slice_index after.sites k) (held (accepted after.steps k) step.thread) [] step) (same k below)
 
   line-same : (k : ℕ) → k < n → line_at a no_reasons before k ≡ line_at b no_reasons after k
   unfolding line_at

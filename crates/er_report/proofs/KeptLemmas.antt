@@ -118,14 +118,14 @@ drop-map r (e ∷ es) = refl
 same-line : (r : Recording) (es : List Explanation) (line : LineView) → line_with r es line ≡ line_told (map (reasons_of r) es) line
 same-line r [] (RaceView number thread kind word site held reasons) = refl
 same-line r (e ∷ es) (RaceView number thread kind word site held reasons) = refl
-same-line r [] (ReusedView number thread range held reasons) = refl
-same-line r (e ∷ es) (ReusedView number thread range held reasons) = refl
+same-line r [] (ReusedView number thread range site held reasons) = refl
+same-line r (e ∷ es) (ReusedView number thread range site held reasons) = refl
 same-line r es (RefusedView number step refusal) = refl
 same-line r es (ShownView number word state) = refl
 
 same-left : (r : Recording) (es : List Explanation) (line : LineView) → map (reasons_of r) (left_after es line) ≡ told_left (map (reasons_of r) es) line
 same-left r es (RaceView number thread kind word site held reasons) = drop-map r es
-same-left r es (ReusedView number thread range held reasons) = drop-map r es
+same-left r es (ReusedView number thread range site held reasons) = drop-map r es
 same-left r es (RefusedView number step refusal) = refl
 same-left r es (ShownView number word state) = refl
 

@@ -1,5 +1,5 @@
 -- Each race of a rule is counted once among the rules; and what an explanation names are accesses, so none of its reasons is left out.
-use Rattle.std.proofs.Common.{◌≡◌, ℕ, zero, suc, ◌+◌, ◌<◌, ◌≤◌, ◌==◌, Bool, true, false, ◌&&◌, not, nat_le, cond, List, [], ◌∷◌, ◌++◌, length, map, flat_map, slice_get, Option, Some, None, is_some, is_none, Result, Ok, Err, All, refl, ap, ◌∙◌, arith}
+use Rattle.std.proofs.Common.{◌≡◌, ℕ, zero, suc, ◌+◌, ◌<◌, ◌≤◌, ◌==◌, Bool, true, false, ◌&&◌, not, nat_le, cond, List, [], ◌∷◌, ◌++◌, length, map, flat_map, slice_get, slice_index, Option, Some, None, is_some, is_none, Result, Ok, Err, All, refl, ap, ◌∙◌, arith}
 use Rattle.std.specs.List.{range_with_len, sum, sum_by}
 use Rattle.std.proofs.lemmas.List.Sums.{sum-map, sum_by-cons}
 use Rattle.std.proofs.lemmas.Bool.{cases_eq, eq-eqb, eqb-true, ne_eqb, and_parts}
@@ -72,22 +72,22 @@ sum_one j a (suc n) low high =
     ]
 
 -- a rule that takes a race is one of the rules
-answer_within : (rules : List Target) (names : NameTable) (event : Event) (a : Result Reply Refusal) (j : ℕ) → answer_matching_rule rules names event a ≡ Some j → j < length rules
-answer_within rules names event (Ok Race) j taken = no_other event taken
+answer_within : (rules : List Target) (names : NameTable) (line_site : ℕ) (event : Event) (a : Result Reply Refusal) (j : ℕ) → answer_matching_rule rules names line_site event a ≡ Some j → j < length rules
+answer_within rules names line_site event (Ok Race) j taken = no_other event taken
   where
-    no_other : (e : Event) → event_matching_rule rules names e ≡ Some j → j < length rules
+    no_other : (e : Event) → event_matching_rule rules names line_site e ≡ Some j → j < length rules
     no_other (Access kind w site) taken = (position-Some _ rules j (AtWords None) taken).0
     no_other (Reuse range) taken = (position-Some _ rules j (AtWords None) taken).0
     no_other e taken = absurd (cc)
-answer_within rules names event (Ok Done) j taken = absurd (cc)
-answer_within rules names event (Ok Quiet) j taken = absurd (cc)
-answer_within rules names event (Ok Ignored) j taken = absurd (cc)
-answer_within rules names event (Ok (State state)) j taken = absurd (cc)
-answer_within rules names event (Err why) j taken = absurd (cc)
+answer_within rules names line_site event (Ok Done) j taken = absurd (cc)
+answer_within rules names line_site event (Ok Quiet) j taken = absurd (cc)
+answer_within rules names line_site event (Ok Ignored) j taken = absurd (cc)
+answer_within rules names line_site event (Ok (State state)) j taken = absurd (cc)
+answer_within rules names line_site event (Err why) j taken = absurd (cc)
 
 matching_rule_within_by : (a : Answering) (r : Recording) (rules : List Target) (k : ℕ) (o : Option Step) (j : ℕ) → matching_rule_of a r rules k o ≡ Some j → j < length rules
 matching_rule_within_by a r rules k None j taken = absurd (cc)
-matching_rule_within_by a r rules k (Some step) j taken = answer_within rules r.names step.event (a k) j taken
+matching_rule_within_by a r rules k (Some step) j taken = answer_within rules r.names (slice_index r.sites k) step.event (a k) j taken
 
 matching_rule_within : (a : Answering) (r : Recording) (rules : List Target) (k j : ℕ) → matching_rule_by a r rules k ≡ Some j → j < length rules
 unfolding matching_rule_by
@@ -112,8 +112,8 @@ pub counts-sum : (a : Answering) (r : Recording) (rules : List Target) (n : ℕ)
 counts-sum a r rules n = sum-map (rule_count a r rules n) (range_with_len 0 (length rules)) ∙ rules-sum a r rules n
 
 -- a race is printed or taken, and nothing else is
-taken_race : (rules : List Target) (names : NameTable) (event : Event) (a : Result Reply Refusal) → is_race a ≡ false → answer_matching_rule rules names event a ≡ None
-taken_race rules names event a none = rw none refl
+taken_race : (rules : List Target) (names : NameTable) (line_site : ℕ) (event : Event) (a : Result Reply Refusal) → is_race a ≡ false → answer_matching_rule rules names line_site event a ≡ None
+taken_race rules names line_site event a none = rw none refl
 
 race_once : (race : Bool) (o : Option ℕ) → (race ≡ false → o ≡ None) → cond (race && is_none o) 1 0 + cond (is_some o) 1 0 ≡ cond {A = ℕ} race 1 0
 race_once true None none = refl
@@ -123,7 +123,7 @@ race_once false (Some j) none = (let never : Some j ≡ None = none refl in cc)
 
 not_taken_by : (a : Answering) (r : Recording) (rules : List Target) (k : ℕ) (o : Option Step) → is_race (a k) ≡ false → matching_rule_of a r rules k o ≡ None
 not_taken_by a r rules k None none = refl
-not_taken_by a r rules k (Some step) none = taken_race rules r.names step.event (a k) none
+not_taken_by a r rules k (Some step) none = taken_race rules r.names (slice_index r.sites k) step.event (a k) none
 
 not_taken : (a : Answering) (r : Recording) (rules : List Target) (k : ℕ) → is_race (a k) ≡ false → matching_rule_by a r rules k ≡ None
 unfolding matching_rule_by

@@ -7,7 +7,7 @@ use Rattle.std.proofs.lemmas.Option.{slice_get_within, get_or_from_slice_get}
 use Rattle.std.proofs.lemmas.List.Elements.{All-nil, All-cons, All-head, All-tail, All-append, All-filter}
 use Rattle.er_event.specs.Lockset.{with_lock, without_lock, meet, is_level_lock, locks_from, level_locks}
 use Rattle.er_trace.specs.Names.{NameTable}
-use Rattle.er_trace.specs.Trace.{IsNamed, HasNames as HasNumbersNamed}
+use Rattle.er_trace.specs.Trace.{IsNamed, HasSiteName as IsSite, HasNames as HasNumbersNamed}
 use Rattle.er_event.specs.declared.steps.Event.{Event}
 use Rattle.er_event.specs.declared.steps.Event.TheVariants.{Acquire, Release, Access, Reuse, IgnoreOn, IgnoreOff, Show, Level, Sync}
 use Rattle.er_event.specs.declared.steps.Kind.{Kind}
@@ -150,16 +150,16 @@ module _ (names : NameTable) where
   named_moved h before w t (Sync sync) own all old = old
 
   -- a line
-  named_reply : (number : ℕ) (locks : List ℕ) (reasons : List Because) (t : ℕ) (e : Event) (reply : Reply) → t < length names.threads → HasNumbersNamed names e
+  named_reply : (number line_site : ℕ) (locks : List ℕ) (reasons : List Because) (t : ℕ) (e : Event) (reply : Reply) → t < length names.threads → HasNumbersNamed names e → IsSite names line_site
       → HasLockNames names locks → All (HasReasonNames names) reasons → ((state : WordState) → reply ≡ State state → HasStateNames names state)
-      → All (HasViewNames names) (reply_line number locks reasons t e reply)
-  named_reply number locks reasons t (Access kind w site) Race own new all because shown =
+      → All (HasViewNames names) (reply_line number line_site locks reasons t e reply)
+  named_reply number line_site locks reasons t (Access kind w site) Race own new at all because shown =
       All-cons (HasViewNames names) (RaceView number t kind w site locks reasons) [] (own, new, all, because) (All-nil (HasViewNames names))
-  named_reply number locks reasons t (Reuse range) Race own new all because shown =
-      All-cons (HasViewNames names) (ReusedView number t range locks reasons) [] (own, all, because) (All-nil (HasViewNames names))
-  named_reply number locks reasons t (Show w) (State state) own new all because shown =
+  named_reply number line_site locks reasons t (Reuse range) Race own new at all because shown =
+      All-cons (HasViewNames names) (ReusedView number t range line_site locks reasons) [] (own, at, all, because) (All-nil (HasViewNames names))
+  named_reply number line_site locks reasons t (Show w) (State state) own new at all because shown =
       All-cons (HasViewNames names) (ShownView number w state) [] (shown state refl) (All-nil (HasViewNames names))
-  named_reply number locks reasons t e reply own new all because shown = All-nil (HasViewNames names)
+  named_reply number line_site locks reasons t e reply own new at all because shown = All-nil (HasViewNames names)
 
   pub named_event : (e : Event) → HasNumbersNamed names e → HasEventNames names e
   named_event (Acquire l m) new = λ _. new
@@ -172,12 +172,12 @@ module _ (names : NameTable) where
   named_event (Level n) new = tt
   named_event (Sync sync) new = tt
 
-  named_answer : (number : ℕ) (locks : List ℕ) (reasons : List Because) (step : Step) (given : Result Reply Refusal) → IsNamed names step
+  named_answer : (number line_site : ℕ) (locks : List ℕ) (reasons : List Because) (step : Step) (given : Result Reply Refusal) → IsNamed names step → IsSite names line_site
       → HasLockNames names locks → All (HasReasonNames names) reasons → ((state : WordState) → given ≡ Ok (State state) → HasStateNames names state)
-      → All (HasViewNames names) (answer_line number locks reasons step given)
-  named_answer number locks reasons step (Ok reply) new all because shown =
-      named_reply number locks reasons step.thread step.event reply new.thread new.event all because (λ state is. shown state (cc))
-  named_answer number locks reasons step (Err why) new all because shown =
+      → All (HasViewNames names) (answer_line number line_site locks reasons step given)
+  named_answer number line_site locks reasons step (Ok reply) new at all because shown =
+      named_reply number line_site locks reasons step.thread step.event reply new.thread new.event at all because (λ state is. shown state (cc))
+  named_answer number line_site locks reasons step (Err why) new at all because shown =
       All-cons (HasViewNames names) (RefusedView number step why) [] (new.thread, named_event step.event new.event) (All-nil (HasViewNames names))
 
   -- the state that a show is answered with by the lockset rule
@@ -238,6 +238,12 @@ site_in names (Sync sync) new = tt
 pub site_named : (names : NameTable) (steps : List Step) → All (IsNamed names) steps → (k : ℕ) (step : Step) → slice_get steps k ≡ Some step
     → HasSiteName names step.event
 site_named names steps all k step is = site_in names step.event (named_step names steps all k step is).event
+
+-- the site of each line has its name
+pub line_site_named : (names : NameTable) (sites : List ℕ) → All (IsSite names) sites → (k : ℕ) → IsSite names (slice_index sites k)
+line_site_named names [] all k = omega arith
+line_site_named names (site ∷ sites) all zero = All-head (IsSite names) site sites all
+line_site_named names (site ∷ sites) all (suc k) = line_site_named names sites (All-tail (IsSite names) site sites all) k
 
 module _ (r : Recording) (all : All (IsNamed r.names) r.steps) where
   -- the locks that cover an access
@@ -322,13 +328,13 @@ module _ (r : Recording) (all : All (IsNamed r.names) r.steps) where
   named_states k state given = named_states_by k (slice_get r.steps k) refl state given
 
   -- each line that the definitions give has its names, if states and reasons have
-  module _ (a : Answering) (reasons : ℕ → List Because) (states : HaveStateNames r.names a) (because : (k : ℕ) → All (HasReasonNames r.names) (reasons k)) where
+  module _ (sites : All (IsSite r.names) r.sites) (a : Answering) (reasons : ℕ → List Because) (states : HaveStateNames r.names a) (because : (k : ℕ) → All (HasReasonNames r.names) (reasons k)) where
     named_line_by : (k : ℕ) (o : Option Step) → slice_get r.steps k ≡ o → All (HasViewNames r.names) (line_of a reasons r k o)
     unfolding holdings
     named_line_by k None is = All-nil (HasViewNames r.names)
     named_line_by k (Some step) is =
-        named_answer r.names (slice_index r.lines k) (held (accepted r.steps k) step.thread) (reasons k) step (a k)
-        (named_step r.names r.steps all k step is) (named_holdings r.names r.steps all k step.thread).any (because k) (states k)
+        named_answer r.names (slice_index r.lines k) (slice_index r.sites k) (held (accepted r.steps k) step.thread) (reasons k) step (a k)
+        (named_step r.names r.steps all k step is) (line_site_named r.names r.sites sites k) (named_holdings r.names r.steps all k step.thread).any (because k) (states k)
 
     pub named_lines : (rules : List Target) (n : ℕ) → All (HasViewNames r.names) (lines_by a reasons r rules n)
     unfolding lines_by line_at

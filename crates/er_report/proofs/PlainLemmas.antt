@@ -42,15 +42,15 @@ plain-refused : (a : Result Reply Refusal) → is_plain a ≡ true → is_refuse
 plain-refused (Ok reply) plain = refl
 plain-refused (Err why) plain = cc
 
-plain-reply : (number : ℕ) (locks : List ℕ) (t : ℕ) (event : Event) (reply : Reply) → is_plain (Ok reply) ≡ true → reply_line number locks [] t event reply ≡ []
-plain-reply number locks t (Access kind word site) Race plain = cc
-plain-reply number locks t (Reuse range) Race plain = cc
-plain-reply number locks t (Show word) (State state) plain = cc
-plain-reply number locks t event reply plain = refl
+plain-reply : (number line_site : ℕ) (locks : List ℕ) (t : ℕ) (event : Event) (reply : Reply) → is_plain (Ok reply) ≡ true → reply_line number line_site locks [] t event reply ≡ []
+plain-reply number line_site locks t (Access kind word site) Race plain = cc
+plain-reply number line_site locks t (Reuse range) Race plain = cc
+plain-reply number line_site locks t (Show word) (State state) plain = cc
+plain-reply number line_site locks t event reply plain = refl
 
-plain-answer : (number : ℕ) (locks : List ℕ) (step : Step) (a : Result Reply Refusal) → is_plain a ≡ true → answer_line number locks [] step a ≡ []
-plain-answer number locks step (Ok reply) plain = plain-reply number locks step.thread step.event reply plain
-plain-answer number locks step (Err why) plain = cc
+plain-answer : (number line_site : ℕ) (locks : List ℕ) (step : Step) (a : Result Reply Refusal) → is_plain a ≡ true → answer_line number line_site locks [] step a ≡ []
+plain-answer number line_site locks step (Ok reply) plain = plain-reply number line_site locks step.thread step.event reply plain
+plain-answer number line_site locks step (Err why) plain = cc
 
 -- one step that is answered so
 module _ (a : Answering) (r : Recording) (rules : List Target) (k : ℕ) (plain : is_plain (a k) ≡ true) where
@@ -67,7 +67,7 @@ module _ (a : Answering) (r : Recording) (rules : List Target) (k : ℕ) (plain 
 
   no-line_of : (o : Option Step) → line_of a no_reasons r k o ≡ []
   no-line_of None = refl
-  no-line_of (Some step) = plain-answer _ _ step (a k) plain
+  no-line_of (Some step) = plain-answer _ _ _ step (a k) plain
 
   no-line : line_at a no_reasons r k ≡ []
   unfolding line_at

@@ -63,36 +63,36 @@ gains-append r f g p q e d first second =
     }
 
 -- the line of a reply
-quiet-gains : (r : Recording) (number : ℕ) (locks : List ℕ) (t : ℕ) (event : Event) (reply : Reply) → IsFalse (is_race (Ok reply))
-    → Gains r [] (reply_line number locks [] t event reply) (reply_line number locks [] t event reply)
+quiet-gains : (r : Recording) (number line_site : ℕ) (locks : List ℕ) (t : ℕ) (event : Event) (reply : Reply) → IsFalse (is_race (Ok reply))
+    → Gains r [] (reply_line number line_site locks [] t event reply) (reply_line number line_site locks [] t event reply)
 unfolding with_reasons left_by
-quiet-gains r number locks t (Access kind w site) Race none = absurd (cc)
-quiet-gains r number locks t (Reuse range) Race none = absurd (cc)
-quiet-gains r number locks t (Show w) (State state) none = record { lines = λ more. refl; left = λ more. refl }
-quiet-gains r number locks t event reply none = record { lines = λ more. refl; left = λ more. refl }
+quiet-gains r number line_site locks t (Access kind w site) Race none = absurd (cc)
+quiet-gains r number line_site locks t (Reuse range) Race none = absurd (cc)
+quiet-gains r number line_site locks t (Show w) (State state) none = record { lines = λ more. refl; left = λ more. refl }
+quiet-gains r number line_site locks t event reply none = record { lines = λ more. refl; left = λ more. refl }
 
-race-gains : (r : Recording) (number : ℕ) (locks : List ℕ) (t : ℕ) (event : Event) (e : Explanation) → (word_in event ≡ None → ⊥)
-    → Gains r (e ∷ []) (reply_line number locks [] t event Race) (reply_line number locks (reasons_of r e) t event Race)
+race-gains : (r : Recording) (number line_site : ℕ) (locks : List ℕ) (t : ℕ) (event : Event) (e : Explanation) → (word_in event ≡ None → ⊥)
+    → Gains r (e ∷ []) (reply_line number line_site locks [] t event Race) (reply_line number line_site locks (reasons_of r e) t event Race)
 unfolding with_reasons left_by
-race-gains r number locks t (Access kind w site) e accesses = record { lines = λ more. refl; left = λ more. refl }
-race-gains r number locks t (Acquire l m) e accesses = absurd (accesses refl)
-race-gains r number locks t (Release l m) e accesses = absurd (accesses refl)
-race-gains r number locks t (Reuse range) e accesses = absurd (accesses refl)
-race-gains r number locks t IgnoreOn e accesses = absurd (accesses refl)
-race-gains r number locks t IgnoreOff e accesses = absurd (accesses refl)
-race-gains r number locks t (Show w) e accesses = absurd (accesses refl)
-race-gains r number locks t (Level n) e accesses = absurd (accesses refl)
-race-gains r number locks t (Sync sync) e accesses = absurd (accesses refl)
+race-gains r number line_site locks t (Access kind w site) e accesses = record { lines = λ more. refl; left = λ more. refl }
+race-gains r number line_site locks t (Acquire l m) e accesses = absurd (accesses refl)
+race-gains r number line_site locks t (Release l m) e accesses = absurd (accesses refl)
+race-gains r number line_site locks t (Reuse range) e accesses = absurd (accesses refl)
+race-gains r number line_site locks t IgnoreOn e accesses = absurd (accesses refl)
+race-gains r number line_site locks t IgnoreOff e accesses = absurd (accesses refl)
+race-gains r number line_site locks t (Show w) e accesses = absurd (accesses refl)
+race-gains r number line_site locks t (Level n) e accesses = absurd (accesses refl)
+race-gains r number line_site locks t (Sync sync) e accesses = absurd (accesses refl)
 
-answer-gains : (r : Recording) (number : ℕ) (locks : List ℕ) (step : Step) (k : ℕ) (a : Result Reply Refusal) → (a ≡ Ok Race → word_in step.event ≡ None → ⊥)
-    → Gains r (option_to_list (explanation_where r.steps k a)) (answer_line number locks [] step a) (answer_line number locks (reasons_by r (explanation_where r.steps k a)) step a)
+answer-gains : (r : Recording) (number line_site : ℕ) (locks : List ℕ) (step : Step) (k : ℕ) (a : Result Reply Refusal) → (a ≡ Ok Race → word_in step.event ≡ None → ⊥)
+    → Gains r (option_to_list (explanation_where r.steps k a)) (answer_line number line_site locks [] step a) (answer_line number line_site locks (reasons_by r (explanation_where r.steps k a)) step a)
 unfolding with_reasons left_by
-answer-gains r number locks step k (Ok Race) accesses = race-gains r number locks step.thread step.event _ (accesses refl)
-answer-gains r number locks step k (Ok Done) accesses = quiet-gains r number locks step.thread step.event Done refl
-answer-gains r number locks step k (Ok Quiet) accesses = quiet-gains r number locks step.thread step.event Quiet refl
-answer-gains r number locks step k (Ok Ignored) accesses = quiet-gains r number locks step.thread step.event Ignored refl
-answer-gains r number locks step k (Ok (State state)) accesses = quiet-gains r number locks step.thread step.event (State state) refl
-answer-gains r number locks step k (Err why) accesses = record { lines = λ more. refl; left = λ more. refl }
+answer-gains r number line_site locks step k (Ok Race) accesses = race-gains r number line_site locks step.thread step.event _ (accesses refl)
+answer-gains r number line_site locks step k (Ok Done) accesses = quiet-gains r number line_site locks step.thread step.event Done refl
+answer-gains r number line_site locks step k (Ok Quiet) accesses = quiet-gains r number line_site locks step.thread step.event Quiet refl
+answer-gains r number line_site locks step k (Ok Ignored) accesses = quiet-gains r number line_site locks step.thread step.event Ignored refl
+answer-gains r number line_site locks step k (Ok (State state)) accesses = quiet-gains r number line_site locks step.thread step.event (State state) refl
+answer-gains r number line_site locks step k (Err why) accesses = record { lines = λ more. refl; left = λ more. refl }
 
 -- the line of a step, with reasons or without
 abbrev lockset_line : Recording → Bool → ℕ → List LineView
@@ -105,7 +105,7 @@ line-gains-by r k None none =
     rw (none, unexplained) (gains-nil r)
 line-gains-by r k (Some step) here =
     rw here
-    (answer-gains r (slice_index r.lines k) (held (accepted r.steps k) step.thread) step k (answer r.steps k)
+    (answer-gains r (slice_index r.lines k) (slice_index r.sites k) (held (accepted r.steps k) step.thread) step k (answer r.steps k)
     (λ race other. no-word r.steps k (ap word_of here ∙ other) race))
 
 line-gains : (r : Recording) (k : ℕ) → Gains r (option_to_list (explanation_at r.steps k)) (lockset_line r false k) (lockset_line r true k)

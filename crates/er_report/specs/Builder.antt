@@ -1,7 +1,7 @@
 -- A report that grows by one step after another.
 use Rattle.std.specs.Prelude.{◌≡◌, ◌≤◌, ◌<◌, ◌+◌, ◌++◌, ℕ, suc, All, Bool, true, false, is_some, List, length, slice_get, slice_index, IsTrue, Option, IfSome, Some, None, Result, Ok, Err}
 use Rattle.er_trace.specs.Names.{NameTable}
-use Rattle.er_trace.specs.Trace.{Recording, IsNamed}
+use Rattle.er_trace.specs.Trace.{Recording, IsNamed, HasSiteName as IsSite}
 use Rattle.er_event.specs.declared.refusals.Refusal.{Refusal}
 use Rattle.er_event.specs.declared.steps.Reply.{Reply}
 use Rattle.er_event.specs.declared.steps.Reply.TheVariants.{Done, Quiet, Race, Ignored, State}
@@ -58,18 +58,19 @@ pub record IsReported (builder : Built) (r : Recording) (n : ℕ) : Type 0 where
   pub built : IsBuilt builder r n
   pub explained : IsExplained builder r n
 
--- this is the recording's step at position k, with its line, its names and its answer, and with the locks that its thread holds, if it
--- is a race
-pub record IsStepBy (answers : Answering) (r : Recording) (k : ℕ) (names : NameTable) (number : ℕ) (step : Step) (given : Result Reply Refusal) (locks : List ℕ) : Type 0 where
+-- this is the recording's step at position k, with its line and the site of this, its names and its answer, and with the locks that its
+-- thread holds, if it is a race
+pub record IsStepBy (answers : Answering) (r : Recording) (k : ℕ) (names : NameTable) (number line_site : ℕ) (step : Step) (given : Result Reply Refusal) (locks : List ℕ) : Type 0 where
   pub here : slice_get r.steps k ≡ Some step
   pub line : number ≡ slice_index r.lines k
+  pub site : line_site ≡ slice_index r.sites k
   pub named : names ≡ r.names
   pub answered : given ≡ answers k
   pub locked : IsTrue (is_race given) → locks ≡ held (accepted r.steps k) step.thread
 
 -- and its answer is the lockset rule's
-abbrev pub IsStepAt : Recording → ℕ → NameTable → ℕ → Step → Result Reply Refusal → List ℕ → Type 0
-IsStepAt r k names number step given locks = IsStepBy (answer r.steps) r k names number step given locks
+abbrev pub IsStepAt : Recording → ℕ → NameTable → ℕ → ℕ → Step → Result Reply Refusal → List ℕ → Type 0
+IsStepAt r k names number line_site step given locks = IsStepBy (answer r.steps) r k names number line_site step given locks
 
 -- the answer is no race, no refusal and no shown state: a report counts its step and says nothing else of it
 abbrev pub is_plain : Result Reply Refusal → Bool
@@ -96,12 +97,16 @@ KeepsState steps k = (w : ℕ) × (word_of (slice_get steps k) ≡ Some w) × (s
 abbrev pub KeepStates : List Step → ℕ → ℕ → Type 0
 KeepStates steps k n = (i : ℕ) → k ≤ i → i < k + n → KeepsState steps i
 
--- the second recording goes on from the first: it has more steps and lines, and perhaps more names, and each site keeps its name
+-- the second recording goes on from the first: it has more steps, lines and sites, and perhaps more names, and each site keeps its name
 pub record GoesOn (before after : Recording) : Type 0 where
   pub named : All (IsNamed before.names) before.steps
   pub long : length before.lines ≡ length before.steps
+  pub one_each : length before.sites ≡ length before.steps
+  pub known : All (IsSite before.names) before.sites
   pub more : List Step
   pub others : List ℕ
+  pub other_sites : List ℕ
   pub steps : after.steps ≡ before.steps ++ more
   pub lines : after.lines ≡ before.lines ++ others
+  pub places : after.sites ≡ before.sites ++ other_sites
   pub sites : (n : ℕ) (name : List ℕ) → slice_get before.names.sites n ≡ Some name → slice_get after.names.sites n ≡ Some name

@@ -12,13 +12,13 @@ use Rattle.er_report.specs.declared.report.Line.TheVariants.{Race, Reused, Refus
 -- the race of an access or of a reuse, with the locks that its thread held and its reasons, a refused step, or a word that was shown
 pub data LineView : Type 0 where
   RaceView : (number : ℕ) → (thread : ℕ) → (kind : Kind) → (word : ℕ) → (site : ℕ) → (held : List ℕ) → (explained : List Because) → LineView
-  ReusedView : (number : ℕ) → (thread : ℕ) → (range : PageRange) → (held : List ℕ) → (explained : List Because) → LineView
+  ReusedView : (number : ℕ) → (thread : ℕ) → (range : PageRange) → (site : ℕ) → (held : List ℕ) → (explained : List Because) → LineView
   RefusedView : (number : ℕ) → (step : Step) → (refusal : Refusal) → LineView
   ShownView : (number : ℕ) → (word : ℕ) → (state : WordState) → LineView
 
 -- what a line says
 abbrev pub line_view : Line → LineView
 line_view (Race number thread kind word site held explained) = RaceView number thread kind word site held explained.items
-line_view (Reused number thread range held explained) = ReusedView number thread range held explained.items
+line_view (Reused number thread range site held explained) = ReusedView number thread range site held explained.items
 line_view (Refused number step refusal) = RefusedView number step refusal
 line_view (Shown number word state) = ShownView number word state

@@ -73,8 +73,8 @@ HasReasonNames names because = (because.thread < length names.threads) × HasLab
 abbrev pub HasViewNames : NameTable → LineView → Type 0
 HasViewNames names (RaceView number thread kind word site held explained) =
     (thread < length names.threads) × (site ≤ length names.sites) × HasLockNames names held × All (HasReasonNames names) explained
-HasViewNames names (ReusedView number thread range held explained) =
-    (thread < length names.threads) × HasLockNames names held × All (HasReasonNames names) explained
+HasViewNames names (ReusedView number thread range site held explained) =
+    (thread < length names.threads) × (site ≤ length names.sites) × HasLockNames names held × All (HasReasonNames names) explained
 HasViewNames names (RefusedView number step refusal) = (step.thread < length names.threads) × HasEventNames names step.event
 HasViewNames names (ShownView number word state) = HasStateNames names state
 

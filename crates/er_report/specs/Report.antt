@@ -47,17 +47,18 @@ told r =
       lost = r.lost;
     }
 
--- the line of a race or of a show, and none of another reply; these are the locks that the thread holds, and why it is a race
-abbrev pub reply_line : ℕ → List ℕ → List Because → ℕ → Event → Reply → List LineView
-reply_line number locks reasons thread (Access kind word site) Race = RaceView number thread kind word site locks reasons ∷ []
-reply_line number locks reasons thread (Reuse range) Race = ReusedView number thread range locks reasons ∷ []
-reply_line number locks reasons thread (Show word) (State state) = ShownView number word state ∷ []
-reply_line number locks reasons thread event reply = []
+-- the line of a race or of a show, and none of another reply; these are the number and the site of the step's line in the text, the
+-- locks that the thread holds, and why it is a race
+abbrev pub reply_line : ℕ → ℕ → List ℕ → List Because → ℕ → Event → Reply → List LineView
+reply_line number line_site locks reasons thread (Access kind word site) Race = RaceView number thread kind word site locks reasons ∷ []
+reply_line number line_site locks reasons thread (Reuse range) Race = ReusedView number thread range line_site locks reasons ∷ []
+reply_line number line_site locks reasons thread (Show word) (State state) = ShownView number word state ∷ []
+reply_line number line_site locks reasons thread event reply = []
 
 -- the line of a step that is answered so, if it has one
-abbrev pub answer_line : ℕ → List ℕ → List Because → Step → Result Reply Refusal → List LineView
-answer_line number locks reasons step (Ok reply) = reply_line number locks reasons step.thread step.event reply
-answer_line number locks reasons step (Err refusal) = RefusedView number step refusal ∷ []
+abbrev pub answer_line : ℕ → ℕ → List ℕ → List Because → Step → Result Reply Refusal → List LineView
+answer_line number line_site locks reasons step (Ok reply) = reply_line number line_site locks reasons step.thread step.event reply
+answer_line number line_site locks reasons step (Err refusal) = RefusedView number step refusal ∷ []
 
 -- what an analysis answers at each position
 abbrev pub Answering : Type 0
@@ -66,7 +67,7 @@ Answering = ℕ → Result Reply Refusal
 -- past the list's end there is nothing; the reasons are those of the race at each position
 abbrev pub line_of : Answering → (ℕ → List Because) → Recording → ℕ → Option Step → List LineView
 line_of answers reasons r k None = []
-line_of answers reasons r k (Some step) = answer_line (slice_index r.lines k) (held (accepted r.steps k) step.thread) (reasons k) step (answers k)
+line_of answers reasons r k (Some step) = answer_line (slice_index r.lines k) (slice_index r.sites k) (held (accepted r.steps k) step.thread) (reasons k) step (answers k)
 
 -- the line of the step at position k, if it has one
 unfoldable pub line_at : Answering → (ℕ → List Because) → Recording → ℕ → List LineView
@@ -82,20 +83,20 @@ abbrev pub site_name : NameTable → ℕ → Option (List ℕ)
 site_name names zero = None
 site_name names (suc n) = slice_get names.sites n
 
--- the first rule that takes races of the event, which only an access and a reuse have
-abbrev pub event_matching_rule : List Target → NameTable → Event → Option ℕ
-event_matching_rule rules names (Access kind word site) = matching_rule rules (site_name names site) word
-event_matching_rule rules names (Reuse range) = matching_reuse_rule rules range.lo range.hi
-event_matching_rule rules names event = None
+-- the first rule that takes races of the event, which only an access and a reuse have; a reuse is at the site of its line
+abbrev pub event_matching_rule : List Target → NameTable → ℕ → Event → Option ℕ
+event_matching_rule rules names line_site (Access kind word site) = matching_rule rules (site_name names site) word
+event_matching_rule rules names line_site (Reuse range) = matching_reuse_rule rules (site_name names line_site) range.lo range.hi
+event_matching_rule rules names line_site event = None
 
 -- the rule that takes an event of this answer, which must be a race
-abbrev pub answer_matching_rule : List Target → NameTable → Event → Result Reply Refusal → Option ℕ
-answer_matching_rule rules names event answer = cond (is_race answer) (event_matching_rule rules names event) None
+abbrev pub answer_matching_rule : List Target → NameTable → ℕ → Event → Result Reply Refusal → Option ℕ
+answer_matching_rule rules names line_site event answer = cond (is_race answer) (event_matching_rule rules names line_site event) None
 
 -- past the list's end there is none
 abbrev pub matching_rule_of : Answering → Recording → List Target → ℕ → Option Step → Option ℕ
 matching_rule_of answers r rules k None = None
-matching_rule_of answers r rules k (Some step) = answer_matching_rule rules r.names step.event (answers k)
+matching_rule_of answers r rules k (Some step) = answer_matching_rule rules r.names (slice_index r.sites k) step.event (answers k)
 
 -- the rule that takes the race at position k, if there is a race and such a rule
 unfoldable pub matching_rule_by : Answering → Recording → List Target → ℕ → Option ℕ

@@ -1,7 +1,7 @@
 //! `ReportBuilder`, a report that grows by one step after another.
-ghost use Rattle.std.specs.Prelude.{◌≡◌, ◌<◌, ◌+◌, ◌^◌, ◌++◌, ◌∷◌, ◌&&◌, ℕ, [], All, List, Option, None, Some, cond, false, is_none, is_some, length, map, slice_get, slice_index, OnOk, OnErr, IfOk, IfSome, IsTrue};
+ghost use Rattle.std.specs.Prelude.{◌≡◌, ◌<◌, ◌≤◌, ◌+◌, ◌^◌, ◌++◌, ◌∷◌, ◌&&◌, ℕ, [], All, List, Option, None, Some, cond, false, is_none, is_some, length, map, slice_get, slice_index, OnOk, OnErr, IfOk, IfSome, IsTrue};
 ghost use Rattle.std.specs.Option.{option_to_list};
-ghost use Rattle.er_trace.specs.Trace.{Recording, IsNamed};
+ghost use Rattle.er_trace.specs.Trace.{Recording, IsNamed, HasSiteName as IsSite};
 ghost use Rattle.er_explain.specs.Racing.{is_race};
 ghost use Rattle.er_journal.specs.AnswerList.{shown};
 ghost use Rattle.er_journal.specs.declared.answers.Stopped.{Stopped as Stop};
@@ -18,7 +18,7 @@ use crate::explainer::Explainer;
 use crate::reasons::{explain_lines, give_reasons};
 use crate::rules::first_rule;
 use crate::{Because, Line, Report};
-use er_event::{Event, Lockset, NoRoom, Refusal, Reply, Step};
+use er_event::{Event, Lockset, NoRoom, Refusal, Reply, Site, Step};
 use er_journal::{Answer, Stopped};
 use er_keys::HashKeys;
 use er_rules::Suppressions;
@@ -130,25 +130,27 @@ impl<'r> ReportBuilder<'r> {
         self.explainer.is_some()
     }
 
-    /// Adds the next step: the line of the text that it came from, its answer, and the locks that its thread holds, in any mode,
+    /// Adds the next step: the line of the text that it came from, the site that the line names, its answer, and the locks that its thread holds, in any mode,
     /// which are looked at for a race alone. `AllocError`: memory was refused, and the builder is as it was.
     pub fn add(
         &mut self,
         names: &Names,
         line: u64,
+        site: Site,
         step: &Step,
         answer: &Result<Reply, Refusal>,
         held: &Lockset,
     ) -> Result<(), AllocError>
         requires room { self.old.report.steps + 1 < 2 ^ 64 }
         requires site { HasSiteName names.now step.now.event }
+        requires at { site ≤ length names.now.sites }
         ensures rules { OnOk result (self.new.rules ≡ self.old.rules) }
         ensures steps { OnOk result (self.new.report.steps ≡ self.old.report.steps + 1) }
-        ensures built_by { (a : Answering) (r : Recording) (k : ℕ) → IsBuiltBy a self.old r k → IsStepBy a r k names.now line step.now answer.now held.now → OnOk result (IsBuiltBy a self.new r (k + 1)) }
+        ensures built_by { (a : Answering) (r : Recording) (k : ℕ) → IsBuiltBy a self.old r k → IsStepBy a r k names.now line site step.now answer.now held.now → OnOk result (IsBuiltBy a self.new r (k + 1)) }
         ensures kept { OnOk result (self.new.kept ≡ self.old.kept) }
         ensures err { OnErr result (self.new ≡ self.old) }
     {
-        self.add_answer(names, line, step, view_of(answer), held)?;
+        self.add_answer(names, line, site, step, view_of(answer), held)?;
         Ok(())
     }
 
@@ -157,27 +159,47 @@ impl<'r> ReportBuilder<'r> {
         &mut self,
         names: &Names,
         line: u64,
+        site: Site,
         step: &Step,
         answer: Answer<'_>,
         held: &Lockset,
     ) -> Result<(), AllocError>
         requires room { self.old.report.steps + 1 < 2 ^ 64 }
         requires site { HasSiteName names.now step.now.event }
+        requires at { site ≤ length names.now.sites }
         ensures rules { OnOk result (self.new.rules ≡ self.old.rules) }
         ensures steps { OnOk result (self.new.report.steps ≡ self.old.report.steps + 1) }
-        ensures built_by { (a : Answering) (r : Recording) (k : ℕ) → IsBuiltBy a self.old r k → IsStepBy a r k names.now line step.now (shown answer.entry) held.now → OnOk result (IsBuiltBy a self.new r (k + 1)) }
+        ensures built_by { (a : Answering) (r : Recording) (k : ℕ) → IsBuiltBy a self.old r k → IsStepBy a r k names.now line site step.now (shown answer.entry) held.now → OnOk result (IsBuiltBy a self.new r (k + 1)) }
         ensures kept { OnOk result (self.new.kept ≡ self.old.kept) }
         ensures err { OnErr result (self.new ≡ self.old) }
     {
-        let rule = first_rule(self.rules, names, step.event, answer);
+        let rule = first_rule(self.rules, names, site, step.event, answer);
         let place = self.report.steps;
         if is_printed(answer, rule) {
             self.races.reserve(1)?;
-            add_step(self.alloc, &mut self.report, line, step, answer, rule, held)?;
+            add_step(
+                self.alloc,
+                &mut self.report,
+                line,
+                site,
+                step,
+                answer,
+                rule,
+                held,
+            )?;
             self.races.push_reserved(place);
             return Ok(());
         }
-        add_step(self.alloc, &mut self.report, line, step, answer, rule, held)?;
+        add_step(
+            self.alloc,
+            &mut self.report,
+            line,
+            site,
+            step,
+            answer,
+            rule,
+            held,
+        )?;
         Ok(())
     }
 
@@ -213,8 +235,8 @@ impl<'r> ReportBuilder<'r> {
     /// The report, without reasons, of a run that stopped so or not at all.
     pub fn finish(self, stop: Option<(u64, NoRoom)>) -> Report
         ensures report_by { (a : Answering) (r : Recording) (stopped : Option Stop) → IsBuiltBy a self.entry r (length (answered_steps r.steps stopped)) → stop ≡ stop_line r stopped → told result ≡ report_by a no_reasons r self.entry.rules stopped }
-        ensures named_by { (a : Answering) (r : Recording) (n : ℕ) → IsBuiltBy a self.entry r n → All (IsNamed r.names) r.steps → HaveStateNames r.names a → All (HasNames r.names) result.lines.items }
-        ensures named { (r : Recording) (n : ℕ) → IsBuilt self.entry r n → All (IsNamed r.names) r.steps → All (HasNames r.names) result.lines.items }
+        ensures named_by { (a : Answering) (r : Recording) (n : ℕ) → IsBuiltBy a self.entry r n → All (IsNamed r.names) r.steps → All (IsSite r.names) r.sites → HaveStateNames r.names a → All (HasNames r.names) result.lines.items }
+        ensures named { (r : Recording) (n : ℕ) → IsBuilt self.entry r n → All (IsNamed r.names) r.steps → All (IsSite r.names) r.sites → All (HasNames r.names) result.lines.items }
     {
         let ReportBuilder {
             rules: _,
@@ -232,7 +254,7 @@ impl<'r> ReportBuilder<'r> {
     /// The report of a run that stopped so or not at all, with reasons if they are wanted.
     pub fn finish_explained(self, stop: Option<(u64, NoRoom)>) -> Report
         ensures report { (r : Recording) (stopped : Option Stop) → IsReported self.entry r (length (answered_steps r.steps stopped)) → stop ≡ stop_line r stopped → told result ≡ report_of r self.entry.rules (is_some self.entry.kept) stopped }
-        ensures named { (r : Recording) (n : ℕ) → IsReported self.entry r n → All (IsNamed r.names) r.steps → All (HasNames r.names) result.lines.items }
+        ensures named { (r : Recording) (n : ℕ) → IsReported self.entry r n → All (IsNamed r.names) r.steps → All (IsSite r.names) r.sites → All (HasNames r.names) result.lines.items }
         ensures stop { result.stop ≡ stop }
     {
         let ReportBuilder {
@@ -252,7 +274,7 @@ impl<'r> ReportBuilder<'r> {
     pub fn finish_with(self, reasons: Vec<Vec<Because>>) -> Report
         ensures report_by { (a : Answering) (why : ℕ → List Reason) (r : Recording) → RacesHaveLines a r.steps → IsBuiltBy a self.entry r (length (answered_steps r.steps None)) → map (λ told. told.items) reasons.items ≡ map why self.entry.races → told result ≡ report_by a why r self.entry.rules None }
         ensures named_by { (a : Answering) (why : ℕ → List Reason) (r : Recording) (n : ℕ) → RacesHaveLines a r.steps → IsBuiltBy a self.entry r n → map (λ told. told.items) reasons.items ≡ map why self.entry.races
-            → All (IsNamed r.names) r.steps → HaveStateNames r.names a → ((k : ℕ) → All (HasReasonNames r.names) (why k)) → All (HasNames r.names) result.lines.items }
+            → All (IsNamed r.names) r.steps → All (IsSite r.names) r.sites → HaveStateNames r.names a → ((k : ℕ) → All (HasReasonNames r.names) (why k)) → All (HasNames r.names) result.lines.items }
     {
         let ReportBuilder {
             rules: _,
@@ -276,6 +298,7 @@ impl<'r> ReportBuilder<'r> {
         ensures named { All (HasNames trace.now.names) result.lines.items }
     {
         prove!(trace.lines().len() == trace.steps().len());
+        prove!(trace.sites().len() == trace.lines().len());
         let stop = stop_line(trace, stopped);
         self.finish_explained(stop)
     }
@@ -342,6 +365,7 @@ fn add_step(
     alloc: Global,
     report: &mut Report,
     number: u64,
+    site: Site,
     step: &Step,
     answer: Answer<'_>,
     rule: Option<usize>,
@@ -349,7 +373,7 @@ fn add_step(
 ) -> Result<(), AllocError>
     requires room { HasRoom (told report.old) }
     requires rule { IfSome rule (λ rule. rule < length report.old.rule_counts.items) }
-    ensures ok { OnOk result (told report.new ≡ with_answer (told report.old) number held.now step.now (shown answer.entry) rule) }
+    ensures ok { OnOk result (told report.new ≡ with_answer (told report.old) number site held.now step.now (shown answer.entry) rule) }
     ensures err { OnErr result (told report.new ≡ told report.old) }
 {
     match rule {
@@ -358,7 +382,7 @@ fn add_step(
             report.suppressed += 1;
         }
         None => {
-            if let Some(line) = line_of(alloc, number, step, answer, held)? {
+            if let Some(line) = line_of(alloc, number, site, step, answer, held)? {
                 report.lines.push(line)?;
             }
             match answer {
@@ -376,19 +400,20 @@ fn add_step(
 fn line_of(
     alloc: Global,
     number: u64,
+    site: Site,
     step: &Step,
     answer: Answer<'_>,
     held: &Lockset,
 ) -> Result<Option<Line>, AllocError>
-    ensures { IfOk result (λ line. map line_view (option_to_list line) ≡ answer_line number held.now [] step.now (shown answer.entry)) }
+    ensures { IfOk result (λ line. map line_view (option_to_list line) ≡ answer_line number site held.now [] step.now (shown answer.entry)) }
 {
     Ok(match (answer, step.event) {
-        (Answer::Race, Event::Access(kind, word, site)) => Some(Line::Race {
+        (Answer::Race, Event::Access(kind, word, own)) => Some(Line::Race {
             line: number,
             thread: step.thread,
             kind,
             word,
-            site,
+            site: own,
             held: held.copy()?,
             explained: Vec::new(alloc),
         }),
@@ -396,6 +421,7 @@ fn line_of(
             line: number,
             thread: step.thread,
             range,
+            site,
             held: held.copy()?,
             explained: Vec::new(alloc),
         }),

@@ -32,6 +32,8 @@ pub enum Line {
         thread: ThreadId,
         /// The words that were given back.
         range: PageRange,
+        /// Where in the program it stands.
+        site: Site,
         /// The locks that the thread held then, in any mode.
         held: Lockset,
         /// The access that it is unordered with. Empty in a report without explanations.

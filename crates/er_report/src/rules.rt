@@ -10,22 +10,26 @@ use er_journal::Answer;
 use er_rules::Suppressions;
 use er_trace::Names;
 
-/// The first rule that takes an event of this answer. The answer must be a race.
+/// The first rule that takes an event of this answer, whose line names the site. The answer must be a race.
 pub(crate) fn first_rule(
     suppressions: &Suppressions,
     names: &Names,
+    site: Site,
     event: Event,
     answer: Answer<'_>,
 ) -> Option<usize>
-    requires { HasSiteName names.now event }
-    ensures value { result ≡ answer_matching_rule (targets_of suppressions.now) names.now event (shown answer.entry) }
+    requires own { HasSiteName names.now event }
+    requires at { site ≤ length names.now.sites }
+    ensures value { result ≡ answer_matching_rule (targets_of suppressions.now) names.now site event (shown answer.entry) }
     ensures within { IfSome result (λ rule. rule < length (targets_of suppressions.now)) }
 {
     match (answer, event) {
         (Answer::Race, Event::Access(_, word, site)) => {
             suppressions.matching_rule(name_of(names, site), word)
         }
-        (Answer::Race, Event::Reuse(range)) => suppressions.matching_reuse(range),
+        (Answer::Race, Event::Reuse(range)) => {
+            suppressions.matching_reuse(name_of(names, site), range)
+        }
         _ => None,
     }
 }

@@ -1,5 +1,5 @@
 //! The report of a whole run.
-ghost use Rattle.std.specs.Prelude.{◌≡◌, ◌<◌, ◌+◌, ◌^◌, ℕ, [], All, IsTrue, is_some, length, IfOk, IfSome, OnOk};
+ghost use Rattle.std.specs.Prelude.{◌≡◌, ◌<◌, ◌≤◌, ◌+◌, ◌^◌, ℕ, [], All, IsTrue, is_some, length, IfOk, IfSome, OnOk};
 ghost use Rattle.er_explain.specs.Racing.{is_race};
 ghost use Rattle.er_held.specs.ThreadLocks.{held_by};
 ghost use Rattle.er_journal.specs.AnswerList.{shown};
@@ -11,7 +11,7 @@ ghost use Rattle.er_rules.specs.Rules.{targets_of};
 ghost use Rattle.er_trace.specs.Trace.{Recording};
 
 use crate::{Report, ReportBuilder};
-use er_event::{Lockset, Step, ThreadId};
+use er_event::{Lockset, Site, Step, ThreadId};
 use er_held::ThreadLocks;
 use er_journal::{Answer, Outcome};
 use er_rules::Suppressions;
@@ -69,6 +69,7 @@ fn add_steps(
             builder,
             trace.names(),
             trace.lines()[k],
+            trace.sites()[k],
             step,
             answer,
             &held,
@@ -85,17 +86,19 @@ fn add_one(
     builder: &mut ReportBuilder<'_>,
     names: &Names,
     line: u64,
+    site: Site,
     step: &Step,
     answer: Answer<'_>,
     held: &Lockset,
 ) -> Result<(), AllocError>
     requires room { builder.old.report.steps + 1 < 2 ^ 64 }
     requires site { HasSiteName names.now step.now.event }
+    requires at { site ≤ length names.now.sites }
     ensures rules { OnOk result (builder.new.rules ≡ builder.old.rules) }
     ensures explains { OnOk result (is_some builder.new.kept ≡ is_some builder.old.kept) }
-    ensures reported { (r : Recording) (k : ℕ) → IsReported builder.old r k → IsStepAt r k names.now line step.now (shown answer.entry) held.now → OnOk result (IsReported builder.new r (k + 1)) }
+    ensures reported { (r : Recording) (k : ℕ) → IsReported builder.old r k → IsStepAt r k names.now line site step.now (shown answer.entry) held.now → OnOk result (IsReported builder.new r (k + 1)) }
 {
-    builder.add_answer(names, line, step, answer, held)?;
+    builder.add_answer(names, line, site, step, answer, held)?;
     builder.explain(line, step)
 }
 

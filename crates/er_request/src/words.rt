@@ -2,7 +2,8 @@
 ghost use Rattle.std.specs.Prelude.{◌≡◌, false, true, IfOk, IsOk};
 ghost use Rattle.er_request.specs.Words.{IsUsual, asks_hints, asks_progress, asks_until_fault, asks_usual, names, names_hints, names_progress, names_until_fault, replays_input, usual_limit};
 
-use crate::request::{self, Replay, Request};
+use crate::reading::read_by_parser;
+use crate::request::{Replay, Request};
 use clap::Error;
 use er_report::{Analysis, Form};
 use std::alloc::Global;
@@ -20,7 +21,7 @@ pub fn read_request<'a>(alloc: Global, words: &'a [String]) -> Result<Request<'a
     if replays_input(words) {
         return Ok(Request::Replay(usual_replay(alloc)));
     }
-    let request = request::read_request(alloc, words)?;
+    let request = read_by_parser(alloc, words)?;
     Ok(if_named(request, words))
 }
 

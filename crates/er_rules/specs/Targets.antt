@@ -1,5 +1,5 @@
 -- What rules say, and the races that they take.
-use Rattle.std.specs.Prelude.{ℕ, nat_le, Bool, true, false, ◌&&◌, List, position, Option, Some, None, option_map, bytes_eq, string_bytes}
+use Rattle.std.specs.Prelude.{ℕ, nat_le, Bool, true, false, ◌&&◌, List, position, Option, Some, None, is_some, option_map, bytes_eq, string_bytes}
 use Rattle.er_event.specs.Span.{Span}
 use Rattle.er_rules.specs.declared.rules.Rule.{Rule}
 use Rattle.er_rules.specs.declared.rules.Rule.TheVariants.{Site, Words}
@@ -34,15 +34,16 @@ abbrev pub takes : Target → Option (List ℕ) → ℕ → Bool
 takes (AtSite name) site word = same_site name site
 takes (AtWords words) site word = is_among words word
 
--- whether a rule takes a race of a reuse of the words from lo to hi, which has no site: its words have them all
-abbrev pub takes_reuse : Target → ℕ → ℕ → Bool
-takes_reuse (AtSite name) lo hi = false
-takes_reuse (AtWords words) lo hi = is_among words lo && is_among words hi
+-- whether a rule takes a race of a reuse, at the site, of the words from lo to hi: it is of that site, which isn't missing, or its words
+-- have them all
+abbrev pub takes_reuse : Target → Option (List ℕ) → ℕ → ℕ → Bool
+takes_reuse (AtSite name) site lo hi = is_some name && same_site name site
+takes_reuse (AtWords words) site lo hi = is_among words lo && is_among words hi
 
 -- the place of the first rule that takes a race of an access
 abbrev pub matching_rule : List Target → Option (List ℕ) → ℕ → Option ℕ
 matching_rule targets site word = position (λ target. takes target site word) targets
 
 -- the place of the first rule that takes a race of a reuse
-abbrev pub matching_reuse_rule : List Target → ℕ → ℕ → Option ℕ
-matching_reuse_rule targets lo hi = position (λ target. takes_reuse target lo hi) targets
+abbrev pub matching_reuse_rule : List Target → Option (List ℕ) → ℕ → ℕ → Option ℕ
+matching_reuse_rule targets site lo hi = position (λ target. takes_reuse target site lo hi) targets

@@ -36,15 +36,17 @@ impl Rule {
         }
     }
 
-    /// Whether it takes a race of a reuse of the words from `lo` to `hi`: its own words have them all.
-    pub fn takes_reuse(&self, lo: Word, hi: Word) -> bool
-        ensures takes { result ≡ takes_reuse (target_of self.now) lo hi }
+    /// Whether it takes a race of a reuse, at the site of this name or at none, of the words from `lo` to `hi`: it is of that site, or its
+    /// own words have them all. A reuse at no site is not for a rule of the missing site.
+    pub fn takes_reuse(&self, site: Option<&str>, lo: Word, hi: Word) -> bool
+        ensures takes { result ≡ takes_reuse (target_of self.now) (option_copied site.entry) lo hi }
     {
         match self {
+            Rule::Site(name) => name.is_some() && is_at(name, site),
             Rule::Words(Some(words)) => {
                 words.first <= lo && lo <= words.last && words.first <= hi && hi <= words.last
             }
-            _ => false,
+            Rule::Words(None) => false,
         }
     }
 }
@@ -118,20 +120,21 @@ impl Suppressions {
         self.index.rule_of(site, word)
     }
 
-    /// The place of the first rule, from 0, that takes a race of a reuse of these words. It asks each rule.
-    pub fn matching_reuse(&self, range: PageRange) -> Option<usize>
-        ensures matching_rule { result ≡ matching_reuse_rule (targets_of self.now) range.lo range.hi }
+    /// The place of the first rule, from 0, that takes a race of a reuse of these words, at the site of this name or at none. It asks each
+    /// rule.
+    pub fn matching_reuse(&self, site: Option<&str>, range: PageRange) -> Option<usize>
+        ensures matching_rule { result ≡ matching_reuse_rule (targets_of self.now) (option_copied site.entry) range.lo range.hi }
         ensures within { IfSome result (λ rule. rule < length (targets_of self.now)) }
     {
         let PageRange { lo, hi } = range;
         let rules = self.rules.as_slice();
-        first_taking(rules, lo, hi)
+        first_taking(rules, site, lo, hi)
     }
 }
 
-// The place of the first of the rules that takes a race of a reuse of the words from `lo` to `hi`.
-fn first_taking(rules: &[Rule], lo: Word, hi: Word) -> Option<usize>
-    ensures { result ≡ position (λ rule. takes_reuse (target_of rule) lo hi) rules.now }
+// The place of the first of the rules that takes a race of a reuse, at the site, of the words from `lo` to `hi`.
+fn first_taking(rules: &[Rule], site: Option<&str>, lo: Word, hi: Word) -> Option<usize>
+    ensures { result ≡ position (λ rule. takes_reuse (target_of rule) (option_copied site.entry) lo hi) rules.now }
 {
-    rules.iter().position(|rule| rule.takes_reuse(lo, hi))
+    rules.iter().position(|rule| rule.takes_reuse(site, lo, hi))
 }

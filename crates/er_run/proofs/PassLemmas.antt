@@ -23,8 +23,8 @@ use Rattle.er_trace.specs.Names.{NameTable}
 use Rattle.er_trace.specs.Trace.{Recording}
 use Rattle.er_unordered.specs.Ordered.{OrderRan}
 use Rattle.er_unordered.specs.Stops.{IsStopIn}
-use Rattle.er_unordered.specs.declared.stop.OrderStop.{OrderStop}
-use Rattle.er_unordered.specs.declared.stop.OrderStop.TheVariants as order
+use Rattle.er_clock.specs.declared.clock.NoTick.{NoTick}
+use Rattle.er_clock.specs.declared.clock.NoTick.TheVariants as order
 
 -- which analysis is asked for
 pub lockset-alone : (analysis : Analysis) → asks_order analysis ≡ false → analysis ≡ Lockset
@@ -88,13 +88,13 @@ module _ (asked : Asked) (r : Recording) (ran : Ran) (run : HasRunFor ran asked 
       (of-room told limit cause (stopped told limit line cause some trace))
 
 -- happens-before has stopped at a step of the text
-pub order-fault : (analysis : Analysis) (told : Option (List ℕ)) (limit : ℕ) (r : Recording) (why : OrderStop) → asks_order analysis ≡ true → IfSome told (λ text. IsTrace text limit r)
+pub order-fault : (analysis : Analysis) (told : Option (List ℕ)) (limit : ℕ) (r : Recording) (why : NoTick) → asks_order analysis ≡ true → IfSome told (λ text. IsTrace text limit r)
     → IsStopIn r.steps why → IsFaultOfText analysis told limit (fault_of_stop why)
 order-fault analysis None limit r order.CountFull orders trace is = (orders, tt)
 order-fault analysis None limit r order.ThreadsFull orders trace is = (orders, tt)
 order-fault analysis (Some text) limit r order.CountFull orders trace is = (orders, record { recording = r; trace = trace; full = is })
 order-fault analysis (Some text) limit r order.ThreadsFull orders trace is = (orders, record { recording = r; trace = trace; full = is })
-order-fault analysis told limit r order.Memory orders trace is = tt
+order-fault analysis told limit r order.OutOfMemory orders trace is = tt
 
 -- what looks for damage stands for the text too
 pub inspected : (told : Option (List ℕ)) (limit : ℕ) (asked : Asked) (used : NameTable) (ran : Option Ran) (ordered : Option OrderRan) (seen : Option Inspected) → IsAnswered (AllStand ran ordered seen asked) told limit used

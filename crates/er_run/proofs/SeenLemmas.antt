@@ -51,18 +51,18 @@ module _ (told : Option (List ℕ)) (limit : ℕ) (strict : Bool) (used : NameTa
   none-found none = λ _. subst (λ (d : Damage). IfSome told (λ text. IsDamageOf text limit d)) (clean damage none) is_damage
 
 -- a batch
-pub seen-on : (old new : Option Inspected) (wanted : Bool) (past : List Step) (lines : List ℕ) (names : NameTable) (trace : Recording) → length trace.lines ≡ length trace.steps
-    → IsInspected old wanted (recorded past lines names) → is_some new ≡ is_some old → HaveSeen new (past ++ trace.steps) (lines ++ trace.lines) → IsInspected new wanted (joined past lines trace)
-seen-on old new wanted past lines names trace level seen same stands = record {
+pub seen-on : (old new : Option Inspected) (wanted : Bool) (past : List Step) (lines sites : List ℕ) (names : NameTable) (trace : Recording) → length trace.lines ≡ length trace.steps
+    → IsInspected old wanted (recorded past lines sites names) → is_some new ≡ is_some old → HaveSeen new (past ++ trace.steps) (lines ++ trace.lines) → IsInspected new wanted (joined past lines sites trace)
+seen-on old new wanted past lines sites names trace level seen same stands = record {
   strict = same ∙ seen.strict;
   even = (let even : length lines ≡ length past = seen.even in omega (arith, length-append past trace.steps, length-append lines trace.lines, level));
   stands = stands;
 }
 
-pub followed : (X E : Type 0) (result : Result X E) (old new : Inspected) (wanted : Bool) (past : List Step) (lines : List ℕ) (names : NameTable) (trace : Recording) → length trace.lines ≡ length trace.steps
-    → IsInspected (Some old) wanted (recorded past lines names) → OnOk result (StandsFor new (past ++ trace.steps) (lines ++ trace.lines)) → OnOk result (IsInspected (Some new) wanted (joined past lines trace))
-followed X E (Ok x) old new wanted past lines names trace level seen stands = seen-on (Some old) (Some new) wanted past lines names trace level seen refl stands
-followed X E (Err e) old new wanted past lines names trace level seen stands = tt
+pub followed : (X E : Type 0) (result : Result X E) (old new : Inspected) (wanted : Bool) (past : List Step) (lines sites : List ℕ) (names : NameTable) (trace : Recording) → length trace.lines ≡ length trace.steps
+    → IsInspected (Some old) wanted (recorded past lines sites names) → OnOk result (StandsFor new (past ++ trace.steps) (lines ++ trace.lines)) → OnOk result (IsInspected (Some new) wanted (joined past lines sites trace))
+followed X E (Ok x) old new wanted past lines sites names trace level seen stands = seen-on (Some old) (Some new) wanted past lines sites names trace level seen refl stands
+followed X E (Err e) old new wanted past lines sites names trace level seen stands = tt
 
 -- without an inspector nothing is looked for
 pub nothing-found : (told : Option (List ℕ)) (limit : ℕ) (strict : Bool) (used : NameTable) → IsAnswered (IsInspected None strict) told limit used → HasFound told limit strict None

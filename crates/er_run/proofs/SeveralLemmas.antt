@@ -19,7 +19,7 @@ use Rattle.er_model.specs.Holdings.{Holdings, holdings_at}
 use Rattle.er_model.specs.Threads.{accepted, held}
 use Rattle.er_parallel.specs.Crews.{Crewed, AreNoted, AreUnusual, HaveAnswered, LeavesWord, IsAmong, IsAnswered}
 use Rattle.er_parallel.specs.Faults.{AsksForSet, MayFail}
-use Rattle.er_parallel.specs.Found.{usual}
+use Rattle.er_parallel.specs.Usual.{usual}
 use Rattle.er_parallel.specs.declared.faults.ReplayFault.{ReplayFault}
 use Rattle.er_parallel.specs.declared.faults.ReplayFault.TheVariants as replaying
 use Rattle.er_parallel.specs.declared.unusual.Unusual.{Unusual}
@@ -35,7 +35,7 @@ use Rattle.er_report.specs.declared.reports.Analysis.TheVariants.{Lockset}
 use Rattle.er_rules.specs.Rules.{Target}
 use Rattle.er_unordered.specs.Reports.{has_order}
 use Rattle.er_batch.specs.Analysts.{Asked}
-use Rattle.er_batch.proofs.BatchLemmas.{all-named, read-part, read-whole}
+use Rattle.er_batch.proofs.BatchLemmas.{all-known, all-named, read-part, read-whole}
 use Rattle.er_run.specs.Faults.{IsFaultOfText, fault_of}
 use Rattle.er_batch.specs.Runs.{recorded}
 use Rattle.er_run.specs.Inner.Outcomes.{AreBuilt}
@@ -51,7 +51,7 @@ use Rattle.er_text.specs.declared.faults.ReadFault.TheVariants as reading
 use Rattle.er_text.specs.declared.reading.Batch.{Batch}
 use Rattle.er_text.specs.declared.reading.Batch.TheVariants.{More, End}
 use Rattle.er_trace.specs.Names.{NameTable}
-use Rattle.er_trace.specs.Trace.{Recording, IsNamed, no_steps, without_steps}
+use Rattle.er_trace.specs.Trace.{Recording, IsNamed, HasSiteName, no_steps, without_steps}
 
 -- the usual answer is no race
 usual-quiet : (event : Event) → is_race (usual event) ≡ false
@@ -92,20 +92,21 @@ same-step : (one other : Step) → Some one ≡ Some other → one ≡ other
 same-step one other is = cc
 
 -- the step at position k of a batch
-module _ (past batch : List Step) (lines : List ℕ) (names : NameTable) (items : List Unusual) (unusual : AreUnusual past batch items) (k number : ℕ) (step : Step)
-    (here : slice_get batch k ≡ Some step) (is : number ≡ slice_index lines (length past + k)) where
+module _ (past batch : List Step) (lines sites : List ℕ) (names : NameTable) (items : List Unusual) (unusual : AreUnusual past batch items) (k number site : ℕ) (step : Step)
+    (here : slice_get batch k ≡ Some step) (is : number ≡ slice_index lines (length past + k)) (stood : site ≡ slice_index sites (length past + k)) where
   there : slice_get (past ++ batch) (length past + k) ≡ Some step
   there = get_behind past batch k (length past + k) refl ∙ here
 
   -- its unusual answer
   pub with-item : (next : ℕ) (item : Unusual) → slice_get items next ≡ Some item → item.at ≡ k
-      → IsStepAt (recorded (past ++ batch) lines names) (length past + k) names number step item.answer item.held
+      → IsStepAt (recorded (past ++ batch) lines sites names) (length past + k) names number site step item.answer item.held
   with-item next item found at =
       let known : IsAnswered past batch item = unusual.right next item found in
       let same : known.step ≡ step = same-step known.step step (sym known.there ∙ ap (slice_get batch) at ∙ here) in
       record {
         here = there;
         line = is;
+        site = stood;
         named = refl;
         answered = known.answered ∙ ap (λ (n : ℕ). answer (past ++ batch) (length past + n)) at;
         locked = λ race.
@@ -124,11 +125,12 @@ module _ (past batch : List Step) (lines : List ℕ) (names : NameTable) (items 
 
   -- or its usual one
   pub as-usual : (next : ℕ) → IsNext items next k → IsNext items next (k + 1)
-      → (locks : List ℕ) → IsStepAt (recorded (past ++ batch) lines names) (length past + k) names number step (usual step.event) locks
+      → (locks : List ℕ) → IsStepAt (recorded (past ++ batch) lines sites names) (length past + k) names number site step (usual step.event) locks
   as-usual next before after locks =
       record {
         here = there;
         line = is;
+        site = stood;
         named = refl;
         answered = by (unusual.others k step here);
         locked = λ race. absurd (let none = usual-quiet step.event in cc);
@@ -211,43 +213,44 @@ of-reader told limit reading.Memory is = tt
 of-reader told limit reading.Read is = tt
 
 -- what a batch gives says so of its fault
-pub fault-given : (text : List ℕ) (past : List Step) (lines : List ℕ) (reader : Reached) (known : Option (List ℕ)) (trace : Recording) (limit : ℕ) (why : ReadFault)
-    → reader.place.limit ≡ limit → GivesBatch text past lines reader known trace (Err why) → IsReadFault text limit why
-fault-given text past lines reader known trace limit (reading.Text f) same gives = rw same at gives
-fault-given text past lines reader known trace limit reading.Memory same gives = tt
-fault-given text past lines reader known trace limit reading.Read same gives = tt
+pub fault-given : (text : List ℕ) (past : List Step) (lines sites : List ℕ) (reader : Reached) (known : Option (List ℕ)) (trace : Recording) (limit : ℕ) (why : ReadFault)
+    → reader.place.limit ≡ limit → GivesBatch text past lines sites reader known trace (Err why) → IsReadFault text limit why
+fault-given text past lines sites reader known trace limit (reading.Text f) same gives = rw same at gives
+fault-given text past lines sites reader known trace limit reading.Memory same gives = tt
+fault-given text past lines sites reader known trace limit reading.Read same gives = tt
 
 -- reading on
-module _ (text : List ℕ) (past : List Step) (lines : List ℕ) (old new : Reached) (known rest : Option (List ℕ)) (t cleared u : Recording) (empty : cleared ≡ without_steps t)
-    (limit : new.place.limit ≡ old.place.limit) (read : HasRead text past lines old known t) where
-  before : HasRead text (past ++ t.steps) (lines ++ t.lines) old known cleared
-  before = subst (HasRead text (past ++ t.steps) (lines ++ t.lines) old known) (sym empty) (forgotten text past lines old known t read)
+module _ (text : List ℕ) (past : List Step) (lines sites : List ℕ) (old new : Reached) (known rest : Option (List ℕ)) (t cleared u : Recording) (empty : cleared ≡ without_steps t)
+    (limit : new.place.limit ≡ old.place.limit) (read : HasRead text past lines sites old known t) where
+  before : HasRead text (past ++ t.steps) (lines ++ t.lines) (sites ++ t.sites) old known cleared
+  before = subst (HasRead text (past ++ t.steps) (lines ++ t.lines) (sites ++ t.sites) old known) (sym empty) (forgotten text past lines sites old known t read)
 
   abbrev Gives : Batch → Type 0
-  Gives batch = (steps : List Step) (numbers : List ℕ) → HasRead text steps numbers old known cleared → GivesBatch text steps numbers new rest u (Ok batch)
+  Gives batch = (steps : List Step) (numbers sites : List ℕ) → HasRead text steps numbers sites old known cleared → GivesBatch text steps numbers sites new rest u (Ok batch)
 
   pub more-read : (batch : Batch) → batch ≡ More → Gives batch → HasMore text past new rest u
   more-read batch is gives =
       record {
         more = t.steps;
         lines = lines ++ t.lines;
-        read = subst (λ (b : Batch). GivesBatch text (past ++ t.steps) (lines ++ t.lines) new rest u (Ok b)) is (gives (past ++ t.steps) (lines ++ t.lines) before);
+        sites = sites ++ t.sites;
+        read = subst (λ (b : Batch). GivesBatch text (past ++ t.steps) (lines ++ t.lines) (sites ++ t.sites) new rest u (Ok b)) is (gives (past ++ t.steps) (lines ++ t.lines) (sites ++ t.sites) before);
       }
 
   pub all-read : (batch : Batch) → batch ≡ End → Gives batch → BeginsWith text old.place.limit past
   all-read batch is gives =
       record {
-        recording = joined (past ++ t.steps) (lines ++ t.lines) u;
-        trace = subst (λ (n : ℕ). IsTrace text n (joined (past ++ t.steps) (lines ++ t.lines) u)) limit
-            (subst (λ (b : Batch). GivesBatch text (past ++ t.steps) (lines ++ t.lines) new rest u (Ok b)) is (gives (past ++ t.steps) (lines ++ t.lines) before));
+        recording = joined (past ++ t.steps) (lines ++ t.lines) (sites ++ t.sites) u;
+        trace = subst (λ (n : ℕ). IsTrace text n (joined (past ++ t.steps) (lines ++ t.lines) (sites ++ t.sites) u)) limit
+            (subst (λ (b : Batch). GivesBatch text (past ++ t.steps) (lines ++ t.lines) (sites ++ t.sites) new rest u (Ok b)) is (gives (past ++ t.steps) (lines ++ t.lines) (sites ++ t.sites) before));
         more = t.steps ++ u.steps;
         steps = append_assoc past t.steps u.steps;
       }
 
-  pub fault-read : (why : ReadFault) → ((steps : List Step) (numbers : List ℕ) → HasRead text steps numbers old known cleared → GivesBatch text steps numbers new rest u (Err why))
+  pub fault-read : (why : ReadFault) → ((steps : List Step) (numbers sites : List ℕ) → HasRead text steps numbers sites old known cleared → GivesBatch text steps numbers sites new rest u (Err why))
       → IsReadFault text old.place.limit why
   fault-read why gives =
-      fault-given text (past ++ t.steps) (lines ++ t.lines) new rest u old.place.limit why limit (gives (past ++ t.steps) (lines ++ t.lines) before)
+      fault-given text (past ++ t.steps) (lines ++ t.lines) (sites ++ t.sites) new rest u old.place.limit why limit (gives (past ++ t.steps) (lines ++ t.lines) (sites ++ t.sites) before)
 
 pub more-again : (text : List ℕ) (past more : List Step) (reader : Reached) (known : Option (List ℕ)) (trace : Recording) → HasMore text (past ++ more) reader known trace
     → HasMore text past reader known trace
@@ -255,7 +258,8 @@ more-again text past more reader known trace has =
     record {
       more = more ++ has.more;
       lines = has.lines;
-      read = subst (λ (steps : List Step). HasRead text steps has.lines reader known trace) (append_assoc past more has.more) has.read;
+      sites = has.sites;
+      read = subst (λ (steps : List Step). HasRead text steps has.lines has.sites reader known trace) (append_assoc past more has.more) has.read;
     }
 
 pub begins-again : (text : List ℕ) (limit : ℕ) (past more : List Step) → BeginsWith text limit (past ++ more) → BeginsWith text limit past
@@ -263,154 +267,186 @@ begins-again text limit past more begins =
     record { recording = begins.recording; trace = begins.trace; more = more ++ begins.more; steps = begins.steps ∙ append_assoc past more begins.more }
 
 -- a batch that was answered and a batch that was read
-module _ (past batch : List Step) (lines numbers : List ℕ) (names : NameTable) (trace : Recording) (kept : KeepsNames names trace.names) (crew after : Crewed) (builder : Built)
-    (pending : Pending crew builder names past lines batch numbers) where
-  all-known : All (IsNamed trace.names) (past ++ batch)
-  all-known = all-named names trace.names kept (past ++ batch) pending.named
+module _ (past batch : List Step) (lines sites numbers places : List ℕ) (names : NameTable) (trace : Recording) (kept : KeepsNames names trace.names) (crew after : Crewed) (builder : Built)
+    (pending : Pending crew builder names past lines sites batch numbers places) where
+  all-step-names : All (IsNamed trace.names) (past ++ batch)
+  all-step-names = all-named names trace.names kept (past ++ batch) pending.named
+
+  all-site-names : All (HasSiteName trace.names) (sites ++ places)
+  all-site-names = all-known names trace.names kept (sites ++ places) pending.known
+
+  -- each step has its line and its site
+  even-lines : length (lines ++ numbers) ≡ length (past ++ batch)
+  even-lines = length-append lines numbers ∙ rw (pending.even, pending.level) (sym (length-append past batch))
+
+  even-sites : length (sites ++ places) ≡ length (past ++ batch)
+  even-sites = length-append sites places ∙ rw (pending.each, pending.level_sites) (sym (length-append past batch))
 
   -- new names change nothing of the report
-  renamed : GoesOn (recorded (past ++ batch) (lines ++ numbers) names) (recorded (past ++ batch) (lines ++ numbers) trace.names)
+  renamed : GoesOn (recorded (past ++ batch) (lines ++ numbers) (sites ++ places) names) (recorded (past ++ batch) (lines ++ numbers) (sites ++ places) trace.names)
   renamed =
       record {
         named = pending.named;
-        long = length-append lines numbers ∙ rw (pending.even, pending.level) (sym (length-append past batch));
+        long = even-lines;
+        one_each = even-sites;
+        known = pending.known;
         more = [];
         others = [];
+        other_sites = [];
         steps = sym (append-nil (past ++ batch));
         lines = sym (append-nil (lines ++ numbers));
+        places = sym (append-nil (sites ++ places));
         sites = kept.sites;
       }
 
-  pub reported-renamed : IsReported builder (recorded (past ++ batch) (lines ++ numbers) trace.names) (length past)
+  pub reported-renamed : IsReported builder (recorded (past ++ batch) (lines ++ numbers) (sites ++ places) trace.names) (length past)
   reported-renamed =
       reported-on builder _ _ (length past) renamed (omega (arith, length-append past batch)) pending.reported
 
   -- the steps that were read are the next batch
-  longer : GoesOn (recorded (past ++ batch) (lines ++ numbers) trace.names) (joined (past ++ batch) (lines ++ numbers) trace)
+  longer : GoesOn (recorded (past ++ batch) (lines ++ numbers) (sites ++ places) trace.names) (joined (past ++ batch) (lines ++ numbers) (sites ++ places) trace)
   longer =
       record {
-        named = all-known;
-        long = length-append lines numbers ∙ rw (pending.even, pending.level) (sym (length-append past batch));
+        named = all-step-names;
+        long = even-lines;
+        one_each = even-sites;
+        known = all-site-names;
         more = trace.steps;
         others = trace.lines;
+        other_sites = trace.sites;
         steps = refl;
         lines = refl;
+        places = refl;
         sites = λ n name is. is;
       }
 
-  pub next-pending : (added : Built) → All (IsNamed trace.names) trace.steps → length trace.lines ≡ length trace.steps → HaveAnswered after (past ++ batch)
-      → IsReported added (recorded (past ++ batch) (lines ++ numbers) trace.names) (length past + length batch)
-      → Pending after added trace.names (past ++ batch) (lines ++ numbers) trace.steps trace.lines
-  next-pending added named even answered reported =
+  pub next-pending : (added : Built) → All (IsNamed trace.names) trace.steps → length trace.lines ≡ length trace.steps → All (HasSiteName trace.names) trace.sites
+      → length trace.sites ≡ length trace.steps → HaveAnswered after (past ++ batch)
+      → IsReported added (recorded (past ++ batch) (lines ++ numbers) (sites ++ places) trace.names) (length past + length batch)
+      → Pending after added trace.names (past ++ batch) (lines ++ numbers) (sites ++ places) trace.steps trace.lines trace.sites
+  next-pending added named even seen each answered reported =
       record {
         answered = answered;
         reported = reported-on added _ _ (length (past ++ batch)) longer (omega arith)
-            (subst (IsReported added (recorded (past ++ batch) (lines ++ numbers) trace.names)) (sym (length-append past batch)) reported);
-        named = All-append (IsNamed trace.names) (past ++ batch) trace.steps all-known named;
-        even = length-append lines numbers ∙ rw (pending.even, pending.level) (sym (length-append past batch));
+            (subst (IsReported added (recorded (past ++ batch) (lines ++ numbers) (sites ++ places) trace.names)) (sym (length-append past batch)) reported);
+        named = All-append (IsNamed trace.names) (past ++ batch) trace.steps all-step-names named;
+        known = All-append (HasSiteName trace.names) (sites ++ places) trace.sites all-site-names seen;
+        even = even-lines;
+        each = even-sites;
         level = even;
+        level_sites = each;
       }
 
 -- before the first batch
-pub several-begun : (reader : Reached) (trace : Recording) (crew : Crewed) (builder : Built) → trace ≡ no_steps → ((text : List ℕ) → HasRead text [] [] reader (Some text) no_steps)
-    → HaveAnswered crew [] → ((r : Recording) → IsReported builder r 0) → (told : Option (List ℕ)) → HasReadOn told told reader trace crew builder [] []
+pub several-begun : (reader : Reached) (trace : Recording) (crew : Crewed) (builder : Built) → trace ≡ no_steps → ((text : List ℕ) → HasRead text [] [] [] reader (Some text) no_steps)
+    → HaveAnswered crew [] → ((r : Recording) → IsReported builder r 0) → (told : Option (List ℕ)) → HasReadOn told told reader trace crew builder [] [] []
 several-begun reader trace crew builder empty starts answered built told =
-    subst (λ (t : Recording). HasReadOn told told reader t crew builder [] []) (sym empty) (record {
+    subst (λ (t : Recording). HasReadOn told told reader t crew builder [] [] []) (sym empty) (record {
       past = [];
       lines = [];
+      sites = [];
       read = read-by told;
       no_steps = refl;
       no_lines = refl;
+      no_sites = refl;
       pending = record {
         answered = answered;
-        reported = built (recorded [] [] no_steps.names);
+        reported = built (recorded [] [] [] no_steps.names);
         named = All-nil (IsNamed no_steps.names);
+        known = All-nil (HasSiteName no_steps.names);
         even = refl;
+        each = refl;
         level = refl;
+        level_sites = refl;
       };
     })
   where
-    read-by : (o : Option (List ℕ)) → IfSome o (λ text. HasRead text [] [] reader o no_steps)
+    read-by : (o : Option (List ℕ)) → IfSome o (λ text. HasRead text [] [] [] reader o no_steps)
     read-by None = tt
     read-by (Some text) = starts text
 
 -- one turn
-module _ (told known rest : Option (List ℕ)) (old new : Reached) (t u : Recording) (batch : List Step) (numbers : List ℕ) (crew after : Crewed) (builder added : Built) (items : List Unusual)
+module _ (told known rest : Option (List ℕ)) (old new : Reached) (t u : Recording) (batch : List Step) (numbers places : List ℕ) (crew after : Crewed) (builder added : Built) (items : List Unusual)
     (given : Batch) (kept : KeepsNames t.names u.names) (named : All (IsNamed u.names) u.steps) (even : length u.lines ≡ length u.steps)
-    (gives : (text : List ℕ) (steps : List Step) (lines : List ℕ) → HasRead text steps lines old known t → GivesBatch text steps lines new rest u (Ok given))
+    (seen : All (HasSiteName u.names) u.sites) (each : length u.sites ≡ length u.steps)
+    (gives : (text : List ℕ) (steps : List Step) (lines sites : List ℕ) → HasRead text steps lines sites old known t → GivesBatch text steps lines sites new rest u (Ok given))
     (goes : (past : List Step) → HaveAnswered crew past → HaveAnswered after (past ++ batch)) (answers : (past : List Step) → HaveAnswered crew past → AreItems (is_some builder.kept) past batch items)
-    (adds : (past : List Step) (lines : List ℕ) → length lines ≡ length past → AreItems (is_some builder.kept) past batch items → IsReported builder (recorded (past ++ batch) (lines ++ numbers) u.names) (length past)
-    → IsReported added (recorded (past ++ batch) (lines ++ numbers) u.names) (length past + length batch))
-    (state : HasReadOn told known old t crew builder batch numbers) where
-  pending : Pending after added u.names (state.past ++ batch) (state.lines ++ numbers) u.steps u.lines
+    (adds : (past : List Step) (lines sites : List ℕ) → length lines ≡ length past → length sites ≡ length past → AreItems (is_some builder.kept) past batch items → IsReported builder (recorded (past ++ batch) (lines ++ numbers) (sites ++ places) u.names) (length past)
+    → IsReported added (recorded (past ++ batch) (lines ++ numbers) (sites ++ places) u.names) (length past + length batch))
+    (state : HasReadOn told known old t crew builder batch numbers places) where
+  pending : Pending after added u.names (state.past ++ batch) (state.lines ++ numbers) (state.sites ++ places) u.steps u.lines u.sites
   pending =
-      next-pending state.past batch state.lines numbers t.names u kept crew after builder state.pending added named even (goes state.past state.pending.answered)
-      (adds state.past state.lines state.pending.even (answers state.past state.pending.answered)
-      (reported-renamed state.past batch state.lines numbers t.names u kept crew after builder state.pending))
+      next-pending state.past batch state.lines state.sites numbers places t.names u kept crew after builder state.pending added named even seen each (goes state.past state.pending.answered)
+      (adds state.past state.lines state.sites state.pending.even state.pending.each (answers state.past state.pending.answered)
+      (reported-renamed state.past batch state.lines state.sites numbers places t.names u kept crew after builder state.pending))
 
   -- after which lines may follow
-  pub reads-on : given ≡ More → (trace : Recording) → trace ≡ without_steps u → (next : List Step) → next ≡ u.steps → (lines : List ℕ) → lines ≡ u.lines
-      → HasReadOn told rest new trace after added next lines
-  reads-on is trace empty next steps lines numbered =
-      rw (empty, steps, numbered) (record {
+  pub reads-on : given ≡ More → (trace : Recording) → trace ≡ without_steps u → (next : List Step) → next ≡ u.steps → (lines : List ℕ) → lines ≡ u.lines → (sites : List ℕ) → sites ≡ u.sites
+      → HasReadOn told rest new trace after added next lines sites
+  reads-on is trace empty next steps lines numbered sites sited =
+      rw (empty, steps, numbered, sited) (record {
         past = state.past ++ batch;
         lines = state.lines ++ numbers;
-        read = read-part told (state.past ++ batch) (state.lines ++ numbers) old new known rest t u given is gives state.read;
+        sites = state.sites ++ places;
+        read = read-part told (state.past ++ batch) (state.lines ++ numbers) (state.sites ++ places) old new known rest t u given is gives state.read;
         no_steps = refl;
         no_lines = refl;
+        no_sites = refl;
         pending = pending;
       })
 
   -- or the text has ended
-  pub reads-all : given ≡ End → new.place.limit ≡ old.place.limit → (used : NameTable) → used ≡ u.names → (next : List Step) → next ≡ u.steps → (lines : List ℕ) → lines ≡ u.lines
-      → HasReadAll told old.place.limit used after added next lines
-  reads-all is limit used same next steps lines numbered =
-      rw (same, steps, numbered) (record {
+  pub reads-all : given ≡ End → new.place.limit ≡ old.place.limit → (used : NameTable) → used ≡ u.names → (next : List Step) → next ≡ u.steps → (lines : List ℕ) → lines ≡ u.lines → (sites : List ℕ) → sites ≡ u.sites
+      → HasReadAll told old.place.limit used after added next lines sites
+  reads-all is limit used same next steps lines numbered sites sited =
+      rw (same, steps, numbered, sited) (record {
         past = state.past ++ batch;
         lines = state.lines ++ numbers;
-        read = read-whole told (state.past ++ batch) (state.lines ++ numbers) old new known rest t u given is limit gives state.read;
+        sites = state.sites ++ places;
+        read = read-whole told (state.past ++ batch) (state.lines ++ numbers) (state.sites ++ places) old new known rest t u given is limit gives state.read;
         pending = pending;
       })
 
 -- a fault in the text that is being read
-pub turn-fault : (told known rest : Option (List ℕ)) (old new : Reached) (t u : Recording) (past : List Step) (lines : List ℕ) (why : ReadFault) → new.place.limit ≡ old.place.limit
-    → ((text : List ℕ) (steps : List Step) (numbers : List ℕ) → HasRead text steps numbers old known t → GivesBatch text steps numbers new rest u (Err why))
-    → IfSome told (λ text. HasRead text past lines old known t) → IsFaultOfText Lockset told old.place.limit (Read why)
-turn-fault told known rest old new t u past lines why limit gives read = of-reader told old.place.limit why (by told read)
+pub turn-fault : (told known rest : Option (List ℕ)) (old new : Reached) (t u : Recording) (past : List Step) (lines sites : List ℕ) (why : ReadFault) → new.place.limit ≡ old.place.limit
+    → ((text : List ℕ) (steps : List Step) (numbers sites : List ℕ) → HasRead text steps numbers sites old known t → GivesBatch text steps numbers sites new rest u (Err why))
+    → IfSome told (λ text. HasRead text past lines sites old known t) → IsFaultOfText Lockset told old.place.limit (Read why)
+turn-fault told known rest old new t u past lines sites why limit gives read = of-reader told old.place.limit why (by told read)
   where
-    by : (o : Option (List ℕ)) → IfSome o (λ text. HasRead text past lines old known t) → IfSome o (λ text. IsReadFault text old.place.limit why)
+    by : (o : Option (List ℕ)) → IfSome o (λ text. HasRead text past lines sites old known t) → IfSome o (λ text. IsReadFault text old.place.limit why)
     by None read = tt
-    by (Some text) read = fault-given text past lines new rest u old.place.limit why limit (gives text past lines read)
+    by (Some text) read = fault-given text past lines sites new rest u old.place.limit why limit (gives text past lines sites read)
 
 -- what a batch gives of a text, if the text is known
-pub given-of : (told known rest : Option (List ℕ)) (old new : Reached) (t u : Recording) (past : List Step) (lines : List ℕ) (given : Batch)
-    → ((text : List ℕ) (steps : List Step) (numbers : List ℕ) → HasRead text steps numbers old known t → GivesBatch text steps numbers new rest u (Ok given))
-    → IfSome told (λ text. HasRead text past lines old known t) → IfSome told (λ text. GivesBatch text past lines new rest u (Ok given))
-given-of None known rest old new t u past lines given gives read = tt
-given-of (Some text) known rest old new t u past lines given gives read = gives text past lines read
+pub given-of : (told known rest : Option (List ℕ)) (old new : Reached) (t u : Recording) (past : List Step) (lines sites : List ℕ) (given : Batch)
+    → ((text : List ℕ) (steps : List Step) (numbers sites : List ℕ) → HasRead text steps numbers sites old known t → GivesBatch text steps numbers sites new rest u (Ok given))
+    → IfSome told (λ text. HasRead text past lines sites old known t) → IfSome told (λ text. GivesBatch text past lines sites new rest u (Ok given))
+given-of None known rest old new t u past lines sites given gives read = tt
+given-of (Some text) known rest old new t u past lines sites given gives read = gives text past lines sites read
 
 -- after the last turn
-module _ (told : Option (List ℕ)) (limit : ℕ) (names : NameTable) (batch : List Step) (numbers : List ℕ) (crew : Crewed) (builder : Built) (all : HasReadAll told limit names crew builder batch numbers) where
+module _ (told : Option (List ℕ)) (limit : ℕ) (names : NameTable) (batch : List Step) (numbers places : List ℕ) (crew : Crewed) (builder : Built) (all : HasReadAll told limit names crew builder batch numbers places) where
   pub reports-all : (added : Built) (items : List Unusual) → ((past : List Step) → HaveAnswered crew past → AreItems (is_some builder.kept) past batch items)
-      → ((past : List Step) (lines : List ℕ) → length lines ≡ length past → AreItems (is_some builder.kept) past batch items → IsReported builder (recorded (past ++ batch) (lines ++ numbers) names) (length past)
-      → IsReported added (recorded (past ++ batch) (lines ++ numbers) names) (length past + length batch))
+      → ((past : List Step) (lines sites : List ℕ) → length lines ≡ length past → length sites ≡ length past → AreItems (is_some builder.kept) past batch items → IsReported builder (recorded (past ++ batch) (lines ++ numbers) (sites ++ places) names) (length past)
+      → IsReported added (recorded (past ++ batch) (lines ++ numbers) (sites ++ places) names) (length past + length batch))
       → HasReportedAll told limit names added
   reports-all added items answers adds =
       record {
-        recording = recorded (all.past ++ batch) (all.lines ++ numbers) names;
+        recording = recorded (all.past ++ batch) (all.lines ++ numbers) (all.sites ++ places) names;
         read = all.read;
         names = refl;
-        reported = subst (IsReported added (recorded (all.past ++ batch) (all.lines ++ numbers) names)) (sym (length-append all.past batch))
-            (adds all.past all.lines all.pending.even (answers all.past all.pending.answered) all.pending.reported);
+        reported = subst (IsReported added (recorded (all.past ++ batch) (all.lines ++ numbers) (all.sites ++ places) names)) (sym (length-append all.past batch))
+            (adds all.past all.lines all.sites all.pending.even all.pending.each (answers all.past all.pending.answered) all.pending.reported);
         named = all.pending.named;
+        known = all.pending.known;
       }
 
   begins : IfSome told (λ text. BeginsWith text limit (all.past ++ batch))
   begins = by told all.read
     where
-      by : (o : Option (List ℕ)) → IfSome o (λ text. IsTrace text limit (recorded (all.past ++ batch) (all.lines ++ numbers) names)) → IfSome o (λ text. BeginsWith text limit (all.past ++ batch))
+      by : (o : Option (List ℕ)) → IfSome o (λ text. IsTrace text limit (recorded (all.past ++ batch) (all.lines ++ numbers) (all.sites ++ places) names)) → IfSome o (λ text. BeginsWith text limit (all.past ++ batch))
       by None read = tt
-      by (Some text) read = record { recording = recorded (all.past ++ batch) (all.lines ++ numbers) names; trace = read; more = []; steps = sym (append-nil (all.past ++ batch)) }
+      by (Some text) read = record { recording = recorded (all.past ++ batch) (all.lines ++ numbers) (all.sites ++ places) names; trace = read; more = []; steps = sym (append-nil (all.past ++ batch)) }
 
   pub all-fault : (why : ReplayFault) → ((past : List Step) → HaveAnswered crew past → MayFail (past ++ batch) why) → IsFaultOfText Lockset told limit (fault_of why)
   all-fault why fails = of-crew told limit (all.past ++ batch) why begins (fails all.past all.pending.answered)
@@ -443,33 +479,33 @@ pub start-may : (why : ReplayFault) → (why ≡ replaying.Memory) ⊎ (why ≡ 
 start-may why (inl is) = rw is tt
 start-may why (inr is) = rw is tt
 
-pub start-read : (told : Option (List ℕ)) (reader : Reached) (trace : Recording) → trace ≡ no_steps → ((text : List ℕ) → HasRead text [] [] reader (Some text) no_steps)
-    → IfSome told (λ text. GivesBatch text [] [] reader told trace (Ok More))
+pub start-read : (told : Option (List ℕ)) (reader : Reached) (trace : Recording) → trace ≡ no_steps → ((text : List ℕ) → HasRead text [] [] [] reader (Some text) no_steps)
+    → IfSome told (λ text. GivesBatch text [] [] [] reader told trace (Ok More))
 start-read None reader trace empty starts = tt
 start-read (Some text) reader trace empty starts = rw empty (starts text)
 
 -- nothing more was read yet
-pub none-more : (text : List ℕ) (past : List Step) (lines : List ℕ) (reader : Reached) (known : Option (List ℕ)) (trace : Recording) → HasRead text past lines reader known trace
+pub none-more : (text : List ℕ) (past : List Step) (lines sites : List ℕ) (reader : Reached) (known : Option (List ℕ)) (trace : Recording) → HasRead text past lines sites reader known trace
     → HasMore text past reader known trace
-none-more text past lines reader known trace read =
-    record { more = []; lines = lines; read = subst (λ (steps : List Step). HasRead text steps lines reader known trace) (sym (append-nil past)) read }
+none-more text past lines sites reader known trace read =
+    record { more = []; lines = lines; sites = sites; read = subst (λ (steps : List Step). HasRead text steps lines sites reader known trace) (sym (append-nil past)) read }
 
 -- what a batch in front of the workers' fault says of the whole text
-pub ended-begins : (told known : Option (List ℕ)) (reader : Reached) (trace : Recording) (past : List Step) (lines : List ℕ) (given : Batch) → given ≡ End
-    → IfSome told (λ text. GivesBatch text past lines reader known trace (Ok given)) → IfSome told (λ text. BeginsWith text reader.place.limit past)
-ended-begins None known reader trace past lines given is gives = tt
-ended-begins (Some text) known reader trace past lines given is gives =
+pub ended-begins : (told known : Option (List ℕ)) (reader : Reached) (trace : Recording) (past : List Step) (lines sites : List ℕ) (given : Batch) → given ≡ End
+    → IfSome told (λ text. GivesBatch text past lines sites reader known trace (Ok given)) → IfSome told (λ text. BeginsWith text reader.place.limit past)
+ended-begins None known reader trace past lines sites given is gives = tt
+ended-begins (Some text) known reader trace past lines sites given is gives =
     record {
-      recording = joined past lines trace;
-      trace = subst (λ (b : Batch). GivesBatch text past lines reader known trace (Ok b)) is gives;
+      recording = joined past lines sites trace;
+      trace = subst (λ (b : Batch). GivesBatch text past lines sites reader known trace (Ok b)) is gives;
       more = trace.steps;
       steps = refl;
     }
 
-pub read-of : (told known : Option (List ℕ)) (reader : Reached) (trace : Recording) (past : List Step) (lines : List ℕ) (given : Batch) → given ≡ More
-    → IfSome told (λ text. GivesBatch text past lines reader known trace (Ok given)) → IfSome told (λ text. HasRead text past lines reader known trace)
-read-of None known reader trace past lines given is gives = tt
-read-of (Some text) known reader trace past lines given is gives = subst (λ (b : Batch). GivesBatch text past lines reader known trace (Ok b)) is gives
+pub read-of : (told known : Option (List ℕ)) (reader : Reached) (trace : Recording) (past : List Step) (lines sites : List ℕ) (given : Batch) → given ≡ More
+    → IfSome told (λ text. GivesBatch text past lines sites reader known trace (Ok given)) → IfSome told (λ text. HasRead text past lines sites reader known trace)
+read-of None known reader trace past lines sites given is gives = tt
+read-of (Some text) known reader trace past lines sites given is gives = subst (λ (b : Batch). GivesBatch text past lines sites reader known trace (Ok b)) is gives
 
 pub known-of : (P Q : List ℕ → Type 0) (told : Option (List ℕ)) → ((text : List ℕ) → P text → Q text) → IfSome told P → IfSome told Q
 known-of P Q None gives read = tt

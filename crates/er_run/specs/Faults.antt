@@ -1,7 +1,9 @@
 -- The faults of a replay: their words, when each may come, and which of the reader and the writer has failed.
 use Rattle.std.specs.Prelude.{◌≡◌, ℕ, Bool, true, false, IsTrue, List, codes, Option, Some, IfSome, Result, Ok, Err}
+use Rattle.er_clock.specs.declared.clock.NoTick.{NoTick}
+use Rattle.er_clock.specs.declared.clock.NoTick.TheVariants as order
 use Rattle.er_batch.specs.Runs.{IsRunOf}
-use Rattle.er_clocks.specs.Crowding.{CrowdsIn}
+use Rattle.er_clock.specs.Crowding.{CrowdsIn}
 use Rattle.er_damage.specs.Damaged.{IsDamageOf, has_damage}
 use Rattle.er_damage.specs.declared.damage.Damage.{Damage}
 use Rattle.er_event.specs.declared.refusals.NoRoom.{NoRoom}
@@ -20,8 +22,6 @@ use Rattle.er_text.specs.Trace.{IsTrace, IsFault}
 use Rattle.er_text.specs.declared.faults.ReadFault.TheVariants as reading
 use Rattle.er_trace.specs.Trace.{Recording}
 use Rattle.er_unordered.specs.Stops.{OverflowsIn}
-use Rattle.er_unordered.specs.declared.stop.OrderStop.{OrderStop}
-use Rattle.er_unordered.specs.declared.stop.OrderStop.TheVariants as order
 
 -- a fault in words
 abbrev pub text_of : RunFault → List ℕ
@@ -47,10 +47,10 @@ fault_of_room room.JournalFull = Memory
 fault_of_room room.OutOfMemory = Memory
 
 -- what a stop of happens-before comes to
-abbrev pub fault_of_stop : OrderStop → RunFault
+abbrev pub fault_of_stop : NoTick → RunFault
 fault_of_stop order.CountFull = CountFull
 fault_of_stop order.ThreadsFull = ThreadsFull
-fault_of_stop order.Memory = Memory
+fault_of_stop order.OutOfMemory = Memory
 
 -- the text is a trace, and some step of it asks the table for a set of locks
 pub record HasStepForSet (text : List ℕ) (limit : ℕ) : Type 0 where

@@ -3,17 +3,17 @@ ghost use Rattle.std.specs.Prelude.{◌≡◌, ◌++◌, ◌+◌, ◌<◌, ◌�
 ghost use Rattle.er_event.specs.declared.steps.Step.{Step as Steps};
 ghost use Rattle.er_journal.specs.AnswerList.{shown};
 ghost use Rattle.er_parallel.specs.Crews.{AreUnusual, Rise};
-ghost use Rattle.er_parallel.specs.Found.{usual};
+ghost use Rattle.er_parallel.specs.Usual.{usual};
 ghost use Rattle.er_replay.specs.Wants.{is_access};
 ghost use Rattle.er_report.specs.Builder.{IsBuilt, IsReported};
 ghost use Rattle.er_report.specs.Names.{HasSiteName};
 ghost use Rattle.er_batch.specs.Inner.Answering.{Lags};
 ghost use Rattle.er_batch.specs.Runs.{recorded};
 ghost use Rattle.er_run.specs.Inner.Several.{AreItems, IsNext};
-ghost use Rattle.er_trace.specs.Trace.{IsNamed};
+ghost use Rattle.er_trace.specs.Trace.{IsNamed, HasSiteName as IsSite};
 
 use er_batch::has_room;
-use er_event::{Event, Lockset, Step};
+use er_event::{Event, Lockset, Site, Step};
 use er_journal::Answer;
 use er_parallel::Unusual;
 use er_report::ReportBuilder;
@@ -47,6 +47,7 @@ fn add_one(
     builder: &mut ReportBuilder<'_>,
     names: &Names,
     line: u64,
+    site: Site,
     step: &Step,
     unusual: &[Unusual],
     next: usize,
@@ -55,6 +56,7 @@ fn add_one(
 ) -> Result<usize, AllocError>
     requires room { builder.old.report.steps + 1 < 2 ^ 64 }
     requires site { HasSiteName names.now step.now.event }
+    requires at { site ≤ length names.now.sites }
     requires next { next ≤ k }
     requires small { k + 1 < 2 ^ 64 }
     ensures rules { OnOk result (builder.new.rules ≡ builder.old.rules) }
@@ -62,17 +64,18 @@ fn add_one(
     ensures kept { OnOk result (builder.new.kept ≡ builder.old.kept) }
     ensures next { IfOk result (λ after. after ≤ k + 1) }
     ensures place { Rise unusual.now → IsNext unusual.now next k → IfOk result (λ after. IsNext unusual.now after (k + 1)) }
-    ensures built { (past batch : List Steps) (lines : List ℕ) → AreUnusual past batch unusual.now → IsNext unusual.now next k
-        → slice_get batch k ≡ Some step.now → line ≡ slice_index lines (length past + k) → IsBuilt builder.old (recorded (past ++ batch) lines names.now) (length past + k)
-        → OnOk result (IsBuilt builder.new (recorded (past ++ batch) lines names.now) (length past + k + 1)) }
+    ensures built { (past batch : List Steps) (lines sites : List ℕ) → AreUnusual past batch unusual.now → IsNext unusual.now next k
+        → slice_get batch k ≡ Some step.now → line ≡ slice_index lines (length past + k) → site ≡ slice_index sites (length past + k)
+        → IsBuilt builder.old (recorded (past ++ batch) lines sites names.now) (length past + k)
+        → OnOk result (IsBuilt builder.new (recorded (past ++ batch) lines sites names.now) (length past + k + 1)) }
 {
     match item_at(unusual, next, k) {
         Some(item) => {
-            builder.add(names, line, step, &item.answer, &item.held)?;
+            builder.add(names, line, site, step, &item.answer, &item.held)?;
             Ok(next + 1)
         }
         None => {
-            builder.add_answer(names, line, step, usual_answer(step.event), none)?;
+            builder.add_answer(names, line, site, step, usual_answer(step.event), none)?;
             Ok(next)
         }
     }
@@ -98,6 +101,7 @@ fn add_behind(
     plain: u64,
     names: &Names,
     line: u64,
+    site: Site,
     step: &Step,
     items: &[Unusual],
     next: usize,
@@ -106,6 +110,7 @@ fn add_behind(
 ) -> Result<usize, AllocError>
     requires room { builder.old.report.steps + plain + 1 < 2 ^ 64 }
     requires site { HasSiteName names.now step.now.event }
+    requires at { site ≤ length names.now.sites }
     requires next { next ≤ k }
     requires small { k + 1 < 2 ^ 64 }
     ensures rules { OnOk result (builder.new.rules ≡ builder.old.rules) }
@@ -113,12 +118,13 @@ fn add_behind(
     ensures explains { OnOk result (is_some builder.new.kept ≡ is_some builder.old.kept) }
     ensures next { IfOk result (λ after. after ≤ k + 1) }
     ensures place { Rise items.now → IsNext items.now next k → IfOk result (λ after. IsNext items.now after (k + 1)) }
-    ensures reported { (past batch : List Steps) (lines : List ℕ) → AreUnusual past batch items.now → IsNext items.now next k
-        → slice_get batch k ≡ Some step.now → line ≡ slice_index lines (length past + k) → Lags builder.old (recorded (past ++ batch) lines names.now) (length past + k) plain
-        → OnOk result (IsReported builder.new (recorded (past ++ batch) lines names.now) (length past + k + 1)) }
+    ensures reported { (past batch : List Steps) (lines sites : List ℕ) → AreUnusual past batch items.now → IsNext items.now next k
+        → slice_get batch k ≡ Some step.now → line ≡ slice_index lines (length past + k) → site ≡ slice_index sites (length past + k)
+        → Lags builder.old (recorded (past ++ batch) lines sites names.now) (length past + k) plain
+        → OnOk result (IsReported builder.new (recorded (past ++ batch) lines sites names.now) (length past + k + 1)) }
 {
     builder.add_plain(plain);
-    let after = add_one(builder, names, line, step, items, next, k, none)?;
+    let after = add_one(builder, names, line, site, step, items, next, k, none)?;
     builder.explain(line, step)?;
     Ok(after)
 }
@@ -131,15 +137,18 @@ pub(crate) fn add_batch(
     names: &Names,
     steps: &[Step],
     numbers: &[u64],
+    sites: &[Site],
     items: &[Unusual],
 ) -> Result<(), AllocError>
     requires level { length numbers.now ≡ length steps.now }
+    requires level_sites { length sites.now ≡ length steps.now }
     requires named { All (IsNamed names.now) steps.now }
+    requires known { All (IsSite names.now) sites.now }
     ensures rules { OnOk result (builder.new.rules ≡ builder.old.rules) }
     ensures explains { OnOk result (is_some builder.new.kept ≡ is_some builder.old.kept) }
-    ensures reported { (past : List Steps) (lines : List ℕ) → length lines ≡ length past → AreItems (is_some builder.old.kept) past steps.now items.now
-        → IsReported builder.old (recorded (past ++ steps.now) (lines ++ numbers.now) names.now) (length past)
-        → OnOk result (IsReported builder.new (recorded (past ++ steps.now) (lines ++ numbers.now) names.now) (length past + length steps.now)) }
+    ensures reported { (past : List Steps) (lines places : List ℕ) → length lines ≡ length past → length places ≡ length past → AreItems (is_some builder.old.kept) past steps.now items.now
+        → IsReported builder.old (recorded (past ++ steps.now) (lines ++ numbers.now) (places ++ sites.now) names.now) (length past)
+        → OnOk result (IsReported builder.new (recorded (past ++ steps.now) (lines ++ numbers.now) (places ++ sites.now) names.now) (length past + length steps.now)) }
 {
     if !has_room(builder, steps) {
         return Err(AllocError);
@@ -152,8 +161,10 @@ pub(crate) fn add_batch(
         if says_nothing(explains, step.event, items, next, k) {
             plain += 1;
         } else {
-            let line = numbers[k];
-            next = add_behind(builder, plain, names, line, step, items, next, k, &none)?;
+            let (line, site) = (numbers[k], sites[k]);
+            next = add_behind(
+                builder, plain, names, line, site, step, items, next, k, &none,
+            )?;
             plain = 0;
         }
     }

@@ -3,12 +3,12 @@ ghost use Rattle.std.specs.Prelude.{◌≡◌, Some};
 ghost use Rattle.er_run.specs.Faults.{text_of, fault_of, fault_of_room, fault_of_stop};
 ghost use Rattle.er_run.specs.declared.fault.RunFault.TheVariants.{Read, Write, Memory};
 
+use er_clock::NoTick;
 use er_damage::Damage;
 use er_event::NoRoom;
 use er_parallel::ReplayFault;
 use er_print::WriteFault;
 use er_text::ReadFault;
-use er_unordered::OrderStop;
 use std::alloc::AllocError;
 use std::error::Error;
 use std::fmt;
@@ -90,14 +90,14 @@ impl From<NoRoom> for RunFault {
     }
 }
 
-impl From<OrderStop> for RunFault {
+impl From<NoTick> for RunFault {
     ghost from_gives = { λ cause fault. fault ≡ fault_of_stop cause };
 
-    fn from(cause: OrderStop) -> RunFault {
+    fn from(cause: NoTick) -> RunFault {
         match cause {
-            OrderStop::CountFull => RunFault::CountFull,
-            OrderStop::ThreadsFull => RunFault::ThreadsFull,
-            OrderStop::Memory => RunFault::Memory,
+            NoTick::CountFull => RunFault::CountFull,
+            NoTick::ThreadsFull => RunFault::ThreadsFull,
+            NoTick::OutOfMemory => RunFault::Memory,
         }
     }
 }

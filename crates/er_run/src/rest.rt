@@ -28,11 +28,11 @@ fn read_more<R: Threads + Sync, D: Read>(
     trace: &mut Trace,
 ) -> Result<bool, ReadFault>
     requires open { has_failed reader.old ≡ false }
-    ensures more { (text : List ℕ) (past : List Step) (numbers : List ℕ) → HasRead text past numbers lines.old (D.remaining (inner_of reader.old)) trace.old
+    ensures more { (text : List ℕ) (past : List Step) (numbers sites : List ℕ) → HasRead text past numbers sites lines.old (D.remaining (inner_of reader.old)) trace.old
         → IfOk result (λ more. more ≡ true → HasMore text past lines.new (D.remaining (inner_of reader.new)) trace.new) }
-    ensures ended { (text : List ℕ) (past : List Step) (numbers : List ℕ) → HasRead text past numbers lines.old (D.remaining (inner_of reader.old)) trace.old
+    ensures ended { (text : List ℕ) (past : List Step) (numbers sites : List ℕ) → HasRead text past numbers sites lines.old (D.remaining (inner_of reader.old)) trace.old
         → IfOk result (λ more. more ≡ false → BeginsWith text lines.old.place.limit past) }
-    ensures fault { (text : List ℕ) (past : List Step) (numbers : List ℕ) → HasRead text past numbers lines.old (D.remaining (inner_of reader.old)) trace.old
+    ensures fault { (text : List ℕ) (past : List Step) (numbers sites : List ℕ) → HasRead text past numbers sites lines.old (D.remaining (inner_of reader.old)) trace.old
         → IfErr result (λ why. IsReadFault text lines.old.place.limit why) }
     ensures limit { lines.new.place.limit ≡ lines.old.place.limit }
     ensures rises { IfOk result (λ more. more ≡ true → lines.old.place.start < lines.new.place.start) }
@@ -60,9 +60,9 @@ fn read_out<R: Threads + Sync, D: Read>(
     trace: &mut Trace,
 ) -> Result<(), ReadFault>
     requires open { has_failed reader.old ≡ false }
-    ensures ended { (text : List ℕ) (past : List Step) (numbers : List ℕ) → HasRead text past numbers lines.old (D.remaining (inner_of reader.old)) trace.old
+    ensures ended { (text : List ℕ) (past : List Step) (numbers sites : List ℕ) → HasRead text past numbers sites lines.old (D.remaining (inner_of reader.old)) trace.old
         → OnOk result (BeginsWith text lines.old.place.limit past) }
-    ensures fault { (text : List ℕ) (past : List Step) (numbers : List ℕ) → HasRead text past numbers lines.old (D.remaining (inner_of reader.old)) trace.old
+    ensures fault { (text : List ℕ) (past : List Step) (numbers sites : List ℕ) → HasRead text past numbers sites lines.old (D.remaining (inner_of reader.old)) trace.old
         → IfErr result (λ why. IsReadFault text lines.old.place.limit why) }
     ensures limit { lines.new.place.limit ≡ lines.old.place.limit }
     ensures within { lines.new.place.start ≤ lines.new.place.limit }
@@ -84,8 +84,8 @@ pub(crate) fn fault_behind<R: Threads + Sync, D: Read>(
     why: ReplayFault,
 ) -> RunFault
     requires open { has_failed reader.old ≡ false }
-    ensures fault { (told : Option (List ℕ)) (past : List Step) (numbers : List ℕ) → MayFail past why
-        → IfSome told (λ text. GivesBatch text past numbers lines.old (D.remaining (inner_of reader.old)) trace.old (Ok batch))
+    ensures fault { (told : Option (List ℕ)) (past : List Step) (numbers sites : List ℕ) → MayFail past why
+        → IfSome told (λ text. GivesBatch text past numbers sites lines.old (D.remaining (inner_of reader.old)) trace.old (Ok batch))
         → IsFaultOfText Lockset told lines.old.place.limit result }
     ensures undamaged { IsNoDamage result }
     ensures limit { lines.new.place.limit ≡ lines.old.place.limit }

@@ -23,7 +23,7 @@ ghost use Rattle.er_text.specs.Ending.{KnowsEnd, IsEndingOf};
 ghost use Rattle.er_text.specs.Inner.Lending.{taken_by};
 ghost use Rattle.er_text.specs.Named.{Grows};
 ghost use Rattle.er_text.specs.Trace.{HasFailedBy};
-ghost use Rattle.er_trace.specs.Trace.{IsNamed};
+ghost use Rattle.er_trace.specs.Trace.{IsNamed, HasSiteName};
 
 use crate::adding::add_batch;
 use crate::inspecting::Inspection;
@@ -33,7 +33,7 @@ use crate::watching::progress_of;
 use crate::{Options, RunFault, Watch};
 use er_batch::Analyst;
 use er_device::Device;
-use er_event::Step;
+use er_event::{Site, Step};
 use er_parallel::{Crew, ReplayConfig, ReplayFault, Unusual};
 use er_reading::PieceReader;
 use er_report::{ReportBuilder, Reports};
@@ -48,7 +48,7 @@ use std::thread;
 use std::thread::Threads;
 
 /// A replay by several workers: what reads the lines, the workers, the report so far, and the steps that were read and aren't
-/// answered, with their lines. Between two batches the trace has names alone.
+/// answered, with their lines and sites. Between two batches the trace has names alone.
 #[derive(Drop)]
 struct Shared<'t, 'r> {
     alloc: Global,
@@ -58,6 +58,7 @@ struct Shared<'t, 'r> {
     builder: ReportBuilder<'r>,
     steps: Vec<Step>,
     numbers: Vec<u64>,
+    sites: Vec<Site>,
     inspection: Inspection,
 }
 
@@ -88,11 +89,11 @@ fn answer_and_read<R: Threads + Wait + Sync, D: Read>(
     ensures answers { (past : List Steps) → HaveAnswered crew.old past → IfOk result.0 (λ items. AreUnusual past steps.now items.items) }
     ensures noted { (past : List Steps) → HaveAnswered crew.old past → IsTrue noting → IfOk result.0 (λ items. AreNoted past steps.now items.items) }
     ensures workers_fault { (past : List Steps) → HaveAnswered crew.old past → IfErr result.0 (λ why. MayFail (past ++ steps.now) why) }
-    ensures told { (text : List ℕ) (past : List Steps) (numbers : List ℕ)
-        → HasRead text past numbers lines.old (D.remaining (inner_of reader.old)) trace.old
-        → GivesBatch text past numbers lines.new (D.remaining (inner_of reader.new)) trace.new result.1 }
-    ensures ends { (text : List ℕ) (past : List Steps) (numbers : List ℕ)
-        → HasRead text past numbers lines.old (D.remaining (inner_of reader.old)) trace.old
+    ensures told { (text : List ℕ) (past : List Steps) (numbers sites : List ℕ)
+        → HasRead text past numbers sites lines.old (D.remaining (inner_of reader.old)) trace.old
+        → GivesBatch text past numbers sites lines.new (D.remaining (inner_of reader.new)) trace.new result.1 }
+    ensures ends { (text : List ℕ) (past : List Steps) (numbers sites : List ℕ)
+        → HasRead text past numbers sites lines.old (D.remaining (inner_of reader.old)) trace.old
         → IfOk result.1 (λ batch. batch ≡ Batch.End → KnowsEnd text lines.new) }
     ensures grows { OnOk result.1 (Grows trace.old trace.new) }
     ensures limit { lines.new.place.limit ≡ lines.old.place.limit }
@@ -123,9 +124,11 @@ impl<'t, 'r> Shared<'t, 'r> {
         options: &Options,
     ) -> Result<Shared<'t, 'r>, RunFault>
         requires open { has_failed reader.old ≡ false }
-        ensures come { IfOk result (λ shared. (told : Option (List ℕ)) → HasReadOn told told shared.lines shared.trace shared.crew shared.builder shared.steps.items shared.numbers.items) }
+        ensures come { IfOk result (λ shared. (told : Option (List ℕ)) → HasReadOn told told shared.lines shared.trace shared.crew shared.builder shared.steps.items shared.numbers.items shared.sites.items) }
         ensures level { IfOk result (λ shared. length shared.numbers.items ≡ length shared.steps.items) }
+        ensures level_sites { IfOk result (λ shared. length shared.sites.items ≡ length shared.steps.items) }
         ensures named { IfOk result (λ shared. All (IsNamed shared.trace.names) shared.steps.items) }
+        ensures known { IfOk result (λ shared. All (HasSiteName shared.trace.names) shared.sites.items) }
         ensures same { OnOk result ((D.remaining (inner_of reader.new) ≡ D.remaining (inner_of reader.old)) × (taken_of reader.new ≡ taken_of reader.old)) }
         ensures rules { IfOk result (λ shared. shared.builder.rules ≡ targets_of suppressions.now) }
         ensures explains { IfOk result (λ shared. is_some shared.builder.kept ≡ options.now.explain) }
@@ -167,6 +170,7 @@ impl<'t, 'r> Shared<'t, 'r> {
                 builder,
                 steps: Vec::new(alloc),
                 numbers: Vec::new(alloc),
+                sites: Vec::new(alloc),
                 inspection,
             }),
             Err(why) => {
@@ -188,15 +192,19 @@ impl<'t, 'r> Shared<'t, 'r> {
     ) -> Result<bool, RunFault>
         requires open { has_failed reader.old ≡ false }
         requires level { length self.old.numbers.items ≡ length self.old.steps.items }
+        requires level_sites { length self.old.sites.items ≡ length self.old.steps.items }
         requires named { All (IsNamed self.old.trace.names) self.old.steps.items }
-        ensures come { (told : Option (List ℕ)) → HasReadOn told (D.remaining (inner_of reader.old)) self.old.lines self.old.trace self.old.crew self.old.builder self.old.steps.items self.old.numbers.items
-            → IfOk result (λ more. more ≡ true → HasReadOn told (D.remaining (inner_of reader.new)) self.new.lines self.new.trace self.new.crew self.new.builder self.new.steps.items self.new.numbers.items) }
-        ensures ended { (told : Option (List ℕ)) → HasReadOn told (D.remaining (inner_of reader.old)) self.old.lines self.old.trace self.old.crew self.old.builder self.old.steps.items self.old.numbers.items
-            → IfOk result (λ more. more ≡ false → HasReadAll told self.old.lines.place.limit self.new.trace.names self.new.crew self.new.builder self.new.steps.items self.new.numbers.items) }
-        ensures fault { (told : Option (List ℕ)) → HasReadOn told (D.remaining (inner_of reader.old)) self.old.lines self.old.trace self.old.crew self.old.builder self.old.steps.items self.old.numbers.items
+        requires known { All (HasSiteName self.old.trace.names) self.old.sites.items }
+        ensures come { (told : Option (List ℕ)) → HasReadOn told (D.remaining (inner_of reader.old)) self.old.lines self.old.trace self.old.crew self.old.builder self.old.steps.items self.old.numbers.items self.old.sites.items
+            → IfOk result (λ more. more ≡ true → HasReadOn told (D.remaining (inner_of reader.new)) self.new.lines self.new.trace self.new.crew self.new.builder self.new.steps.items self.new.numbers.items self.new.sites.items) }
+        ensures ended { (told : Option (List ℕ)) → HasReadOn told (D.remaining (inner_of reader.old)) self.old.lines self.old.trace self.old.crew self.old.builder self.old.steps.items self.old.numbers.items self.old.sites.items
+            → IfOk result (λ more. more ≡ false → HasReadAll told self.old.lines.place.limit self.new.trace.names self.new.crew self.new.builder self.new.steps.items self.new.numbers.items self.new.sites.items) }
+        ensures fault { (told : Option (List ℕ)) → HasReadOn told (D.remaining (inner_of reader.old)) self.old.lines self.old.trace self.old.crew self.old.builder self.old.steps.items self.old.numbers.items self.old.sites.items
             → IfErr result (λ why. IsFaultOfText Lockset told self.old.lines.place.limit why) }
         ensures level { OnOk result (length self.new.numbers.items ≡ length self.new.steps.items) }
+        ensures level_sites { OnOk result (length self.new.sites.items ≡ length self.new.steps.items) }
         ensures named { OnOk result (All (IsNamed self.new.trace.names) self.new.steps.items) }
+        ensures known { OnOk result (All (HasSiteName self.new.trace.names) self.new.sites.items) }
         ensures rules { OnOk result (self.new.builder.rules ≡ self.old.builder.rules) }
         ensures explains { OnOk result (is_some self.new.builder.kept ≡ is_some self.old.builder.kept) }
         ensures seen { (strict : Bool) (told : Option (List ℕ)) → HasCome (IsInspected self.old.inspection.inspector strict) told (D.remaining (inner_of reader.old)) self.old.lines self.old.trace
@@ -238,10 +246,12 @@ impl<'t, 'r> Shared<'t, 'r> {
             self.trace.names(),
             self.steps.as_slice(),
             self.numbers.as_slice(),
+            self.sites.as_slice(),
             items.as_slice(),
         )?;
         self.inspection.answer(rt, &self.trace)?;
-        self.trace.take_steps(&mut self.steps, &mut self.numbers);
+        self.trace
+            .take_steps(&mut self.steps, &mut self.numbers, &mut self.sites);
         match batch {
             Batch::More => Ok(true),
             Batch::End => Ok(false),
@@ -251,10 +261,12 @@ impl<'t, 'r> Shared<'t, 'r> {
     /// The workers answer the batch that was read last.
     fn last<R: Threads + Wait + Sync>(&mut self, rt: &R) -> Result<(), RunFault>
         requires level { length self.old.numbers.items ≡ length self.old.steps.items }
+        requires level_sites { length self.old.sites.items ≡ length self.old.steps.items }
         requires named { All (IsNamed self.old.trace.names) self.old.steps.items }
-        ensures reported { (told : Option (List ℕ)) (limit : ℕ) → HasReadAll told limit self.old.trace.names self.old.crew self.old.builder self.old.steps.items self.old.numbers.items
+        requires known { All (HasSiteName self.old.trace.names) self.old.sites.items }
+        ensures reported { (told : Option (List ℕ)) (limit : ℕ) → HasReadAll told limit self.old.trace.names self.old.crew self.old.builder self.old.steps.items self.old.numbers.items self.old.sites.items
             → OnOk result (HasReportedAll told limit self.new.trace.names self.new.builder) }
-        ensures fault { (told : Option (List ℕ)) (limit : ℕ) → HasReadAll told limit self.old.trace.names self.old.crew self.old.builder self.old.steps.items self.old.numbers.items
+        ensures fault { (told : Option (List ℕ)) (limit : ℕ) → HasReadAll told limit self.old.trace.names self.old.crew self.old.builder self.old.steps.items self.old.numbers.items self.old.sites.items
             → IfErr result (λ why. IsFaultOfText Lockset told limit why) }
         ensures rules { OnOk result (self.new.builder.rules ≡ self.old.builder.rules) }
         ensures explains { OnOk result (is_some self.new.builder.kept ≡ is_some self.old.builder.kept) }
@@ -275,6 +287,7 @@ impl<'t, 'r> Shared<'t, 'r> {
             self.trace.names(),
             self.steps.as_slice(),
             self.numbers.as_slice(),
+            self.sites.as_slice(),
             items.as_slice(),
         )?;
         Ok(())
@@ -289,10 +302,12 @@ impl<'t, 'r> Shared<'t, 'r> {
     ) -> Result<(), RunFault>
         requires open { has_failed reader.old ≡ false }
         requires level { length self.old.numbers.items ≡ length self.old.steps.items }
+        requires level_sites { length self.old.sites.items ≡ length self.old.steps.items }
         requires named { All (IsNamed self.old.trace.names) self.old.steps.items }
-        ensures reported { (told : Option (List ℕ)) → HasReadOn told (D.remaining (inner_of reader.old)) self.old.lines self.old.trace self.old.crew self.old.builder self.old.steps.items self.old.numbers.items
+        requires known { All (HasSiteName self.old.trace.names) self.old.sites.items }
+        ensures reported { (told : Option (List ℕ)) → HasReadOn told (D.remaining (inner_of reader.old)) self.old.lines self.old.trace self.old.crew self.old.builder self.old.steps.items self.old.numbers.items self.old.sites.items
             → OnOk result (HasReportedAll told self.old.lines.place.limit self.new.trace.names self.new.builder) }
-        ensures fault { (told : Option (List ℕ)) → HasReadOn told (D.remaining (inner_of reader.old)) self.old.lines self.old.trace self.old.crew self.old.builder self.old.steps.items self.old.numbers.items
+        ensures fault { (told : Option (List ℕ)) → HasReadOn told (D.remaining (inner_of reader.old)) self.old.lines self.old.trace self.old.crew self.old.builder self.old.steps.items self.old.numbers.items self.old.sites.items
             → IfErr result (λ why. IsFaultOfText Lockset told self.old.lines.place.limit why) }
         ensures rules { OnOk result (self.new.builder.rules ≡ self.old.builder.rules) }
         ensures explains { OnOk result (is_some self.new.builder.kept ≡ is_some self.old.builder.kept) }
@@ -329,10 +344,11 @@ impl<'t, 'r> Shared<'t, 'r> {
             builder,
             steps,
             numbers,
+            sites,
             inspection,
         } = self;
         let ending = lines.ending();
-        close(lines, crew, steps, numbers);
+        close(lines, crew, steps, numbers, sites);
         let damage = inspection.damage(ending);
         drop(inspection);
         match damage {
@@ -353,11 +369,18 @@ impl<'t, 'r> Shared<'t, 'r> {
 }
 
 // Lets go of what has read and answered the steps. Split for the prover.
-fn close(lines: PieceReader, crew: Crew<'_>, steps: Vec<Step>, numbers: Vec<u64>) {
+fn close(
+    lines: PieceReader,
+    crew: Crew<'_>,
+    steps: Vec<Step>,
+    numbers: Vec<u64>,
+    sites: Vec<Site>,
+) {
     drop(lines);
     drop(crew);
     drop(steps);
     drop(numbers);
+    drop(sites);
 }
 
 /// The report by the lockset rule of a replay by several workers, who answer one batch of lines while the next is read.

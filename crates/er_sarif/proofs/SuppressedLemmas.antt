@@ -8,26 +8,26 @@ use Rattle.er_json.specs.Inner.Sections.{has_none, next_text}
 use Rattle.er_rules.specs.Rules.{Target, target_of}
 use Rattle.er_rules.specs.declared.rules.Rule.{Rule}
 use Rattle.er_sarif.specs.Document.{suppressed_at, suppressed_below, suppressed_of}
-use Rattle.er_sarif.specs.declared.cause.Cause.{Cause}
+use Rattle.er_print.specs.declared.lines.ReportKind.{ReportKind}
 
 -- the results up to the next rule
-pub suppressed_next : (cause : Cause) (counts : List ℕ) (rules : List Rule) (k : ℕ) (rule : Rule) → k < length rules → rule ≡ get_or rules k rule
-    → suppressed_below cause counts (map target_of rules) (k + 1) ≡ suppressed_below cause counts (map target_of rules) k ++ suppressed_of cause (k + 1) (slice_get counts k) (target_of rule)
+pub suppressed_next : (of : ReportKind) (counts : List ℕ) (rules : List Rule) (k : ℕ) (rule : Rule) → k < length rules → rule ≡ get_or rules k rule
+    → suppressed_below of counts (map target_of rules) (k + 1) ≡ suppressed_below of counts (map target_of rules) k ++ suppressed_of of (k + 1) (slice_get counts k) (target_of rule)
 unfolding suppressed_below
-suppressed_next cause counts rules k rule within is =
+suppressed_next of counts rules k rule within is =
     let here : slice_get (map target_of rules) k ≡ Some (target_of rule) = slice_get-map target_of rules k ∙ ap (option_map target_of) (slice_get_read rules (length rules) k rule refl within is) in
-    ap (λ (n : ℕ). suppressed_below cause counts (map target_of rules) n) (add-one k)
-    ∙ ap (λ (target : Option Target). suppressed_below cause counts (map target_of rules) k ++ suppressed_at cause counts k target) here
+    ap (λ (n : ℕ). suppressed_below of counts (map target_of rules) n) (add-one k)
+    ∙ ap (λ (target : Option Target). suppressed_below of counts (map target_of rules) k ++ suppressed_at of counts k target) here
 
 one_more : (b : Bool) (row : List ℕ) (rows : List (List ℕ)) → rows_text (rows ++ cond b [] (row ∷ [])) ≡ rows_text rows ++ next_text (has_none rows) (cond b [] (row ∷ []))
 one_more true row rows = simp append-nil
 one_more false row rows = row_more rows row
 
 -- their text
-pub suppressed_more : (cause : Cause) (number : ℕ) (count : Option ℕ) (target : Target) (rows : List (List ℕ))
-    → rows_text (rows ++ suppressed_of cause number count target) ≡ rows_text rows ++ next_text (has_none rows) (suppressed_of cause number count target)
-suppressed_more cause number None target rows = simp append-nil
-suppressed_more cause number (Some count) target rows = one_more (count == 0) _ rows
+pub suppressed_more : (of : ReportKind) (number : ℕ) (count : Option ℕ) (target : Target) (rows : List (List ℕ))
+    → rows_text (rows ++ suppressed_of of number count target) ≡ rows_text rows ++ next_text (has_none rows) (suppressed_of of number count target)
+suppressed_more of number None target rows = simp append-nil
+suppressed_more of number (Some count) target rows = one_more (count == 0) _ rows
 
 -- a text of rows goes on
 pub text_goes_on : (rows more : List (List ℕ)) (old was now : List ℕ) (is_first : Bool) → rows_text (rows ++ more) ≡ rows_text rows ++ next_text (has_none rows) more

@@ -1,5 +1,5 @@
--- The SARIF of reports: a result for each site and kind of race, one for each reuse that races, and one for each rule that takes races.
-use Rattle.std.specs.Prelude.{ℕ, zero, suc, ◌+◌, ◌==◌, cond, List, [], ◌∷◌, ◌++◌, flat_map, take, drop, length, count_by, slice_get, Option, Some, None, codes, decimal}
+-- The SARIF of reports: a result for each site and kind of race, one for each reuse without a site, and one for each rule that takes races.
+use Rattle.std.specs.Prelude.{ℕ, zero, suc, ◌+◌, ◌==◌, cond, List, [], ◌∷◌, ◌++◌, flat_map, take, drop, length, max, count_by, slice_get, Option, Some, None, codes, decimal}
 use Rattle.er_event.specs.Lockset.{has}
 use Rattle.er_event.specs.declared.addresses.PageRange.{PageRange}
 use Rattle.er_event.specs.declared.steps.Kind.{Kind}
@@ -20,9 +20,9 @@ use Rattle.er_report.specs.declared.reports.Reports.{Reports}
 use Rattle.er_rules.specs.Rules.{Target, AtSite, AtWords}
 use Rattle.er_sarif.specs.Places.{file_end}
 use Rattle.er_sarif.specs.Uris.{uri_text}
-use Rattle.er_sarif.specs.declared.cause.Cause.{Cause}
-use Rattle.er_sarif.specs.declared.cause.Cause.TheVariants.{NoLock, NoOrder}
-use Rattle.er_sites.specs.Table.{reads_at, writes_at}
+use Rattle.er_print.specs.declared.lines.ReportKind.{ReportKind}
+use Rattle.er_print.specs.declared.lines.ReportKind.TheVariants.{Lockset, Unordered}
+use Rattle.er_sites.specs.Table.{reads_at, reuses_at, writes_at}
 use Rattle.er_trace.specs.Names.{NameTable}
 use Rattle.er_triage.specs.Texts.{target_text}
 
@@ -39,14 +39,14 @@ abbrev pub reuse_deed : PageRange → List ℕ
 reuse_deed range = codes " gave back " ++ decimal (bytes_between range.lo range.hi) ++ codes " bytes at " ++ address_text range.lo
 
 -- what the results of a run begin with: the front of a rule
-abbrev pub rule_front : Cause → List ℕ
-rule_front NoLock = codes "{\"ruleId\":\"race/"
-rule_front NoOrder = codes "{\"ruleId\":\"unordered/"
+abbrev pub rule_front : ReportKind → List ℕ
+rule_front Lockset = codes "{\"ruleId\":\"race/"
+rule_front Unordered = codes "{\"ruleId\":\"unordered/"
 
 -- why its races are races
-abbrev pub cause_words : Cause → List ℕ
-cause_words NoLock = codes ", and no lock protects it"
-cause_words NoOrder = codes ", and nothing orders this after an earlier access"
+abbrev pub cause_words : ReportKind → List ℕ
+cause_words Lockset = codes ", and no lock protects it"
+cause_words Unordered = codes ", and nothing orders this after an earlier access"
 
 -- a site that doesn't end with a line is a name
 unfoldable pub name_member : List ℕ → List ℕ
@@ -108,10 +108,10 @@ reason_text names table because =
     opening_text table.names (reason_place table because) ++ sentence_words names because ++ holding_words table.names (reason_place table because) ++ codes "\"}}"
 
 -- what is wrong, and how often; then comes where
-unfoldable pub front_text : Cause → NameTable → List ℕ → ℕ → List ℕ → ℕ → List ℕ
-front_text cause names verb thread deed count =
-    rule_front cause ++ verb ++ codes "\",\"level\":\"error\",\"message\":{\"text\":\"" ++ thread_in style.InString names thread
-    ++ deed ++ cause_words cause ++ codes "\"},\"occurrenceCount\":" ++ decimal count ++ codes ",\"locations\":["
+unfoldable pub front_text : ReportKind → NameTable → List ℕ → ℕ → List ℕ → ℕ → List ℕ
+front_text of names verb thread deed count =
+    rule_front of ++ verb ++ codes "\",\"level\":\"error\",\"message\":{\"text\":\"" ++ thread_in style.InString names thread
+    ++ deed ++ cause_words of ++ codes "\"},\"occurrenceCount\":" ++ decimal count ++ codes ",\"locations\":["
 
 -- the same in each run; then come the accesses that make the first race
 unfoldable pub fingerprint_text : List ℕ → List ℕ → List ℕ
@@ -131,40 +131,46 @@ unfoldable pub back_text : NameTable → PlaceTable → ℕ → List ℕ → Lis
 back_text names table number held explained = values_text (reason_text names table) explained ++ properties_text names number held
 
 -- a result: so many races here, and the first of them
-unfoldable pub result_text : Cause → NameTable → PlaceTable → List ℕ → List ℕ → List ℕ → ℕ → ℕ → ℕ → List ℕ → List Because → List ℕ
-result_text cause names table verb deed site count number thread held explained =
-    front_text cause names verb thread deed count ++ place_text site verb ++ back_text names table number held explained
+unfoldable pub result_text : ReportKind → NameTable → PlaceTable → List ℕ → List ℕ → List ℕ → ℕ → ℕ → ℕ → List ℕ → List Because → List ℕ
+result_text of names table verb deed site count number thread held explained =
+    front_text of names verb thread deed count ++ place_text site verb ++ back_text names table number held explained
 
--- how many of the lines are races of the line's site and kind
+-- how many of the lines are races of the line's site and kind; a reuse without a site is like none
 abbrev pub races_like : List Line → Line → ℕ
 races_like lines (Race number thread kind.Read word site held explained) = count_by (reads_at site) lines
 races_like lines (Race number thread kind.Write word site held explained) = count_by (writes_at site) lines
-races_like lines (Reused number thread range held explained) = 0
+races_like lines (Reused number thread range zero held explained) = 0
+races_like lines (Reused number thread range (suc site) held explained) = count_by (reuses_at (suc site)) lines
 races_like lines (Refused number step refusal) = 0
 races_like lines (Shown number word state) = 0
 
--- an access that races has a result if none like it came before, and there are so many like it in all; a reuse has one by its address
-abbrev pub results_of : Cause → NameTable → PlaceTable → ℕ → ℕ → Line → List (List ℕ)
-results_of cause names table before count (Race number thread kind word site held explained) =
-    cond (before == 0) (result_text cause names table (kind_text kind) (access_deed kind word) (site_text names site) count number thread held explained.items ∷ []) []
-results_of cause names table before count (Reused number thread range held explained) =
-    result_text cause names table (codes "reuse") (reuse_deed range) (address_text range.lo) 1 number thread held explained.items ∷ []
-results_of cause names table before count (Refused number step refusal) = []
-results_of cause names table before count (Shown number word state) = []
+-- where a reuse is: at its site, or else by the address of its first byte
+unfoldable pub reuse_site : NameTable → PageRange → ℕ → List ℕ
+reuse_site names range zero = address_text range.lo
+reuse_site names range (suc site) = site_text names (suc site)
 
-abbrev pub results_at : Cause → NameTable → PlaceTable → List Line → ℕ → Option Line → List (List ℕ)
-results_at cause names table lines n None = []
-results_at cause names table lines n (Some line) = results_of cause names table (races_like (take n lines) line) (races_like lines line) line
+-- a race has a result if none like it came before, and there are so many like it in all, itself among them
+abbrev pub results_of : ReportKind → NameTable → PlaceTable → ℕ → ℕ → Line → List (List ℕ)
+results_of of names table before count (Race number thread kind word site held explained) =
+    cond (before == 0) (result_text of names table (kind_text kind) (access_deed kind word) (site_text names site) count number thread held explained.items ∷ []) []
+results_of of names table before count (Reused number thread range site held explained) =
+    cond (before == 0) (result_text of names table (codes "reuse") (reuse_deed range) (reuse_site names range site) (max count 1) number thread held explained.items ∷ []) []
+results_of of names table before count (Refused number step refusal) = []
+results_of of names table before count (Shown number word state) = []
+
+abbrev pub results_at : ReportKind → NameTable → PlaceTable → List Line → ℕ → Option Line → List (List ℕ)
+results_at of names table lines n None = []
+results_at of names table lines n (Some line) = results_of of names table (races_like (take n lines) line) (races_like lines line) line
 
 -- the results of the first n lines
-unfoldable pub results_below : Cause → NameTable → PlaceTable → List Line → ℕ → List (List ℕ)
-results_below cause names table lines zero = []
-results_below cause names table lines (suc n) = results_below cause names table lines n ++ results_at cause names table lines n (slice_get lines n)
+unfoldable pub results_below : ReportKind → NameTable → PlaceTable → List Line → ℕ → List (List ℕ)
+results_below of names table lines zero = []
+results_below of names table lines (suc n) = results_below of names table lines n ++ results_at of names table lines n (slice_get lines n)
 
 -- the rule of this text, which takes races, and how many
-unfoldable pub taken_text : Cause → List ℕ → ℕ → List ℕ
-taken_text cause rule count =
-    rule_front cause ++ codes "suppressed\",\"level\":\"error\",\"message\":{\"text\":\"Races that a rule takes: " ++ escaped_text rule
+unfoldable pub taken_text : ReportKind → List ℕ → ℕ → List ℕ
+taken_text of rule count =
+    rule_front of ++ codes "suppressed\",\"level\":\"error\",\"message\":{\"text\":\"Races that a rule takes: " ++ escaped_text rule
     ++ codes "\"},\"occurrenceCount\":" ++ decimal count
 
 -- where they are, if the rule is for a site that has a name
@@ -179,35 +185,35 @@ suppression_text rule number =
     codes ",\"partialFingerprints\":{\"rule/v1\":\"" ++ escaped_text rule ++ codes "\"},\"suppressions\":[{\"kind\":\"external\",\"justification\":\"rule " ++ decimal number ++ codes "\"}]}"
 
 -- the result of a rule that takes races
-unfoldable pub suppressed_text : Cause → ℕ → ℕ → Target → List ℕ
-suppressed_text cause number count target = taken_text cause (target_text target) count ++ target_location target ++ suppression_text (target_text target) number
+unfoldable pub suppressed_text : ReportKind → ℕ → ℕ → Target → List ℕ
+suppressed_text of number count target = taken_text of (target_text target) count ++ target_location target ++ suppression_text (target_text target) number
 
 -- a rule has a result if it takes a race
-abbrev pub suppressed_of : Cause → ℕ → Option ℕ → Target → List (List ℕ)
-suppressed_of cause number None target = []
-suppressed_of cause number (Some count) target = cond (count == 0) [] (suppressed_text cause number count target ∷ [])
+abbrev pub suppressed_of : ReportKind → ℕ → Option ℕ → Target → List (List ℕ)
+suppressed_of of number None target = []
+suppressed_of of number (Some count) target = cond (count == 0) [] (suppressed_text of number count target ∷ [])
 
-abbrev pub suppressed_at : Cause → List ℕ → ℕ → Option Target → List (List ℕ)
-suppressed_at cause counts k None = []
-suppressed_at cause counts k (Some target) = suppressed_of cause (k + 1) (slice_get counts k) target
+abbrev pub suppressed_at : ReportKind → List ℕ → ℕ → Option Target → List (List ℕ)
+suppressed_at of counts k None = []
+suppressed_at of counts k (Some target) = suppressed_of of (k + 1) (slice_get counts k) target
 
 -- the results of the first n rules, by how many races each rule takes; rules are numbered from 1
-unfoldable pub suppressed_below : Cause → List ℕ → List Target → ℕ → List (List ℕ)
-suppressed_below cause counts targets zero = []
-suppressed_below cause counts targets (suc n) = suppressed_below cause counts targets n ++ suppressed_at cause counts n (slice_get targets n)
+unfoldable pub suppressed_below : ReportKind → List ℕ → List Target → ℕ → List (List ℕ)
+suppressed_below of counts targets zero = []
+suppressed_below of counts targets (suc n) = suppressed_below of counts targets n ++ suppressed_at of counts n (slice_get targets n)
 
 -- the results of the lines, and behind them those of the rules
-abbrev pub all_results : Cause → NameTable → PlaceTable → List Line → List ℕ → List Target → List (List ℕ)
-all_results cause names table lines counts targets = results_below cause names table lines (length lines) ++ suppressed_below cause counts targets (length targets)
+abbrev pub all_results : ReportKind → NameTable → PlaceTable → List Line → List ℕ → List Target → List (List ℕ)
+all_results of names table lines counts targets = results_below of names table lines (length lines) ++ suppressed_below of counts targets (length targets)
 
 -- the rules by which results go; the run by happens-before has a name, by which code hosts keep it apart
-abbrev pub rules_text : Cause → List ℕ
-rules_text NoLock = codes "{\"id\":\"race/read\",\"shortDescription\":{\"text\":\"A read that no lock protects\"}},{\"id\":\"race/write\",\"shortDescription\":{\"text\":\"A write that no lock protects\"}},{\"id\":\"race/suppressed\",\"shortDescription\":{\"text\":\"Races that a rule of suppressions takes\"}}]}}"
-rules_text NoOrder = codes "{\"id\":\"unordered/read\",\"shortDescription\":{\"text\":\"A read that nothing orders after an earlier write\"}},{\"id\":\"unordered/write\",\"shortDescription\":{\"text\":\"A write that nothing orders after an earlier access\"}},{\"id\":\"unordered/reuse\",\"shortDescription\":{\"text\":\"A reuse of memory that nothing orders after an earlier access\"}},{\"id\":\"unordered/suppressed\",\"shortDescription\":{\"text\":\"Races that a rule of suppressions takes\"}}]}},\n\"automationDetails\":{\"id\":\"happens-before/\"}"
+abbrev pub rules_text : ReportKind → List ℕ
+rules_text Lockset = codes "{\"id\":\"race/read\",\"shortDescription\":{\"text\":\"A read that no lock protects\"}},{\"id\":\"race/write\",\"shortDescription\":{\"text\":\"A write that no lock protects\"}},{\"id\":\"race/suppressed\",\"shortDescription\":{\"text\":\"Races that a rule of suppressions takes\"}}]}}"
+rules_text Unordered = codes "{\"id\":\"unordered/read\",\"shortDescription\":{\"text\":\"A read that nothing orders after an earlier write\"}},{\"id\":\"unordered/write\",\"shortDescription\":{\"text\":\"A write that nothing orders after an earlier access\"}},{\"id\":\"unordered/reuse\",\"shortDescription\":{\"text\":\"A reuse of memory that nothing orders after an earlier access\"}},{\"id\":\"unordered/suppressed\",\"shortDescription\":{\"text\":\"Races that a rule of suppressions takes\"}}]}},\n\"automationDetails\":{\"id\":\"happens-before/\"}"
 
 -- what stands before the results
-unfoldable pub start_text : Cause → List ℕ
-start_text cause = codes "{\n\"tool\":{\"driver\":{\"name\":\"eraser\",\"rules\":[" ++ rules_text cause ++ codes ",\n\"results\":["
+unfoldable pub start_text : ReportKind → List ℕ
+start_text of = codes "{\n\"tool\":{\"driver\":{\"name\":\"eraser\",\"rules\":[" ++ rules_text of ++ codes ",\n\"results\":["
 
 -- what is said of the run, between these, if events were lost
 abbrev pub before_lost : List ℕ
@@ -221,17 +227,17 @@ unfoldable pub end_text : Option ℕ → List ℕ
 end_text lost = codes "]" ++ lost_text before_lost after_lost lost ++ codes "}"
 
 -- the run of a report; each reason says where its access was, as far as this table knows
-unfoldable pub run_text : Cause → NameTable → PlaceTable → List Target → Report → List ℕ
-run_text cause names table targets r =
-    start_text cause ++ rows_text (all_results cause names table r.lines.items r.rule_counts.items targets) ++ end_text r.lost
+unfoldable pub run_text : ReportKind → NameTable → PlaceTable → List Target → Report → List ℕ
+run_text of names table targets r =
+    start_text of ++ rows_text (all_results of names table r.lines.items r.rule_counts.items targets) ++ end_text r.lost
 
 -- if there is such a report
-abbrev pub run_if : Cause → NameTable → PlaceTable → List Target → Option Report → List ℕ
-run_if cause names table targets None = []
-run_if cause names table targets (Some r) = run_text cause names table targets r
+abbrev pub run_if : ReportKind → NameTable → PlaceTable → List Target → Option Report → List ℕ
+run_if of names table targets None = []
+run_if of names table targets (Some r) = run_text of names table targets r
 
 -- the whole log
 unfoldable pub sarif_reports : NameTable → PlaceTable → List Target → Reports → List ℕ
 sarif_reports names table targets reports =
-    codes "{\"$schema\":\"https://json.schemastore.org/sarif-2.1.0.json\",\n\"version\":\"2.1.0\",\n\"runs\":[" ++ run_if NoLock names table targets reports.lockset
-    ++ sign_if reports (codes ",") ++ run_if NoOrder names table targets reports.unordered ++ codes "]}\n"
+    codes "{\"$schema\":\"https://json.schemastore.org/sarif-2.1.0.json\",\n\"version\":\"2.1.0\",\n\"runs\":[" ++ run_if Lockset names table targets reports.lockset
+    ++ sign_if reports (codes ",") ++ run_if Unordered names table targets reports.unordered ++ codes "]}\n"

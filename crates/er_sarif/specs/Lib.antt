@@ -1,4 +1,3 @@
 pub mod Document
-pub mod Inner
 pub mod Places
 pub mod Uris

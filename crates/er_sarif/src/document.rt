@@ -5,12 +5,12 @@ ghost use Rattle.er_report.specs.Reports.{HaveNames};
 ghost use Rattle.er_rules.specs.Rules.{targets_of};
 ghost use Rattle.er_sarif.specs.Document.{end_text, run_if, run_text, sarif_reports, start_text};
 
-use crate::cause::{Cause, rules_text};
+use crate::cause::rules_text;
 use crate::results::put_results;
 use crate::suppressed::put_suppressed;
 use er_json::put_sign;
 use er_places::Places;
-use er_print::put_lost;
+use er_print::{ReportKind, put_lost};
 use er_report::{Report, Reports};
 use er_rules::Suppressions;
 use er_sites::count_races;
@@ -38,7 +38,7 @@ pub fn sarif_text(
     put_run(
         alloc,
         &mut text,
-        Cause::NoLock,
+        ReportKind::Lockset,
         names,
         places,
         rules,
@@ -48,7 +48,7 @@ pub fn sarif_text(
     put_run(
         alloc,
         &mut text,
-        Cause::NoOrder,
+        ReportKind::Unordered,
         names,
         places,
         rules,
@@ -62,17 +62,17 @@ pub fn sarif_text(
 fn put_run(
     alloc: Global,
     out: &mut Vec<u8>,
-    cause: Cause,
+    of: ReportKind,
     names: &Names,
     places: &Places,
     rules: &Suppressions,
     report: &Option<Report>,
 ) -> Result<(), AllocError>
     requires { IfSome report.now (λ report. All (HasNames names.now) report.lines.items) }
-    ensures { OnOk result (out.new.items ≡ out.old.items ++ run_if cause names.now places.now (targets_of rules.now) report.now) }
+    ensures { OnOk result (out.new.items ≡ out.old.items ++ run_if of names.now places.now (targets_of rules.now) report.now) }
 {
     match report {
-        Some(report) => put_report(alloc, out, cause, names, places, rules, report),
+        Some(report) => put_report(alloc, out, of, names, places, rules, report),
         None => Ok(()),
     }
 }
@@ -81,29 +81,29 @@ fn put_run(
 fn put_report(
     alloc: Global,
     out: &mut Vec<u8>,
-    cause: Cause,
+    of: ReportKind,
     names: &Names,
     places: &Places,
     rules: &Suppressions,
     report: &Report,
 ) -> Result<(), AllocError>
     requires { All (HasNames names.now) report.now.lines.items }
-    ensures { OnOk result (out.new.items ≡ out.old.items ++ run_text cause names.now places.now (targets_of rules.now) report.now) }
+    ensures { OnOk result (out.new.items ≡ out.old.items ++ run_text of names.now places.now (targets_of rules.now) report.now) }
 {
     let lines = report.lines.as_slice();
     let total = count_races(alloc, lines)?;
-    put_start(out, cause)?;
-    let is_first = put_results(alloc, out, cause, names, places, lines, &total)?;
-    put_suppressed(alloc, out, cause, &report.rule_counts, rules, is_first)?;
+    put_start(out, of)?;
+    let is_first = put_results(alloc, out, of, names, places, lines, &total)?;
+    put_suppressed(alloc, out, of, &report.rule_counts, rules, is_first)?;
     put_end(out, report.lost)
 }
 
 #[tactic(auto, unfolding(crate::specs::Document::start_text))]
-fn put_start(out: &mut Vec<u8>, cause: Cause) -> Result<(), AllocError>
-    ensures { OnOk result (out.new.items ≡ out.old.items ++ start_text cause) }
+fn put_start(out: &mut Vec<u8>, of: ReportKind) -> Result<(), AllocError>
+    ensures { OnOk result (out.new.items ≡ out.old.items ++ start_text of) }
 {
     out.extend_from_slice(b"{\n\"tool\":{\"driver\":{\"name\":\"eraser\",\"rules\":[")?;
-    out.extend_from_slice(rules_text(cause))?;
+    out.extend_from_slice(rules_text(of))?;
     out.extend_from_slice(b",\n\"results\":[")?;
     Ok(())
 }

@@ -1,7 +1,7 @@
 //! The races of reports as SARIF 2.1.0, for code hosts.
 //!
 //! Begin with [`sarif_text`]. It writes a run for each report of [`er_report::Reports`]. A run has one result for each site and kind of race,
-//! in the order of the first race of each, with how many there are and what is known of the first, and one for each reuse that races. A reason
+//! in the order of the first race of each, with how many there are and what is known of the first, and one for each reuse without a site. A reason
 //! says where its access was, and which locks it held, if the places given know it. Behind them comes a result for each rule of suppressions
 //! that takes a race, which says that its races are suppressed. A report has no line for a race that a rule takes, so such a result has their
 //! number alone. The run by happens-before has rules of its own and an id, so that a code host keeps the two apart.

@@ -4,14 +4,16 @@ ghost use Rattle.er_print.specs.Values.{values_text};
 ghost use Rattle.er_report.specs.Names.{HasLockNames, HasReasonNames};
 ghost use Rattle.er_sarif.specs.Document.{access_deed, deed_words, file_member, fingerprint_text, front_text, location_member, name_member, open_location, properties_text, reason_text, reuse_deed, sentence_words};
 
-use crate::cause::{Cause, cause_words, rule_front};
+use crate::cause::{cause_words, rule_front};
 use crate::places::file_end;
 use crate::standing::{put_holding, put_opening};
 use crate::uris::put_uri;
 use er_event::{Kind, LockId, PageRange, ThreadId, Word};
 use er_places::Places;
 use er_print::Piece::{Label, Locks, Name, Number, Text, Thread, Verb};
-use er_print::{Style, bytes_of, comma_before, put_address, put_all, put_number, put_string};
+use er_print::{
+    ReportKind, Style, bytes_of, comma_before, put_address, put_all, put_number, put_string,
+};
 use er_report::Because;
 use er_trace::Names;
 use std::alloc::{AllocError, Global};
@@ -51,7 +53,7 @@ pub(crate) fn reuse_deed(alloc: Global, range: &PageRange) -> Result<Vec<u8>, Al
 #[tactic(auto, unfolding(crate::specs::Document::front_text))]
 pub(crate) fn put_front<'a>(
     out: &mut Vec<u8>,
-    cause: Cause,
+    of: ReportKind,
     names: &Names,
     verb: &'a [u8],
     thread: ThreadId,
@@ -59,14 +61,14 @@ pub(crate) fn put_front<'a>(
     count: u64,
 ) -> Result<(), AllocError>
     requires { thread < length names.now.threads }
-    ensures { OnOk result (out.new.items ≡ out.old.items ++ front_text cause names.now verb.now thread deed.now count) }
+    ensures { OnOk result (out.new.items ≡ out.old.items ++ front_text of names.now verb.now thread deed.now count) }
 {
     let pieces = [
-        Text(rule_front(cause)),
+        Text(rule_front(of)),
         Text(verb),
         Thread(b"\",\"level\":\"error\",\"message\":{\"text\":\"", thread),
         Text(deed),
-        Text(cause_words(cause)),
+        Text(cause_words(of)),
         Number(b"\"},\"occurrenceCount\":", count),
         Text(b",\"locations\":["),
     ];

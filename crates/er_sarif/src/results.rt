@@ -1,23 +1,21 @@
-//! A result for the first race of each site and kind, and for each reuse.
-ghost use Rattle.std.specs.Prelude.{◌≡◌, ◌++◌, ◌&&◌, ◌<◌, ◌≤◌, All, codes, length, IfOk, OnOk};
+//! A result for the first race of each site and kind, and for each reuse without a site.
+ghost use Rattle.std.specs.Prelude.{◌≡◌, ◌++◌, ◌&&◌, ◌<◌, ◌≤◌, All, codes, length, max, IfOk, OnOk};
 ghost use Rattle.er_json.specs.Document.{rows_text};
 ghost use Rattle.er_json.specs.Inner.Sections.{has_none, next_text};
 ghost use Rattle.er_print.specs.Printed.{address_text, site_text};
 ghost use Rattle.er_report.specs.Names.{HasLockNames, HasNames, HasReasonNames};
-ghost use Rattle.er_sarif.specs.Document.{back_text, place_text, result_text, results_below, results_of, reuse_deed};
-ghost use Rattle.er_sarif.specs.Inner.Results.{count_like};
+ghost use Rattle.er_sarif.specs.Document.{back_text, place_text, result_text, results_below, results_of, reuse_deed, reuse_site};
 ghost use Rattle.er_sites.specs.Inner.Counted.{AreCounts};
 
-use crate::cause::Cause;
 use crate::members::{
     access_deed, open_location, put_fingerprint, put_front, put_properties, put_reasons, reuse_deed,
 };
-use er_event::{Kind, LockId, PageRange, Site, ThreadId, Word};
+use er_event::{LockId, PageRange, Site, ThreadId, Word};
 use er_json::put_separator;
 use er_places::Places;
-use er_print::{put_address, verb};
+use er_print::{ReportKind, put_address, verb};
 use er_report::{Because, Line};
-use er_sites::{Counts, count_at, count_line};
+use er_sites::Counts;
 use er_trace::Names;
 use std::alloc::{AllocError, Global};
 
@@ -26,7 +24,7 @@ use std::alloc::{AllocError, Global};
 pub(crate) fn put_results(
     alloc: Global,
     out: &mut Vec<u8>,
-    cause: Cause,
+    of: ReportKind,
     names: &Names,
     places: &Places,
     lines: &[Line],
@@ -34,41 +32,19 @@ pub(crate) fn put_results(
 ) -> Result<bool, AllocError>
     requires named { All (HasNames names.now) lines.now }
     requires total { AreCounts lines.now total.now }
-    ensures text { OnOk result (out.new.items ≡ out.old.items ++ rows_text (results_below cause names.now places.now lines.now (length lines.now))) }
-    ensures first { IfOk result (λ first. first ≡ has_none (results_below cause names.now places.now lines.now (length lines.now))) }
+    ensures text { OnOk result (out.new.items ≡ out.old.items ++ rows_text (results_below of names.now places.now lines.now (length lines.now))) }
+    ensures first { IfOk result (λ first. first ≡ has_none (results_below of names.now places.now lines.now (length lines.now))) }
 {
     prove!(lines.len() < 1 << 63);
-    let mut reads = Vec::new(alloc);
-    let mut writes = Vec::new(alloc);
+    let mut seen = Counts::new(alloc);
     let mut is_first = true;
     for line in lines {
-        let before = count_like(&reads, &writes, line);
-        let count = count_like(&total.reads, &total.writes, line);
-        is_first = put_next(
-            alloc, out, cause, names, places, line, before, count, is_first,
-        )?;
-        count_line(&mut reads, &mut writes, line)?;
+        let before = seen.like(line);
+        let count = total.like(line);
+        is_first = put_next(alloc, out, of, names, places, line, before, count, is_first)?;
+        seen.count(line)?;
     }
     Ok(is_first)
-}
-
-// How many races there are like the line, by these counts.
-fn count_like(reads: &[u64], writes: &[u64], line: &Line) -> u64
-    ensures { result ≡ count_like reads.now writes.now line.now }
-{
-    match line {
-        Line::Race {
-            kind: Kind::Read,
-            site,
-            ..
-        } => count_at(reads, site.number() as usize),
-        Line::Race {
-            kind: Kind::Write,
-            site,
-            ..
-        } => count_at(writes, site.number() as usize),
-        _ => 0,
-    }
 }
 
 // Puts the result of a line, if it has one, and returns whether the next one is the first.
@@ -76,7 +52,7 @@ fn count_like(reads: &[u64], writes: &[u64], line: &Line) -> u64
 fn put_next(
     alloc: Global,
     out: &mut Vec<u8>,
-    cause: Cause,
+    of: ReportKind,
     names: &Names,
     places: &Places,
     line: &Line,
@@ -85,9 +61,12 @@ fn put_next(
     is_first: bool,
 ) -> Result<bool, AllocError>
     requires { HasNames names.now line.now }
-    ensures text { OnOk result (out.new.items ≡ out.old.items ++ next_text is_first (results_of cause names.now places.now before count line.now)) }
-    ensures first { IfOk result (λ still. still ≡ (is_first && has_none (results_of cause names.now places.now before count line.now))) }
+    ensures text { OnOk result (out.new.items ≡ out.old.items ++ next_text is_first (results_of of names.now places.now before count line.now)) }
+    ensures first { IfOk result (λ still. still ≡ (is_first && has_none (results_of of names.now places.now before count line.now))) }
 {
+    if before > 0 {
+        return Ok(is_first);
+    }
     match line {
         Line::Race {
             line,
@@ -98,12 +77,9 @@ fn put_next(
             held,
             explained,
         } => {
-            if before > 0 {
-                return Ok(is_first);
-            }
             let deed = access_deed(alloc, *kind, *word)?;
             put_separator(out, is_first)?;
-            put_front(out, cause, names, verb(*kind), *thread, &deed, count)?;
+            put_front(out, of, names, verb(*kind), *thread, &deed, count)?;
             put_place(out, names, *site, verb(*kind))?;
             put_back(out, names, places, *line, held.as_slice(), explained)?;
             Ok(false)
@@ -112,13 +88,14 @@ fn put_next(
             line,
             thread,
             range,
+            site,
             held,
             explained,
         } => {
             put_separator(out, is_first)?;
             let held = held.as_slice();
             put_reuse(
-                alloc, out, cause, names, places, *line, *thread, range, held, explained,
+                out, of, names, places, *line, *thread, range, *site, count, held, explained,
             )?;
             Ok(false)
         }
@@ -126,31 +103,53 @@ fn put_next(
     }
 }
 
-// Puts the result of a reuse, which stands by its address.
+// Puts the result of a reuse, of which there are so many. One without a site is alone.
 #[tactic(auto, unfolding(crate::specs::Document::result_text))]
 fn put_reuse(
-    alloc: Global,
     out: &mut Vec<u8>,
-    cause: Cause,
+    of: ReportKind,
     names: &Names,
     places: &Places,
     line: u64,
     thread: ThreadId,
     range: &PageRange,
+    site: Site,
+    count: u64,
     held: &[LockId],
     explained: &[Because],
 ) -> Result<(), AllocError>
     requires thread { thread < length names.now.threads }
+    requires site { site ≤ length names.now.sites }
     requires held { HasLockNames names.now held.now }
     requires explained { All (HasReasonNames names.now) explained.now }
-    ensures { OnOk result (out.new.items ≡ out.old.items ++ result_text cause names.now places.now (codes "reuse") (reuse_deed range.now) (address_text range.now.lo) 1 line thread held.now explained.now) }
+    ensures { OnOk result (out.new.items ≡ out.old.items ++ result_text of names.now places.now (codes "reuse") (reuse_deed range.now) (reuse_site names.now range.now site) (max count 1) line thread held.now explained.now) }
 {
+    let alloc = *out.allocator();
     let deed = reuse_deed(alloc, range)?;
-    let address = address_of(alloc, range.lo)?;
-    put_front(out, cause, names, b"reuse", thread, &deed, 1)?;
-    put_site(out, names, &address, b"reuse")?;
+    put_front(out, of, names, b"reuse", thread, &deed, count.max(1))?;
+    put_reuse_place(alloc, out, names, range, site)?;
     put_back(out, names, places, line, held, explained)?;
     Ok(())
+}
+
+// Puts where a reuse is: at its site, or else by its address.
+#[tactic(auto, unfolding(crate::specs::Document::reuse_site))]
+fn put_reuse_place(
+    alloc: Global,
+    out: &mut Vec<u8>,
+    names: &Names,
+    range: &PageRange,
+    site: Site,
+) -> Result<(), AllocError>
+    requires { site ≤ length names.now.sites }
+    ensures { OnOk result (out.new.items ≡ out.old.items ++ place_text (reuse_site names.now range.now site) (codes "reuse")) }
+{
+    if site.number() == 0 {
+        let address = address_of(alloc, range.lo)?;
+        put_site(out, names, &address, b"reuse")?;
+        return Ok(());
+    }
+    put_place(out, names, site, b"reuse")
 }
 
 fn address_of(alloc: Global, word: Word) -> Result<Vec<u8>, AllocError>

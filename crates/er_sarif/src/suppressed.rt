@@ -6,10 +6,10 @@ ghost use Rattle.er_rules.specs.Rules.{target_of, targets_of};
 ghost use Rattle.er_sarif.specs.Document.{suppressed_below, suppressed_of, suppressed_text, suppression_text, taken_text, target_location};
 ghost use Rattle.er_triage.specs.Texts.{target_text};
 
-use crate::cause::{Cause, rule_front};
+use crate::cause::rule_front;
 use crate::members::put_location;
 use er_json::put_separator;
-use er_print::{put_escaped, put_number};
+use er_print::{ReportKind, put_escaped, put_number};
 use er_rules::{Rule, Suppressions};
 use er_triage::put_rule;
 use std::alloc::{AllocError, Global};
@@ -18,26 +18,18 @@ use std::alloc::{AllocError, Global};
 pub(crate) fn put_suppressed(
     alloc: Global,
     out: &mut Vec<u8>,
-    cause: Cause,
+    of: ReportKind,
     rule_counts: &[u64],
     rules: &Suppressions,
     is_first: bool,
 ) -> Result<(), AllocError>
     ensures { (old : List ℕ) (rows : List (List ℕ)) → is_first ≡ has_none rows → out.old.items ≡ old ++ rows_text rows
-        → OnOk result (out.new.items ≡ old ++ rows_text (rows ++ suppressed_below cause rule_counts.now (targets_of rules.now) (length (targets_of rules.now)))) }
+        → OnOk result (out.new.items ≡ old ++ rows_text (rows ++ suppressed_below of rule_counts.now (targets_of rules.now) (length (targets_of rules.now)))) }
 {
     let mut still_first = is_first;
     for (place, rule) in rules.rules.iter().enumerate() {
         let count = count_at(rule_counts, place);
-        still_first = put_next(
-            alloc,
-            out,
-            cause,
-            place as u64 + 1,
-            count,
-            rule,
-            still_first,
-        )?;
+        still_first = put_next(alloc, out, of, place as u64 + 1, count, rule, still_first)?;
     }
     Ok(())
 }
@@ -53,14 +45,14 @@ fn count_at(counts: &[u64], place: usize) -> Option<u64>
 fn put_next(
     alloc: Global,
     out: &mut Vec<u8>,
-    cause: Cause,
+    of: ReportKind,
     number: u64,
     count: Option<u64>,
     rule: &Rule,
     is_first: bool,
 ) -> Result<bool, AllocError>
-    ensures text { OnOk result (out.new.items ≡ out.old.items ++ next_text is_first (suppressed_of cause number count (target_of rule.now))) }
-    ensures first { IfOk result (λ still. still ≡ (is_first && has_none (suppressed_of cause number count (target_of rule.now)))) }
+    ensures text { OnOk result (out.new.items ≡ out.old.items ++ next_text is_first (suppressed_of of number count (target_of rule.now))) }
+    ensures first { IfOk result (λ still. still ≡ (is_first && has_none (suppressed_of of number count (target_of rule.now)))) }
 {
     let Some(count) = count else {
         return Ok(is_first);
@@ -69,7 +61,7 @@ fn put_next(
         return Ok(is_first);
     }
     put_separator(out, is_first)?;
-    put_result(alloc, out, cause, number, count, rule)?;
+    put_result(alloc, out, of, number, count, rule)?;
     Ok(false)
 }
 
@@ -77,15 +69,15 @@ fn put_next(
 fn put_result(
     alloc: Global,
     out: &mut Vec<u8>,
-    cause: Cause,
+    of: ReportKind,
     number: u64,
     count: u64,
     rule: &Rule,
 ) -> Result<(), AllocError>
-    ensures { OnOk result (out.new.items ≡ out.old.items ++ suppressed_text cause number count (target_of rule.now)) }
+    ensures { OnOk result (out.new.items ≡ out.old.items ++ suppressed_text of number count (target_of rule.now)) }
 {
     let text = text_of(alloc, rule)?;
-    put_taken(out, cause, &text, count)?;
+    put_taken(out, of, &text, count)?;
     put_place(out, rule)?;
     put_suppression(out, &text, number)
 }
@@ -101,10 +93,10 @@ fn text_of(alloc: Global, rule: &Rule) -> Result<Vec<u8>, AllocError>
 
 // Opens a result with the rule of this text and how many races it takes.
 #[tactic(auto, unfolding(crate::specs::Document::taken_text))]
-fn put_taken(out: &mut Vec<u8>, cause: Cause, rule: &[u8], count: u64) -> Result<(), AllocError>
-    ensures { OnOk result (out.new.items ≡ out.old.items ++ taken_text cause rule.now count) }
+fn put_taken(out: &mut Vec<u8>, of: ReportKind, rule: &[u8], count: u64) -> Result<(), AllocError>
+    ensures { OnOk result (out.new.items ≡ out.old.items ++ taken_text of rule.now count) }
 {
-    out.extend_from_slice(rule_front(cause))?;
+    out.extend_from_slice(rule_front(of))?;
     out.extend_from_slice(
         b"suppressed\",\"level\":\"error\",\"message\":{\"text\":\"Races that a rule takes: ",
     )?;

@@ -8,28 +8,28 @@ use Rattle.er_event.specs.declared.steps.Kind.TheVariants as kind
 use Rattle.er_report.specs.declared.report.Line.{Line}
 use Rattle.er_report.specs.declared.report.Line.TheVariants.{Race, Reused, Refused, Shown}
 use Rattle.er_sites.specs.Inner.Counted.{or_first}
-use Rattle.er_sites.specs.Table.{is_at, races_at, reads_at, writes_at}
+use Rattle.er_sites.specs.Table.{is_at, races_at, reads_at, reuses_at, writes_at}
 
--- a race is read or written at its site
-one_race : (s : ℕ) (line : Line) → cond (reads_at s line) 1 0 + cond (writes_at s line) 1 0 ≡ cond (is_at s line) 1 0
+-- a race is a read, a write or a reuse at its site
+one_race : (s : ℕ) (line : Line) → cond (reads_at s line) 1 0 + cond (writes_at s line) 1 0 + cond (reuses_at s line) 1 0 ≡ cond (is_at s line) 1 0
 one_race s (Race number thread kind.Read word site held explained) = omega arith
 one_race s (Race number thread kind.Write word site held explained) = omega arith
-one_race s (Reused number thread range held explained) = refl
+one_race s (Reused number thread range site held explained) = omega arith
 one_race s (Refused number step refusal) = refl
 one_race s (Shown number word state) = refl
 
 counted : {X : Type 0} (p : X → Bool) (x : X) (xs : List X) → count_by p (x ∷ xs) ≡ cond (p x) 1 0 + count_by p xs
 counted p x xs = sum_by-cons (λ y. cond (p y) 1 0) x xs
 
-added : (a b c x y z p q r : ℕ) → p ≡ a + x → q ≡ b + y → r ≡ c + z → a + b ≡ c → x + y ≡ z → p + q ≡ r
-added a b c x y z p q r first second third one more = omega arith
+added : (a b c d x y v z p q r s : ℕ) → p ≡ a + x → q ≡ b + y → r ≡ c + v → s ≡ d + z → a + b + c ≡ d → x + y + v ≡ z → p + q + r ≡ s
+added a b c d x y v z p q r s first second third fourth one more = omega arith
 
 -- so the races at a site are those lines
 pub races_are : (s : ℕ) (lines : List Line) → races_at lines s ≡ count_by (is_at s) lines
 races_are s [] = refl
 races_are s (line ∷ lines) =
-    added (cond (reads_at s line) 1 0) (cond (writes_at s line) 1 0) (cond (is_at s line) 1 0) (count_by (reads_at s) lines) (count_by (writes_at s) lines) (count_by (is_at s) lines) _ _ _
-    (counted (reads_at s) line lines) (counted (writes_at s) line lines) (counted (is_at s) line lines) (one_race s line) (races_are s lines)
+    added (cond (reads_at s line) 1 0) (cond (writes_at s line) 1 0) (cond (reuses_at s line) 1 0) (cond (is_at s line) 1 0) (count_by (reads_at s) lines) (count_by (writes_at s) lines) (count_by (reuses_at s) lines)
+    (count_by (is_at s) lines) _ _ _ _ (counted (reads_at s) line lines) (counted (writes_at s) line lines) (counted (reuses_at s) line lines) (counted (is_at s) line lines) (one_race s line) (races_are s lines)
 
 module _ {X : Type 0} (p : X → Bool) where
   none_from : (i : ℕ) (xs : List X) → position_from p i xs ≡ None → count_by p xs ≡ 0

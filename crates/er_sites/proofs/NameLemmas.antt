@@ -1,8 +1,8 @@
 -- The sites of a table have names.
-use Rattle.std.proofs.Common.{◌≡◌, ◌≤◌, ℕ, true, All, List, Some, length, get_or, sym, subst}
+use Rattle.std.proofs.Common.{◌≡◌, ◌≤◌, ◌==◌, not, ℕ, true, All, List, Some, length, get_or, sym, subst}
 use Rattle.std.specs.List.{position}
 use Rattle.std.proofs.lemmas.List.Quantifiers.{position-Some}
-use Rattle.std.proofs.lemmas.Bool.{eqb-true}
+use Rattle.std.proofs.lemmas.Bool.{and_parts, eqb-true}
 use Rattle.er_event.specs.declared.steps.WordState.TheVariants.{Virgin}
 use Rattle.er_trace.specs.Names.{NameTable}
 use Rattle.er_report.specs.Names.{HasNames}
@@ -14,7 +14,8 @@ use Rattle.er_sites.specs.Table.{is_at, IsOwnCount}
 -- the site of a race has a name
 named_at : (names : NameTable) (s : ℕ) (line : Line) → HasNames names line → is_at s line ≡ true → s ≤ length names.sites
 named_at names s (Race number thread kind word site held explained) named here = subst (λ (n : ℕ). n ≤ length names.sites) (sym (eqb-true s site here)) named.1
-named_at names s (Reused number thread range held explained) named here = absurd (cc)
+named_at names s (Reused number thread range site held explained) named here =
+    subst (λ (n : ℕ). n ≤ length names.sites) (sym (eqb-true s site (and_parts (not (site == 0)) (s == site) here).1)) named.1
 named_at names s (Refused number step refusal) named here = absurd (cc)
 named_at names s (Shown number word state) named here = absurd (cc)
 

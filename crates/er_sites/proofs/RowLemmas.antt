@@ -20,7 +20,7 @@ use Rattle.er_report.specs.declared.report.Line.{Line}
 use Rattle.er_sites.specs.declared.counts.Counts.{Counts}
 use Rattle.er_sites.specs.declared.row.SiteRow.{SiteRow}
 use Rattle.er_sites.specs.Inner.Counted.{AreCounts, HasRowsBelow}
-use Rattle.er_sites.specs.Table.{words_at, words_of, reads_at, writes_at, races_at, row_order, IsOwnCount}
+use Rattle.er_sites.specs.Table.{races_in, races_of, reads_at, reuses_at, writes_at, races_at, row_order, IsOwnCount}
 
 -- the words of the sites below the next one
 below_next : (f : ℕ → ℕ) (w q site : ℕ) → w ≡ f site → cond (nat_lt q site) (f q) 0 + cond (nat_eq site q) w 0 ≡ cond (nat_lt q (site + 1)) (f q) 0
@@ -31,13 +31,13 @@ below_none f q site none = grind (arith, nat_tests)
 
 -- a row of the next site
 pub row_added : (names : NameTable) (lines : List Line) (rows : List SiteRow) (row : SiteRow) (site : ℕ) → HasRowsBelow names lines rows site → row.site ≡ site
-    → IsOwnCount names lines row → words_of row ≡ races_at lines site → HasRowsBelow names lines (rows ++ row ∷ []) (site + 1)
+    → IsOwnCount names lines row → races_of row ≡ races_at lines site → HasRowsBelow names lines (rows ++ row ∷ []) (site + 1)
 row_added names lines rows row site before here own words =
     record {
       own = All-append (IsOwnCount names lines) rows (row ∷ []) before.own (All-one names lines row own);
       each = λ q.
-          sum_by_push (words_at q) rows row ∙ ap (λ (n : ℕ). n + words_at q row) (before.each q)
-          ∙ rw here (below_next (races_at lines) (words_of row) q site words);
+          sum_by_push (races_in q) rows row ∙ ap (λ (n : ℕ). n + races_in q row) (before.each q)
+          ∙ rw here (below_next (races_at lines) (races_of row) q site words);
     }
   where
     All-one : (names : NameTable) (lines : List Line) (row : SiteRow) → IsOwnCount names lines row → All (IsOwnCount names lines) (row ∷ [])
@@ -53,20 +53,22 @@ all_below f s site past = grind (arith, nat_tests, past)
 
 -- the rows below the end of both lists are all rows
 pub each_site : (names : NameTable) (lines : List Line) (counts : Counts) (rows : List SiteRow) (site : ℕ) → AreCounts lines counts → HasRowsBelow names lines rows site
-    → length counts.reads.items ≤ site → length counts.writes.items ≤ site → (s : ℕ) → sum_by (words_at s) rows ≡ races_at lines s
-each_site names lines counts rows site known before reads writes s = before.each s ∙ all_below (races_at lines) s site none
+    → length counts.reads.items ≤ site → length counts.writes.items ≤ site → length counts.reuses.items ≤ site → (s : ℕ) → sum_by (races_in s) rows ≡ races_at lines s
+each_site names lines counts rows site known before reads writes reuses s = before.each s ∙ all_below (races_at lines) s site none
   where
     none : site ≤ s → races_at lines s ≡ 0
     none past =
         let no_reads : slice_index counts.reads.items s ≡ 0 = get_or_past counts.reads.items s 0 (omega arith) in
         let no_writes : slice_index counts.writes.items s ≡ 0 = get_or_past counts.writes.items s 0 (omega arith) in
+        let no_reuses : slice_index counts.reuses.items s ≡ 0 = get_or_past counts.reuses.items s 0 (omega arith) in
         let read : slice_index counts.reads.items s ≡ count_by (reads_at s) lines = known.reads s in
         let written : slice_index counts.writes.items s ≡ count_by (writes_at s) lines = known.writes s in
+        let reused : slice_index counts.reuses.items s ≡ count_by (reuses_at s) lines = known.reuses s in
         omega arith
 
 -- the order of rows is one
 pub rows_ordered : IsStrictWeakOrder (λ (x y : SiteRow). is_lt (row_order x y))
-rows_ordered = ranks_by (then_total (on_total (λ (row : SiteRow). row.is_system) bool_cmp_total) (then_total (back_total (on_total words_of nat_cmp_total)) (on_total (λ (row : SiteRow). row.site) nat_cmp_total))) (λ (row : SiteRow). row)
+rows_ordered = ranks_by (then_total (on_total (λ (row : SiteRow). row.is_system) bool_cmp_total) (then_total (back_total (on_total races_of nat_cmp_total)) (on_total (λ (row : SiteRow). row.site) nat_cmp_total))) (λ (row : SiteRow). row)
 
 -- rows that were sorted by a closure that answers by this order are in order
 pub rows_sorted : {F : Type 0} {g : Mut F (Bor SiteRow × (Bor SiteRow × Unit {0})) Ordering} {f : F} (rows : List SiteRow)

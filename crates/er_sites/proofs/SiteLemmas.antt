@@ -8,7 +8,7 @@ use Rattle.er_report.specs.declared.report.Line.{Line}
 use Rattle.er_report.specs.declared.report.Report.{Report}
 use Rattle.er_sites.proofs.NameLemmas.{site_named}
 use Rattle.er_sites.specs.Sites.{if_elsewhere, lines_of, other_rows}
-use Rattle.er_sites.specs.Table.{IsTable, reads_at, writes_at}
+use Rattle.er_sites.specs.Table.{IsTable, reads_at, reuses_at, writes_at}
 use Rattle.er_sites.specs.declared.row.SiteRow.{SiteRow}
 use Rattle.er_trace.specs.Names.{NameTable}
 
@@ -34,7 +34,7 @@ unfolding other_rows
 others_hold P lines [] all = All-nil P
 others_hold P lines (row ∷ rows) all =
     All-append P (if_elsewhere lines row) (other_rows lines rows)
-    (one_or_none P row (count_by (reads_at row.site) lines == 0 && count_by (writes_at row.site) lines == 0) (All-head P row rows all)) (others_hold P lines rows (All-tail P row rows all))
+    (one_or_none P row (count_by (reads_at row.site) lines == 0 && count_by (writes_at row.site) lines == 0 && count_by (reuses_at row.site) lines == 0) (All-head P row rows all)) (others_hold P lines rows (All-tail P row rows all))
 
 -- the lines of a report that may not be there have names
 pub lines_named : (names : NameTable) (report : Option Report) → IfSome report (λ (r : Report). All (HasNames names) r.lines.items) → All (HasNames names) (lines_of report)

@@ -11,7 +11,7 @@ use Rattle.er_report.specs.Report.{told}
 use Rattle.er_report.specs.declared.report.Line.{Line}
 use Rattle.er_report.specs.declared.report.Report.{Report}
 use Rattle.er_report.specs.declared.reports.Reports.{Reports}
-use Rattle.er_sites.specs.Table.{IsTable, reads_at, writes_at}
+use Rattle.er_sites.specs.Table.{IsTable, reads_at, reuses_at, writes_at}
 use Rattle.er_sites.specs.Text.{is_refused, is_reused, refused_text, reuse_story, rows_text}
 use Rattle.er_sites.specs.declared.row.SiteRow.{SiteRow}
 use Rattle.er_trace.specs.Names.{NameTable}
@@ -58,7 +58,7 @@ others_text names table (Some report) below rows = others_title below (are_none 
 
 -- the row, if its site has no race among these lines
 abbrev pub if_elsewhere : List Line → SiteRow → List SiteRow
-if_elsewhere lines row = cond (count_by (reads_at row.site) lines == 0 && count_by (writes_at row.site) lines == 0) (row ∷ []) []
+if_elsewhere lines row = cond (count_by (reads_at row.site) lines == 0 && count_by (writes_at row.site) lines == 0 && count_by (reuses_at row.site) lines == 0) (row ∷ []) []
 
 -- such rows
 unfoldable pub other_rows : List Line → List SiteRow → List SiteRow

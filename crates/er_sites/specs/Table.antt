@@ -1,5 +1,5 @@
 -- The table of sites: what each row counts, and that no race is left out or counts twice.
-use Rattle.std.specs.Prelude.{◌≡◌, ◌<◌, ◌+◌, ◌&&◌, ◌==◌, ℕ, Bool, true, false, cond, List, Some, count_by, All, IsSorted}
+use Rattle.std.specs.Prelude.{◌≡◌, ◌<◌, ◌+◌, ◌&&◌, ◌==◌, not, ℕ, Bool, true, false, cond, List, Some, count_by, All, IsSorted}
 use Rattle.std.specs.List.{position, sum_by}
 use Rattle.std.specs.Ordering.{bool_cmp, nat_cmp, ordering_then}
 use Rattle.std.specs.declared.cmp.Ordering.{Ordering}
@@ -22,51 +22,59 @@ is_write kind.Write = true
 -- the line is a race of a read at this site
 abbrev pub reads_at : ℕ → Line → Bool
 reads_at s (Race number thread kind word site held explained) = is_read kind && s == site
-reads_at s (Reused number thread range held explained) = false
+reads_at s (Reused number thread range site held explained) = false
 reads_at s (Refused number step refusal) = false
 reads_at s (Shown number word state) = false
 
 -- the line is a race of a write at this site
 abbrev pub writes_at : ℕ → Line → Bool
 writes_at s (Race number thread kind word site held explained) = is_write kind && s == site
-writes_at s (Reused number thread range held explained) = false
+writes_at s (Reused number thread range site held explained) = false
 writes_at s (Refused number step refusal) = false
 writes_at s (Shown number word state) = false
+
+-- the line is a race of a reuse at this site; one without a site is at none
+abbrev pub reuses_at : ℕ → Line → Bool
+reuses_at s (Race number thread kind word site held explained) = false
+reuses_at s (Reused number thread range site held explained) = not (site == 0) && s == site
+reuses_at s (Refused number step refusal) = false
+reuses_at s (Shown number word state) = false
 
 -- the line is a race at this site
 abbrev pub is_at : ℕ → Line → Bool
 is_at s (Race number thread kind word site held explained) = s == site
-is_at s (Reused number thread range held explained) = false
+is_at s (Reused number thread range site held explained) = not (site == 0) && s == site
 is_at s (Refused number step refusal) = false
 is_at s (Shown number word state) = false
 
 -- how many races there are at a site
 abbrev pub races_at : List Line → ℕ → ℕ
-races_at lines s = count_by (reads_at s) lines + count_by (writes_at s) lines
+races_at lines s = count_by (reads_at s) lines + count_by (writes_at s) lines + count_by (reuses_at s) lines
 
--- how many words a row has
-abbrev pub words_of : SiteRow → ℕ
-words_of row = row.reads + row.writes
+-- how many races a row has
+abbrev pub races_of : SiteRow → ℕ
+races_of row = row.reads + row.writes + row.reuses
 
 -- the row counts the races of its own site, of which there are some, and its example is the first of them
 pub record IsOwnCount (names : NameTable) (lines : List Line) (row : SiteRow) : Type 0 where
   pub reads : row.reads ≡ count_by (reads_at row.site) lines
   pub writes : row.writes ≡ count_by (writes_at row.site) lines
-  pub some : 0 < words_of row
+  pub reuses : row.reuses ≡ count_by (reuses_at row.site) lines
+  pub some : 0 < races_of row
   pub example : position (is_at row.site) lines ≡ Some row.example
   pub system : row.is_system ≡ is_system_site names row.site
 
--- the row's words, if it is the site's
-abbrev pub words_at : ℕ → SiteRow → ℕ
-words_at s row = cond (row.site == s) (words_of row) 0
+-- the row's races, if it is the site's
+abbrev pub races_in : ℕ → SiteRow → ℕ
+races_in s row = cond (row.site == s) (races_of row) 0
 
--- the order of the rows: sites in headers of the system come last, most words come first, and then the sites by their numbers
+-- the order of the rows: sites in headers of the system come last, most races come first, and then the sites by their numbers
 abbrev pub row_order : SiteRow → SiteRow → Ordering
 row_order row other =
-    ordering_then (bool_cmp row.is_system other.is_system) (ordering_then (nat_cmp (words_of other) (words_of row)) (nat_cmp row.site other.site))
+    ordering_then (bool_cmp row.is_system other.is_system) (ordering_then (nat_cmp (races_of other) (races_of row)) (nat_cmp row.site other.site))
 
 -- a row counts its own site, the rows of a site have all races there, once, and the rows come in their order
 pub record IsTable (names : NameTable) (lines : List Line) (rows : List SiteRow) : Type 0 where
   pub own : All (IsOwnCount names lines) rows
-  pub each : (s : ℕ) → sum_by (words_at s) rows ≡ races_at lines s
+  pub each : (s : ℕ) → sum_by (races_in s) rows ≡ races_at lines s
   pub sorted : IsSorted row_order rows

@@ -19,7 +19,7 @@ use Rattle.er_report.specs.declared.report.Label.{Label}
 use Rattle.er_report.specs.declared.report.Label.TheVariants as label
 use Rattle.er_report.specs.declared.report.Line.{Line}
 use Rattle.er_report.specs.declared.report.Line.TheVariants.{Race, Reused, Refused, Shown}
-use Rattle.er_sites.specs.Table.{words_of}
+use Rattle.er_sites.specs.Table.{races_of}
 use Rattle.er_sites.specs.declared.row.SiteRow.{SiteRow}
 
 -- a site in so many bytes at most; sites count from 1, and the missing one is a dash
@@ -31,15 +31,19 @@ site_within most names (suc n) = short most (name_at names.sites n)
 abbrev pub column_text : ℕ → List ℕ
 column_text n = decimal n ++ drop (min (length (decimal n)) 10) (codes "          ")
 
--- what the accesses of a row do, and spaces up to the next column
-abbrev pub kinds_text : ℕ → ℕ → List ℕ
-kinds_text zero writes = codes "write       "
-kinds_text (suc k) zero = codes "read        "
-kinds_text (suc k) (suc l) = codes "read write  "
+-- what the races of a row do, and spaces up to the next column
+abbrev pub kinds_text : ℕ → ℕ → ℕ → List ℕ
+kinds_text zero zero reuses = codes "reuse       "
+kinds_text zero (suc l) zero = codes "write       "
+kinds_text zero (suc l) (suc m) = codes "write reuse "
+kinds_text (suc k) zero zero = codes "read        "
+kinds_text (suc k) zero (suc m) = codes "read reuse  "
+kinds_text (suc k) (suc l) zero = codes "read write  "
+kinds_text (suc k) (suc l) (suc m) = codes "all three   "
 
 abbrev pub row_text : NameTable → SiteRow → List ℕ
 row_text names row =
-    column_text (words_of row) ++ kinds_text row.reads row.writes ++ column_text row.threads ++ column_text row.locks
+    column_text (races_of row) ++ kinds_text row.reads row.writes row.reuses ++ column_text row.threads ++ column_text row.locks
     ++ (site_in style.Short names row.site ++ codes "\n")
 
 -- what an access did
@@ -198,33 +202,38 @@ abbrev pub head_text : NameTable → ℕ → ℕ → Kind → ℕ → List ℕ
 head_text names number thread kind word =
     codes "  " ++ thread_in style.Short names thread ++ access_text kind ++ address_text word ++ codes " (line " ++ decimal number ++ codes ")\n"
 
+-- who gave back how much memory
+abbrev pub given_back_text : NameTable → ℕ → ℕ → PageRange → List ℕ
+given_back_text names number thread range =
+    codes "  " ++ thread_in style.Short names thread ++ codes " gave back " ++ decimal (bytes_between range.lo range.hi) ++ codes " bytes (line " ++ decimal number ++ codes ")\n"
+
+-- and why it is a race
+unfoldable pub reuse_text : NameTable → PlaceTable → ℕ → ℕ → PageRange → List Because → List ℕ
+reuse_text names table number thread range explained = given_back_text names number thread range ++ flat_map (reason_text names table number) explained
+
 -- a race in sentences, under its site
 abbrev pub example_text : NameTable → PlaceTable → LineView → List ℕ
 example_text names table (RaceView number thread kind word site held explained) =
     title_text names table number site thread explained ++ head_text names number thread kind word
     ++ holds_text names number thread (access_place table number thread kind) explained held
     ++ flat_map (reason_text names table number) explained ++ so_text explained
-example_text names table (ReusedView number thread range held explained) = []
+example_text names table (ReusedView number thread range site held explained) =
+    title_text names table number site thread explained ++ reuse_text names table number thread range explained
 example_text names table (RefusedView number step refusal) = []
 example_text names table (ShownView number word state) = []
 
--- who gave back how much memory, under the address of its first byte
-abbrev pub given_back_text : NameTable → ℕ → ℕ → PageRange → List ℕ
-given_back_text names number thread range =
-    address_text range.lo ++ codes ":\n  " ++ thread_in style.Short names thread ++ codes " gave back " ++ decimal (bytes_between range.lo range.hi)
-    ++ codes " bytes (line " ++ decimal number ++ codes ")\n"
-
--- a reuse in sentences
+-- a reuse without a site in sentences, under the address of its first byte
 abbrev pub reuse_story : NameTable → PlaceTable → LineView → List ℕ
 reuse_story names table (RaceView number thread kind word site held explained) = []
-reuse_story names table (ReusedView number thread range held explained) =
-    given_back_text names number thread range ++ flat_map (reason_text names table number) explained ++ 10 ∷ []
+reuse_story names table (ReusedView number thread range zero held explained) =
+    address_text range.lo ++ codes ":\n" ++ reuse_text names table number thread range explained ++ 10 ∷ []
+reuse_story names table (ReusedView number thread range (suc site) held explained) = []
 reuse_story names table (RefusedView number step refusal) = []
 reuse_story names table (ShownView number word state) = []
 
 abbrev pub is_reused : Line → Bool
 is_reused (Race number thread kind word site held explained) = false
-is_reused (Reused number thread range held explained) = true
+is_reused (Reused number thread range site held explained) = true
 is_reused (Refused number step refusal) = false
 is_reused (Shown number word state) = false
 
@@ -233,31 +242,27 @@ abbrev pub example_of : NameTable → PlaceTable → Option Line → List ℕ
 example_of names table None = []
 example_of names table (Some line) = example_text names table (line_view line)
 
--- the heads of the columns, if there are rows
-abbrev pub heading_text : List SiteRow → List ℕ
-heading_text [] = []
-heading_text (row ∷ rows) = codes "words     kinds       threads   locks     site" ++ 10 ∷ []
+-- the text, if there are rows
+abbrev pub if_some : List SiteRow → List ℕ → List ℕ
+if_some [] text = []
+if_some (row ∷ rows) text = text
 
--- an empty line, if there are rows
-abbrev pub blank_text : List SiteRow → List ℕ
-blank_text [] = []
-blank_text (row ∷ rows) = 10 ∷ []
-
--- the table, and an example of each of its rows
+-- the table below the heads of its columns, an example of each of its rows, and an empty line
 abbrev pub rows_text : NameTable → PlaceTable → List Line → List SiteRow → List ℕ
 rows_text names table lines rows =
-    heading_text rows ++ flat_map (row_text names) rows ++ flat_map (λ (row : SiteRow). example_of names table (slice_get lines row.example)) rows ++ blank_text rows
+    if_some rows (codes "words     kinds       threads   locks     site\n") ++ flat_map (row_text names) rows
+    ++ flat_map (λ (row : SiteRow). example_of names table (slice_get lines row.example)) rows ++ if_some rows (codes "\n")
 
 -- the line of a refused step, and why it was refused
 abbrev pub refusal_text : LineView → List ℕ
 refusal_text (RaceView number thread kind word site held explained) = []
-refusal_text (ReusedView number thread range held explained) = []
+refusal_text (ReusedView number thread range site held explained) = []
 refusal_text (RefusedView number step refusal) = codes "first refused: line " ++ decimal number ++ codes ": " ++ text_of refusal ++ 10 ∷ []
 refusal_text (ShownView number word state) = []
 
 abbrev pub is_refused : Line → Bool
 is_refused (Race number thread kind word site held explained) = false
-is_refused (Reused number thread range held explained) = false
+is_refused (Reused number thread range site held explained) = false
 is_refused (Refused number step refusal) = true
 is_refused (Shown number word state) = false
 

@@ -1,9 +1,9 @@
 //! How many races there are at each site.
-ghost use Rattle.std.specs.Prelude.{◌≡◌, ◌+◌, ◌^◌, ◌<◌, ◌≤◌, ◌==◌, ℕ, cond, length, slice_index, OnOk, IfOk};
-ghost use Rattle.er_sites.specs.Inner.Counted.{AreCounts};
-ghost use Rattle.er_sites.specs.Table.{reads_at, writes_at};
+ghost use Rattle.std.specs.Prelude.{◌≡◌, ◌+◌, ◌^◌, ◌<◌, ◌≤◌, ◌==◌, ℕ, [], cond, length, slice_index, OnOk, IfOk};
+ghost use Rattle.er_sites.specs.Inner.Counted.{AreCounts, HasRoom, count_like};
+ghost use Rattle.er_sites.specs.Table.{reads_at, reuses_at, writes_at};
 
-use er_event::Kind;
+use er_event::{Kind, Site};
 use er_report::Line;
 use std::alloc::{AllocError, Global};
 
@@ -14,10 +14,61 @@ pub struct Counts {
     pub reads: Vec<u64>,
     /// How many of them write.
     pub writes: Vec<u64>,
+    /// How many of them are reuses. One without a site is not counted.
+    pub reuses: Vec<u64>,
+}
+
+impl Counts {
+    /// No race was counted.
+    pub fn new(alloc: Global) -> Counts
+        ensures { AreCounts [] result }
+    {
+        Counts {
+            reads: Vec::new(alloc),
+            writes: Vec::new(alloc),
+            reuses: Vec::new(alloc),
+        }
+    }
+
+    /// Counts a line at its site, if it is a race.
+    pub fn count(&mut self, line: &Line) -> Result<(), AllocError>
+        requires { HasRoom self.old }
+        ensures reads { OnOk result ((s : ℕ) → slice_index self.new.reads.items s ≡ slice_index self.old.reads.items s + cond (reads_at s line.now) 1 0) }
+        ensures writes { OnOk result ((s : ℕ) → slice_index self.new.writes.items s ≡ slice_index self.old.writes.items s + cond (writes_at s line.now) 1 0) }
+        ensures reuses { OnOk result ((s : ℕ) → slice_index self.new.reuses.items s ≡ slice_index self.old.reuses.items s + cond (reuses_at s line.now) 1 0) }
+        ensures few_reads { OnOk result (length self.old.reads.items ≤ 2 ^ 32 → length self.new.reads.items ≤ 2 ^ 32) }
+        ensures few_writes { OnOk result (length self.old.writes.items ≤ 2 ^ 32 → length self.new.writes.items ≤ 2 ^ 32) }
+        ensures few_reuses { OnOk result (length self.old.reuses.items ≤ 2 ^ 32 → length self.new.reuses.items ≤ 2 ^ 32) }
+    {
+        match line {
+            Line::Race { kind, site, .. } => match kind {
+                Kind::Read => add_one(&mut self.reads, *site),
+                Kind::Write => add_one(&mut self.writes, *site),
+            },
+            Line::Reused { site, .. } if site.number() != 0 => add_one(&mut self.reuses, *site),
+            _ => Ok(()),
+        }
+    }
+
+    /// How many races there are of the site and the kind of this one; 0 for a line that isn't counted.
+    pub fn like(&self, line: &Line) -> u64
+        ensures { result ≡ count_like self.now line.now }
+    {
+        match line {
+            Line::Race { kind, site, .. } => match kind {
+                Kind::Read => count_at(&self.reads, site.number() as usize),
+                Kind::Write => count_at(&self.writes, site.number() as usize),
+            },
+            Line::Reused { site, .. } if site.number() != 0 => {
+                count_at(&self.reuses, site.number() as usize)
+            }
+            _ => 0,
+        }
+    }
 }
 
 /// The count of a site; 0 past the end of the list.
-pub fn count_at(counts: &[u64], site: usize) -> u64
+pub(crate) fn count_at(counts: &[u64], site: usize) -> u64
     ensures { result ≡ slice_index counts.now site }
 {
     match counts.get(site) {
@@ -30,48 +81,20 @@ pub fn count_at(counts: &[u64], site: usize) -> u64
 pub fn count_races(alloc: Global, lines: &[Line]) -> Result<Counts, AllocError>
     ensures { IfOk result (AreCounts lines.now) }
 {
-    let mut reads = Vec::new(alloc);
-    let mut writes = Vec::new(alloc);
+    let mut counts = Counts::new(alloc);
     for line in lines {
-        count_line(&mut reads, &mut writes, line)?;
+        counts.count(line)?;
     }
-    Ok(Counts { reads, writes })
+    Ok(counts)
 }
 
-/// Counts a line at its site, if it is a race.
-pub fn count_line(
-    reads: &mut Vec<u64>,
-    writes: &mut Vec<u64>,
-    line: &Line,
-) -> Result<(), AllocError>
-    requires reads { (s : ℕ) → slice_index reads.old.items s + 1 < 2 ^ 64 }
-    requires writes { (s : ℕ) → slice_index writes.old.items s + 1 < 2 ^ 64 }
-    ensures reads { OnOk result ((s : ℕ) → slice_index reads.new.items s ≡ slice_index reads.old.items s + cond (reads_at s line.now) 1 0) }
-    ensures writes { OnOk result ((s : ℕ) → slice_index writes.new.items s ≡ slice_index writes.old.items s + cond (writes_at s line.now) 1 0) }
-    ensures few { OnOk result (length reads.old.items ≤ 2 ^ 32 → length writes.old.items ≤ 2 ^ 32 → (length reads.new.items ≤ 2 ^ 32) × (length writes.new.items ≤ 2 ^ 32)) }
-{
-    match line {
-        Line::Race {
-            kind: Kind::Read,
-            site,
-            ..
-        } => add_one(reads, site.number() as usize),
-        Line::Race {
-            kind: Kind::Write,
-            site,
-            ..
-        } => add_one(writes, site.number() as usize),
-        _ => Ok(()),
-    }
-}
-
-// Adds one to the count in a place, which is 0 past the end of the list.
-fn add_one(counts: &mut Vec<u64>, place: usize) -> Result<(), AllocError>
-    requires room { slice_index counts.old.items place + 1 < 2 ^ 64 }
-    requires within { place < 2 ^ 32 }
-    ensures count { OnOk result ((s : ℕ) → slice_index counts.new.items s ≡ slice_index counts.old.items s + cond (s == place) 1 0) }
+// Adds one to the count of a site, which is 0 past the end of the list.
+fn add_one(counts: &mut Vec<u64>, site: Site) -> Result<(), AllocError>
+    requires { slice_index counts.old.items site + 1 < 2 ^ 64 }
+    ensures count { OnOk result ((s : ℕ) → slice_index counts.new.items s ≡ slice_index counts.old.items s + cond (s == site) 1 0) }
     ensures few { OnOk result (length counts.old.items ≤ 2 ^ 32 → length counts.new.items ≤ 2 ^ 32) }
 {
+    let place = site.number() as usize;
     grow(counts, place + 1)?;
     counts[place] += 1;
     Ok(())

@@ -1,4 +1,5 @@
 //! How many different threads and locks there are at each site.
+use er_event::{Lockset, Site, ThreadId};
 use er_report::Line;
 use std::alloc::{AllocError, Global};
 
@@ -9,34 +10,53 @@ struct Pair {
     number: u32,
 }
 
-/// How many threads have races at each site, by the number of the site.
-pub(crate) fn count_threads(alloc: Global, lines: &[Line]) -> Result<Vec<u64>, AllocError> {
-    let mut pairs = Vec::new(alloc);
+/// How many threads have races at each site, and how many locks were held at these, by the number of the site.
+pub(crate) fn count_distinct(
+    alloc: Global,
+    lines: &[Line],
+) -> Result<(Vec<u64>, Vec<u64>), AllocError> {
+    let mut threads = Vec::new(alloc);
+    let mut locks = Vec::new(alloc);
     for line in lines {
-        if let Line::Race { site, thread, .. } = line {
-            pairs.push(Pair {
-                site: site.number(),
-                number: thread.number(),
-            })?;
-        }
-    }
-    count_different(alloc, pairs)
-}
-
-/// How many locks were held at the races at each site, by the number of the site.
-pub(crate) fn count_locks(alloc: Global, lines: &[Line]) -> Result<Vec<u64>, AllocError> {
-    let mut pairs = Vec::new(alloc);
-    for line in lines {
-        if let Line::Race { site, held, .. } = line {
+        if let Some((site, thread, held)) = race_of(line) {
+            threads.push(Pair::new(site, thread.number()))?;
             for lock in held.as_slice() {
-                pairs.push(Pair {
-                    site: site.number(),
-                    number: lock.number(),
-                })?;
+                locks.push(Pair::new(site, lock.number()))?;
             }
         }
     }
-    count_different(alloc, pairs)
+    Ok((
+        count_different(alloc, threads)?,
+        count_different(alloc, locks)?,
+    ))
+}
+
+impl Pair {
+    fn new(site: Site, number: u32) -> Pair {
+        Pair {
+            site: site.number(),
+            number,
+        }
+    }
+}
+
+// The site of a line, its thread and the locks of this, if it is a race that counts at a site.
+fn race_of(line: &Line) -> Option<(Site, ThreadId, &Lockset)> {
+    match line {
+        Line::Race {
+            site,
+            thread,
+            held,
+            ..
+        } => Some((*site, *thread, held)),
+        Line::Reused {
+            site,
+            thread,
+            held,
+            ..
+        } if site.number() != 0 => Some((*site, *thread, held)),
+        _ => None,
+    }
 }
 
 // How many different pairs there are of each site.

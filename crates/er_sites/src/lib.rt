@@ -9,7 +9,7 @@
 //! in `specs/Table`.
 #![tactic(auto)]
 
-pub use counts::{Counts, count_at, count_line, count_races};
+pub use counts::{Counts, count_races};
 pub use names::{is_system_name, name_of};
 pub use row::SiteRow;
 pub use table::site_rows;

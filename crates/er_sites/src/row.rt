@@ -6,7 +6,7 @@ use er_event::Site;
 /// What the races at one site come to.
 #[derive(Clone, Copy, Debug, PartialEq, Eq, Drop)]
 pub struct SiteRow {
-    /// Where in the program the accesses stand.
+    /// Where in the program the races stand.
     pub site: Site,
     /// Whether that is a header of the system.
     pub is_system: bool,
@@ -14,20 +14,22 @@ pub struct SiteRow {
     pub reads: u64,
     /// How many words a write there made racy.
     pub writes: u64,
-    /// How many threads made these accesses.
+    /// How many reuses of memory race there.
+    pub reuses: u64,
+    /// How many threads made them.
     pub threads: u64,
-    /// How many locks were held at one of these accesses or more.
+    /// How many locks were held at one of them or more.
     pub locks: u64,
     /// The place of the first of these races among the lines of the report.
     pub example: usize,
-    pub ghost few: { reads + writes < 2 ^ 64 },
+    pub ghost few: { reads + writes + reuses < 2 ^ 64 },
 }
 
 impl SiteRow {
-    /// How many words became racy there.
-    pub fn words(&self) -> u64
-        ensures { result ≡ self.now.reads + self.now.writes }
+    /// How many races there are.
+    pub fn races(&self) -> u64
+        ensures { result ≡ self.now.reads + self.now.writes + self.now.reuses }
     {
-        self.reads + self.writes
+        self.reads + self.writes + self.reuses
     }
 }

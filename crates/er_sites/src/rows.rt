@@ -3,10 +3,10 @@ ghost use Rattle.std.specs.Prelude.{◌≡◌, ◌+◌, ◌^◌, ◌<◌, ◌≤
 ghost use Rattle.std.specs.List.{sum_by};
 ghost use Rattle.er_report.specs.Names.{HasNames};
 ghost use Rattle.er_sites.specs.Inner.Counted.{AreCounts, AreExamples, HasRowsBelow, or_first};
-ghost use Rattle.er_sites.specs.Table.{is_at, races_at, words_at, IsOwnCount};
+ghost use Rattle.er_sites.specs.Table.{is_at, races_at, races_in, IsOwnCount};
 
 use crate::counts::{Counts, count_at, count_races};
-use crate::distinct::{count_locks, count_threads};
+use crate::distinct::count_distinct;
 use crate::names::is_system_site;
 use crate::row::SiteRow;
 use er_event::Site;
@@ -25,10 +25,12 @@ pub(crate) fn rows_of(
     requires counts { AreCounts lines.now found.now.counts }
     requires examples { AreExamples lines.now found.now.examples.items }
     ensures own { IfOk result (λ rows. All (IsOwnCount names.now lines.now) rows.items) }
-    ensures each { IfOk result (λ rows. (s : ℕ) → sum_by (words_at s) rows.items ≡ races_at lines.now s) }
+    ensures each { IfOk result (λ rows. (s : ℕ) → sum_by (races_in s) rows.items ≡ races_at lines.now s) }
 {
     let mut rows = Vec::new(alloc);
-    for site in 0..found.counts.reads.len().max(found.counts.writes.len()) {
+    let counts = &found.counts;
+    let most = counts.reads.len().max(counts.writes.len());
+    for site in 0..most.max(counts.reuses.len()) {
         add_site(&mut rows, lines, names, found, site)?;
     }
     Ok(rows)
@@ -59,6 +61,7 @@ fn add_site(
         is_system: is_system_site(names, number),
         reads: count_at(&found.counts.reads, site),
         writes: count_at(&found.counts.writes, site),
+        reuses: count_at(&found.counts.reuses, site),
         threads: count_at(&found.threads, site),
         locks: count_at(&found.locks, site),
         example,
@@ -85,8 +88,7 @@ pub(crate) fn find_sites(alloc: Global, lines: &[Line]) -> Result<Found, AllocEr
     ensures examples { IfOk result (λ found. AreExamples lines.now found.examples.items) }
 {
     let counts = count_races(alloc, lines)?;
-    let threads = count_threads(alloc, lines)?;
-    let locks = count_locks(alloc, lines)?;
+    let (threads, locks) = count_distinct(alloc, lines)?;
     let examples = find_examples(alloc, lines)?;
     Ok(Found {
         counts,
@@ -125,10 +127,11 @@ fn note_example(
 ) -> Result<(), AllocError>
     ensures { OnOk result ((s : ℕ) → slice_index_or examples.new.items s None ≡ or_first (slice_index_or examples.old.items s None) (cond (is_at s line.now) (Some place) None)) }
 {
-    let Line::Race { site, .. } = line else {
-        return Ok(());
+    let site = match line {
+        Line::Race { site, .. } => site.number() as usize,
+        Line::Reused { site, .. } if site.number() != 0 => site.number() as usize,
+        _ => return Ok(()),
     };
-    let site = site.number() as usize;
     grow(examples, site + 1)?;
     if examples[site].is_none() {
         examples[site] = Some(place);

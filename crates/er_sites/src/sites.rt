@@ -1,8 +1,7 @@
 //! The table of sites with its examples, and the first refused step.
 ghost use Rattle.std.specs.Prelude.{◌≡◌, ◌++◌, ◌≤◌, All, flat_map, find, length, option_copied, slice_get, OnOk};
-ghost use Rattle.er_report.specs.Lines.{line_view};
 ghost use Rattle.er_report.specs.Names.{HasNames};
-ghost use Rattle.er_sites.specs.Text.{blank_text, example_of, heading_text, is_refused, kinds_text, refusal_text, refused_text, row_text, rows_text};
+ghost use Rattle.er_sites.specs.Text.{example_of, if_some, is_refused, kinds_text, refused_text, row_text, rows_text};
 
 use crate::names::put_column;
 use crate::row::SiteRow;
@@ -26,30 +25,21 @@ pub(crate) fn put_rows(
     requires rows { All (λ row. row.site ≤ length names.now.sites) rows.now }
     ensures { OnOk result (out.new.items ≡ out.old.items ++ rows_text names.now places.now lines.now rows.now) }
 {
-    put_heading(out, rows)?;
+    let heading = b"words     kinds       threads   locks     site\n";
+    put_if_some(out, rows, heading)?;
     put_table(out, names, rows)?;
     put_examples(out, names, places, lines, rows)?;
-    put_blank(out, rows)
+    put_if_some(out, rows, b"\n")
 }
 
-// Puts the heads of the columns, if there are rows.
-fn put_heading(out: &mut Vec<u8>, rows: &[SiteRow]) -> Result<(), AllocError>
-    ensures { OnOk result (out.new.items ≡ out.old.items ++ heading_text rows.now) }
+// Puts the text, if there are rows.
+fn put_if_some(out: &mut Vec<u8>, rows: &[SiteRow], text: &[u8]) -> Result<(), AllocError>
+    ensures { OnOk result (out.new.items ≡ out.old.items ++ if_some rows.now text.now) }
 {
     if rows.is_empty() {
         return Ok(());
     }
-    out.extend_from_slice(b"words     kinds       threads   locks     site\n")
-}
-
-// Puts an empty line, if there are rows.
-fn put_blank(out: &mut Vec<u8>, rows: &[SiteRow]) -> Result<(), AllocError>
-    ensures { OnOk result (out.new.items ≡ out.old.items ++ blank_text rows.now) }
-{
-    if rows.is_empty() {
-        return Ok(());
-    }
-    out.extend_from_slice(b"\n")
+    out.extend_from_slice(text)
 }
 
 fn put_table(out: &mut Vec<u8>, names: &Names, rows: &[SiteRow]) -> Result<(), AllocError>
@@ -66,22 +56,26 @@ fn put_row(out: &mut Vec<u8>, names: &Names, row: &SiteRow) -> Result<(), AllocE
     requires { row.now.site ≤ length names.now.sites }
     ensures { OnOk result (out.new.items ≡ out.old.items ++ row_text names.now row.now) }
 {
-    put_column(out, row.words())?;
-    put_kinds(out, row.reads, row.writes)?;
+    put_column(out, row.races())?;
+    put_kinds(out, row.reads, row.writes, row.reuses)?;
     put_column(out, row.threads)?;
     put_column(out, row.locks)?;
     let pieces = [At(b"", row.site), Text(b"\n")];
     put_all(out, Style::Short, names, &pieces)
 }
 
-// Puts what the accesses of a row do, and spaces up to the next column.
-fn put_kinds(out: &mut Vec<u8>, reads: u64, writes: u64) -> Result<(), AllocError>
-    ensures { OnOk result (out.new.items ≡ out.old.items ++ kinds_text reads writes) }
+// Puts what the races of a row do, and spaces up to the next column.
+fn put_kinds(out: &mut Vec<u8>, reads: u64, writes: u64, reuses: u64) -> Result<(), AllocError>
+    ensures { OnOk result (out.new.items ≡ out.old.items ++ kinds_text reads writes reuses) }
 {
-    out.extend_from_slice(match (reads, writes) {
-        (0, _) => b"write       ".as_slice(),
-        (_, 0) => b"read        ".as_slice(),
-        _ => b"read write  ".as_slice(),
+    out.extend_from_slice(match (reads, writes, reuses) {
+        (0, 0, _) => b"reuse       ".as_slice(),
+        (0, _, 0) => b"write       ".as_slice(),
+        (0, _, _) => b"write reuse ".as_slice(),
+        (_, 0, 0) => b"read        ".as_slice(),
+        (_, 0, _) => b"read reuse  ".as_slice(),
+        (_, _, 0) => b"read write  ".as_slice(),
+        _ => b"all three   ".as_slice(),
     })
 }
 
@@ -131,16 +125,7 @@ pub(crate) fn first_refused(lines: &[Line]) -> Option<&Line>
 pub(crate) fn put_refused(out: &mut Vec<u8>, found: Option<&Line>) -> Result<(), AllocError>
     ensures { OnOk result (out.new.items ≡ out.old.items ++ refused_text (option_copied found.entry)) }
 {
-    match found {
-        Some(line) => put_refusal(out, line),
-        None => Ok(()),
-    }
-}
-
-fn put_refusal(out: &mut Vec<u8>, line: &Line) -> Result<(), AllocError>
-    ensures { OnOk result (out.new.items ≡ out.old.items ++ refusal_text (line_view line.now)) }
-{
-    let Line::Refused { line, refusal, .. } = line else {
+    let Some(Line::Refused { line, refusal, .. }) = found else {
         return Ok(());
     };
     out.extend_from_slice(b"first refused: line ")?;

@@ -5,7 +5,7 @@ ghost use Rattle.er_places.specs.Places.{HasPlaceNames};
 ghost use Rattle.er_places.specs.Reasons.{reason_place};
 ghost use Rattle.er_report.specs.Lines.{line_view};
 ghost use Rattle.er_report.specs.Names.{HasLabelName, HasLockName, HasLockNames, HasNames, HasReasonNames};
-ghost use Rattle.er_sites.specs.Text.{example_text, given_back_text, head_text, held_text, holds_text, is_weak_at, lacks_lock, line_text, may_meet, met, met_text, mode_text, title_text, no_lock_text, reason_text, reuse_story, so_by, so_text, story_text, is_without};
+ghost use Rattle.er_sites.specs.Text.{example_text, given_back_text, head_text, held_text, holds_text, is_weak_at, lacks_lock, line_text, may_meet, met, met_text, mode_text, title_text, no_lock_text, reason_text, reuse_story, reuse_text, so_by, so_text, story_text, is_without};
 
 use crate::names::{access_text, did_text, put_pair};
 use crate::standing::put_where;
@@ -27,24 +27,33 @@ pub(crate) fn put_example(
     requires { HasNames names.now line.now }
     ensures { OnOk result (out.new.items ≡ out.old.items ++ example_text names.now places.now (line_view line.now)) }
 {
-    let Line::Race {
-        line,
-        thread,
-        kind,
-        word,
-        site,
-        held,
-        explained,
-    } = line
-    else {
-        return Ok(());
-    };
-    put_title(out, names, places, *line, *site, *thread, explained)?;
-    put_head(out, names, *line, *thread, *kind, *word)?;
-    let own = places.of_access(*line, *thread, *kind);
-    put_locks(out, names, *line, *thread, own, explained, held.as_slice())?;
-    put_reasons(out, names, places, *line, explained)?;
-    put_so(out, explained)
+    match line {
+        Line::Race {
+            line,
+            thread,
+            kind,
+            word,
+            site,
+            held,
+            explained,
+        } => {
+            put_title(out, names, places, *line, *site, *thread, explained)?;
+            put_head(out, names, *line, *thread, *kind, *word)?;
+            let own = places.of_access(*line, *thread, *kind);
+            put_locks(out, names, *line, *thread, own, explained, held.as_slice())?;
+            put_reasons(out, names, places, *line, explained)?;
+            put_so(out, explained)
+        }
+        Line::Reused {
+            line,
+            thread,
+            range,
+            site,
+            explained,
+            ..
+        } => { put_reuse_at(out, names, places, *line, *thread, range, *site, explained) }
+        Line::Refused { .. } | Line::Shown { .. } => Ok(()),
+    }
 }
 
 // Puts the site of a race behind an empty line, and that of the access which it is with, if that is another one.
@@ -270,7 +279,7 @@ fn is_without(line: u64, lock: LockId, because: &Because) -> bool
     }
 }
 
-/// Puts a reuse that races in sentences, under the address of its first byte. Of another line it puts nothing.
+/// Puts a reuse that races at no site in sentences, under the address of its first byte. Of another line it puts nothing.
 pub(crate) fn put_reuse_story(
     out: &mut Vec<u8>,
     names: &Names,
@@ -280,22 +289,64 @@ pub(crate) fn put_reuse_story(
     requires { HasNames names.now line.now }
     ensures { OnOk result (out.new.items ≡ out.old.items ++ reuse_story names.now places.now (line_view line.now)) }
 {
-    let Line::Reused {
-        line,
-        thread,
-        range,
-        explained,
-        ..
-    } = line
-    else {
-        return Ok(());
-    };
-    put_given_back(out, names, *line, *thread, range)?;
-    put_reasons(out, names, places, *line, explained)?;
-    out.extend_from_slice(b"\n")
+    match line {
+        Line::Reused {
+            line,
+            thread,
+            range,
+            site,
+            explained,
+            ..
+        } if site.number() == 0 => {
+            let pieces = [Address(b"", range.lo), Text(b":\n")];
+            put_all(out, Style::Short, names, &pieces)?;
+            put_reuse(out, names, places, *line, *thread, range, explained)?;
+            out.extend_from_slice(b"\n")
+        }
+        _ => Ok(()),
+    }
 }
 
-// Puts who gave back how much memory, under the address of its first byte.
+// Puts a reuse in sentences, under its site.
+fn put_reuse_at(
+    out: &mut Vec<u8>,
+    names: &Names,
+    places: &Places,
+    line: u64,
+    thread: ThreadId,
+    range: &PageRange,
+    site: Site,
+    explained: &[Because],
+) -> Result<(), AllocError>
+    requires thread { thread < length names.now.threads }
+    requires site { site ≤ length names.now.sites }
+    requires explained { All (HasReasonNames names.now) explained.now }
+    ensures { OnOk result (out.new.items ≡ out.old.items ++ (title_text names.now places.now line site thread explained.now ++ reuse_text names.now places.now line thread range.now explained.now)) }
+{
+    put_title(out, names, places, line, site, thread, explained)?;
+    put_reuse(out, names, places, line, thread, range, explained)
+}
+
+// Puts a reuse in sentences.
+#[tactic(auto, unfolding(crate::specs::Text::reuse_text))]
+fn put_reuse(
+    out: &mut Vec<u8>,
+    names: &Names,
+    places: &Places,
+    line: u64,
+    thread: ThreadId,
+    range: &PageRange,
+    explained: &[Because],
+) -> Result<(), AllocError>
+    requires thread { thread < length names.now.threads }
+    requires explained { All (HasReasonNames names.now) explained.now }
+    ensures { OnOk result (out.new.items ≡ out.old.items ++ reuse_text names.now places.now line thread range.now explained.now) }
+{
+    put_given_back(out, names, line, thread, range)?;
+    put_reasons(out, names, places, line, explained)
+}
+
+// Puts who gave back how much memory.
 fn put_given_back(
     out: &mut Vec<u8>,
     names: &Names,
@@ -307,8 +358,7 @@ fn put_given_back(
     ensures { OnOk result (out.new.items ≡ out.old.items ++ given_back_text names.now line thread range.now) }
 {
     let pieces = [
-        Address(b"", range.lo),
-        Thread(b":\n  ", thread),
+        Thread(b"  ", thread),
         Number(b" gave back ", bytes_of(range)),
         Number(b" bytes (line ", line),
         Text(b")\n"),
@@ -406,19 +456,10 @@ fn put_so(out: &mut Vec<u8>, explained: &[Because]) -> Result<(), AllocError>
     ensures { OnOk result (out.new.items ≡ out.old.items ++ so_text explained.now) }
 {
     match explained.first() {
-        Some(because) => put_so_by(out, because.label),
         None => Ok(()),
+        Some(because) if matches!(because.label, Label::Unordered) => Ok(()),
+        Some(_) => out.extend_from_slice(
+            b"  So no lock protected all accesses from the second thread's first one on\n",
+        ),
     }
-}
-
-// Puts what follows from reasons of which the first has this label.
-fn put_so_by(out: &mut Vec<u8>, label: Label) -> Result<(), AllocError>
-    ensures { OnOk result (out.new.items ≡ out.old.items ++ so_by label) }
-{
-    if let Label::Unordered = label {
-        return Ok(());
-    }
-    out.extend_from_slice(
-        b"  So no lock protected all accesses from the second thread's first one on\n",
-    )
 }

@@ -1,8 +1,7 @@
 //! The table of sites.
-ghost use Rattle.std.specs.Prelude.{◌≡◌, ℕ, All, IfOk};
-ghost use Rattle.std.specs.List.{sum_by};
+ghost use Rattle.std.specs.Prelude.{◌≡◌, All, IfOk};
 ghost use Rattle.er_report.specs.Names.{HasNames};
-ghost use Rattle.er_sites.specs.Table.{races_at, row_order, words_at, IsOwnCount, IsTable};
+ghost use Rattle.er_sites.specs.Table.{row_order, IsTable};
 
 use crate::row::SiteRow;
 use crate::rows::{find_sites, rows_of};
@@ -11,13 +10,16 @@ use er_trace::Names;
 use std::alloc::{AllocError, Global};
 use std::cmp::Ordering;
 
-/// The table of the sites that have races. Those in headers of the system come last, and the site with most words first. Sites with as many
-/// words stand in the order of their numbers. `AllocError`: memory was refused.
+/// The table of the sites that have races. Those in headers of the system come last, and the site with most races first. Sites with as many
+/// races stand in the order of their numbers. `AllocError`: memory was refused.
 pub fn site_rows(alloc: Global, lines: &[Line], names: &Names) -> Result<Vec<SiteRow>, AllocError>
     requires { All (HasNames names.now) lines.now }
     ensures { IfOk result (λ rows. IsTable names.now lines.now rows.items) }
 {
-    let mut rows = unsorted_rows(alloc, lines, names)?;
+    let found = find_sites(alloc, lines)?;
+    let rows = rows_of(alloc, lines, names, &found);
+    drop(found);
+    let mut rows = rows?;
     rows.sort_by(|row: &SiteRow, other: &SiteRow| order_of(row, other))?;
     Ok(rows)
 }
@@ -28,18 +30,6 @@ fn order_of(row: &SiteRow, other: &SiteRow) -> Ordering
 {
     row.is_system
         .cmp(&other.is_system)
-        .then(other.words().cmp(&row.words()))
+        .then(other.races().cmp(&row.races()))
         .then(row.site.number().cmp(&other.site.number()))
-}
-
-// The rows by rising site.
-fn unsorted_rows(alloc: Global, lines: &[Line], names: &Names) -> Result<Vec<SiteRow>, AllocError>
-    requires { All (HasNames names.now) lines.now }
-    ensures own { IfOk result (λ rows. All (IsOwnCount names.now lines.now) rows.items) }
-    ensures each { IfOk result (λ rows. (s : ℕ) → sum_by (words_at s) rows.items ≡ races_at lines.now s) }
-{
-    let found = find_sites(alloc, lines)?;
-    let rows = rows_of(alloc, lines, names, &found);
-    drop(found);
-    rows
 }

@@ -1,10 +1,11 @@
 //! The whole text.
-ghost use Rattle.std.specs.Prelude.{◌≡◌, ◌++◌, ◌≤◌, All, flat_map, is_some, length, IfOk, IfSome, OnOk};
+ghost use Rattle.std.specs.Prelude.{◌≡◌, ◌++◌, ◌≤◌, ◌==◌, ◌&&◌, All, count_by, flat_map, is_some, length, IfOk, IfSome, OnOk};
 ghost use Rattle.std.specs.List.{list_any};
 ghost use Rattle.er_report.specs.Names.{HasNames};
 ghost use Rattle.er_report.specs.Reports.{HaveNames};
 ghost use Rattle.er_sites.specs.Inner.Counted.{AreCounts};
 ghost use Rattle.er_sites.specs.Sites.{AreSitesOf, end_if, if_elsewhere, lines_or, nothing_in, other_rows, others_text, others_title, reuses_text, run_text, sites_text, title_of};
+ghost use Rattle.er_sites.specs.Table.{reads_at, reuses_at, writes_at};
 ghost use Rattle.er_sites.specs.Text.{is_reused};
 
 use crate::counts::{Counts, count_at, count_races};
@@ -12,6 +13,7 @@ use crate::row::SiteRow;
 use crate::sites::{first_refused, put_refused, put_rows};
 use crate::stories::put_reuse_story;
 use crate::table::site_rows;
+use er_event::Site;
 use er_places::Places;
 use er_print::{ReportKind, put_end};
 use er_report::{Line, Report, Reports};
@@ -213,9 +215,20 @@ fn put_elsewhere(
     requires { AreCounts _lines.now counts.now }
     ensures { OnOk result (others.new.items ≡ others.old.items ++ if_elsewhere _lines.now row.now) }
 {
-    let site = row.site.number() as usize;
-    if count_at(&counts.reads, site) == 0 && count_at(&counts.writes, site) == 0 {
+    if is_elsewhere(_lines, counts, row.site) {
         others.push(*row)?;
     }
     Ok(())
+}
+
+// Whether none of these lines has a race at the site.
+fn is_elsewhere(_lines: &[Line], counts: &Counts, site: Site) -> bool
+    requires { AreCounts _lines.now counts.now }
+    ensures { result ≡ (count_by (reads_at site) _lines.now == 0 && count_by (writes_at site) _lines.now == 0 && count_by (reuses_at site) _lines.now == 0) }
+{
+    let site = site.number() as usize;
+    if count_at(&counts.reads, site) > 0 || count_at(&counts.writes, site) > 0 {
+        return false;
+    }
+    count_at(&counts.reuses, site) == 0
 }

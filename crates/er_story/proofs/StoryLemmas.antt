@@ -89,6 +89,11 @@ access-tale r k t kind word site h p said is held known says =
     tale_with : PastView → WordState → WordTale
     tale_with q after = record { word = word; before = q.state; after = after; accesses = q.accesses; turns = q.turns }
 
+-- an access that isn't counted leaves the state as it is
+pub reply-counted : (ignored : Bool) (before counted : WordState) → cond ignored Ignored (cond (reports before (cond ignored before counted)) Race Quiet) ≡ cond ignored Ignored (cond (reports before counted) Race Quiet)
+reply-counted true before counted = refl
+reply-counted false before counted = refl
+
 -- and of a show, which changes nothing
 pub show-answer : (r : Recording) (k t word : ℕ) (p : PastView) (said : Result Reply Refusal) → slice_get r.steps k ≡ Some (record { thread = t; event = Show word })
     → p ≡ past_at r word k → said ≡ Ok (State p.state) → said ≡ answer r.steps k

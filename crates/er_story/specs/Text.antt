@@ -82,31 +82,21 @@ turn_front names turn =
     codes "  access " ++ decimal turn.number ++ codes ": line " ++ decimal turn.line ++ codes ", " ++ name_at names.threads turn.thread ++ codes " "
     ++ kind_text turn.kind ++ codes " at " ++ site_text names turn.site
 
--- and what it made of the word
-abbrev pub outcome_text : NameTable → Turn → List ℕ
-outcome_text names turn = codes ": " ++ state_text names turn.state ++ emptied_text turn.emptied ++ 10 ∷ []
-
+-- the same with its thread's locks, and what it made of the word
 abbrev pub turn_text : NameTable → Turn → List ℕ
-turn_text names turn = turn_front names turn ++ holding_text names turn.write_held turn.held ++ outcome_text names turn
+turn_text names turn =
+    turn_front names turn ++ holding_text names turn.write_held turn.held ++ codes ": " ++ state_text names turn.state ++ emptied_text turn.emptied ++ 10 ∷ []
 
--- the word before the step and after it
+-- the word before the step and after it, and how many accesses counted before the step, since the word's last reuse
 abbrev pub change_text : NameTable → WordTale → List ℕ
 change_text names tale =
     codes "before: " ++ state_text names tale.before ++ codes "\nafter: " ++ state_text names tale.after
-    ++ emptied_text (empties tale.before tale.after) ++ 10 ∷ []
+    ++ emptied_text (empties tale.before tale.after) ++ codes "\nearlier accesses: " ++ decimal tale.accesses ++ 10 ∷ []
 
--- how many accesses counted before the step, since the word's last reuse
-abbrev pub count_text : ℕ → List ℕ
-count_text accesses = codes "earlier accesses: " ++ decimal accesses ++ 10 ∷ []
-
--- and those of them that changed its state
-abbrev pub past_text : NameTable → WordTale → List ℕ
-past_text names tale = count_text tale.accesses ++ flat_map (turn_text names) tale.turns
-
--- nothing, if the step has no word
+-- and those of them that changed its state; nothing, if the step has no word
 abbrev pub word_text : NameTable → Option WordTale → List ℕ
 word_text names None = []
-word_text names (Some tale) = change_text names tale ++ past_text names tale
+word_text names (Some tale) = change_text names tale ++ flat_map (turn_text names) tale.turns
 
 -- the whole text
 unfoldable pub story_text : NameTable → Story → List ℕ

@@ -102,35 +102,20 @@ impl Past {
         let after = state_after(alloc, &self.state, locks, access.thread, access.kind)?;
         self.accesses += 1;
         if !same_state(&self.state, &after) {
-            self.turn(alloc, locks, access, &after)?;
+            let turn = Turn {
+                number: self.accesses,
+                line: access.line,
+                thread: access.thread,
+                kind: access.kind,
+                site: access.site,
+                held: locks.locks_of(alloc, access.thread)?,
+                write_held: locks.cover_of(alloc, access.thread, Kind::Write)?,
+                state: after.copy()?,
+                emptied: empties(&self.state, &after),
+            };
+            self.turns.push(turn)?;
         }
         self.state = after;
-        Ok(())
-    }
-
-    // Notes an access that makes the word's state this one.
-    fn turn(
-        &mut self,
-        alloc: Global,
-        locks: &ThreadLocks,
-        access: Access,
-        after: &WordState,
-    ) -> Result<(), AllocError>
-        ensures same { (self.new.state ≡ self.old.state) × (self.new.accesses ≡ self.old.accesses) }
-        ensures turn { OnOk result (self.new.turns ≡ self.old.turns ++ (record { number = self.old.accesses; line = access.line; thread = access.thread; kind = access.kind; site = access.site; held = (held_by locks.now access.thread).held; write_held = (held_by locks.now access.thread).write_held; state = after.now; emptied = empties self.old.state after.now }) ∷ []) }
-    {
-        let turn = Turn {
-            number: self.accesses,
-            line: access.line,
-            thread: access.thread,
-            kind: access.kind,
-            site: access.site,
-            held: locks.locks_of(alloc, access.thread)?,
-            write_held: locks.cover_of(alloc, access.thread, Kind::Write)?,
-            state: after.copy()?,
-            emptied: empties(&self.state, after),
-        };
-        self.turns.push(turn)?;
         Ok(())
     }
 }

@@ -46,74 +46,37 @@ pub fn tell(alloc: Global, trace: &Trace, place: usize) -> Result<Story, AllocEr
     ensures named { IfOk result (HasStoryNames trace.now.names) }
 {
     let steps = trace.steps();
-    let lines = trace.lines();
     let step = &steps[place];
-    let line = lines[place];
-    let story = story_of(alloc, trace, place, step, line)?;
+    let mut holding = held_before(alloc, steps, step.thread, place)?;
+    let story = story_of(alloc, trace, place, step, &mut holding)?;
     Ok(story)
 }
 
-// The story of this step, which stands at a place of the trace, and on this line.
+// The story of this step, which stands at a place of the trace, if its thread holds this before it.
 fn story_of(
     alloc: Global,
     trace: &Trace,
     place: usize,
     step: &Step,
-    line: u64,
-) -> Result<Story, AllocError>
-    requires step { slice_get trace.now.steps place ≡ Some step.now }
-    requires line { line ≡ slice_index trace.now.lines place }
-    requires within { place < length trace.now.steps }
-    ensures { IfOk result (λ story. story ≡ story_of trace.now place step.now) }
-{
-    let mut holding = held_before(alloc, trace.steps(), step.thread, place)?;
-    let story = story_by(alloc, trace, place, step, line, &mut holding)?;
-    Ok(story)
-}
-
-// The same, if its thread holds this before it.
-fn story_by(
-    alloc: Global,
-    trace: &Trace,
-    place: usize,
-    step: &Step,
-    line: u64,
     holding: &mut Held,
 ) -> Result<Story, AllocError>
     requires step { slice_get trace.now.steps place ≡ Some step.now }
-    requires line { line ≡ slice_index trace.now.lines place }
     requires within { place < length trace.now.steps }
     requires holding { holding.old ≡ holdings_at trace.now.steps step.now.thread place }
     ensures { IfOk result (λ story. story ≡ story_of trace.now place step.now) }
 {
-    let thread = step.thread;
-    let event = step.event;
+    let lines = trace.lines();
     let held = holding.held().copy()?;
     let write_held = holding.write_held().copy()?;
-    let told = tell_of(alloc, trace, place, step, holding)?;
-    Ok(with_locks(line, thread, event, told, held, write_held))
-}
-
-// A story by its parts.
-fn with_locks(
-    line: u64,
-    thread: ThreadId,
-    event: Event,
-    told: Told,
-    held: Lockset,
-    write_held: Lockset,
-) -> Story
-    ensures { result ≡ record { line = line; step = record { thread = thread; event = event }; answer = told.answer; held = held; write_held = write_held; word = told.word } }
-{
-    let Told { answer, word } = told;
-    Story {
-        line,
-        step: Step { thread, event },
+    let Told { answer, word } = tell_of(alloc, trace, place, step, holding)?;
+    Ok(Story {
+        line: lines[place],
+        step: *step,
         answer,
         held,
         write_held,
         word,
-    }
+    })
 }
 
 /// An access.
@@ -156,9 +119,9 @@ fn tell_of(
                 word,
                 site,
             };
-            tell_access_at(alloc, trace, place, holding, access)
+            tell_access(alloc, trace, place, holding, access)
         }
-        Event::Show(word) => tell_show_at(alloc, trace, place, thread, word),
+        Event::Show(word) => tell_show(alloc, trace, place, thread, word),
         Event::Acquire(..)
         | Event::Release(..)
         | Event::Reuse(_)
@@ -173,7 +136,7 @@ fn tell_of(
 }
 
 // Of an access.
-fn tell_access_at(
+fn tell_access(
     alloc: Global,
     trace: &Trace,
     place: usize,
@@ -187,12 +150,26 @@ fn tell_access_at(
     ensures word { IfOk result (λ told. told.word ≡ Some (tale_of trace.now place access.word)) }
 {
     let past = past_of(alloc, trace, access.word, place)?;
-    let told = tell_access(past, holding, access.thread, access.kind, access.word)?;
-    Ok(told)
+    let Past {
+        state: before,
+        accesses,
+        turns,
+    } = past;
+    let after = state_after(&before, holding, access.thread, access.kind)?;
+    Ok(Told {
+        answer: Ok(reply_between(holding, &before, &after)),
+        word: Some(WordStory {
+            word: access.word,
+            before,
+            after,
+            accesses,
+            turns,
+        }),
+    })
 }
 
 // Of a show.
-fn tell_show_at(
+fn tell_show(
     alloc: Global,
     trace: &Trace,
     place: usize,
@@ -205,35 +182,47 @@ fn tell_show_at(
     ensures word { IfOk result (λ told. told.word ≡ Some (tale_of trace.now place word)) }
 {
     let past = past_of(alloc, trace, word, place)?;
-    let told = tell_show(past, word)?;
-    Ok(told)
+    let Past {
+        state: before,
+        accesses,
+        turns,
+    } = past;
+    let shown = before.copy()?;
+    let after = before.copy()?;
+    Ok(Told {
+        answer: Ok(Reply::State(shown)),
+        word: Some(WordStory {
+            word,
+            before,
+            after,
+            accesses,
+            turns,
+        }),
+    })
 }
 
-// Of an access of a word with this past.
-fn tell_access(
-    past: Past,
+// The state after an access of a word in this state.
+fn state_after(
+    before: &WordState,
     holding: &Held,
     thread: ThreadId,
     kind: Kind,
-    word: Word,
-) -> Result<Told, AllocError>
-    ensures answer { IfOk result (λ told. told.answer ≡ Ok (cond (nat_lt 0 holding.now.depth) Ignored (cond (reports past.state (advanced past.state thread kind (locks_for holding.now kind))) Race Quiet))) }
-    ensures word { IfOk result (λ told. told.word ≡ Some (record { word = word; before = past.state; after = cond (nat_lt 0 holding.now.depth) past.state (advanced past.state thread kind (locks_for holding.now kind)); accesses = past.accesses; turns = past.turns })) }
+) -> Result<WordState, AllocError>
+    ensures { IfOk result (λ after. after ≡ cond (nat_lt 0 holding.now.depth) before.now (advanced before.now thread kind (locks_for holding.now kind))) }
 {
     if holding.ignoring() {
-        let after = past.state.copy()?;
-        return Ok(told_of(Reply::Ignored, past, word, after));
+        return before.copy();
     }
-    let after = advance(&past.state, thread, kind, cover(holding, kind))?;
-    let reply = reply_between(&past.state, &after);
-    Ok(told_of(reply, past, word, after))
+    advance(before, thread, kind, cover(holding, kind))
 }
 
 // What an access between these states is answered.
-fn reply_between(before: &WordState, after: &WordState) -> Reply
-    ensures { result ≡ cond (reports before.now after.now) Race Quiet }
+fn reply_between(holding: &Held, before: &WordState, after: &WordState) -> Reply
+    ensures { result ≡ cond (nat_lt 0 holding.now.depth) Ignored (cond (reports before.now after.now) Race Quiet) }
 {
-    if reports(before, after) {
+    if holding.ignoring() {
+        Reply::Ignored
+    } else if reports(before, after) {
         Reply::Race
     } else {
         Reply::Quiet
@@ -248,38 +237,6 @@ fn cover(holding: &Held, kind: Kind) -> &Lockset
         Kind::Read => holding.held(),
         Kind::Write => holding.write_held(),
     }
-}
-
-// The answer to a step that makes the word's state this one.
-fn told_of(reply: Reply, past: Past, word: Word, after: WordState) -> Told
-    ensures answer { result.answer ≡ Ok reply }
-    ensures word { result.word ≡ Some (record { word = word; before = past.state; after = after; accesses = past.accesses; turns = past.turns }) }
-{
-    let Past {
-        state,
-        accesses,
-        turns,
-    } = past;
-    Told {
-        answer: Ok(reply),
-        word: Some(WordStory {
-            word,
-            before: state,
-            after,
-            accesses,
-            turns,
-        }),
-    }
-}
-
-// Of a show of a word with this past.
-fn tell_show(past: Past, word: Word) -> Result<Told, AllocError>
-    ensures answer { IfOk result (λ told. told.answer ≡ Ok (Reply.State past.state)) }
-    ensures word { IfOk result (λ told. told.word ≡ Some (record { word = word; before = past.state; after = past.state; accesses = past.accesses; turns = past.turns })) }
-{
-    let shown = past.state.copy()?;
-    let after = past.state.copy()?;
-    Ok(told_of(Reply::State(shown), past, word, after))
 }
 
 // Of a step that has no word.

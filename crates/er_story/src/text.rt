@@ -4,7 +4,7 @@ ghost use Rattle.er_device.specs.Device.{inner_of, has_failed, taken_of};
 ghost use Rattle.er_print.specs.Written.{FailsWriting, WritesReport};
 ghost use Rattle.er_report.specs.Names.{HasEventNames, HasLockName, HasLockNames, HasSiteName};
 ghost use Rattle.er_story.specs.Names.{HasStoryNames, HasTaleNames, HasTurnNames, HasWordNames};
-ghost use Rattle.er_story.specs.Text.{change_text, count_text, deed_text, held_text, holding_text, mode_text, outcome_text, past_text, step_text, story_text, turn_front, turn_text, word_text};
+ghost use Rattle.er_story.specs.Text.{change_text, deed_text, held_text, holding_text, mode_text, step_text, story_text, turn_text, word_text};
 
 use crate::sentences::{emptied_text, put_answer};
 use crate::states::empties;
@@ -60,7 +60,7 @@ fn put_step(out: &mut Vec<u8>, names: &Names, story: &Story) -> Result<(), Alloc
     ];
     put_all(out, Style::Plain, names, &pieces)?;
     put_deed(out, names, story.step.event)?;
-    put_holding(out, names, &story.write_held, &story.held)?;
+    put_holding(out, names, &story.write_held, story.held.as_slice())?;
     out.extend_from_slice(b"\n")
 }
 
@@ -91,28 +91,16 @@ fn put_holding(
     out: &mut Vec<u8>,
     names: &Names,
     write_held: &Lockset,
-    held: &Lockset,
+    held: &[LockId],
 ) -> Result<(), AllocError>
     requires { HasLockNames names.now held.now }
     ensures { OnOk result (out.new.items ≡ out.old.items ++ holding_text names.now write_held.now held.now) }
 {
-    put_held_locks(out, names, write_held, held.as_slice())
-}
-
-fn put_held_locks(
-    out: &mut Vec<u8>,
-    names: &Names,
-    write_held: &Lockset,
-    locks: &[LockId],
-) -> Result<(), AllocError>
-    requires { HasLockNames names.now locks.now }
-    ensures { OnOk result (out.new.items ≡ out.old.items ++ holding_text names.now write_held.now locks.now) }
-{
-    if locks.is_empty() {
+    if held.is_empty() {
         return out.extend_from_slice(b", holding none");
     }
     out.extend_from_slice(b", holding")?;
-    for lock in locks {
+    for lock in held {
         put_held(out, names, write_held, *lock)?;
     }
     Ok(())
@@ -152,7 +140,7 @@ fn put_word(out: &mut Vec<u8>, names: &Names, word: &Option<WordStory>) -> Resul
     match word {
         Some(word) => {
             put_change(out, names, word)?;
-            put_past(out, names, word)
+            put_turns(out, names, &word.turns)
         }
         None => Ok(()),
     }
@@ -162,29 +150,13 @@ fn put_change(out: &mut Vec<u8>, names: &Names, word: &WordStory) -> Result<(), 
     requires { HasTaleNames names.now word.now }
     ensures { OnOk result (out.new.items ≡ out.old.items ++ change_text names.now word.now) }
 {
-    let before = word.before();
-    let after = word.after();
     let pieces = [
-        State(b"before: ", before),
-        State(b"\nafter: ", after),
-        Text(emptied_text(empties(before, after))),
+        State(b"before: ", &word.before),
+        State(b"\nafter: ", &word.after),
+        Text(emptied_text(empties(&word.before, &word.after))),
+        Number(b"\nearlier accesses: ", word.accesses),
         Text(b"\n"),
     ];
-    put_all(out, Style::Plain, names, &pieces)
-}
-
-fn put_past(out: &mut Vec<u8>, names: &Names, word: &WordStory) -> Result<(), AllocError>
-    requires { HasTaleNames names.now word.now }
-    ensures { OnOk result (out.new.items ≡ out.old.items ++ past_text names.now word.now) }
-{
-    put_count(out, names, word.accesses())?;
-    put_turns(out, names, word.turns())
-}
-
-fn put_count(out: &mut Vec<u8>, names: &Names, accesses: u64) -> Result<(), AllocError>
-    ensures { OnOk result (out.new.items ≡ out.old.items ++ count_text accesses) }
-{
-    let pieces = [Number(b"earlier accesses: ", accesses), Text(b"\n")];
     put_all(out, Style::Plain, names, &pieces)
 }
 
@@ -203,33 +175,19 @@ fn put_turn(out: &mut Vec<u8>, names: &Names, turn: &Turn) -> Result<(), AllocEr
     requires { HasTurnNames names.now turn.now }
     ensures { OnOk result (out.new.items ≡ out.old.items ++ turn_text names.now turn.now) }
 {
-    put_act(out, names, turn)?;
-    put_holding(out, names, &turn.write_held, &turn.held)?;
-    put_outcome(out, names, turn)
-}
-
-fn put_act(out: &mut Vec<u8>, names: &Names, turn: &Turn) -> Result<(), AllocError>
-    requires { HasTurnNames names.now turn.now }
-    ensures { OnOk result (out.new.items ≡ out.old.items ++ turn_front names.now turn.now) }
-{
-    let pieces = [
+    let act = [
         Number(b"  access ", turn.number),
         Number(b": line ", turn.line),
         Thread(b", ", turn.thread),
         Verb(b" ", turn.kind),
         Site(b" at ", turn.site),
     ];
-    put_all(out, Style::Plain, names, &pieces)
-}
-
-fn put_outcome(out: &mut Vec<u8>, names: &Names, turn: &Turn) -> Result<(), AllocError>
-    requires { HasTurnNames names.now turn.now }
-    ensures { OnOk result (out.new.items ≡ out.old.items ++ outcome_text names.now turn.now) }
-{
-    let pieces = [
+    put_all(out, Style::Plain, names, &act)?;
+    put_holding(out, names, &turn.write_held, turn.held.as_slice())?;
+    let outcome = [
         State(b": ", &turn.state),
         Text(emptied_text(turn.emptied)),
         Text(b"\n"),
     ];
-    put_all(out, Style::Plain, names, &pieces)
+    put_all(out, Style::Plain, names, &outcome)
 }

@@ -45,18 +45,20 @@ unfolding parts_below
 parts_more s i = rw (add-one i) refl
 
 -- the step of one more page
-pub one_more_part : (r t : Recording) (line thread : ℕ) (s : Span) (i : ℕ) → t ≡ with_reuses r line thread (parts_below s i)
-    → with_step t (record { thread = thread; event = Reuse (part_of s i) }) line ≡ with_reuses r line thread (parts_below s (i + 1))
-one_more_part r t line thread s i e =
+pub one_more_part : (r t : Recording) (line thread site : ℕ) (s : Span) (i : ℕ) → t ≡ with_reuses r line thread site (parts_below s i)
+    → with_step t (record { thread = thread; event = Reuse (part_of s i) }) line site ≡ with_reuses r line thread site (parts_below s (i + 1))
+one_more_part r t line thread site s i e =
     let f : PageRange → Step = λ part. record { thread = thread; event = Reuse part } in
     let g : PageRange → ℕ = λ part. line in
+    let h : PageRange → ℕ = λ part. site in
     let xs = parts_below s i in
-    ap (λ (u : Recording). with_step u (f (part_of s i)) line) e
-    ∙ (rw (mapped_more f r.steps xs (part_of s i), mapped_more g r.lines xs (part_of s i)) (ap (with_reuses r line thread) (sym (parts_more s i))))
+    ap (λ (u : Recording). with_step u (f (part_of s i)) line site) e
+    ∙ (rw (mapped_more f r.steps xs (part_of s i), mapped_more g r.lines xs (part_of s i), mapped_more h r.sites xs (part_of s i))
+    (ap (with_reuses r line thread site) (sym (parts_more s i))))
 
-pub no_part : (r : Recording) (line thread : ℕ) (s : Span) → r ≡ with_reuses r line thread (parts_below s 0)
+pub no_part : (r : Recording) (line thread site : ℕ) (s : Span) → r ≡ with_reuses r line thread site (parts_below s 0)
 unfolding parts_below
-no_part r line thread s = rw (append-nil, append-nil) refl
+no_part r line thread site s = rw (append-nil, append-nil, append-nil) refl
 
 pub thread_named : (r s : Recording) (name : List ℕ) (thread : ℕ) → thread ≡ number_of r.names.threads name → s ≡ with_thread_name r name → thread < length s.names.threads
 thread_named r s name thread n e = rw (e, n) (number_below r.names.threads name)

@@ -45,10 +45,10 @@ ends_at limit (line ∷ lines) p q known stands e =
     ends_step limit line lines p q known (read_line limit read_content p line) stands (λ v k is h. ends_at limit lines v q k is h) refl e
 
 -- a reader at the end of a text, by what its lines come to
-whole_ends : (text : List ℕ) (steps : List Step) (lines : List ℕ) (limit : ℕ) (new : Reached) (u : Recording)
-    → read_lines limit read_content (placed text) at_front ≡ Ok (after steps lines (progress new u)) → tail_after no_tail (placed text) ≡ new.tail → KnowsEnd text new
-whole_ends text steps lines limit new u read tail =
-    let at = ends_at limit (placed text) at_front (after steps lines (progress new u)) nothing_known front_stands read in
+whole_ends : (text : List ℕ) (steps : List Step) (lines sites : List ℕ) (limit : ℕ) (new : Reached) (u : Recording)
+    → read_lines limit read_content (placed text) at_front ≡ Ok (after steps lines sites (progress new u)) → tail_after no_tail (placed text) ≡ new.tail → KnowsEnd text new
+whole_ends text steps lines sites limit new u read tail =
+    let at = ends_at limit (placed text) at_front (after steps lines sites (progress new u)) nothing_known front_stands read in
     let number = at.number in
     record {
       lines = omega arith;
@@ -57,19 +57,19 @@ whole_ends text steps lines limit new u read tail =
       stage = at.stands.stage;
     }
 
-left_ends : (text : List ℕ) (steps : List Step) (lines : List ℕ) (limit : ℕ) (old new : Reached) (left rest : Option (List Placed)) (t u : Recording)
-    → Continues limit read_content (Some (placed text)) left at_front (after steps lines (progress old t)) → KeepsTail (Some (placed text)) left no_tail old.tail
+left_ends : (text : List ℕ) (steps : List Step) (lines sites : List ℕ) (limit : ℕ) (old new : Reached) (left rest : Option (List Placed)) (t u : Recording)
+    → Continues limit read_content (Some (placed text)) left at_front (after steps lines sites (progress old t)) → KeepsTail (Some (placed text)) left no_tail old.tail
     → Batches limit left rest (progress old t) (progress new u) (Ok End) → BatchesTail left rest old.tail new.tail (Ok End) → KnowsEnd text new
-left_ends text steps lines limit old new None rest t u on tail batch last = absurd on
-left_ends text steps lines limit old new (Some left) rest t u on tail batch last =
-    whole_ends text steps lines limit new u (on ∙ lines_after limit steps lines left (progress old t) ∙ ap (mapped (after steps lines)) batch.0) (tail ∙ last)
+left_ends text steps lines sites limit old new None rest t u on tail batch last = absurd on
+left_ends text steps lines sites limit old new (Some left) rest t u on tail batch last =
+    whole_ends text steps lines sites limit new u (on ∙ lines_after limit steps lines sites left (progress old t) ∙ ap (mapped (after steps lines sites)) batch.0) (tail ∙ last)
 
-pub batch_ends : (text : List ℕ) (steps : List Step) (lines : List ℕ) (old new : Reached) (before after_it : Option (List ℕ)) (t u : Recording)
-    (result : Result Batch ReadFault) → HasRead text steps lines old before t
+pub batch_ends : (text : List ℕ) (steps : List Step) (lines sites : List ℕ) (old new : Reached) (before after_it : Option (List ℕ)) (t u : Recording)
+    (result : Result Batch ReadFault) → HasRead text steps lines sites old before t
     → Batches old.place.limit (lines_left old.place before) (lines_left new.place after_it) (progress old t) (progress new u) result
     → BatchesTail (lines_left old.place before) (lines_left new.place after_it) old.tail new.tail result
     → IfOk result (λ batch. batch ≡ End → KnowsEnd text new)
-batch_ends text steps lines old new before after_it t u (Ok More) read batch tail = λ end. absurd (cc)
-batch_ends text steps lines old new before after_it t u (Ok End) read batch tail = λ end.
-    left_ends text steps lines old.place.limit old new (lines_left old.place before) (lines_left new.place after_it) t u read.0 read.1 batch tail
-batch_ends text steps lines old new before after_it t u (Err e) read batch tail = tt
+batch_ends text steps lines sites old new before after_it t u (Ok More) read batch tail = λ end. absurd (cc)
+batch_ends text steps lines sites old new before after_it t u (Ok End) read batch tail = λ end.
+    left_ends text steps lines sites old.place.limit old new (lines_left old.place before) (lines_left new.place after_it) t u read.0 read.1 batch tail
+batch_ends text steps lines sites old new before after_it t u (Err e) read batch tail = tt

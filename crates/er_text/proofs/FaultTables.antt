@@ -15,11 +15,11 @@ use Rattle.er_text.specs.declared.verbs.Version.{Version}
 use Rattle.er_text.specs.Lines.{has_bytes, word_at}
 use Rattle.er_text.specs.Number.{number_of}
 use Rattle.er_text.specs.Naming.{is_name, is_lock_name, is_site_word}
-use Rattle.er_text.specs.Verbs.{verb_of, least_of, most_of}
+use Rattle.er_text.specs.Verbs.{is_third, verb_of, least_of, most_of}
 use Rattle.er_text.specs.Events.{Operation, Acquires, Releases, Accesses, Reuses, Shows, Levels, Starts, Joins, Signals, Awaits, EventLine, run_of}
 use Rattle.er_text.specs.Inner.Parsing.{and_then, map_ok, or_fault, number_in, name_in, lock_in, site_in, word_in, level_in, is_outside, run_in, access_in, reuse_in, operands_in, count_of, operation_in, parsed_of}
 use Rattle.er_text.specs.FirstFault.{first_kind}
-use Rattle.er_text.specs.Trace.{operand_kinds, verb_kinds, event_kinds}
+use Rattle.er_text.specs.Trace.{site_kind, operand_kinds, verb_kinds, event_kinds}
 use Rattle.er_text.proofs.SpellingLaws.{AreWhole}
 use Rattle.er_text.proofs.SiteLemmas.{dash_named}
 
@@ -74,35 +74,38 @@ access_faults v k a b =
     (λ n. and_then (site_in v b) (λ s. map_ok (λ w. Accesses k w s) (word_in n)))
     (λ n. site_faults v b ((nat_le (2 ^ 48) n, AddressOutOfRange) ∷ []) (λ s. map_ok (λ w. Accesses k w s) (word_in n)) (λ s. word_faults (nat_le (2 ^ 48) n) n (λ w. Accesses k w s)))
 
-run_faults : (large outside : Bool) (run : Option Span)
-    → first_kind ((large, SizeTooLarge) ∷ (outside, AddressOutOfRange) ∷ []) ≡ fault_of (map_ok Reuses (cond large (Err SizeTooLarge) (cond outside (Err AddressOutOfRange) (Ok run))))
-run_faults true outside run = refl
-run_faults false true run = refl
-run_faults false false run = refl
+run_faults : (large outside : Bool) (run : Option Span) (s : Option (List ℕ))
+    → first_kind ((large, SizeTooLarge) ∷ (outside, AddressOutOfRange) ∷ [])
+    ≡ fault_of (map_ok (λ r. Reuses r s) (cond large (Err SizeTooLarge) (cond outside (Err AddressOutOfRange) (Ok run))))
+run_faults true outside run s = refl
+run_faults false true run s = refl
+run_faults false false run s = refl
 
-reuse_faults : (a b : List ℕ)
-    → first_kind ((not (is_some (number_of a)), BadNumber) ∷ (not (is_some (number_of b)), BadNumber) ∷ (nat_lt 4194304 (unwrap_or (number_of b) 0), SizeTooLarge)
+reuse_faults : (v : Version) (a b x : List ℕ)
+    → first_kind ((not (is_some (number_of a)), BadNumber) ∷ (not (is_some (number_of b)), BadNumber) ∷ site_kind v x ∷ (nat_lt 4194304 (unwrap_or (number_of b) 0), SizeTooLarge)
     ∷ (nat_le (2 ^ 48) (unwrap_or (number_of a) 0) || nat_lt (2 ^ 48) (unwrap_or (number_of a) 0 + unwrap_or (number_of b) 0), AddressOutOfRange) ∷ [])
-    ≡ fault_of (reuse_in a b)
-reuse_faults a b =
+    ≡ fault_of (reuse_in v a b x)
+reuse_faults v a b x =
     number_faults (number_of a)
-    (λ m. (not (is_some (number_of b)), BadNumber) ∷ (nat_lt 4194304 (unwrap_or (number_of b) 0), SizeTooLarge) ∷ (is_outside m (unwrap_or (number_of b) 0), AddressOutOfRange) ∷ [])
-    (λ m. and_then (number_in b) (λ n. map_ok Reuses (run_in m n)))
-    (λ m. number_faults (number_of b) (λ n. (nat_lt 4194304 n, SizeTooLarge) ∷ (is_outside m n, AddressOutOfRange) ∷ []) (λ n. map_ok Reuses (run_in m n))
-    (λ n. run_faults (nat_lt 4194304 n) (is_outside m n) (run_of m n)))
+    (λ m. (not (is_some (number_of b)), BadNumber) ∷ site_kind v x ∷ (nat_lt 4194304 (unwrap_or (number_of b) 0), SizeTooLarge) ∷ (is_outside m (unwrap_or (number_of b) 0), AddressOutOfRange) ∷ [])
+    (λ m. and_then (number_in b) (λ n. and_then (site_in v x) (λ s. map_ok (λ r. Reuses r s) (run_in m n))))
+    (λ m. number_faults (number_of b) (λ n. site_kind v x ∷ (nat_lt 4194304 n, SizeTooLarge) ∷ (is_outside m n, AddressOutOfRange) ∷ [])
+    (λ n. and_then (site_in v x) (λ s. map_ok (λ r. Reuses r s) (run_in m n)))
+    (λ n. site_faults v x ((nat_lt 4194304 n, SizeTooLarge) ∷ (is_outside m n, AddressOutOfRange) ∷ []) (λ s. map_ok (λ r. Reuses r s) (run_in m n))
+    (λ s. run_faults (nat_lt 4194304 n) (is_outside m n) (run_of m n) s)))
 
 level_faults : (b : Bool) (n : ℕ) → cond b (Some LevelTooHigh) None ≡ fault_of (map_ok Levels (cond b (Err LevelTooHigh) (Ok n)))
 level_faults true n = refl
 level_faults false n = refl
 
-operand_faults : (version : Version) (v : Verb) (ops : List (List ℕ)) → first_kind (operand_kinds version v ops) ≡ fault_of (operands_in version v (word_at 0 ops) (word_at 1 ops))
+operand_faults : (version : Version) (v : Verb) (ops : List (List ℕ)) → first_kind (operand_kinds version v ops) ≡ fault_of (operands_in version v (word_at 0 ops) (word_at 1 ops) (word_at 2 ops))
 operand_faults version verb.Lock ops = lock_faults (λ l. Acquires l mode.Write) (word_at 0 ops)
 operand_faults version verb.Unlock ops = lock_faults (λ l. Releases l mode.Write) (word_at 0 ops)
 operand_faults version verb.ReadLock ops = lock_faults (λ l. Acquires l mode.Read) (word_at 0 ops)
 operand_faults version verb.ReadUnlock ops = lock_faults (λ l. Releases l mode.Read) (word_at 0 ops)
 operand_faults version verb.Read ops = access_faults version kind.Read (word_at 0 ops) (word_at 1 ops)
 operand_faults version verb.Write ops = access_faults version kind.Write (word_at 0 ops) (word_at 1 ops)
-operand_faults version verb.Reuse ops = reuse_faults (word_at 0 ops) (word_at 1 ops)
+operand_faults version verb.Reuse ops = reuse_faults version (word_at 0 ops) (word_at 1 ops) (word_at 2 ops)
 operand_faults version verb.IgnoreOn ops = refl
 operand_faults version verb.IgnoreOff ops = refl
 operand_faults version verb.Show ops =
@@ -115,17 +118,19 @@ operand_faults version verb.Signal ops = lock_faults Signals (word_at 0 ops)
 operand_faults version verb.Await ops = lock_faults Awaits (word_at 0 ops)
 
 abbrev pub count : List (List ℕ) → ℕ
-count ops = count_of (word_at 0 ops) (word_at 1 ops) (word_at 2 ops)
+count ops = count_of (word_at 0 ops) (word_at 1 ops) (word_at 2 ops) (word_at 3 ops)
 
--- operands are counted up to 3
-pub count_is : (ops : List (List ℕ)) → AreWhole ops → (count ops ≡ length ops) ⊎ ((count ops ≡ 3) × (3 ≤ length ops))
+-- operands are counted up to 4
+pub count_is : (ops : List (List ℕ)) → AreWhole ops → (count ops ≡ length ops) ⊎ ((count ops ≡ 4) × (4 ≤ length ops))
 count_is [] whole = inl refl
 count_is ([] ∷ ops) whole = absurd (cc)
 count_is ((x ∷ xs) ∷ []) whole = inl refl
 count_is ((x ∷ xs) ∷ [] ∷ ops) whole = absurd (cc)
 count_is ((x ∷ xs) ∷ (y ∷ ys) ∷ []) whole = inl refl
 count_is ((x ∷ xs) ∷ (y ∷ ys) ∷ [] ∷ ops) whole = absurd (cc)
-count_is ((x ∷ xs) ∷ (y ∷ ys) ∷ (z ∷ zs) ∷ ops) whole = inr (refl, omega arith)
+count_is ((x ∷ xs) ∷ (y ∷ ys) ∷ (z ∷ zs) ∷ []) whole = inl refl
+count_is ((x ∷ xs) ∷ (y ∷ ys) ∷ (z ∷ zs) ∷ [] ∷ ops) whole = absurd (cc)
+count_is ((x ∷ xs) ∷ (y ∷ ys) ∷ (z ∷ zs) ∷ (u ∷ us) ∷ ops) whole = inr (refl, omega arith)
 
 least_small : (v : Verb) → least_of v ≤ 2
 least_small verb.Lock = omega arith
@@ -144,35 +149,39 @@ least_small verb.Join = omega arith
 least_small verb.Signal = omega arith
 least_small verb.Await = omega arith
 
-most_small : (v : Verb) → most_of v ≤ 2
-most_small verb.Lock = omega arith
-most_small verb.Unlock = omega arith
-most_small verb.ReadLock = omega arith
-most_small verb.ReadUnlock = omega arith
-most_small verb.Read = omega arith
-most_small verb.Write = omega arith
-most_small verb.Reuse = omega arith
-most_small verb.IgnoreOn = omega arith
-most_small verb.IgnoreOff = omega arith
-most_small verb.Show = omega arith
-most_small verb.Level = omega arith
-most_small verb.Start = omega arith
-most_small verb.Join = omega arith
-most_small verb.Signal = omega arith
-most_small verb.Await = omega arith
+reuse_small : (third : Bool) → cond third 3 2 ≤ 3
+reuse_small true = omega arith
+reuse_small false = omega arith
+
+most_small : (version : Version) (v : Verb) → most_of version v ≤ 3
+most_small version verb.Lock = omega arith
+most_small version verb.Unlock = omega arith
+most_small version verb.ReadLock = omega arith
+most_small version verb.ReadUnlock = omega arith
+most_small version verb.Read = omega arith
+most_small version verb.Write = omega arith
+most_small version verb.Reuse = reuse_small (is_third version)
+most_small version verb.IgnoreOn = omega arith
+most_small version verb.IgnoreOff = omega arith
+most_small version verb.Show = omega arith
+most_small version verb.Level = omega arith
+most_small version verb.Start = omega arith
+most_small version verb.Join = omega arith
+most_small version verb.Signal = omega arith
+most_small version verb.Await = omega arith
 
 abbrev Agree : ℕ → ℕ → ℕ → ℕ → Type 0
 Agree n k least most = (nat_lt n least ≡ nat_lt k least) × (nat_lt most n ≡ nat_lt most k)
 
-agree : (n k least most : ℕ) → least ≤ 2 → most ≤ 2 → (k ≡ n) ⊎ ((k ≡ 3) × (3 ≤ n)) → Agree n k least most
+agree : (n k least most : ℕ) → least ≤ 2 → most ≤ 3 → (k ≡ n) ⊎ ((k ≡ 4) × (4 ≤ n)) → Agree n k least most
 agree n k least most l m (inl same) = rw same (refl, refl)
 agree n k least most l m (inr far) =
-    let three = far.0 in
+    let four = far.0 in
     let many = far.1 in
     let a : nat_lt n least ≡ false = grind (arith, nat_tests, l, many) in
-    let b : nat_lt k least ≡ false = grind (arith, nat_tests, l, three) in
+    let b : nat_lt k least ≡ false = grind (arith, nat_tests, l, four) in
     let c : nat_lt most n ≡ true = grind (arith, nat_tests, m, many) in
-    let d : nat_lt most k ≡ true = grind (arith, nat_tests, m, three) in
+    let d : nat_lt most k ≡ true = grind (arith, nat_tests, m, four) in
     (a ∙ sym b, c ∙ sym d)
 
 count_chain : {X : Type 0} (few many : Bool) (rows : List (Bool × TextKind)) (r : Result X TextKind) → first_kind rows ≡ fault_of r
@@ -181,12 +190,12 @@ count_chain true many rows r e = refl
 count_chain false true rows r e = refl
 count_chain false false rows r e = e
 
-verb_faults : (version : Version) (v : Option Verb) (ops : List (List ℕ)) → AreWhole ops → first_kind (verb_kinds version v ops) ≡ fault_of (operation_in version v (word_at 0 ops) (word_at 1 ops) (word_at 2 ops))
+verb_faults : (version : Version) (v : Option Verb) (ops : List (List ℕ)) → AreWhole ops → first_kind (verb_kinds version v ops) ≡ fault_of (operation_in version v (word_at 0 ops) (word_at 1 ops) (word_at 2 ops) (word_at 3 ops))
 verb_faults version None ops whole = refl
 verb_faults version (Some v) ops whole =
-    let same = agree (length ops) (count ops) (least_of v) (most_of v) (least_small v) (most_small v) (count_is ops whole) in
+    let same = agree (length ops) (count ops) (least_of v) (most_of version v) (least_small v) (most_small version v) (count_is ops whole) in
     rw (same.0, same.1)
-    (count_chain (nat_lt (count ops) (least_of v)) (nat_lt (most_of v) (count ops)) (operand_kinds version v ops) (operands_in version v (word_at 0 ops) (word_at 1 ops)) (operand_faults version v ops))
+    (count_chain (nat_lt (count ops) (least_of v)) (nat_lt (most_of version v) (count ops)) (operand_kinds version v ops) (operands_in version v (word_at 0 ops) (word_at 1 ops) (word_at 2 ops)) (operand_faults version v ops))
 
 thread_chain : (b : Bool) (thread : List ℕ) (rows : List (Bool × TextKind)) (f : List ℕ → Result EventLine TextKind) → first_kind rows ≡ fault_of (f thread)
     → first_kind ((not b, BadName) ∷ rows) ≡ fault_of (and_then (or_fault BadName (cond b (Some thread) None)) f)
@@ -203,7 +212,7 @@ event_faults version ((x ∷ xs) ∷ (y ∷ ys) ∷ ops) whole =
     let t = x ∷ xs in
     let v = y ∷ ys in
     let some : nat_lt (suc (suc (length ops))) 2 ≡ false = grind (arith, nat_tests) in
-    let operation = operation_in version (verb_of version v) (word_at 0 ops) (word_at 1 ops) (word_at 2 ops) in
+    let operation = operation_in version (verb_of version v) (word_at 0 ops) (word_at 1 ops) (word_at 2 ops) (word_at 3 ops) in
     let inner : first_kind ((nat_lt (suc (suc (length ops))) 2, MissingOperand) ∷ verb_kinds version (verb_of version v) ops)
     ≡ fault_of (map_ok (λ d. record { thread = t; operation = d }) operation) =
     rw some (verb_faults version (verb_of version v) ops whole ∙ sym (fault_of-map (λ d. record { thread = t; operation = d }) operation)) in

@@ -23,8 +23,10 @@ grows_not r = record {
   names = record { threads = λ n x e. e; locks = λ n x e. e; sites = λ n x e. e };
   more = [];
   others = [];
+  named = [];
   steps = sym (append-nil r.steps);
   lines = sym (append-nil r.lines);
+  sites = sym (append-nil r.sites);
 }
 
 pub grows_on : (r s t : Recording) → Grows r s → Grows s t → Grows r t
@@ -36,12 +38,15 @@ grows_on r s t first second = record {
   };
   more = first.more ++ second.more;
   others = first.others ++ second.others;
+  named = first.named ++ second.named;
   steps = second.steps ∙ ap (λ (x : List Step). x ++ second.more) first.steps ∙ append_assoc r.steps first.more second.more;
   lines = second.lines ∙ ap (λ (x : List ℕ). x ++ second.others) first.lines ∙ append_assoc r.lines first.others second.others;
+  sites = second.sites ∙ ap (λ (x : List ℕ). x ++ second.named) first.sites ∙ append_assoc r.sites first.named second.named;
 }
 
-grows_by : (r : Recording) (names : NameTable) (more : List Step) (others : List ℕ) → KeepsNames r.names names → Grows r (record { steps = r.steps ++ more; lines = r.lines ++ others; names = names })
-grows_by r names more others keeps = record { names = keeps; more = more; others = others; steps = refl; lines = refl }
+grows_by : (r : Recording) (names : NameTable) (more : List Step) (others named : List ℕ) → KeepsNames r.names names
+    → Grows r (record { steps = r.steps ++ more; lines = r.lines ++ others; sites = r.sites ++ named; names = names })
+grows_by r names more others named keeps = record { names = keeps; more = more; others = others; named = named; steps = refl; lines = refl; sites = refl }
 
 threads_on : (r : Recording) (thread other : List ℕ) → KeepsNames r.names (with_thread_name (with_thread_name r thread) other).names
 threads_on r thread other = record {
@@ -52,23 +57,25 @@ threads_on r thread other = record {
 
 operation_grows : (line n : ℕ) (thread : List ℕ) (d : Operation) (r : Recording) → Grows r (with_operation line n d (with_thread_name r thread))
 operation_grows line n thread (Acquires lock m) r =
-    grows_by r _ _ _ (record { threads = name_goes_on r.names.threads thread; locks = name_goes_on r.names.locks lock; sites = λ k x e. e })
+    grows_by r _ _ _ _ (record { threads = name_goes_on r.names.threads thread; locks = name_goes_on r.names.locks lock; sites = λ k x e. e })
 operation_grows line n thread (Releases lock m) r =
-    grows_by r _ _ _ (record { threads = name_goes_on r.names.threads thread; locks = name_goes_on r.names.locks lock; sites = λ k x e. e })
-operation_grows line n thread (Accesses k w None) r = grows_by r _ _ _ (thread_on r thread)
+    grows_by r _ _ _ _ (record { threads = name_goes_on r.names.threads thread; locks = name_goes_on r.names.locks lock; sites = λ k x e. e })
+operation_grows line n thread (Accesses k w None) r = grows_by r _ _ _ _ (thread_on r thread)
 operation_grows line n thread (Accesses k w (Some site)) r =
-    grows_by r _ _ _ (record { threads = name_goes_on r.names.threads thread; locks = λ j x e. e; sites = name_goes_on r.names.sites site })
-operation_grows line n thread (Reuses run) r = grows_by r _ _ _ (thread_on r thread)
-operation_grows line n thread IgnoresOn r = grows_by r _ _ _ (thread_on r thread)
-operation_grows line n thread IgnoresOff r = grows_by r _ _ _ (thread_on r thread)
-operation_grows line n thread (Shows w) r = grows_by r _ _ _ (thread_on r thread)
-operation_grows line n thread (Levels l) r = grows_by r _ _ _ (thread_on r thread)
-operation_grows line n thread (Starts other) r = grows_by r _ _ _ (threads_on r thread other)
-operation_grows line n thread (Joins other) r = grows_by r _ _ _ (threads_on r thread other)
+    grows_by r _ _ _ _ (record { threads = name_goes_on r.names.threads thread; locks = λ j x e. e; sites = name_goes_on r.names.sites site })
+operation_grows line n thread (Reuses run None) r = grows_by r _ _ _ _ (thread_on r thread)
+operation_grows line n thread (Reuses run (Some site)) r =
+    grows_by r _ _ _ _ (record { threads = name_goes_on r.names.threads thread; locks = λ j x e. e; sites = name_goes_on r.names.sites site })
+operation_grows line n thread IgnoresOn r = grows_by r _ _ _ _ (thread_on r thread)
+operation_grows line n thread IgnoresOff r = grows_by r _ _ _ _ (thread_on r thread)
+operation_grows line n thread (Shows w) r = grows_by r _ _ _ _ (thread_on r thread)
+operation_grows line n thread (Levels l) r = grows_by r _ _ _ _ (thread_on r thread)
+operation_grows line n thread (Starts other) r = grows_by r _ _ _ _ (threads_on r thread other)
+operation_grows line n thread (Joins other) r = grows_by r _ _ _ _ (threads_on r thread other)
 operation_grows line n thread (Signals object) r =
-    grows_by r _ _ _ (record { threads = name_goes_on r.names.threads thread; locks = name_goes_on r.names.locks object; sites = λ k x e. e })
+    grows_by r _ _ _ _ (record { threads = name_goes_on r.names.threads thread; locks = name_goes_on r.names.locks object; sites = λ k x e. e })
 operation_grows line n thread (Awaits object) r =
-    grows_by r _ _ _ (record { threads = name_goes_on r.names.threads thread; locks = name_goes_on r.names.locks object; sites = λ k x e. e })
+    grows_by r _ _ _ _ (record { threads = name_goes_on r.names.threads thread; locks = name_goes_on r.names.locks object; sites = λ k x e. e })
 
 abbrev Adds : Recording → Progress → Type 0
 Adds r q = Grows r q.told

@@ -146,7 +146,8 @@ runs_past line r idle t (Acquires lock m) name e = acts_as r.names.threads idle 
 runs_past line r idle t (Releases lock m) name e = acts_as r.names.threads idle t name (bytes_eq name t) refl
 runs_past line r idle t (Accesses k w None) name e = acts_as r.names.threads idle t name (bytes_eq name t) refl
 runs_past line r idle t (Accesses k w (Some site)) name e = acts_as r.names.threads idle t name (bytes_eq name t) refl
-runs_past line r idle t (Reuses run) name e = acts_as r.names.threads idle t name (bytes_eq name t) refl
+runs_past line r idle t (Reuses run None) name e = acts_as r.names.threads idle t name (bytes_eq name t) refl
+runs_past line r idle t (Reuses run (Some site)) name e = acts_as r.names.threads idle t name (bytes_eq name t) refl
 runs_past line r idle t IgnoresOn name e = acts_as r.names.threads idle t name (bytes_eq name t) refl
 runs_past line r idle t IgnoresOff name e = acts_as r.names.threads idle t name (bytes_eq name t) refl
 runs_past line r idle t (Shows w) name e = acts_as r.names.threads idle t name (bytes_eq name t) refl
@@ -186,7 +187,7 @@ pub named_past : (line : ℕ) (r : Recording) (t : List ℕ) (d : Operation) →
 named_past line r t (Acquires lock m) = refl
 named_past line r t (Releases lock m) = refl
 named_past line r t (Accesses k w site) = refl
-named_past line r t (Reuses run) = refl
+named_past line r t (Reuses run site) = refl
 named_past line r t IgnoresOn = refl
 named_past line r t IgnoresOff = refl
 named_past line r t (Shows w) = refl
@@ -201,7 +202,7 @@ pub no_fault : (threads : List (List ℕ)) (idle : List Bool) (t : List ℕ) (d 
 no_fault threads idle t (Acquires lock m) e = refl
 no_fault threads idle t (Releases lock m) e = refl
 no_fault threads idle t (Accesses k w site) e = refl
-no_fault threads idle t (Reuses run) e = refl
+no_fault threads idle t (Reuses run site) e = refl
 no_fault threads idle t IgnoresOn e = refl
 no_fault threads idle t IgnoresOff e = refl
 no_fault threads idle t (Shows w) e = refl

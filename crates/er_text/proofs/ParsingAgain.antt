@@ -12,10 +12,10 @@ use Rattle.er_text.specs.declared.verbs.Version.{Version}
 use Rattle.er_text.specs.Lines.{has_bytes}
 use Rattle.er_text.specs.Number.{number_of}
 use Rattle.er_text.specs.Naming.{is_name, is_lock_name, is_site_word}
-use Rattle.er_text.specs.Verbs.{verb_of}
+use Rattle.er_text.specs.Verbs.{is_third, verb_of}
 use Rattle.er_text.specs.Events.{Operation, Acquires, Releases, Accesses, Reuses, IgnoresOn, IgnoresOff, Shows, Levels, Starts, Joins, Signals, Awaits, EventLine, run_of}
 use Rattle.er_text.specs.Inner.Parsing.{name_in, lock_in, site_in, word_in, level_in, run_in, parsed_of}
-use Rattle.er_text.specs.Trace.{acquire_word, release_word, kind_word, IsSite, IsOperation, Says}
+use Rattle.er_text.specs.Trace.{acquire_word, release_word, kind_word, IsSite, IsReuseSite, IsOperation, Says}
 use Rattle.er_text.proofs.SpellingLaws.{spelled_verb}
 use Rattle.er_text.proofs.SiteLemmas.{site_parts}
 
@@ -82,10 +82,20 @@ accessed version t a k n (w ∷ []) site name number small is =
     site_access version t a w k n site name number small (site_parts version w is.0).some (site_again version (bytes_eq w (codes "-")) w refl is.0 ∙ ap Ok (sym is.1))
 accessed version t a k n (w ∷ x ∷ ws) site name number small is = absurd is
 
-reused : (version : Version) (t a b : List ℕ) (m n : ℕ) → is_name t ≡ true → number_of a ≡ Some m → number_of b ≡ Some n → n ≤ 4194304 → m < 2 ^ 48 → m + n ≤ 2 ^ 48
-    → parsed_of version (t ∷ codes "reuse" ∷ a ∷ b ∷ []) ≡ Ok (record { thread = t; operation = Reuses (run_of m n) })
-reused version t a b m n name first second small low within =
-    rw (name, some_number a m first, some_number b n second, first, second, run_again m n small low within) refl
+three_operands : (version : Version) (b : Bool) → is_third version ≡ b → nat_lt (cond b 3 2) 2 ≡ false
+three_operands version true is = refl
+three_operands version false is = refl
+
+reused : (version : Version) (t a b : List ℕ) (m n : ℕ) (behind : List (List ℕ)) (site : Option (List ℕ)) → is_name t ≡ true → number_of a ≡ Some m → number_of b ≡ Some n → n ≤ 4194304
+    → m < 2 ^ 48 → m + n ≤ 2 ^ 48 → IsReuseSite version behind site
+    → parsed_of version (t ∷ codes "reuse" ∷ a ∷ b ∷ behind) ≡ Ok (record { thread = t; operation = Reuses (run_of m n) site })
+reused version t a b m n [] site name first second small low within is =
+    (rw (name, some_number a m first, some_number b n second, three_operands version (is_third version) refl, first, second, run_again m n small low within) refl)
+    ∙ ap (λ (s : Option (List ℕ)). Ok (record { thread = t; operation = Reuses (run_of m n) s })) (sym is)
+reused version t a b m n (w ∷ []) site name first second small low within is =
+    let known : site_in version w ≡ Ok site = site_again version (bytes_eq w (codes "-")) w refl is.1.0 ∙ ap Ok (sym is.1.1) in
+    rw (name, some_number a m first, some_number b n second, first, second, known, (site_parts version w is.1.0).some, is.0, run_again m n small low within) refl
+reused version t a b m n (w ∷ x ∷ ws) site name first second small low within is = absurd is.1
 
 showed : (version : Version) (t a : List ℕ) (n : ℕ) → is_name t ≡ true → number_of a ≡ Some n → n < 2 ^ 48
     → parsed_of version (t ∷ codes "show" ∷ a ∷ []) ≡ Ok (record { thread = t; operation = Shows (n / 4) })
@@ -118,9 +128,9 @@ operation_again version ws t (Releases l m) name is = ap (parsed_of version) is.
 operation_again version ws t (Accesses k w site) name is =
     ap (parsed_of version) is.3 ∙ accessed version t is.0 k is.1 is.2 site name is.4 is.5 is.7
     ∙ ap (λ (n : ℕ). Ok (record { thread = t; operation = Accesses k n site })) (sym is.6)
-operation_again version ws t (Reuses run) name is =
-    ap (parsed_of version) is.4 ∙ reused version t is.0 is.1 is.2 is.3 name is.5 is.6 is.7 is.8 is.9
-    ∙ ap (λ (r : Option Span). Ok (record { thread = t; operation = Reuses r })) (sym is.10)
+operation_again version ws t (Reuses run site) name is =
+    ap (parsed_of version) is.5 ∙ reused version t is.0 is.1 is.2 is.3 is.4 site name is.6 is.7 is.8 is.9 is.10 is.12
+    ∙ ap (λ (r : Option Span). Ok (record { thread = t; operation = Reuses r site })) (sym is.11)
 operation_again version ws t IgnoresOn name is = ap (parsed_of version) is ∙ (rw name refl)
 operation_again version ws t IgnoresOff name is = ap (parsed_of version) is ∙ (rw name refl)
 operation_again version ws t (Shows w) name is =

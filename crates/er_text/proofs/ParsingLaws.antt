@@ -12,13 +12,13 @@ use Rattle.er_text.specs.declared.faults.TextKind.TheVariants.{BadName, MissingO
 use Rattle.er_text.specs.declared.verbs.Verb.{Verb}
 use Rattle.er_text.specs.declared.verbs.Verb.TheVariants as verb
 use Rattle.er_text.specs.declared.verbs.Version.{Version}
-use Rattle.er_text.specs.Lines.{word_at}
+use Rattle.er_text.specs.Lines.{has_bytes, word_at}
 use Rattle.er_text.specs.Number.{number_of}
 use Rattle.er_text.specs.Naming.{is_name, is_lock_name, is_site_word}
-use Rattle.er_text.specs.Verbs.{verb_of}
+use Rattle.er_text.specs.Verbs.{is_third, verb_of}
 use Rattle.er_text.specs.Events.{Operation, Acquires, Releases, Accesses, Reuses, IgnoresOn, IgnoresOff, Shows, Levels, Starts, Joins, Signals, Awaits, EventLine, run_of}
 use Rattle.er_text.specs.Inner.Parsing.{and_then, map_ok, or_fault, number_in, name_in, lock_in, site_in, word_in, level_in, run_in, access_in, reuse_in, operands_in, counted_in, operation_in, parsed_of}
-use Rattle.er_text.specs.Trace.{acquire_word, release_word, kind_word, IsSite, IsOperation, Says}
+use Rattle.er_text.specs.Trace.{acquire_word, release_word, kind_word, IsSite, IsReuseSite, IsOperation, Says}
 use Rattle.er_text.proofs.SpellingLaws.{AreWhole, spelling, IsKnown, verb_spelled}
 use Rattle.er_text.proofs.SiteLemmas.{dash_named}
 use Rattle.er_text.proofs.FaultTables.{count}
@@ -85,6 +85,11 @@ pub site_found : (v : Version) (w : List ℕ) (s : Option (List ℕ)) → site_i
 site_found v [] s e = cc
 site_found v (x ∷ xs) s e = let w = x ∷ xs in site_tested v (bytes_eq w (codes "-")) (is_site_word v w) w s refl refl e
 
+-- behind a size
+site_behind : (version : Version) (w : List ℕ) (s : Option (List ℕ)) → (has_bytes w ≡ true → is_third version ≡ true) → site_in version w ≡ Ok s → IsReuseSite version (some_word w) s
+site_behind version [] s third e = cc
+site_behind version (x ∷ xs) s third e = (third refl, site_found version (x ∷ xs) s e)
+
 no_operand : (ops : List (List ℕ)) → AreWhole ops → nat_lt 0 (count ops) ≡ false → ops ≡ []
 no_operand [] whole e = refl
 no_operand ([] ∷ ops) whole e = absurd (cc)
@@ -92,7 +97,9 @@ no_operand ((x ∷ xs) ∷ []) whole e = absurd (cc)
 no_operand ((x ∷ xs) ∷ [] ∷ ops) whole e = absurd (cc)
 no_operand ((x ∷ xs) ∷ (y ∷ ys) ∷ []) whole e = absurd (cc)
 no_operand ((x ∷ xs) ∷ (y ∷ ys) ∷ [] ∷ ops) whole e = absurd (cc)
-no_operand ((x ∷ xs) ∷ (y ∷ ys) ∷ (z ∷ zs) ∷ ops) whole e = absurd (cc)
+no_operand ((x ∷ xs) ∷ (y ∷ ys) ∷ (z ∷ zs) ∷ []) whole e = absurd (cc)
+no_operand ((x ∷ xs) ∷ (y ∷ ys) ∷ (z ∷ zs) ∷ [] ∷ ops) whole e = absurd (cc)
+no_operand ((x ∷ xs) ∷ (y ∷ ys) ∷ (z ∷ zs) ∷ (u ∷ us) ∷ ops) whole e = absurd (cc)
 
 one_operand : (ops : List (List ℕ)) → AreWhole ops → nat_lt (count ops) 1 ≡ false → nat_lt 1 (count ops) ≡ false → ops ≡ word_at 0 ops ∷ []
 one_operand [] whole l m = absurd (cc)
@@ -101,16 +108,24 @@ one_operand ((x ∷ xs) ∷ []) whole l m = refl
 one_operand ((x ∷ xs) ∷ [] ∷ ops) whole l m = absurd (cc)
 one_operand ((x ∷ xs) ∷ (y ∷ ys) ∷ []) whole l m = absurd (cc)
 one_operand ((x ∷ xs) ∷ (y ∷ ys) ∷ [] ∷ ops) whole l m = absurd (cc)
-one_operand ((x ∷ xs) ∷ (y ∷ ys) ∷ (z ∷ zs) ∷ ops) whole l m = absurd (cc)
+one_operand ((x ∷ xs) ∷ (y ∷ ys) ∷ (z ∷ zs) ∷ []) whole l m = absurd (cc)
+one_operand ((x ∷ xs) ∷ (y ∷ ys) ∷ (z ∷ zs) ∷ [] ∷ ops) whole l m = absurd (cc)
+one_operand ((x ∷ xs) ∷ (y ∷ ys) ∷ (z ∷ zs) ∷ (u ∷ us) ∷ ops) whole l m = absurd (cc)
 
-two_operands : (ops : List (List ℕ)) → AreWhole ops → nat_lt (count ops) 2 ≡ false → nat_lt 2 (count ops) ≡ false → ops ≡ word_at 0 ops ∷ word_at 1 ops ∷ []
-two_operands [] whole l m = absurd (cc)
-two_operands ([] ∷ ops) whole l m = absurd (cc)
-two_operands ((x ∷ xs) ∷ []) whole l m = absurd (cc)
-two_operands ((x ∷ xs) ∷ [] ∷ ops) whole l m = absurd (cc)
-two_operands ((x ∷ xs) ∷ (y ∷ ys) ∷ []) whole l m = refl
-two_operands ((x ∷ xs) ∷ (y ∷ ys) ∷ [] ∷ ops) whole l m = absurd (cc)
-two_operands ((x ∷ xs) ∷ (y ∷ ys) ∷ (z ∷ zs) ∷ ops) whole l m = absurd (cc)
+-- the operands of a reuse, of which a text 3 alone has a third one
+reuse_operands : (third : Bool) (ops : List (List ℕ)) → AreWhole ops → nat_lt (count ops) 2 ≡ false → nat_lt (cond third 3 2) (count ops) ≡ false
+    → (ops ≡ word_at 0 ops ∷ word_at 1 ops ∷ some_word (word_at 2 ops)) × (has_bytes (word_at 2 ops) ≡ true → third ≡ true)
+reuse_operands third [] whole l m = absurd (cc)
+reuse_operands third ([] ∷ ops) whole l m = absurd (cc)
+reuse_operands third ((x ∷ xs) ∷ []) whole l m = absurd (cc)
+reuse_operands third ((x ∷ xs) ∷ [] ∷ ops) whole l m = absurd (cc)
+reuse_operands third ((x ∷ xs) ∷ (y ∷ ys) ∷ []) whole l m = (refl, λ some. absurd (cc))
+reuse_operands third ((x ∷ xs) ∷ (y ∷ ys) ∷ [] ∷ ops) whole l m = absurd (cc)
+reuse_operands true ((x ∷ xs) ∷ (y ∷ ys) ∷ (z ∷ zs) ∷ []) whole l m = (refl, λ some. refl)
+reuse_operands false ((x ∷ xs) ∷ (y ∷ ys) ∷ (z ∷ zs) ∷ []) whole l m = absurd (cc)
+reuse_operands third ((x ∷ xs) ∷ (y ∷ ys) ∷ (z ∷ zs) ∷ [] ∷ ops) whole l m = absurd (cc)
+reuse_operands true ((x ∷ xs) ∷ (y ∷ ys) ∷ (z ∷ zs) ∷ (u ∷ us) ∷ ops) whole l m = absurd (cc)
+reuse_operands false ((x ∷ xs) ∷ (y ∷ ys) ∷ (z ∷ zs) ∷ (u ∷ us) ∷ ops) whole l m = absurd (cc)
 
 one_or_two : (ops : List (List ℕ)) → AreWhole ops → nat_lt (count ops) 1 ≡ false → nat_lt 2 (count ops) ≡ false → ops ≡ word_at 0 ops ∷ some_word (word_at 1 ops)
 one_or_two [] whole l m = absurd (cc)
@@ -119,7 +134,9 @@ one_or_two ((x ∷ xs) ∷ []) whole l m = refl
 one_or_two ((x ∷ xs) ∷ [] ∷ ops) whole l m = absurd (cc)
 one_or_two ((x ∷ xs) ∷ (y ∷ ys) ∷ []) whole l m = refl
 one_or_two ((x ∷ xs) ∷ (y ∷ ys) ∷ [] ∷ ops) whole l m = absurd (cc)
-one_or_two ((x ∷ xs) ∷ (y ∷ ys) ∷ (z ∷ zs) ∷ ops) whole l m = absurd (cc)
+one_or_two ((x ∷ xs) ∷ (y ∷ ys) ∷ (z ∷ zs) ∷ []) whole l m = absurd (cc)
+one_or_two ((x ∷ xs) ∷ (y ∷ ys) ∷ (z ∷ zs) ∷ [] ∷ ops) whole l m = absurd (cc)
+one_or_two ((x ∷ xs) ∷ (y ∷ ys) ∷ (z ∷ zs) ∷ (u ∷ us) ∷ ops) whole l m = absurd (cc)
 
 counted : {X : Type 0} (few many : Bool) (r : Result X TextKind) (x : X) → cond few (Err MissingOperand) (cond many (Err ExtraOperand) r) ≡ Ok x
     → (few ≡ false) × (many ≡ false) × (r ≡ Ok x)
@@ -153,25 +170,28 @@ accessed version t w a b ops k d word one e =
     let at = word_found n.0 f.0 f.1 in
     rw (← f.2) (a, n.0, some_word b, spelled t w (kind_word k) ops (a ∷ some_word b) word one, number_found (number_of a) n.0 n.1, at.0, at.1, site_found version b s.0 s.1)
 
-reused : (version : Version) (t w a b : List ℕ) (ops : List (List ℕ)) (d : Operation) → w ≡ codes "reuse" → ops ≡ a ∷ b ∷ [] → reuse_in a b ≡ Ok d
-    → IsOperation version (t ∷ w ∷ ops) t d
-reused version t w a b ops d word two e =
-    let m = bound (λ m. and_then (number_in b) (λ n. map_ok Reuses (run_in m n))) (number_in a) d e in
-    let n = bound (λ n. map_ok Reuses (run_in m.0 n)) (number_in b) d m.2 in
-    let f = mapped Reuses (run_in m.0 n.0) d n.2 in
+reused : (version : Version) (t w a b x : List ℕ) (ops : List (List ℕ)) (d : Operation) → w ≡ codes "reuse" → ops ≡ a ∷ b ∷ some_word x → (has_bytes x ≡ true → is_third version ≡ true)
+    → reuse_in version a b x ≡ Ok d → IsOperation version (t ∷ w ∷ ops) t d
+reused version t w a b x ops d word two third e =
+    let m = bound (λ m. and_then (number_in b) (λ n. and_then (site_in version x) (λ s. map_ok (λ r. Reuses r s) (run_in m n)))) (number_in a) d e in
+    let n = bound (λ n. and_then (site_in version x) (λ s. map_ok (λ r. Reuses r s) (run_in m.0 n))) (number_in b) d m.2 in
+    let s = bound (λ s. map_ok (λ r. Reuses r s) (run_in m.0 n.0)) (site_in version x) d n.2 in
+    let f = mapped (λ r. Reuses r s.0) (run_in m.0 n.0) d s.2 in
     let run = run_found m.0 n.0 f.0 f.1 in
     rw (← f.2) (
       a,
       b,
       m.0,
       n.0,
-      spelled t w (codes "reuse") ops (a ∷ b ∷ []) word two,
+      some_word x,
+      spelled t w (codes "reuse") ops (a ∷ b ∷ some_word x) word two,
       number_found (number_of a) m.0 m.1,
       number_found (number_of b) n.0 n.1,
       run.0,
       run.1,
       run.2,
       run.3,
+      site_behind version x s.0 third s.1,
     )
 
 showed : (version : Version) (t w a : List ℕ) (ops : List (List ℕ)) (d : Operation) → w ≡ codes "show" → ops ≡ a ∷ [] → and_then (number_in a) (λ n. map_ok Shows (word_in n)) ≡ Ok d
@@ -218,57 +238,58 @@ object_named f version t w a v ops d says known word one e =
     subst (IsOperation version (t ∷ w ∷ ops) t) m.2 told
 
 operation_says : (version : Version) (t w : List ℕ) (v : Verb) (ops : List (List ℕ)) (d : Operation) → w ≡ spelling v → IsKnown version v → AreWhole ops
-    → counted_in version v (count ops) (word_at 0 ops) (word_at 1 ops) ≡ Ok d → IsOperation version (t ∷ w ∷ ops) t d
+    → counted_in version v (count ops) (word_at 0 ops) (word_at 1 ops) (word_at 2 ops) ≡ Ok d → IsOperation version (t ∷ w ∷ ops) t d
 operation_says version t w verb.Lock ops d word known whole e =
-    let c = counted (nat_lt (count ops) 1) (nat_lt 1 (count ops)) (operands_in version verb.Lock (word_at 0 ops) (word_at 1 ops)) d e in
+    let c = counted (nat_lt (count ops) 1) (nat_lt 1 (count ops)) (operands_in version verb.Lock (word_at 0 ops) (word_at 1 ops) (word_at 2 ops)) d e in
     acquired version t w (word_at 0 ops) ops mode.Write d word (one_operand ops whole c.0 c.1) c.2
 operation_says version t w verb.Unlock ops d word known whole e =
-    let c = counted (nat_lt (count ops) 1) (nat_lt 1 (count ops)) (operands_in version verb.Unlock (word_at 0 ops) (word_at 1 ops)) d e in
+    let c = counted (nat_lt (count ops) 1) (nat_lt 1 (count ops)) (operands_in version verb.Unlock (word_at 0 ops) (word_at 1 ops) (word_at 2 ops)) d e in
     released version t w (word_at 0 ops) ops mode.Write d word (one_operand ops whole c.0 c.1) c.2
 operation_says version t w verb.ReadLock ops d word known whole e =
-    let c = counted (nat_lt (count ops) 1) (nat_lt 1 (count ops)) (operands_in version verb.ReadLock (word_at 0 ops) (word_at 1 ops)) d e in
+    let c = counted (nat_lt (count ops) 1) (nat_lt 1 (count ops)) (operands_in version verb.ReadLock (word_at 0 ops) (word_at 1 ops) (word_at 2 ops)) d e in
     acquired version t w (word_at 0 ops) ops mode.Read d word (one_operand ops whole c.0 c.1) c.2
 operation_says version t w verb.ReadUnlock ops d word known whole e =
-    let c = counted (nat_lt (count ops) 1) (nat_lt 1 (count ops)) (operands_in version verb.ReadUnlock (word_at 0 ops) (word_at 1 ops)) d e in
+    let c = counted (nat_lt (count ops) 1) (nat_lt 1 (count ops)) (operands_in version verb.ReadUnlock (word_at 0 ops) (word_at 1 ops) (word_at 2 ops)) d e in
     released version t w (word_at 0 ops) ops mode.Read d word (one_operand ops whole c.0 c.1) c.2
 operation_says version t w verb.Read ops d word known whole e =
-    let c = counted (nat_lt (count ops) 1) (nat_lt 2 (count ops)) (operands_in version verb.Read (word_at 0 ops) (word_at 1 ops)) d e in
+    let c = counted (nat_lt (count ops) 1) (nat_lt 2 (count ops)) (operands_in version verb.Read (word_at 0 ops) (word_at 1 ops) (word_at 2 ops)) d e in
     accessed version t w (word_at 0 ops) (word_at 1 ops) ops kind.Read d word (one_or_two ops whole c.0 c.1) c.2
 operation_says version t w verb.Write ops d word known whole e =
-    let c = counted (nat_lt (count ops) 1) (nat_lt 2 (count ops)) (operands_in version verb.Write (word_at 0 ops) (word_at 1 ops)) d e in
+    let c = counted (nat_lt (count ops) 1) (nat_lt 2 (count ops)) (operands_in version verb.Write (word_at 0 ops) (word_at 1 ops) (word_at 2 ops)) d e in
     accessed version t w (word_at 0 ops) (word_at 1 ops) ops kind.Write d word (one_or_two ops whole c.0 c.1) c.2
 operation_says version t w verb.Reuse ops d word known whole e =
-    let c = counted (nat_lt (count ops) 2) (nat_lt 2 (count ops)) (operands_in version verb.Reuse (word_at 0 ops) (word_at 1 ops)) d e in
-    reused version t w (word_at 0 ops) (word_at 1 ops) ops d word (two_operands ops whole c.0 c.1) c.2
+    let c = counted (nat_lt (count ops) 2) (nat_lt (cond (is_third version) 3 2) (count ops)) (operands_in version verb.Reuse (word_at 0 ops) (word_at 1 ops) (word_at 2 ops)) d e in
+    let behind = reuse_operands (is_third version) ops whole c.0 c.1 in
+    reused version t w (word_at 0 ops) (word_at 1 ops) (word_at 2 ops) ops d word behind.0 behind.1 c.2
 operation_says version t w verb.IgnoreOn ops d word known whole e =
-    let c = counted (nat_lt (count ops) 0) (nat_lt 0 (count ops)) (operands_in version verb.IgnoreOn (word_at 0 ops) (word_at 1 ops)) d e in
+    let c = counted (nat_lt (count ops) 0) (nat_lt 0 (count ops)) (operands_in version verb.IgnoreOn (word_at 0 ops) (word_at 1 ops) (word_at 2 ops)) d e in
     let same : IgnoresOn ≡ d = let r = c.2 in cc in
     rw (← same) (spelled t w (codes "ignore-on") ops [] word (no_operand ops whole c.1))
 operation_says version t w verb.IgnoreOff ops d word known whole e =
-    let c = counted (nat_lt (count ops) 0) (nat_lt 0 (count ops)) (operands_in version verb.IgnoreOff (word_at 0 ops) (word_at 1 ops)) d e in
+    let c = counted (nat_lt (count ops) 0) (nat_lt 0 (count ops)) (operands_in version verb.IgnoreOff (word_at 0 ops) (word_at 1 ops) (word_at 2 ops)) d e in
     let same : IgnoresOff ≡ d = let r = c.2 in cc in
     rw (← same) (spelled t w (codes "ignore-off") ops [] word (no_operand ops whole c.1))
 operation_says version t w verb.Show ops d word known whole e =
-    let c = counted (nat_lt (count ops) 1) (nat_lt 1 (count ops)) (operands_in version verb.Show (word_at 0 ops) (word_at 1 ops)) d e in
+    let c = counted (nat_lt (count ops) 1) (nat_lt 1 (count ops)) (operands_in version verb.Show (word_at 0 ops) (word_at 1 ops) (word_at 2 ops)) d e in
     showed version t w (word_at 0 ops) ops d word (one_operand ops whole c.0 c.1) c.2
 operation_says version t w verb.Level ops d word known whole e =
-    let c = counted (nat_lt (count ops) 1) (nat_lt 1 (count ops)) (operands_in version verb.Level (word_at 0 ops) (word_at 1 ops)) d e in
+    let c = counted (nat_lt (count ops) 1) (nat_lt 1 (count ops)) (operands_in version verb.Level (word_at 0 ops) (word_at 1 ops) (word_at 2 ops)) d e in
     leveled version t w (word_at 0 ops) ops d known word (one_operand ops whole c.0 c.1) c.2
 operation_says version t w verb.Start ops d word known whole e =
-    let c = counted (nat_lt (count ops) 1) (nat_lt 1 (count ops)) (operands_in version verb.Start (word_at 0 ops) (word_at 1 ops)) d e in
+    let c = counted (nat_lt (count ops) 1) (nat_lt 1 (count ops)) (operands_in version verb.Start (word_at 0 ops) (word_at 1 ops) (word_at 2 ops)) d e in
     thread_named Starts version t w (word_at 0 ops) verb.Start ops d (λ other name third. (refl, name, third)) known word (one_operand ops whole c.0 c.1) c.2
 operation_says version t w verb.Join ops d word known whole e =
-    let c = counted (nat_lt (count ops) 1) (nat_lt 1 (count ops)) (operands_in version verb.Join (word_at 0 ops) (word_at 1 ops)) d e in
+    let c = counted (nat_lt (count ops) 1) (nat_lt 1 (count ops)) (operands_in version verb.Join (word_at 0 ops) (word_at 1 ops) (word_at 2 ops)) d e in
     thread_named Joins version t w (word_at 0 ops) verb.Join ops d (λ other name third. (refl, name, third)) known word (one_operand ops whole c.0 c.1) c.2
 operation_says version t w verb.Signal ops d word known whole e =
-    let c = counted (nat_lt (count ops) 1) (nat_lt 1 (count ops)) (operands_in version verb.Signal (word_at 0 ops) (word_at 1 ops)) d e in
+    let c = counted (nat_lt (count ops) 1) (nat_lt 1 (count ops)) (operands_in version verb.Signal (word_at 0 ops) (word_at 1 ops) (word_at 2 ops)) d e in
     object_named Signals version t w (word_at 0 ops) verb.Signal ops d (λ object name third. (refl, name, third)) known word (one_operand ops whole c.0 c.1) c.2
 operation_says version t w verb.Await ops d word known whole e =
-    let c = counted (nat_lt (count ops) 1) (nat_lt 1 (count ops)) (operands_in version verb.Await (word_at 0 ops) (word_at 1 ops)) d e in
+    let c = counted (nat_lt (count ops) 1) (nat_lt 1 (count ops)) (operands_in version verb.Await (word_at 0 ops) (word_at 1 ops) (word_at 2 ops)) d e in
     object_named Awaits version t w (word_at 0 ops) verb.Await ops d (λ object name third. (refl, name, third)) known word (one_operand ops whole c.0 c.1) c.2
 
 verb_says : (version : Version) (t w : List ℕ) (v : Option Verb) (ops : List (List ℕ)) (d : Operation) → verb_of version w ≡ v → AreWhole ops
-    → operation_in version v (word_at 0 ops) (word_at 1 ops) (word_at 2 ops) ≡ Ok d → IsOperation version (t ∷ w ∷ ops) t d
+    → operation_in version v (word_at 0 ops) (word_at 1 ops) (word_at 2 ops) (word_at 3 ops) ≡ Ok d → IsOperation version (t ∷ w ∷ ops) t d
 verb_says version t w None ops d is whole e = absurd (cc)
 verb_says version t w (Some v) ops d is whole e =
     let s = verb_spelled version w v is in
@@ -281,7 +302,7 @@ parsed_says version ([] ∷ ws) s whole e = absurd (cc)
 parsed_says version ((x ∷ xs) ∷ []) s whole e = let n = bound (λ t. Err MissingOperand) (name_in (x ∷ xs)) s e in absurd (let h = n.2 in cc)
 parsed_says version ((x ∷ xs) ∷ [] ∷ ops) s whole e = absurd (cc)
 parsed_says version ((x ∷ xs) ∷ (y ∷ ys) ∷ ops) s whole e =
-    let operation = operation_in version (verb_of version (y ∷ ys)) (word_at 0 ops) (word_at 1 ops) (word_at 2 ops) in
+    let operation = operation_in version (verb_of version (y ∷ ys)) (word_at 0 ops) (word_at 1 ops) (word_at 2 ops) (word_at 3 ops) in
     let n = bound (λ t. map_ok (λ d. record { thread = t; operation = d }) operation) (name_in (x ∷ xs)) s e in
     let t = name_found (x ∷ xs) n.0 n.1 in
     let m = mapped (λ d. record { thread = n.0; operation = d }) operation s n.2 in

@@ -7,7 +7,7 @@ use Rattle.std.specs.List.{All}
 use Rattle.er_event.specs.declared.steps.Step.{Step}
 use Rattle.er_trace.specs.Appended.{appended, renumbered_step, with_table}
 use Rattle.er_trace.specs.Names.{NameTable}
-use Rattle.er_trace.specs.Trace.{Recording, IsNamed, no_steps, with_steps}
+use Rattle.er_trace.specs.Trace.{Recording, IsNamed, HasSiteName, no_steps, with_steps}
 use Rattle.er_text.specs.declared.endings.Lost.{Lost}
 use Rattle.er_text.specs.declared.reading.Batch.TheVariants.{More}
 use Rattle.er_text.specs.declared.stages.Stage.{Stage}
@@ -39,7 +39,7 @@ and_true false = refl
 
 -- nothing has steps without names
 none_named : Named no_steps
-none_named = All-nil (IsNamed no_steps.names)
+none_named = record { steps = All-nil (IsNamed no_steps.names); sites = All-nil (HasSiteName no_steps.names) }
 
 -- the lines in front, and those behind them
 split_lines : (at : Place) (len : ℕ) (ys : List ℕ) → AreWhole (take len at.ahead) → lines_of (at.ahead ++ ys) ≡ lines_of (take len at.ahead) ++ lines_of (drop len at.ahead ++ ys)
@@ -124,11 +124,11 @@ tails_known old piece tail front whole past (Some ys) =
     ∙ ap (λ (c : Option Lost). record { cut = is_cut_after tail.cut (placed_from (at.number + piece.lines) (at.start + piece.len) more); comment = c }) comment
 
 -- what was read of the text goes on behind a piece
-pub piece_gives : (text : List ℕ) (steps : List Step) (lines : List ℕ) (old : Reached) (piece : ReadPiece) (tail : Tail) (known : Option (List ℕ)) (t : Recording)
-    → StandsInFront old piece → piece.whole ≡ true → IsPast old piece tail → HasRead text steps lines old known t
-    → HasRead text steps lines (past_piece old piece tail) known (appended old.place.number t piece.told)
-piece_gives text steps lines old piece tail known t front whole past read =
-    batch_gives text steps lines old (past_piece old piece tail) known known t (appended old.place.number t piece.told) (Ok More) refl read
+pub piece_gives : (text : List ℕ) (steps : List Step) (lines sites : List ℕ) (old : Reached) (piece : ReadPiece) (tail : Tail) (known : Option (List ℕ)) (t : Recording)
+    → StandsInFront old piece → piece.whole ≡ true → IsPast old piece tail → HasRead text steps lines sites old known t
+    → HasRead text steps lines sites (past_piece old piece tail) known (appended old.place.number t piece.told)
+piece_gives text steps lines sites old piece tail known t front whole past read =
+    batch_gives text steps lines sites old (past_piece old piece tail) known known t (appended old.place.number t piece.told) (Ok More) refl read
     (reads_known old piece tail t front whole known) (tails_known old piece tail front whole past known)
 
 -- a piece has no more lines than bytes
@@ -144,20 +144,20 @@ piece_small old piece front whole =
     lines_below front.version 0 piece.lines no_steps piece.told (lines_of (take piece.len old.place.ahead)) (front.read.1 whole) (All-nil (λ line. line < 0))
 
 -- the same of what the code has, which keeps the mark of a line without its LF if there is no byte
-pub added_gives : (text : List ℕ) (steps : List Step) (lines : List ℕ) (old : Reached) (at : Place) (piece : ReadPiece) (before : ℕ) (tail : Tail) (known : Option (List ℕ)) (t u : Recording)
+pub added_gives : (text : List ℕ) (steps : List Step) (lines sites : List ℕ) (old : Reached) (at : Place) (piece : ReadPiece) (before : ℕ) (tail : Tail) (known : Option (List ℕ)) (t u : Recording)
     → StandsInFront old piece → piece.whole ≡ true → before ≡ old.place.number → u ≡ appended before t piece.told → at ≡ past_lines old.place piece.lines piece.len
-    → tail.cut ≡ (old.tail.cut && nat_eq piece.len 0) → tail.comment ≡ comment_behind before old.tail.comment piece.comment → HasRead text steps lines old known t
-    → HasRead text steps lines (record { place = at; stage = old.stage; idle = old.idle; tail = tail }) known u
-added_gives text steps lines old at piece before tail known t u front whole number told passed is says read =
+    → tail.cut ≡ (old.tail.cut && nat_eq piece.len 0) → tail.comment ≡ comment_behind before old.tail.comment piece.comment → HasRead text steps lines sites old known t
+    → HasRead text steps lines sites (record { place = at; stage = old.stage; idle = old.idle; tail = tail }) known u
+added_gives text steps lines sites old at piece before tail known t u front whole number told passed is says read =
     let cut : cut_past piece.len old.tail.cut tail.cut = (
       (λ some. is ∙ (let other : nat_eq piece.len 0 ≡ false = grind (arith, nat_tests, some) in rw other (and_false old.tail.cut))),
       (λ none. is ∙ (rw none (and_true old.tail.cut))),
     ) in
     let past : IsPast old piece tail = record { cut = cut; comment = says ∙ ap (λ (n : ℕ). comment_behind n old.tail.comment piece.comment) number } in
     let same : u ≡ appended old.place.number t piece.told = told ∙ ap (λ (n : ℕ). appended n t piece.told) number in
-    subst (λ (r : Recording). HasRead text steps lines (record { place = at; stage = old.stage; idle = old.idle; tail = tail }) known r) (sym same)
-    (subst (λ (p : Place). HasRead text steps lines (record { place = p; stage = old.stage; idle = old.idle; tail = tail }) known (appended old.place.number t piece.told)) (sym passed)
-    (piece_gives text steps lines old piece tail known t front whole past read))
+    subst (λ (r : Recording). HasRead text steps lines sites (record { place = at; stage = old.stage; idle = old.idle; tail = tail }) known r) (sym same)
+    (subst (λ (p : Place). HasRead text steps lines sites (record { place = p; stage = old.stage; idle = old.idle; tail = tail }) known (appended old.place.number t piece.told)) (sym passed)
+    (piece_gives text steps lines sites old piece tail known t front whole past read))
 
 -- the numbers of the piece's lines fit behind those of the text
 pub piece_fits : (old : Reached) (piece : ReadPiece) (before : ℕ) → StandsInFront old piece → piece.whole ≡ true → before ≤ old.place.limit + 1 → old.place.limit ≤ 2 ^ 62
@@ -181,16 +181,18 @@ comment_fits old piece before front whole number limit =
     let within = front.within in
     fits_above before piece.lines piece.comment (omega (arith, few, within, number, limit)) (subst (λ (c : Option Lost). IsAbove piece.lines c) (sym (front.read.2 whole)) above)
 
--- steps, their lines and names
-abbrev parts : List Step → List ℕ → NameTable → Recording
-parts steps lines names = record { steps = steps; lines = lines; names = names }
+-- steps, their lines, sites and names
+abbrev parts : List Step → List ℕ → List ℕ → NameTable → Recording
+parts steps lines sites names = record { steps = steps; lines = lines; sites = sites; names = names }
 
 -- a trace to which the steps of a piece were added, under the names that were there before and those of the piece
-pub ready_appended : (before : ℕ) (t u : Recording) (names : NameTable) (read piece : ReadPiece) (steps : List Step) (lines : List ℕ)
-    → u ≡ with_steps t steps lines → steps ≡ piece.steps → lines ≡ piece.places → IsReady before (with_table names read.told.names) read piece
+pub ready_appended : (before : ℕ) (t u : Recording) (names : NameTable) (read piece : ReadPiece) (steps : List Step) (lines sites : List ℕ)
+    → u ≡ with_steps t steps lines sites → steps ≡ piece.steps → lines ≡ piece.places → sites ≡ piece.sites → IsReady before (with_table names read.told.names) read piece
     → record u { names = with_table names read.told.names } ≡ appended before (record t { names = names }) read.told
-ready_appended before t u names read piece steps lines added stepped lined ready =
+ready_appended before t u names read piece steps lines sites added stepped lined sited ready =
     let all : NameTable = with_table names read.told.names in
+    let stepped_on : List Step = map (renumbered_step read.told.names all) read.told.steps in
     ap (λ (r : Recording). record r { names = all }) added
-    ∙ ap (λ (s : List Step). parts (t.steps ++ s) (t.lines ++ lines) all) (stepped ∙ ready.steps)
-    ∙ ap (λ (l : List ℕ). parts (t.steps ++ map (renumbered_step read.told.names all) read.told.steps) (t.lines ++ l) all) (lined ∙ ready.places)
+    ∙ ap (λ (s : List Step). parts (t.steps ++ s) (t.lines ++ lines) (t.sites ++ sites) all) (stepped ∙ ready.steps)
+    ∙ ap (λ (l : List ℕ). parts (t.steps ++ stepped_on) (t.lines ++ l) (t.sites ++ sites) all) (lined ∙ ready.places)
+    ∙ ap (λ (n : List ℕ). parts (t.steps ++ stepped_on) (t.lines ++ map (λ line. before + line) read.told.lines) (t.sites ++ n) all) (sited ∙ ready.sites)

@@ -6,7 +6,7 @@ use Rattle.std.proofs.lemmas.Bool.Decides.{nat_tests}
 use Rattle.std.proofs.lemmas.List.Elements.{All-nil, All-cons, All-append, All-push}
 use Rattle.er_event.specs.declared.addresses.PageRange.{PageRange}
 use Rattle.er_trace.specs.Names.{is_known}
-use Rattle.er_trace.specs.Trace.{Recording, IsNamed, with_thread_name}
+use Rattle.er_trace.specs.Trace.{Recording, IsNamed, HasSiteName, with_thread_name}
 use Rattle.er_trace.specs.Appended.{with_names, appended}
 use Rattle.er_trace.proofs.AppendedLemmas.{there}
 use Rattle.er_text.specs.declared.faults.TextKind.{TextKind}
@@ -22,12 +22,13 @@ use Rattle.er_text.specs.Inner.Parsing.{parsed_of}
 use Rattle.er_text.specs.Inner.Pieces.{AreRead}
 use Rattle.er_text.specs.Inner.Reading.{go_on, read_lines}
 use Rattle.er_text.specs.Inner.Traces.{Progress, at_line, skip, past_event, add_event, add_parsed, closed, plain_at, read_content}
-use Rattle.er_text.proofs.AppendedLemmas.{line_appended, line_named}
+use Rattle.er_text.proofs.AppendedLemmas.{line_appended, line_named, line_sites_named}
 use Rattle.er_text.proofs.WholeLemmas.{widths}
 
--- the steps of a recording have names
-abbrev pub Named : Recording → Type 0
-Named q = All (IsNamed q.names) q.steps
+-- the steps of a recording have names, and so have its sites
+pub record Named (q : Recording) : Type 0 where
+  pub steps : All (IsNamed q.names) q.steps
+  pub sites : All (HasSiteName q.names) q.sites
 
 -- a thread that is idle is one
 grown : (n : ℕ) → with_idle [] n ≡ [] → ⊥
@@ -54,7 +55,7 @@ stays_open : (a threads new others : List (List ℕ)) (t : List ℕ) (d : Operat
 stays_open a threads new others t (Acquires lock m) here = record { fault = refl; idle = refl }
 stays_open a threads new others t (Releases lock m) here = record { fault = refl; idle = refl }
 stays_open a threads new others t (Accesses k w site) here = record { fault = refl; idle = refl }
-stays_open a threads new others t (Reuses run) here = record { fault = refl; idle = refl }
+stays_open a threads new others t (Reuses run site) here = record { fault = refl; idle = refl }
 stays_open a threads new others t IgnoresOn here = record { fault = refl; idle = refl }
 stays_open a threads new others t IgnoresOff here = record { fault = refl; idle = refl }
 stays_open a threads new others t (Shows w) here = record { fault = refl; idle = refl }
@@ -93,12 +94,12 @@ event_on v before n k r q s e is named read =
     let here = past_parts v n q s e (order_fault q.names.threads [] e) refl read in
     let there = stays_open r.names.threads q.names.threads (with_line n e q).names.threads (with_line k e (appended before r q)).names.threads e.thread e.operation here.open_past in
     let line : with_line k e (appended before r q) ≡ appended before r s =
-    ap (λ (j : ℕ). with_line j e (appended before r q)) is ∙ sym (line_appended before r q e n named) ∙ ap (appended before r) here.told in
+    ap (λ (j : ℕ). with_line j e (appended before r q)) is ∙ sym (line_appended before r q e n named.steps named.sites) ∙ ap (appended before r) here.told in
     record {
       read = ap (add_event k (at_line k (Events v) [] (appended before r q)) e) there.fault
           ∙ ap (λ (x : List Bool). Ok (at_line (k + 1) (Events v) x (with_line k e (appended before r q)))) there.idle
           ∙ ap (λ (u : Recording). Ok (at_line (k + 1) (Events v) [] u)) line;
-      named = subst Named here.told (line_named n e q named);
+      named = subst Named here.told (record { steps = line_named n e q named.steps; sites = line_sites_named n e q named.sites });
     }
 
 parsed_on : (v : Version) (before n k : ℕ) (r q s : Recording) (parsed : Result EventLine TextKind) → k ≡ before + n → Named q
@@ -209,7 +210,8 @@ operation_below n thread (Acquires lock m) q below = one_below n q.lines below
 operation_below n thread (Releases lock m) q below = one_below n q.lines below
 operation_below n thread (Accesses k w None) q below = one_below n q.lines below
 operation_below n thread (Accesses k w (Some site)) q below = one_below n q.lines below
-operation_below n thread (Reuses run) q below = All-append (λ line. line < n + 1) q.lines _ (more_below n q.lines below) (parts_below n (run_parts run))
+operation_below n thread (Reuses run None) q below = All-append (λ line. line < n + 1) q.lines _ (more_below n q.lines below) (parts_below n (run_parts run))
+operation_below n thread (Reuses run (Some site)) q below = All-append (λ line. line < n + 1) q.lines _ (more_below n q.lines below) (parts_below n (run_parts run))
 operation_below n thread IgnoresOn q below = one_below n q.lines below
 operation_below n thread IgnoresOff q below = one_below n q.lines below
 operation_below n thread (Shows w) q below = one_below n q.lines below

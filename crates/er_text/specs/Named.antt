@@ -23,7 +23,7 @@ abbrev pub Does : NameTable → Operation → Event → Type 0
 Does names (Acquires lock m) e = (n : ℕ) × (e ≡ event.Acquire n m) × (slice_get names.locks n ≡ Some lock)
 Does names (Releases lock m) e = (n : ℕ) × (e ≡ event.Release n m) × (slice_get names.locks n ≡ Some lock)
 Does names (Accesses k w site) e = (n : ℕ) × (e ≡ event.Access k w n) × IsSiteNumber names.sites n site
-Does names (Reuses run) e = (part : PageRange) × (e ≡ event.Reuse part) × Contains (run_parts run) part
+Does names (Reuses run site) e = (part : PageRange) × (e ≡ event.Reuse part) × Contains (run_parts run) part
 Does names IgnoresOn e = e ≡ event.IgnoreOn
 Does names IgnoresOff e = e ≡ event.IgnoreOff
 Does names (Shows w) e = e ≡ event.Show w
@@ -33,20 +33,26 @@ Does names (Joins other) e = (n : ℕ) × (e ≡ event.Sync (order.Join n)) × (
 Does names (Signals object) e = (n : ℕ) × (e ≡ event.Sync (order.Signal n)) × (slice_get names.locks n ≡ Some object)
 Does names (Awaits object) e = (n : ℕ) × (e ≡ event.Sync (order.Await n)) × (slice_get names.locks n ≡ Some object)
 
--- the step is one of what the line says
-pub record IsToldBy (v : Version) (names : NameTable) (step : Step) (p : Placed) : Type 0 where
+-- the site that a line names which says this, if it names one
+abbrev pub site_named : Operation → Option (List ℕ)
+site_named (Accesses k w site) = site
+site_named (Reuses run site) = site
+site_named _ = None
+
+-- the step is one of what the line says, and the site is the one that the line names
+pub record IsToldBy (v : Version) (names : NameTable) (step : Step) (n : ℕ) (p : Placed) : Type 0 where
   pub event_line : EventLine
   pub says : Says v (words p.line.bytes) event_line
   pub thread : slice_get names.threads step.thread ≡ Some event_line.thread
   pub does : Does names event_line.operation step.event
+  pub site : IsSiteNumber names.sites n (site_named event_line.operation)
 
--- each step is told by one of these event lines, whose number stands beside it
-abbrev pub AreNamed : Version → List Placed → NameTable → List Step → List ℕ → Type 0
-AreNamed v events names [] [] = Unit {0}
-AreNamed v events names (step ∷ steps) (line ∷ lines) =
-    ((p : Placed) × Contains events p × (line ≡ p.number) × IsToldBy v names step p) × AreNamed v events names steps lines
-AreNamed v events names [] (line ∷ lines) = ⊥
-AreNamed v events names (step ∷ steps) [] = ⊥
+-- each step is told by one of these event lines, whose number and site stand beside it
+abbrev pub AreNamed : Version → List Placed → NameTable → List Step → List ℕ → List ℕ → Type 0
+AreNamed v events names [] [] [] = Unit {0}
+AreNamed v events names (step ∷ steps) (line ∷ lines) (site ∷ sites) =
+    ((p : Placed) × Contains events p × (line ≡ p.number) × IsToldBy v names step site p) × AreNamed v events names steps lines sites
+AreNamed v events names _ _ _ = ⊥
 
 -- names that have a number keep it
 abbrev pub KeepsNumbers : List (List ℕ) → List (List ℕ) → Type 0
@@ -62,5 +68,7 @@ pub record Grows (old new : Recording) : Type 0 where
   pub names : KeepsNames old.names new.names
   pub more : List Step
   pub others : List ℕ
+  pub named : List ℕ
   pub steps : new.steps ≡ old.steps ++ more
   pub lines : new.lines ≡ old.lines ++ others
+  pub sites : new.sites ≡ old.sites ++ named

@@ -2,9 +2,9 @@
 use Rattle.std.specs.Prelude.{◌≡◌, ℕ, ◌+◌, ◌<◌, ◌≤◌, ◌^◌, Bool, true, List, [], Option, None, length, map, take}
 use Rattle.std.specs.List.{All, list_all}
 use Rattle.er_event.specs.declared.steps.Step.{Step}
-use Rattle.er_trace.specs.Appended.{AreNumbers, renumbered_step}
+use Rattle.er_trace.specs.Appended.{AreNumbers, renumbered_site, renumbered_step}
 use Rattle.er_trace.specs.Names.{NameTable}
-use Rattle.er_trace.specs.Trace.{Recording, IsNamed, no_steps}
+use Rattle.er_trace.specs.Trace.{Recording, IsNamed, HasSiteName, no_steps}
 use Rattle.er_trace.specs.declared.appending.NewTable.{NewTable}
 use Rattle.er_text.specs.declared.endings.Lost.{Lost}
 use Rattle.er_text.specs.declared.verbs.Version.{Version}
@@ -28,8 +28,8 @@ pub record StaysAt (old new : Reached) : Type 0 where
   pub tail : new.tail ≡ old.tail
 
 -- what was read of a piece: its steps under names of its own, their lines counted from 0, how many lines and bytes it has, whether all of it was
--- read, and what its last comment says, whose line is counted from 0 too; then the numbers that its names have in the trace that it is added to, how many lines of that text stand before its own, and its steps and lines
--- by these numbers
+-- read, and what its last comment says, whose line is counted from 0 too; then the numbers that its names have in the trace that it is added to, how many lines of that text stand before its own, and its steps, lines
+-- and sites by these numbers
 pub record ReadPiece : Type 0 where
   pub told : Recording
   pub lines : ℕ
@@ -40,6 +40,7 @@ pub record ReadPiece : Type 0 where
   pub before : ℕ
   pub steps : List Step
   pub places : List ℕ
+  pub sites : List ℕ
 
 -- the piece is these bytes, and if all of it was read, it says what they say
 abbrev pub IsPieceOf : Version → List ℕ → ReadPiece → Type 0
@@ -72,27 +73,33 @@ pub record CanBeNumbered (piece : ReadPiece) : Type 0 where
   pub numbers : AreNumbers piece.numbers piece.told.names names
   pub fits : All (λ line. piece.before + line < 2 ^ 64) piece.told.lines
 
--- its steps have the numbers that it knows, and its lines are counted from behind those before
+-- its steps and sites have the numbers that it knows, and its lines are counted from behind those before
 pub record IsNumbered (old new : ReadPiece) : Type 0 where
   pub steps : (names : NameTable) → AreNumbers old.numbers old.told.names names → new.steps ≡ map (renumbered_step old.told.names names) old.told.steps
   pub places : new.places ≡ map (λ line. old.before + line) old.told.lines
+  pub sites : (names : NameTable) → AreNumbers old.numbers old.told.names names → new.sites ≡ map (renumbered_site old.told.names.sites names.sites) old.told.sites
   pub level : length new.places ≡ length new.steps
+  pub level_sites : length new.sites ≡ length new.steps
   pub named : All (IsNamed old.told.names) old.told.steps
+  pub named_sites : All (HasSiteName old.told.names) old.told.sites
   pub lines : new.lines ≡ old.lines
   pub len : new.len ≡ old.len
   pub comment : new.comment ≡ old.comment
 
--- a piece that was read has come to this one, whose steps have their numbers among these names
+-- a piece that was read has come to this one, whose steps and sites have their numbers among these names
 pub record IsReady (before : ℕ) (names : NameTable) (old new : ReadPiece) : Type 0 where
   pub steps : new.steps ≡ map (renumbered_step old.told.names names) old.told.steps
   pub places : new.places ≡ map (λ line. before + line) old.told.lines
+  pub sites : new.sites ≡ map (renumbered_site old.told.names.sites names.sites) old.told.sites
   pub level : length new.places ≡ length new.steps
+  pub level_sites : length new.sites ≡ length new.steps
   pub named : All (IsNamed old.told.names) old.told.steps
+  pub named_sites : All (HasSiteName old.told.names) old.told.sites
   pub lines : new.lines ≡ old.lines
   pub len : new.len ≡ old.len
   pub comment : new.comment ≡ old.comment
 
--- it stands in front of a reader, all of it was read, and the trace that it is added to has names for its steps
+-- it stands in front of a reader, all of it was read, and the trace that it is added to has names for its steps and sites
 pub record MayBeAdded (reader : Reached) (trace : Recording) (piece : ReadPiece) : Type 0 where
   pub read : ReadPiece
   pub names : NameTable
@@ -100,3 +107,4 @@ pub record MayBeAdded (reader : Reached) (trace : Recording) (piece : ReadPiece)
   pub whole : read.whole ≡ true
   pub ready : IsReady reader.place.number names read piece
   pub named : All (IsNamed trace.names) piece.steps
+  pub named_sites : All (HasSiteName trace.names) piece.sites

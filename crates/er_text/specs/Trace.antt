@@ -44,6 +44,11 @@ IsSite v [] site = site ≡ None
 IsSite v (word ∷ []) site = (is_site_word v word ≡ true) × (site ≡ (if bytes_eq word (codes "-") then None else Some word))
 IsSite v (word ∷ more ∷ words) site = ⊥
 
+-- the words behind the size of a reuse name this site, or none: a text 3 alone may have one there
+abbrev pub IsReuseSite : Version → List (List ℕ) → Option (List ℕ) → Type 0
+IsReuseSite v [] site = site ≡ None
+IsReuseSite v (word ∷ words) site = (is_third v ≡ true) × IsSite v (word ∷ words) site
+
 -- the words with which a thread does this, in a text of this version
 abbrev pub IsOperation : Version → List (List ℕ) → List ℕ → Operation → Type 0
 IsOperation v words thread (Acquires lock m) = (words ≡ thread ∷ acquire_word m ∷ lock ∷ []) × (is_lock_name lock ≡ true)
@@ -51,9 +56,9 @@ IsOperation v words thread (Releases lock m) = (words ≡ thread ∷ release_wor
 IsOperation v words thread (Accesses k w site) =
     (address : List ℕ) × (n : ℕ) × (behind : List (List ℕ)) × (words ≡ thread ∷ kind_word k ∷ address ∷ behind)
     × (number_of address ≡ Some n) × (n < 2 ^ 48) × (w ≡ n / 4) × IsSite v behind site
-IsOperation v words thread (Reuses run) =
-    (address size : List ℕ) × (a n : ℕ) × (words ≡ thread ∷ codes "reuse" ∷ address ∷ size ∷ [])
-    × (number_of address ≡ Some a) × (number_of size ≡ Some n) × (n ≤ most_bytes) × (a < 2 ^ 48) × (a + n ≤ 2 ^ 48) × (run ≡ run_of a n)
+IsOperation v words thread (Reuses run site) =
+    (address size : List ℕ) × (a n : ℕ) × (behind : List (List ℕ)) × (words ≡ thread ∷ codes "reuse" ∷ address ∷ size ∷ behind)
+    × (number_of address ≡ Some a) × (number_of size ≡ Some n) × (n ≤ most_bytes) × (a < 2 ^ 48) × (a + n ≤ 2 ^ 48) × (run ≡ run_of a n) × IsReuseSite v behind site
 IsOperation v words thread IgnoresOn = words ≡ thread ∷ codes "ignore-on" ∷ []
 IsOperation v words thread IgnoresOff = words ≡ thread ∷ codes "ignore-off" ∷ []
 IsOperation v words thread (Shows w) =
@@ -116,15 +121,19 @@ is_number_at i operands = is_some (number_of (word_at i operands))
 abbrev pub lock_kinds : List (List ℕ) → List (Bool × TextKind)
 lock_kinds operands = (not (is_lock_name (word_at 0 operands)), BadName) ∷ []
 
+-- a word where a site may stand that is none
+abbrev pub site_kind : Version → List ℕ → Bool × TextKind
+site_kind version word = (has_bytes word && not (is_site_word version word), BadName)
+
 abbrev pub access_kinds : Version → List (List ℕ) → List (Bool × TextKind)
 access_kinds version operands =
     (not (is_number_at 0 operands), BadNumber)
-    ∷ (has_bytes (word_at 1 operands) && not (is_site_word version (word_at 1 operands)), BadName)
+    ∷ site_kind version (word_at 1 operands)
     ∷ (nat_le (2 ^ 48) (number_at 0 operands), AddressOutOfRange) ∷ []
 
-abbrev pub reuse_kinds : List (List ℕ) → List (Bool × TextKind)
-reuse_kinds operands =
-    (not (is_number_at 0 operands), BadNumber) ∷ (not (is_number_at 1 operands), BadNumber)
+abbrev pub reuse_kinds : Version → List (List ℕ) → List (Bool × TextKind)
+reuse_kinds version operands =
+    (not (is_number_at 0 operands), BadNumber) ∷ (not (is_number_at 1 operands), BadNumber) ∷ site_kind version (word_at 2 operands)
     ∷ (nat_lt most_bytes (number_at 1 operands), SizeTooLarge)
     ∷ (nat_le (2 ^ 48) (number_at 0 operands) || nat_lt (2 ^ 48) (number_at 0 operands + number_at 1 operands), AddressOutOfRange) ∷ []
 
@@ -144,7 +153,7 @@ operand_kinds version verb.ReadLock operands = lock_kinds operands
 operand_kinds version verb.ReadUnlock operands = lock_kinds operands
 operand_kinds version verb.Read operands = access_kinds version operands
 operand_kinds version verb.Write operands = access_kinds version operands
-operand_kinds version verb.Reuse operands = reuse_kinds operands
+operand_kinds version verb.Reuse operands = reuse_kinds version operands
 operand_kinds version verb.IgnoreOn operands = []
 operand_kinds version verb.IgnoreOff operands = []
 operand_kinds version verb.Show operands = show_kinds operands
@@ -157,7 +166,7 @@ operand_kinds version verb.Await operands = lock_kinds operands
 abbrev pub verb_kinds : Version → Option Verb → List (List ℕ) → List (Bool × TextKind)
 verb_kinds version None operands = (true, BadVerb) ∷ []
 verb_kinds version (Some v) operands =
-    (nat_lt (length operands) (least_of v), MissingOperand) ∷ (nat_lt (most_of v) (length operands), ExtraOperand) ∷ operand_kinds version v operands
+    (nat_lt (length operands) (least_of v), MissingOperand) ∷ (nat_lt (most_of version v) (length operands), ExtraOperand) ∷ operand_kinds version v operands
 
 -- the faults of an event line, in their order
 abbrev pub event_kinds : Version → List (List ℕ) → List (Bool × TextKind)

@@ -81,20 +81,20 @@ least_of Join = 1
 least_of Signal = 1
 least_of Await = 1
 
--- how many operands a verb allows
-abbrev pub most_of : Verb → ℕ
-most_of Lock = 1
-most_of Unlock = 1
-most_of ReadLock = 1
-most_of ReadUnlock = 1
-most_of Read = 2
-most_of Write = 2
-most_of Reuse = 2
-most_of IgnoreOn = 0
-most_of IgnoreOff = 0
-most_of Show = 1
-most_of Level = 1
-most_of Start = 1
-most_of Join = 1
-most_of Signal = 1
-most_of Await = 1
+-- how many operands a verb allows in a text of this version
+abbrev pub most_of : Version → Verb → ℕ
+most_of version Lock = 1
+most_of version Unlock = 1
+most_of version ReadLock = 1
+most_of version ReadUnlock = 1
+most_of version Read = 2
+most_of version Write = 2
+most_of version Reuse = if is_third version then 3 else 2
+most_of version IgnoreOn = 0
+most_of version IgnoreOff = 0
+most_of version Show = 1
+most_of version Level = 1
+most_of version Start = 1
+most_of version Join = 1
+most_of version Signal = 1
+most_of version Await = 1

@@ -1,6 +1,7 @@
 //! The steps that a line adds to a trace.
 ghost use Rattle.std.specs.Prelude.{◌≡◌, ◌<◌, ℕ, length, Some, None, IfOk, OnOk};
 ghost use Rattle.er_trace.specs.Names.{number_of};
+ghost use Rattle.er_trace.specs.Trace.{HasSiteName};
 ghost use Rattle.er_text.specs.Inner.Parsing.{event_line, seen_name};
 ghost use Rattle.er_text.specs.Events.{Acquires, Releases, Accesses, with_line, site_number, with_site_of, with_reuses, run_parts};
 
@@ -34,7 +35,7 @@ pub(crate) fn add_acquire(
     let thread = trace.thread(thread)?;
     let lock = trace.lock(lock)?;
     let event = Event::Acquire(lock, mode);
-    trace.push(Step { thread, event }, line)
+    trace.push(Step { thread, event }, line, Site::MISSING)
 }
 
 /// Adds the release of a lock. The thread is numbered first.
@@ -51,7 +52,7 @@ pub(crate) fn add_release(
     let thread = trace.thread(thread)?;
     let lock = trace.lock(lock)?;
     let event = Event::Release(lock, mode);
-    trace.push(Step { thread, event }, line)
+    trace.push(Step { thread, event }, line, Site::MISSING)
 }
 
 /// Adds an access without a site. The thread is numbered first.
@@ -66,7 +67,7 @@ pub(crate) fn add_lone_access(
 {
     let thread = trace.thread(thread)?;
     let event = Event::Access(kind, word, Site::MISSING);
-    trace.push(Step { thread, event }, line)
+    trace.push(Step { thread, event }, line, Site::MISSING)
 }
 
 /// Adds an access at a site. The thread is numbered first.
@@ -84,25 +85,27 @@ pub(crate) fn add_access(
     let thread = trace.thread(thread)?;
     let site = trace.site(site)?;
     let event = Event::Access(kind, word, site);
-    trace.push(Step { thread, event }, line)
+    trace.push(Step { thread, event }, line, site)
 }
 
-/// Adds a step for each page of a range.
+/// Adds a step for each page of a range, at this site.
 fn add_reuse(
     trace: &mut Trace,
     line: u64,
     thread: ThreadId,
     range: Option<WordRange>,
+    site: Site,
 ) -> Result<(), AllocError>
-    requires { thread < length trace.old.names.threads }
-    ensures { OnOk result (trace.new ≡ with_reuses trace.old line thread (run_parts range)) }
+    requires thread { thread < length trace.old.names.threads }
+    requires site { HasSiteName trace.old.names site }
+    ensures { OnOk result (trace.new ≡ with_reuses trace.old line thread site (run_parts range)) }
 {
     let Some(range) = range else {
         return Ok(());
     };
     for i in 0..range.parts() {
         let event = Event::Reuse(range.part(i));
-        trace.push(Step { thread, event }, line)?;
+        trace.push(Step { thread, event }, line, site)?;
     }
     Ok(())
 }
@@ -121,9 +124,15 @@ pub(crate) fn add_steps(
     let event = match parsed.action {
         Action::Acquire(lock, mode) => Event::Acquire(trace.lock(lock)?, mode),
         Action::Release(lock, mode) => Event::Release(trace.lock(lock)?, mode),
-        Action::Access(kind, word, site) => Event::Access(kind, word, site_number(trace, site)?),
-        Action::Reuse(range) => {
-            add_reuse(trace, line, thread, range)?;
+        Action::Access(kind, word, site) => {
+            let site = site_number(trace, site)?;
+            let event = Event::Access(kind, word, site);
+            trace.push(Step { thread, event }, line, site)?;
+            return Ok(thread);
+        }
+        Action::Reuse(range, site) => {
+            let site = site_number(trace, site)?;
+            add_reuse(trace, line, thread, range, site)?;
             return Ok(thread);
         }
         Action::IgnoreOn => Event::IgnoreOn,
@@ -135,6 +144,6 @@ pub(crate) fn add_steps(
         Action::Signal(object) => Event::Sync(Sync::Signal(trace.lock(object)?)),
         Action::Await(object) => Event::Sync(Sync::Await(trace.lock(object)?)),
     };
-    trace.push(Step { thread, event }, line)?;
+    trace.push(Step { thread, event }, line, Site::MISSING)?;
     Ok(thread)
 }

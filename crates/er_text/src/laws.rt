@@ -18,10 +18,10 @@ pub fn trace_or_fault()
     ensures one_fault { (text : List ℕ) (limit : ℕ) (f g : TextFault) → IsFault text limit f → IsFault text limit g → f ≡ g }
 {}
 
-/// Each step of a trace is what one of its event lines says, and has that line's number. Its thread, lock and site have there the
-/// names that the trace gives for their numbers.
+/// Each step of a trace is what one of its event lines says, and has that line's number and site. Its thread, lock and site have there
+/// the names that the trace gives for their numbers.
 pub fn steps_are_named()
-    ensures { (text : List ℕ) (limit : ℕ) (t : Recording) (is : IsTrace text limit t) → AreNamed is.version is.events t.names t.steps t.lines }
+    ensures { (text : List ℕ) (limit : ℕ) (t : Recording) (is : IsTrace text limit t) → AreNamed is.version is.events t.names t.steps t.lines t.sites }
 {}
 
 /// A text is a list of rules or has a fault, and never both. It has one list of rules at most, and one fault.
@@ -34,6 +34,7 @@ pub fn rules_or_fault()
 
 /// The caller of a reader of batches may take the steps of the trace away: they are then the last of those that were taken.
 pub fn a_batch_may_be_forgotten()
-    ensures { (text : List ℕ) (steps : List Step) (lines : List ℕ) (reader : Reached) (known : Option (List ℕ)) (trace : Recording)
-        → HasRead text steps lines reader known trace → HasRead text (steps ++ trace.steps) (lines ++ trace.lines) reader known (without_steps trace) }
+    ensures { (text : List ℕ) (steps : List Step) (lines sites : List ℕ) (reader : Reached) (known : Option (List ℕ)) (trace : Recording)
+        → HasRead text steps lines sites reader known trace
+        → HasRead text (steps ++ trace.steps) (lines ++ trace.lines) (sites ++ trace.sites) reader known (without_steps trace) }
 {}

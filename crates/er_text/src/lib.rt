@@ -9,9 +9,8 @@
 //! (`told`), and every text has exactly one of these (`trace_or_fault`, `rules_or_fault`); batches, one after another, are the
 //! trace of the whole text, also if the caller clears the trace between them (`told` of `next_batch`, `a_batch_may_be_forgotten`);
 //! at the end of a text the reader of batches knows whether its last line lacks its LF, whether a text 3 has its line `end`, and how many
-//! events are lost by its last comment (`ends`);
-//! a fault of the reader is reported if and only if the reader failed (`failed`); no reading takes more than `byte_limit` and 1,025
-//! bytes (`taken`).
+//! events are lost by its last comment (`ends`); a fault of the reader is reported if and only if the reader failed (`failed`); no reading
+//! takes more than `byte_limit` and 1,025 bytes (`taken`).
 //!
 //! ```
 //! let mut reader = Device::new(b"eraser trace 1\nt1 lock m\nt1 write 0x1000 save.c:12\n".as_slice());

@@ -19,7 +19,7 @@ pub(crate) enum Action<'a> {
     Acquire(&'a str, Mode),
     Release(&'a str, Mode),
     Access(Kind, Word, Option<&'a str>),
-    Reuse(Option<WordRange>),
+    Reuse(Option<WordRange>, Option<&'a str>),
     IgnoreOn,
     IgnoreOff,
     Show(Word),
@@ -57,6 +57,7 @@ pub(crate) struct Words<'a> {
     pub(crate) third: &'a [u8],
     pub(crate) fourth: &'a [u8],
     pub(crate) fifth: &'a [u8],
+    pub(crate) sixth: &'a [u8],
 }
 
 pub(crate) fn split_words(line: &[u8]) -> Words<'_>
@@ -66,13 +67,15 @@ pub(crate) fn split_words(line: &[u8]) -> Words<'_>
     let (second, rest) = next_word(rest);
     let (third, rest) = next_word(rest);
     let (fourth, rest) = next_word(rest);
-    let (fifth, _) = next_word(rest);
+    let (fifth, rest) = next_word(rest);
+    let (sixth, _) = next_word(rest);
     Words {
         first,
         second,
         third,
         fourth,
         fifth,
+        sixth,
     }
 }
 
@@ -98,9 +101,9 @@ impl<'a> Words<'a> {
         version.is_third() && self.first == b"end".as_slice() && self.second.is_empty()
     }
 
-    /// How many operands there are, up to 3.
+    /// How many operands there are, up to 4.
     fn operand_count(&self) -> u32
-        ensures { result ≡ count_of self.now.third.now self.now.fourth.now self.now.fifth.now }
+        ensures { result ≡ count_of self.now.third.now self.now.fourth.now self.now.fifth.now self.now.sixth.now }
     {
         if self.third.is_empty() {
             0
@@ -108,8 +111,10 @@ impl<'a> Words<'a> {
             1
         } else if self.fifth.is_empty() {
             2
-        } else {
+        } else if self.sixth.is_empty() {
             3
+        } else {
+            4
         }
     }
 
@@ -130,7 +135,7 @@ impl<'a> Words<'a> {
     }
 
     fn action(&self, version: Version) -> Result<Action<'a>, TextKind>
-        ensures { GivesOperation result (operation_in version (verb_of version self.now.second.now) self.now.third.now self.now.fourth.now self.now.fifth.now) }
+        ensures { GivesOperation result (operation_in version (verb_of version self.now.second.now) self.now.third.now self.now.fourth.now self.now.fifth.now self.now.sixth.now) }
     {
         let Some(verb) = verb_of(version, self.second) else {
             return Err(TextKind::BadVerb);
@@ -139,10 +144,10 @@ impl<'a> Words<'a> {
         if count < verb.least() {
             return Err(TextKind::MissingOperand);
         }
-        if count > verb.most() {
+        if count > verb.most(version) {
             return Err(TextKind::ExtraOperand);
         }
-        operands(version, verb, self.third, self.fourth)
+        operands(version, verb, self.third, self.fourth, self.fifth)
     }
 }
 
@@ -151,8 +156,9 @@ fn operands<'a>(
     verb: Verb,
     first: &'a [u8],
     second: &'a [u8],
+    third: &'a [u8],
 ) -> Result<Action<'a>, TextKind>
-    ensures { GivesOperation result (operands_in version verb first.now second.now) }
+    ensures { GivesOperation result (operands_in version verb first.now second.now third.now) }
 {
     match verb {
         Verb::Lock => Ok(Action::Acquire(lock(first)?, Mode::Write)),
@@ -161,7 +167,7 @@ fn operands<'a>(
         Verb::ReadUnlock => Ok(Action::Release(lock(first)?, Mode::Read)),
         Verb::Read => access(version, Kind::Read, first, second),
         Verb::Write => access(version, Kind::Write, first, second),
-        Verb::Reuse => reuse(first, second),
+        Verb::Reuse => reuse(version, first, second, third),
         Verb::IgnoreOn => Ok(Action::IgnoreOn),
         Verb::IgnoreOff => Ok(Action::IgnoreOff),
         Verb::Show => Ok(Action::Show(word_at(number(first)?)?)),
@@ -186,12 +192,18 @@ fn access<'a>(
     Ok(Action::Access(kind, word_at(address)?, site))
 }
 
-fn reuse<'a>(address: &'a [u8], size: &'a [u8]) -> Result<Action<'a>, TextKind>
-    ensures { GivesOperation result (reuse_in address.now size.now) }
+fn reuse<'a>(
+    version: Version,
+    address: &'a [u8],
+    size: &'a [u8],
+    site: &'a [u8],
+) -> Result<Action<'a>, TextKind>
+    ensures { GivesOperation result (reuse_in version address.now size.now site.now) }
 {
     let address = number(address)?;
     let size = number(size)?;
-    Ok(Action::Reuse(range_of(address, size)?))
+    let site = site_of(version, site)?;
+    Ok(Action::Reuse(range_of(address, size)?, site))
 }
 
 pub(crate) fn number(word: &[u8]) -> Result<u64, TextKind>

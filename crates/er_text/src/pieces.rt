@@ -16,7 +16,7 @@ use crate::endings::Lost;
 use crate::reading::{Header, TraceReader};
 use crate::stages::Stage;
 use crate::verbs::Version;
-use er_event::Step;
+use er_event::{Site, Step};
 use er_trace::{NameKeys, NewTable, Trace};
 use std::alloc::{AllocError, Global};
 use std::marker::Model;
@@ -45,6 +45,7 @@ pub struct Piece {
     before: u64,
     steps: Vec<Step>,
     places: Vec<u64>,
+    sites: Vec<Site>,
 }
 
 impl Model for Piece {
@@ -52,7 +53,7 @@ impl Model for Piece {
 
     ghost Value = { ReadPiece };
 
-    ghost view = { λ p. record { told = p.trace; lines = p.lines; len = p.len; whole = p.whole; comment = p.comment; numbers = p.numbers; before = p.before; steps = p.steps.items; places = p.places.items } };
+    ghost view = { λ p. record { told = p.trace; lines = p.lines; len = p.len; whole = p.whole; comment = p.comment; numbers = p.numbers; before = p.before; steps = p.steps.items; places = p.places.items; sites = p.sites.items } };
 }
 
 impl Piece {
@@ -70,6 +71,7 @@ impl Piece {
             before: 0,
             steps: Vec::new(alloc),
             places: Vec::new(alloc),
+            sites: Vec::new(alloc),
         }
     }
 
@@ -119,7 +121,7 @@ impl Piece {
         Ok(())
     }
 
-    /// Gives its steps the numbers that were noted, and counts its lines from behind those before. What was read is no longer there then.
+    /// Gives its steps and sites the numbers that were noted, and counts its lines from behind those before. What was read is no longer there then.
     pub fn number(&mut self)
         requires { CanBeNumbered self.old }
         ensures { IsNumbered self.old self.new }
@@ -129,6 +131,7 @@ impl Piece {
             self.before,
             &mut self.steps,
             &mut self.places,
+            &mut self.sites,
         );
     }
 }
@@ -231,12 +234,12 @@ impl TraceReader {
         requires { MayBeAdded self.old trace.old piece.now }
 
         // Of a text that was read so far under some names it gives the steps of the piece behind the others, under its names too.
-        ensures told { (text : List ℕ) (steps : List Steps) (lines : List ℕ) (known : Option (List ℕ)) (names : NameTable) (read : ReadPiece)
+        ensures told { (text : List ℕ) (steps : List Steps) (lines sites : List ℕ) (known : Option (List ℕ)) (names : NameTable) (read : ReadPiece)
             → StandsInFront self.old read → read.whole ≡ true → IsReady self.old.place.number (with_table names read.told.names) read piece.now
-            → HasRead text steps lines self.old known (record trace.old { names = names })
-            → OnOk result (HasRead text steps lines self.new known (record trace.new { names = with_table names read.told.names })) }
+            → HasRead text steps lines sites self.old known (record trace.old { names = names })
+            → OnOk result (HasRead text steps lines sites self.new known (record trace.new { names = with_table names read.told.names })) }
 
-        ensures trace { OnOk result (trace.new ≡ with_steps trace.old piece.now.steps piece.now.places) }
+        ensures trace { OnOk result (trace.new ≡ with_steps trace.old piece.now.steps piece.now.places piece.now.sites) }
         ensures number { OnOk result (self.new.place.number ≡ self.old.place.number + piece.now.lines) }
         ensures start { OnOk result (self.new.place.start ≡ self.old.place.start + piece.now.len) }
         ensures ahead { OnOk result (self.new.place.ahead ≡ drop piece.now.len self.old.place.ahead) }
@@ -247,7 +250,11 @@ impl TraceReader {
         ensures most { taken_by self.new.place ≤ self.new.place.limit + bytes_past_limit }
     {
         let line = self.lines.number();
-        trace.add_steps(piece.steps.as_slice(), piece.places.as_slice())?;
+        trace.add_steps(
+            piece.steps.as_slice(),
+            piece.places.as_slice(),
+            piece.sites.as_slice(),
+        )?;
         self.lines.pass_lines(piece.lines, piece.len);
         self.cut = cut_behind(self.cut, piece.len);
         self.header.comment = comment_behind(line, self.header.comment, piece.comment);

@@ -216,7 +216,7 @@ impl TraceReader {
         ensures ahead { IfOk result (λ r. length r.place.ahead ≡ 0) }
         ensures stage { IfOk result (λ r. r.stage ≡ Stage.Front) }
         ensures tail { IfOk result (λ r. r.tail ≡ no_tail) }
-        ensures starts { IfOk result (λ r. (text : List ℕ) → HasRead text [] [] r (Some text) no_steps) }
+        ensures starts { IfOk result (λ r. (text : List ℕ) → HasRead text [] [] [] r (Some text) no_steps) }
     {
         let lines = LineReader::new(alloc, limit)?;
         Ok(TraceReader::over(alloc, lines))
@@ -232,7 +232,7 @@ impl TraceReader {
         ensures ahead { IfOk result (λ r. length r.place.ahead ≡ 0) }
         ensures stage { IfOk result (λ r. r.stage ≡ Stage.Front) }
         ensures tail { IfOk result (λ r. r.tail ≡ no_tail) }
-        ensures starts { IfOk result (λ r. (text : List ℕ) → HasRead text [] [] r (Some text) no_steps) }
+        ensures starts { IfOk result (λ r. (text : List ℕ) → HasRead text [] [] [] r (Some text) no_steps) }
     {
         let lines = LineReader::with_window(alloc, limit, size)?;
         Ok(TraceReader::over(alloc, lines))
@@ -246,7 +246,7 @@ impl TraceReader {
         ensures place { result.place ≡ lines }
         ensures stage { result.stage ≡ Stage.Front }
         ensures tail { result.tail ≡ no_tail }
-        ensures starts { (text : List ℕ) → HasRead text [] [] result (Some text) no_steps }
+        ensures starts { (text : List ℕ) → HasRead text [] [] [] result (Some text) no_steps }
     {
         TraceReader {
             lines,
@@ -265,9 +265,9 @@ impl TraceReader {
         requires { has_failed reader.old ≡ false }
 
         // What was read of a text stays read, and what is left of it is left.
-        ensures told { (text : List ℕ) (steps : List Step) (lines : List ℕ) (trace : Recording)
-            → HasRead text steps lines self.old (R.remaining (inner_of reader.old)) trace
-            → OnOk result (HasRead text steps lines self.new (R.remaining (inner_of reader.new)) trace) }
+        ensures told { (text : List ℕ) (steps : List Step) (lines sites : List ℕ) (trace : Recording)
+            → HasRead text steps lines sites self.old (R.remaining (inner_of reader.old)) trace
+            → OnOk result (HasRead text steps lines sites self.new (R.remaining (inner_of reader.new)) trace) }
 
         ensures same { StaysAt self.old self.new }
         ensures fault { IfErr result (λ why. why ≡ ReadFault.Read) }
@@ -396,13 +396,13 @@ impl TraceReader {
         requires { has_failed reader.old ≡ false }
 
         // Of a text that was read so far it gives more steps, or the whole trace at the end, or the first fault of the text.
-        ensures told { (text : List ℕ) (steps : List Step) (lines : List ℕ)
-            → HasRead text steps lines self.old (R.remaining (inner_of reader.old)) trace.old
-            → GivesBatch text steps lines self.new (R.remaining (inner_of reader.new)) trace.new result }
+        ensures told { (text : List ℕ) (steps : List Step) (lines sites : List ℕ)
+            → HasRead text steps lines sites self.old (R.remaining (inner_of reader.old)) trace.old
+            → GivesBatch text steps lines sites self.new (R.remaining (inner_of reader.new)) trace.new result }
 
         // At the end of the text it knows how the text ends.
-        ensures ends { (text : List ℕ) (steps : List Step) (lines : List ℕ)
-            → HasRead text steps lines self.old (R.remaining (inner_of reader.old)) trace.old
+        ensures ends { (text : List ℕ) (steps : List Step) (lines sites : List ℕ)
+            → HasRead text steps lines sites self.old (R.remaining (inner_of reader.old)) trace.old
             → IfOk result (λ batch. batch ≡ Batch.End → KnowsEnd text self.new) }
 
         // The steps that the trace had stay in front, and names keep their numbers.

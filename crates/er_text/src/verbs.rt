@@ -9,7 +9,7 @@ pub enum Version {
     One,
     /// It has interrupt levels.
     Two,
-    /// It has starts and joins of threads, signals and awaits, and the line `end`.
+    /// It has starts and joins of threads, signals and awaits, sites of reuses, and the line `end`.
     Three,
 }
 
@@ -140,12 +140,13 @@ impl Verb {
         }
     }
 
-    /// How many operands it allows.
-    pub(crate) fn most(self) -> u32
-        ensures { result ≡ most_of self }
+    /// How many operands it allows in a text of this version.
+    pub(crate) fn most(self, version: Version) -> u32
+        ensures { result ≡ most_of version self }
     {
         match self {
             Verb::IgnoreOn | Verb::IgnoreOff => 0,
+            Verb::Reuse if version.is_third() => 3,
             Verb::Read | Verb::Write | Verb::Reuse => 2,
             _ => 1,
         }

@@ -9,7 +9,7 @@ use Rattle.er_event.specs.declared.steps.Step.{Step}
 use Rattle.er_event.specs.declared.steps.Sync.{Sync as Order}
 use Rattle.er_event.specs.declared.steps.Sync.TheVariants.{Start, Join, Signal, Await}
 use Rattle.er_trace.specs.Names.{NameTable}
-use Rattle.er_trace.specs.Trace.{Recording, no_steps, HasOrderNames, HasNames, IsNamed, with_thread_name, with_lock_name, with_site_name}
+use Rattle.er_trace.specs.Trace.{Recording, no_steps, HasOrderNames, HasNames, IsNamed, HasSiteName, with_steps, with_thread_name, with_lock_name, with_site_name}
 use Rattle.er_trace.specs.Appended.{with_names, with_table, renumbered, renumbered_site, renumbered_order, renumbered_event, renumbered_step, appended}
 use Rattle.er_trace.proofs.AppendedLemmas.{with_more, renumbered_below, same_number, more_names, all_more}
 
@@ -80,16 +80,27 @@ module _ (old new later newer : NameTable) (same : AllSame old new later newer) 
       ap (λ (t : Step). t ∷ map (renumbered_step later newer) steps) (same_step s all.0)
       ∙ ap (λ (ts : List Step). renumbered_step old new s ∷ ts) (same_steps steps all.1)
 
+  same_sites : (sites : List ℕ) → AllByRecursion (HasSiteName old) sites → map (renumbered_site later.sites newer.sites) sites ≡ map (renumbered_site old.sites new.sites) sites
+  same_sites [] all = refl
+  same_sites (site ∷ sites) all =
+      ap (λ (n : ℕ). n ∷ map (renumbered_site later.sites newer.sites) sites) (same_site site all.0)
+      ∙ ap (λ (ns : List ℕ). renumbered_site old.sites new.sites site ∷ ns) (same_sites sites all.1)
+
 -- recordings with the same lines
-abbrev parts : List Step → List ℕ → NameTable → Recording
-parts steps lines names = record { steps = steps; lines = lines; names = names }
+abbrev parts : List Step → List ℕ → List ℕ → NameTable → Recording
+parts steps lines sites names = record { steps = steps; lines = lines; sites = sites; names = names }
 
-same_parts : (steps more : List Step) (lines : List ℕ) (names others : NameTable) → steps ≡ more → names ≡ others → parts steps lines names ≡ parts more lines others
-same_parts steps more lines names others e f = ap (λ (s : List Step). parts s lines names) e ∙ ap (λ (n : NameTable). parts more lines n) f
+same_parts : (steps more : List Step) (lines sites others : List ℕ) (names later : NameTable)
+    → steps ≡ more → sites ≡ others → names ≡ later → parts steps lines sites names ≡ parts more lines others later
+same_parts steps more lines sites others names later e f g =
+    ap (λ (s : List Step). parts s lines sites names) e ∙ ap (λ (ns : List ℕ). parts more lines ns names) f ∙ ap (λ (n : NameTable). parts more lines others n) g
 
-module _ (before : ℕ) (r q : Recording) (named : All (IsNamed q.names) q.steps) (x : List ℕ) where
+module _ (before : ℕ) (r q : Recording) (named : All (IsNamed q.names) q.steps) (known : All (HasSiteName q.names) q.sites) (x : List ℕ) where
   all : AllByRecursion (IsNamed q.names) q.steps
   all = recursion_from_All (IsNamed q.names) q.steps named
+
+  all_sites : AllByRecursion (HasSiteName q.names) q.sites
+  all_sites = recursion_from_All (HasSiteName q.names) q.sites known
 
   -- one more name of each sort
   pub appended_thread : appended before r (with_thread_name q x) ≡ with_thread_name (appended before r q) x
@@ -97,7 +108,8 @@ module _ (before : ℕ) (r q : Recording) (named : All (IsNamed q.names) q.steps
       let later : NameTable = (with_thread_name q x).names in
       let same : AllSame q.names (with_table r.names q.names) later (with_table r.names later) =
       record { threads = λ n below. same_number r.names.threads q.names.threads x n below; locks = λ n below. refl; sites = λ n below. refl } in
-      same_parts _ _ _ _ _ (ap (λ (s : List Step). r.steps ++ s) (same_steps q.names (with_table r.names q.names) later (with_table r.names later) same q.steps all))
+      same_parts _ _ _ _ _ _ _ (ap (λ (s : List Step). r.steps ++ s) (same_steps q.names (with_table r.names q.names) later (with_table r.names later) same q.steps all))
+      (ap (λ (ns : List ℕ). r.sites ++ ns) (same_sites q.names (with_table r.names q.names) later (with_table r.names later) same q.sites all_sites))
       (ap (λ (names : List (List ℕ)). record (with_table r.names q.names) { threads = names }) (with_more r.names.threads q.names.threads x))
 
   pub appended_lock : appended before r (with_lock_name q x) ≡ with_lock_name (appended before r q) x
@@ -105,7 +117,8 @@ module _ (before : ℕ) (r q : Recording) (named : All (IsNamed q.names) q.steps
       let later : NameTable = (with_lock_name q x).names in
       let same : AllSame q.names (with_table r.names q.names) later (with_table r.names later) =
       record { threads = λ n below. refl; locks = λ n below. same_number r.names.locks q.names.locks x n below; sites = λ n below. refl } in
-      same_parts _ _ _ _ _ (ap (λ (s : List Step). r.steps ++ s) (same_steps q.names (with_table r.names q.names) later (with_table r.names later) same q.steps all))
+      same_parts _ _ _ _ _ _ _ (ap (λ (s : List Step). r.steps ++ s) (same_steps q.names (with_table r.names q.names) later (with_table r.names later) same q.steps all))
+      (ap (λ (ns : List ℕ). r.sites ++ ns) (same_sites q.names (with_table r.names q.names) later (with_table r.names later) same q.sites all_sites))
       (ap (λ (names : List (List ℕ)). record (with_table r.names q.names) { locks = names }) (with_more r.names.locks q.names.locks x))
 
   pub appended_site : appended before r (with_site_name q x) ≡ with_site_name (appended before r q) x
@@ -113,24 +126,31 @@ module _ (before : ℕ) (r q : Recording) (named : All (IsNamed q.names) q.steps
       let later : NameTable = (with_site_name q x).names in
       let same : AllSame q.names (with_table r.names q.names) later (with_table r.names later) =
       record { threads = λ n below. refl; locks = λ n below. refl; sites = λ n below. same_number r.names.sites q.names.sites x n below } in
-      same_parts _ _ _ _ _ (ap (λ (s : List Step). r.steps ++ s) (same_steps q.names (with_table r.names q.names) later (with_table r.names later) same q.steps all))
+      same_parts _ _ _ _ _ _ _ (ap (λ (s : List Step). r.steps ++ s) (same_steps q.names (with_table r.names q.names) later (with_table r.names later) same q.steps all))
+      (ap (λ (ns : List ℕ). r.sites ++ ns) (same_sites q.names (with_table r.names q.names) later (with_table r.names later) same q.sites all_sites))
       (ap (λ (names : List (List ℕ)). record (with_table r.names q.names) { sites = names }) (with_more r.names.sites q.names.sites x))
 
 -- and more steps, which have names there
-abbrev pub with_more_steps : Recording → List Step → List ℕ → Recording
-with_more_steps r steps lines = record r { steps = r.steps ++ steps; lines = r.lines ++ lines }
-
-pub appended_steps : (before : ℕ) (r q : Recording) (steps : List Step) (lines : List ℕ)
-    → appended before r (with_more_steps q steps lines)
-    ≡ with_more_steps (appended before r q) (map (renumbered_step q.names (with_table r.names q.names)) steps) (map (λ line. before + line) lines)
-appended_steps before r q steps lines =
+pub appended_steps : (before : ℕ) (r q : Recording) (steps : List Step) (lines sites : List ℕ)
+    → appended before r (with_steps q steps lines sites)
+    ≡ with_steps (appended before r q) (map (renumbered_step q.names (with_table r.names q.names)) steps) (map (λ line. before + line) lines)
+    (map (renumbered_site q.names.sites (with_names r.names.sites q.names.sites)) sites)
+appended_steps before r q steps lines sites =
     let f : Step → Step = renumbered_step q.names (with_table r.names q.names) in
     let g : ℕ → ℕ = λ line. before + line in
-    rw (map-append f q.steps steps, map-append g q.lines lines, append_assoc r.steps (map f q.steps) (map f steps), append_assoc r.lines (map g q.lines) (map g lines)) refl
+    let h : ℕ → ℕ = renumbered_site q.names.sites (with_names r.names.sites q.names.sites) in
+    rw (
+      map-append f q.steps steps,
+      map-append g q.lines lines,
+      map-append h q.sites sites,
+      append_assoc r.steps (map f q.steps) (map f steps),
+      append_assoc r.lines (map g q.lines) (map g lines),
+      append_assoc r.sites (map h q.sites) (map h sites),
+    ) refl
 
 -- nothing to append
 pub appended_nothing : (before : ℕ) (r : Recording) → appended before r no_steps ≡ r
-appended_nothing before r = rw (append-nil r.steps, append-nil r.lines) refl
+appended_nothing before r = rw (append-nil r.steps, append-nil r.lines, append-nil r.sites) refl
 
 -- steps that have names keep them once another one has appeared
 order_still : (b c : NameTable) (o : Order) → length b.threads ≤ length c.threads → length b.locks ≤ length c.locks → HasOrderNames b o → HasOrderNames c o
@@ -159,6 +179,13 @@ steps_still b c steps threads locks sites all =
     } in
     All-weaker (IsNamed b) (IsNamed c) one steps all
 
+-- and so do sites
+sites_still : (b c : NameTable) (sites : List ℕ) → length b.sites ≤ length c.sites → All (HasSiteName b) sites → All (HasSiteName c) sites
+sites_still b c sites more all = All-weaker (HasSiteName b) (HasSiteName c) (λ n is. omega (arith, more, is)) sites all
+
+pub known_with_site : (q : Recording) (known : All (HasSiteName q.names) q.sites) (x : List ℕ) → All (HasSiteName (with_site_name q x).names) q.sites
+known_with_site q known x = sites_still q.names (with_site_name q x).names q.sites (more_names q.names.sites x) known
+
 module _ (q : Recording) (named : All (IsNamed q.names) q.steps) (x : List ℕ) where
   pub named_with_thread : All (IsNamed (with_thread_name q x).names) q.steps
   named_with_thread = steps_still q.names (with_thread_name q x).names q.steps (more_names q.names.threads x) (omega arith) (omega arith) named
@@ -178,3 +205,12 @@ pub new_named : (a b : NameTable) (steps : List Step) → All (IsNamed b) steps 
 new_named a b steps named =
     let P : Step → Type 0 = λ s. IsNamed (with_table a b) (renumbered_step b (with_table a b) s) in
     All-map (IsNamed (with_table a b)) (renumbered_step b (with_table a b)) steps (All-weaker (IsNamed b) P (step_named a b) steps named)
+
+-- and the same of sites
+pub sites_still_named : (a b : NameTable) (sites : List ℕ) → All (HasSiteName a) sites → All (HasSiteName (with_table a b)) sites
+sites_still_named a b sites named = sites_still a (with_table a b) sites (all_more a.sites b.sites) named
+
+pub new_sites_named : (a b : NameTable) (sites : List ℕ) → All (HasSiteName b) sites → All (HasSiteName (with_table a b)) (map (renumbered_site b.sites (with_names a.sites b.sites)) sites)
+new_sites_named a b sites named =
+    let P : ℕ → Type 0 = λ n. HasSiteName (with_table a b) (renumbered_site b.sites (with_names a.sites b.sites) n) in
+    All-map (HasSiteName (with_table a b)) (renumbered_site b.sites (with_names a.sites b.sites)) sites (All-weaker (HasSiteName b) P (site_below a.sites b.sites) sites named)

@@ -60,6 +60,7 @@ abbrev pub appended : ℕ → Recording → Recording → Recording
 appended before r q = record {
   steps = r.steps ++ map (renumbered_step q.names (with_table r.names q.names)) q.steps;
   lines = r.lines ++ map (λ line. before + line) q.lines;
+  sites = r.sites ++ map (renumbered_site q.names.sites (with_names r.names.sites q.names.sites)) q.sites;
   names = with_table r.names q.names;
 }
 

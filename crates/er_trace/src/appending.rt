@@ -1,9 +1,9 @@
 //! Numbers of one trace's names in another, and its steps with these numbers.
 ghost use Rattle.std.specs.Prelude.{◌≡◌, ◌+◌, ◌-◌, ◌<◌, ◌≤◌, ◌^◌, ◌++◌, ℕ, [], ◌∷◌, All, get_or, length, map, OnOk, OnErr};
-ghost use Rattle.er_trace.specs.Appended.{AreNumbers, renumbered_order, renumbered_event, renumbered_step};
+ghost use Rattle.er_trace.specs.Appended.{AreNumbers, renumbered_order, renumbered_event, renumbered_site, renumbered_step};
 ghost use Rattle.er_trace.specs.Inner.Renumbering.{new_site};
 ghost use Rattle.er_trace.specs.Names.{NameTable, most_names};
-ghost use Rattle.er_trace.specs.Trace.{HasOrderNames, HasNames, IsNamed};
+ghost use Rattle.er_trace.specs.Trace.{HasOrderNames, HasNames, IsNamed, HasSiteName};
 
 use er_event::{Event, LockId, Site, Step, Sync, ThreadId};
 use std::alloc::{AllocError, Global};
@@ -84,6 +84,16 @@ impl NewTable {
     {
         for at in 0..steps.len() {
             steps[at] = self.step(steps[at]);
+        }
+    }
+
+    /// Gives each of these sites its new number.
+    pub(crate) fn number_sites(&self, sites: &mut [Site])
+        requires { (old : NameTable) × (new : NameTable) × AreNumbers self.now old new × All (HasSiteName old) sites.old }
+        ensures { (old new : NameTable) → AreNumbers self.now old new → All (HasSiteName old) sites.old → sites.new ≡ map (renumbered_site old.sites new.sites) sites.old }
+    {
+        for at in 0..sites.len() {
+            sites[at] = self.site(sites[at]);
         }
     }
 

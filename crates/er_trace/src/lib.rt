@@ -1,4 +1,4 @@
-//! A trace: its steps, the line of each, and the names of its numbers.
+//! A trace: its steps, the line and the site of each, and the names of its numbers.
 //!
 //! Begin with [`Trace`]: whoever reads a text gives each name its number by [`Trace::thread`], [`Trace::lock`] and [`Trace::site`],
 //! and then adds the step by [`Trace::push`]. [`Names`] gives the names back.

@@ -1,8 +1,8 @@
-//! `Trace`, steps with their lines and names.
+//! `Trace`, steps with their lines, sites and names.
 ghost use Rattle.std.specs.Prelude.{◌≡◌, ◌+◌, ◌^◌, ◌<◌, ◌≤◌, All, length, map, IsTrue, IsOk, IsErr, IfOk, OnOk, OnErr, false};
-ghost use Rattle.er_trace.specs.Appended.{AreNumbers, renumbered_step, with_table};
+ghost use Rattle.er_trace.specs.Appended.{AreNumbers, renumbered_site, renumbered_step, with_table};
 ghost use Rattle.er_trace.specs.Names.{NameTable, is_known, number_of, most_names};
-ghost use Rattle.er_trace.specs.Trace.{IsNamed, no_steps, with_step, with_steps, without_steps, with_thread_name, with_lock_name, with_site_name};
+ghost use Rattle.er_trace.specs.Trace.{IsNamed, HasSiteName, no_steps, with_step, with_steps, without_steps, with_thread_name, with_lock_name, with_site_name};
 
 use crate::appending::{NewTable, count_behind};
 use crate::{NameKeys, Names};
@@ -11,23 +11,24 @@ use std::alloc::{AllocError, Global};
 use std::marker::Model;
 use std::mem;
 
-/// Steps in order, the line of text that each came from, and the names that they use.
+/// Steps in order, the line of text that each came from, the site that this line names, and the names that they use.
 #[derive(Drop)]
 pub struct Trace {
     steps: Vec<Step>,
     lines: Vec<u64>,
+    sites: Vec<Site>,
     names: Names,
 }
 
 impl Model for Trace {
     ghost use Rattle.std.specs.Prelude.{◌≡◌, All, length};
-    ghost use Rattle.er_trace.specs.Trace.{Recording, IsNamed};
+    ghost use Rattle.er_trace.specs.Trace.{Recording, IsNamed, HasSiteName};
 
     ghost Value = { Recording };
 
-    ghost view = { λ t. record { steps = t.steps.items; lines = t.lines.items; names = t.names } };
+    ghost view = { λ t. record { steps = t.steps.items; lines = t.lines.items; sites = t.sites.items; names = t.names } };
 
-    ghost invariant = { λ t. (length t.lines.items ≡ length t.steps.items) × All (IsNamed t.names) t.steps.items };
+    ghost invariant = { λ t. (length t.lines.items ≡ length t.steps.items) × (length t.sites.items ≡ length t.steps.items) × All (IsNamed t.names) t.steps.items × All (HasSiteName t.names) t.sites.items };
 }
 
 impl Trace {
@@ -45,6 +46,7 @@ impl Trace {
         Trace {
             steps: Vec::new(alloc),
             lines: Vec::new(alloc),
+            sites: Vec::new(alloc),
             names: Names::keyed(alloc, keys),
         }
     }
@@ -65,6 +67,15 @@ impl Trace {
         self.lines.as_slice()
     }
 
+    /// The site that the line of each step names, the missing one if it names none. For an access it is the site of the event.
+    pub fn sites(&self) -> &[Site]
+        ensures value { result.now ≡ self.now.sites }
+        ensures one_per_step { length self.now.sites ≡ length self.now.steps }
+        ensures named { All (HasSiteName self.now.names) self.now.sites }
+    {
+        self.sites.as_slice()
+    }
+
     /// The names of all numbers in the steps.
     pub fn names(&self) -> &Names
         ensures { result.now ≡ self.now.names }
@@ -72,21 +83,28 @@ impl Trace {
         &self.names
     }
 
-    /// Adds a step, whose numbers have names already, and its line. `AllocError`: memory was refused, and the trace is as it was.
+    /// Adds a step, its line and the site that this line names. All numbers have names already. `AllocError`: memory was refused, and the
+    /// trace is as it was.
     #[inline(always)]
-    pub fn push(&mut self, step: Step, line: u64) -> Result<(), AllocError>
-        requires { IsNamed self.old.names step }
-        ensures ok { OnOk result (self.new ≡ with_step self.old step line) }
+    pub fn push(&mut self, step: Step, line: u64, site: Site) -> Result<(), AllocError>
+        requires step { IsNamed self.old.names step }
+        requires site { HasSiteName self.old.names site }
+        ensures ok { OnOk result (self.new ≡ with_step self.old step line site) }
         ensures err { OnErr result (self.new ≡ self.old) }
     {
         let Step { thread, event } = step;
         let Ok(()) = self.steps.reserve(1) else {
             return Err(AllocError);
         };
-        let Ok(()) = self.lines.push(line) else {
+        let Ok(()) = self.lines.reserve(1) else {
+            return Err(AllocError);
+        };
+        let Ok(()) = self.sites.reserve(1) else {
             return Err(AllocError);
         };
         self.steps.push_reserved(Step { thread, event });
+        self.lines.push_reserved(line);
+        self.sites.push_reserved(site);
         Ok(())
     }
 
@@ -100,75 +118,100 @@ impl Trace {
         self.names.add(others)
     }
 
-    /// Adds these steps, whose numbers have names already, and the line of each. `AllocError`: memory was refused, and the trace is as it
-    /// was.
-    pub fn add_steps(&mut self, steps: &[Step], lines: &[u64]) -> Result<(), AllocError>
+    /// Adds these steps, and the line and the site of each. All numbers have names already. `AllocError`: memory was refused, and the trace
+    /// is as it was.
+    pub fn add_steps(
+        &mut self,
+        steps: &[Step],
+        lines: &[u64],
+        sites: &[Site],
+    ) -> Result<(), AllocError>
         requires level { length lines.now ≡ length steps.now }
+        requires level_sites { length sites.now ≡ length steps.now }
         requires named { All (IsNamed self.old.names) steps.now }
-        ensures ok { OnOk result (self.new ≡ with_steps self.old steps.now lines.now) }
+        requires named_sites { All (HasSiteName self.old.names) sites.now }
+        ensures ok { OnOk result (self.new ≡ with_steps self.old steps.now lines.now sites.now) }
         ensures err { OnErr result (self.new ≡ self.old) }
     {
         let Ok(()) = self.steps.reserve(steps.len()) else {
             return Err(AllocError);
         };
-        let Ok(()) = self.lines.extend_from_slice(lines) else {
+        let Ok(()) = self.lines.reserve(lines.len()) else {
             return Err(AllocError);
         };
+        let Ok(()) = self.sites.extend_from_slice(sites) else {
+            return Err(AllocError);
+        };
+        let added: Result<(), AllocError> = self.lines.extend_from_slice(lines);
+        added.unwrap();
         let added: Result<(), AllocError> = self.steps.extend_from_slice(steps);
         added.unwrap();
         Ok(())
     }
 
-    /// Takes out the steps and their lines, and puts these two lists in their place, whose room it keeps. The names stay.
-    pub fn take_steps(&mut self, steps: &mut Vec<Step>, lines: &mut Vec<u64>)
+    /// Takes out the steps with their lines and sites, and puts these three lists in their place, whose room it keeps. The names stay.
+    pub fn take_steps(&mut self, steps: &mut Vec<Step>, lines: &mut Vec<u64>, sites: &mut Vec<Site>)
         ensures trace { self.new ≡ without_steps self.old }
         ensures steps { steps.new.items ≡ self.old.steps }
         ensures lines { lines.new.items ≡ self.old.lines }
+        ensures sites { sites.new.items ≡ self.old.sites }
         ensures named { All (IsNamed self.old.names) self.old.steps }
+        ensures named_sites { All (HasSiteName self.old.names) self.old.sites }
         ensures level { length self.old.lines ≡ length self.old.steps }
+        ensures level_sites { length self.old.sites ≡ length self.old.steps }
     {
         steps.clear();
         lines.clear();
+        sites.clear();
         mem::swap(&mut self.steps, steps);
         mem::swap(&mut self.lines, lines);
+        mem::swap(&mut self.sites, sites);
     }
 
-    /// The same, and gives the steps the numbers that their names have in another trace, and counts their lines from behind so many lines.
+    /// The same, and gives the steps and sites the numbers that their names have in another trace, and counts the lines from behind so many
+    /// lines.
     pub fn take_numbered(
         &mut self,
         numbers: &NewTable,
         before: u64,
         steps: &mut Vec<Step>,
         lines: &mut Vec<u64>,
+        sites: &mut Vec<Site>,
     )
         requires numbers { (new : NameTable) × AreNumbers numbers.now self.old.names new }
         requires lines { All (λ line. before + line < 2 ^ 64) self.old.lines }
         ensures trace { self.new ≡ without_steps self.old }
         ensures steps { (new : NameTable) → AreNumbers numbers.now self.old.names new → steps.new.items ≡ map (renumbered_step self.old.names new) self.old.steps }
         ensures lines { lines.new.items ≡ map (λ line. before + line) self.old.lines }
+        ensures sites { (new : NameTable) → AreNumbers numbers.now self.old.names new → sites.new.items ≡ map (renumbered_site self.old.names.sites new.sites) self.old.sites }
         ensures named { All (IsNamed self.old.names) self.old.steps }
+        ensures named_sites { All (HasSiteName self.old.names) self.old.sites }
         ensures level { length self.old.lines ≡ length self.old.steps }
+        ensures level_sites { length self.old.sites ≡ length self.old.steps }
     {
-        self.take_steps(steps, lines);
+        self.take_steps(steps, lines, sites);
         numbers.number_steps(steps.as_mut_slice());
+        numbers.number_sites(sites.as_mut_slice());
         count_behind(before, lines.as_mut_slice());
     }
 
-    /// Forgets the steps, their lines and all names. It keeps the room for as many steps. Names are hashed by these keys from then on.
+    /// Forgets the steps, their lines and sites, and all names. It keeps the room for as many steps. Names are hashed by these keys from then on.
     pub fn restart(&mut self, alloc: Global, keys: NameKeys)
         ensures { self.new ≡ no_steps }
     {
         self.steps.clear();
         self.lines.clear();
+        self.sites.clear();
         drop(mem::replace(&mut self.names, Names::keyed(alloc, keys)));
     }
 
-    /// Forgets the steps and their lines. It keeps the names, and the room for as many steps.
+    /// Forgets the steps, their lines and their sites. It keeps the names, and the room for as many steps.
     pub fn clear(&mut self)
         ensures { self.new ≡ without_steps self.old }
     {
         self.steps.clear();
         self.lines.clear();
+        self.sites.clear();
     }
 
     /// The thread of this name, which is a new one if the name is new. `AllocError`: memory was refused, or the name is new and there are

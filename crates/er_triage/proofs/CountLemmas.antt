@@ -238,7 +238,7 @@ races_in (Some race) = race.races
 
 alone : (line : Line) → races_in (race_of line) ≡ 1
 alone (Race number thread kind word site held explained) = refl
-alone (Reused number thread range held explained) = refl
+alone (Reused number thread range site held explained) = refl
 alone (Refused number step refusal) = refl
 alone (Shown number word state) = refl
 

@@ -8,9 +8,9 @@ use Rattle.std.proofs.lemmas.List.Sums.{prefix_len-le-length}
 use Rattle.std.proofs.lemmas.Slice.Eq.{bytes_eq-Decides}
 use Rattle.er_report.specs.Report.{site_name}
 use Rattle.er_report.specs.declared.report.Line.{Line}
-use Rattle.er_rules.specs.Rules.{Target, takes}
+use Rattle.er_rules.specs.Rules.{Target, takes, takes_reuse}
 use Rattle.er_trace.specs.Names.{NameTable}
-use Rattle.er_triage.specs.Known.{access_target, known_target, race_of, race_target, rule_of, rules_of, takes_race, with_rule, IsTaken}
+use Rattle.er_triage.specs.Known.{known_target, race_of, race_target, rule_of, rules_of, takes_race, target_at, with_rule, IsTaken}
 use Rattle.er_triage.specs.declared.known.KnownRace.{KnownRace}
 use Rattle.er_triage.specs.declared.known.Raced.{Raced}
 use Rattle.er_triage.specs.declared.known.Raced.TheVariants.{Access, Reuse}
@@ -45,13 +45,17 @@ module _ {X : Type 0} (p : X → Bool) where
       by false e = omega (arith, found xs some)
 
 -- a race is taken by its own rule
-own_access : (site : Option (List ℕ)) (word : ℕ) → takes (access_target site word) site word ≡ true
+own_access : (site : Option (List ℕ)) (word : ℕ) → takes (target_at site word word) site word ≡ true
 own_access None word = grind (arith, nat_tests)
 own_access (Some name) word = grind (arith, bytes_eq-Decides)
 
+own_reuse : (site : Option (List ℕ)) (lo hi : ℕ) → lo ≤ hi → takes_reuse (target_at site lo hi) site lo hi ≡ true
+own_reuse None lo hi ordered = grind (arith, nat_tests, ordered)
+own_reuse (Some name) lo hi ordered = grind (arith, bytes_eq-Decides)
+
 pub own : (names : NameTable) (raced : Raced) → takes_race names raced (race_target names raced) ≡ true
 own names (Access kind word site) = own_access (site_name names site) word
-own names (Reuse range) = let low : range.lo ≤ range.hi = range.ordered in grind (arith, nat_tests, low)
+own names (Reuse range site) = own_reuse (site_name names site) range.lo range.hi range.ordered
 
 module _ (names : NameTable) where
   -- if there is a race, one of the rules takes it

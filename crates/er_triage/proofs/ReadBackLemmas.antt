@@ -28,7 +28,7 @@ use Rattle.er_text.specs.Number.{number_of, value_in}
 use Rattle.er_text.specs.Rules.{AllRule, IsRule, IsRules}
 use Rattle.er_trace.specs.Names.{NameTable}
 use Rattle.er_sites.specs.System.{is_system_name}
-use Rattle.er_triage.specs.Known.{access_target, known_target, race_target}
+use Rattle.er_triage.specs.Known.{known_target, race_target, target_at}
 use Rattle.er_triage.specs.Sound.{NamesSite, AreSound, IsInMemory, IsSound}
 use Rattle.er_triage.specs.Texts.{comment_text, count_text, hidden_text, known_races_text, known_text, raced_text, target_text}
 use Rattle.er_triage.specs.declared.known.KnownRace.{KnownRace}
@@ -372,7 +372,7 @@ raced_piece names thread (Access kind word site) sound named memory =
     (both 135 14 (name ++ codes " " ++ kind_text kind ++ codes " ") (address_text word)
     (both 134 1 (name ++ codes " " ++ kind_text kind) (codes " ") (both 129 5 (name ++ codes " ") (kind_text kind)
     (both 128 1 name (codes " ") (name_piece names thread sound named) space) (kind_piece kind)) space) (address_piece word memory))
-raced_piece names thread (Reuse range) sound named memory =
+raced_piece names thread (Reuse range site) sound named memory =
     let name : List ℕ = name_at names.threads thread in
     let ordered : range.lo ≤ range.hi = range.ordered in
     let most : range.hi < 2 ^ 46 = memory in
@@ -396,17 +396,17 @@ taken_piece names race sound is =
     (both 62 2 (count_text race) (codes ", ") (count_piece names race is) (literal (codes ", ") 2 refl refl)) (raced_piece names race.thread race.raced sound is.named.0 is.memory)
 
 -- the site of a race is the missing one, or has a name that names a site
-access_sound : (site : Option (List ℕ)) (word : ℕ) → word < 2 ^ 46 → ((name : List ℕ) → site ≡ Some name → NamesSite name) → IsSoundTarget (access_target site word)
-access_sound None word memory sound = record { ordered = omega arith; memory = memory }
-access_sound (Some name) word memory sound = sound name refl
+sound_at : (site : Option (List ℕ)) (lo hi : ℕ) → lo ≤ hi → hi < 2 ^ 46 → ((name : List ℕ) → site ≡ Some name → NamesSite name) → IsSoundTarget (target_at site lo hi)
+sound_at None lo hi ordered memory sound = record { ordered = ordered; memory = memory }
+sound_at (Some name) lo hi ordered memory sound = sound name refl
 
 site_sound : (names : NameTable) (n : ℕ) → AreSound names → (name : List ℕ) → site_name names n ≡ Some name → NamesSite name
 site_sound names zero sound name e = absurd (cc)
 site_sound names (suc k) sound name e = subst NamesSite (get_or_from_slice_get names.sites k name name e) (sound.sites k name (slice_get_within names.sites k name e))
 
 raced_sound : (names : NameTable) (raced : Raced) → AreSound names → IsInMemory raced → IsSoundTarget (race_target names raced)
-raced_sound names (Access kind word site) sound memory = access_sound (site_name names site) word memory (site_sound names site sound)
-raced_sound names (Reuse range) sound memory = record { ordered = range.ordered; memory = memory }
+raced_sound names (Access kind word site) sound memory = sound_at (site_name names site) word word (omega arith) memory (site_sound names site sound)
+raced_sound names (Reuse range site) sound memory = sound_at (site_name names site) range.lo range.hi range.ordered memory (site_sound names site sound)
 
 split_known : (taken hidden target rest : List ℕ) → (taken ++ 10 ∷ [] ++ hidden ++ target ++ 10 ∷ []) ++ rest ≡ taken ++ 10 ∷ (hidden ++ (target ++ 10 ∷ rest))
 split_known taken hidden target rest = simp append_assoc

@@ -5,7 +5,7 @@ use Rattle.std.proofs.lemmas.List.Elements.{All-push}
 use Rattle.er_text.specs.Events.{EventLine, Operation, Acquires, Releases, Accesses, Reuses, IgnoresOn, IgnoresOff, Shows, Levels, Starts, Joins, Signals, Awaits, with_line, with_operation, with_site_of}
 use Rattle.er_text.specs.Lines.{Placed}
 use Rattle.er_text.specs.Naming.{is_name, is_site_name, is_site_word}
-use Rattle.er_text.specs.Trace.{AllSay, IsOperation, IsSite, IsTrace, with_lines}
+use Rattle.er_text.specs.Trace.{AllSay, IsOperation, IsReuseSite, IsSite, IsTrace, with_lines}
 use Rattle.er_text.specs.declared.verbs.Version.{Version}
 use Rattle.er_text.specs.declared.verbs.Version.TheVariants.{One, Two, Three}
 use Rattle.er_text.proofs.SiteLemmas.{name_word}
@@ -41,12 +41,16 @@ site_more v (word ∷ []) site r is sound =
     subst (λ (o : Option (List ℕ)). AreSound (with_site_of r o).names) (sym is.1) (some_site r word (bytes_eq word (codes "-")) refl (third v word is.0) sound)
 site_more v (word ∷ more ∷ words) site r is sound = absurd is
 
+reuse_more : (v : Version) (words : List (List ℕ)) (site : Option (List ℕ)) (r : Recording) → IsReuseSite v words site → AreSound r.names → AreSound (with_site_of r site).names
+reuse_more v [] site r is sound = site_more v [] site r is sound
+reuse_more v (word ∷ words) site r is sound = site_more v (word ∷ words) site r is.1 sound
+
 operation_more : (v : Version) (words : List (List ℕ)) (thread : List ℕ) (line number : ℕ) (d : Operation) (r : Recording) → IsOperation v words thread d → AreSound r.names
     → AreSound (with_operation line number d r).names
 operation_more v words thread line number (Acquires lock m) r is sound = record { threads = sound.threads; sites = sound.sites }
 operation_more v words thread line number (Releases lock m) r is sound = record { threads = sound.threads; sites = sound.sites }
 operation_more v words thread line number (Accesses k w site) r is sound = site_more v is.2 site r is.7 sound
-operation_more v words thread line number (Reuses run) r is sound = sound
+operation_more v words thread line number (Reuses run site) r is sound = reuse_more v is.4 site r is.12 sound
 operation_more v words thread line number IgnoresOn r is sound = sound
 operation_more v words thread line number IgnoresOff r is sound = sound
 operation_more v words thread line number (Shows w) r is sound = sound

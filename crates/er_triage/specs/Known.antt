@@ -24,28 +24,28 @@ lines_of reports = lines_in reports.lockset ++ lines_in reports.unordered
 -- the race of a line, if it is one, alone
 abbrev pub race_of : Line → Option KnownRace
 race_of (Race number thread kind word site held explained) = Some (record { line = number; thread = thread; raced = Access kind word site; races = 1 })
-race_of (Reused number thread range held explained) = Some (record { line = number; thread = thread; raced = Reuse range; races = 1 })
+race_of (Reused number thread range site held explained) = Some (record { line = number; thread = thread; raced = Reuse range site; races = 1 })
 race_of (Refused number step refusal) = None
 race_of (Shown number word state) = None
 
 -- whether a rule takes a race
 abbrev pub takes_race : NameTable → Raced → Target → Bool
 takes_race names (Access kind word site) target = takes target (site_name names site) word
-takes_race names (Reuse range) target = takes_reuse target range.lo range.hi
+takes_race names (Reuse range site) target = takes_reuse target (site_name names site) range.lo range.hi
 
 -- the first rule that does
 abbrev pub rule_of : NameTable → List Target → Raced → Option ℕ
 rule_of names rules raced = position (takes_race names raced) rules
 
--- the rule of an access: by the name of its site, or by its word if it has no site
-abbrev pub access_target : Option (List ℕ) → ℕ → Target
-access_target None word = AtWords (Some (record { first = word; last = word }))
-access_target (Some name) word = AtSite (Some name)
+-- a rule by the name of a site, or by these words if it has none
+abbrev pub target_at : Option (List ℕ) → ℕ → ℕ → Target
+target_at None lo hi = AtWords (Some (record { first = lo; last = hi }))
+target_at (Some name) lo hi = AtSite (Some name)
 
--- the rule of a race; that of a reuse is by its words
+-- the rule of a race, by its site or its words
 abbrev pub race_target : NameTable → Raced → Target
-race_target names (Access kind word site) = access_target (site_name names site) word
-race_target names (Reuse range) = AtWords (Some (record { first = range.lo; last = range.hi }))
+race_target names (Access kind word site) = target_at (site_name names site) word word
+race_target names (Reuse range site) = target_at (site_name names site) range.lo range.hi
 
 -- the rule of a race that is known
 abbrev pub known_target : NameTable → KnownRace → Target
@@ -83,10 +83,10 @@ abbrev pub AreCounts : NameTable → List Line → List KnownRace → Type 0
 AreCounts names lines known =
     (place : ℕ) (race : KnownRace) → slice_get known place ≡ Some race → IsCountAt names (map (known_target names) known) lines place race
 
--- the site of an access has a name, unless it is the missing one
+-- the site of a race has a name, unless it is the missing one
 abbrev pub HasRacedName : NameTable → Raced → Type 0
 HasRacedName names (Access kind word site) = site ≤ length names.sites
-HasRacedName names (Reuse range) = Unit {0}
+HasRacedName names (Reuse range site) = site ≤ length names.sites
 
 -- the thread and the site of the race have names
 abbrev pub IsNamed : NameTable → KnownRace → Type 0

@@ -20,7 +20,7 @@ pub record AreSound (names : NameTable) : Type 0 where
 -- its words are words of memory
 abbrev pub IsInMemory : Raced → Type 0
 IsInMemory (Access kind word site) = word < 2 ^ 46
-IsInMemory (Reuse range) = range.hi < 2 ^ 46
+IsInMemory (Reuse range site) = range.hi < 2 ^ 46
 
 -- the race has names, and its numbers are those of words of memory and of 64 bits
 pub record IsSound (names : NameTable) (race : KnownRace) : Type 0 where

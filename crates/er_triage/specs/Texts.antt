@@ -23,7 +23,7 @@ target_text (AtWords (Some run)) = codes "words " ++ address_text run.first ++ c
 -- who did what to which word, or gave back which words
 abbrev pub raced_text : NameTable → ℕ → Raced → List ℕ
 raced_text names thread (Access kind word site) = name_at names.threads thread ++ codes " " ++ kind_text kind ++ codes " " ++ address_text word
-raced_text names thread (Reuse range) = name_at names.threads thread ++ codes " reuse " ++ address_text range.lo ++ codes " " ++ decimal (bytes_between range.lo range.hi)
+raced_text names thread (Reuse range site) = name_at names.threads thread ++ codes " reuse " ++ address_text range.lo ++ codes " " ++ decimal (bytes_between range.lo range.hi)
 
 -- how many races a rule takes, and the line of the first of them
 abbrev pub count_text : KnownRace → List ℕ

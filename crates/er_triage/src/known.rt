@@ -20,8 +20,8 @@ use std::alloc::{AllocError, Global};
 pub enum Raced {
     /// An access: whether it read or wrote, the word that it touched, and where in the program it stands.
     Access(Kind, Word, Site),
-    /// A reuse, of the words that were given back.
-    Reuse(PageRange),
+    /// A reuse, of the words that were given back, and where in the program it stands.
+    Reuse(PageRange, Site),
 }
 
 /// The races that one rule takes, by the first of them.
@@ -31,7 +31,7 @@ pub struct KnownRace {
     pub line: u64,
     /// Whose step it is.
     pub thread: ThreadId,
-    /// What it is of. The rule of an access is by its site, or by its word at the missing site, and that of a reuse by its words.
+    /// What it is of. Its rule is by its site, or by its words at the missing site.
     pub raced: Raced,
     /// How many races the rule takes, the first among them, up to the greatest number.
     pub races: u64,
@@ -121,8 +121,9 @@ fn race_of(names: &Names, line: &Line) -> Option<KnownRace>
             line,
             thread,
             range,
+            site,
             ..
-        } => Some(alone(*line, *thread, Raced::Reuse(*range))),
+        } => Some(alone(*line, *thread, Raced::Reuse(*range, *site))),
         Line::Refused { .. } | Line::Shown { .. } => None,
     }
 }
@@ -174,7 +175,7 @@ fn rule_of(rules: &Suppressions, names: &Names, raced: Raced) -> Option<usize>
 {
     match raced {
         Raced::Access(_, word, site) => rules.matching_rule(name_of(names, site), word),
-        Raced::Reuse(range) => rules.matching_reuse(range),
+        Raced::Reuse(range, site) => rules.matching_reuse(name_of(names, site), range),
     }
 }
 
@@ -195,12 +196,12 @@ pub(crate) fn rule_for(alloc: Global, names: &Names, raced: Raced) -> Result<Rul
     requires { HasRacedName names.now raced }
     ensures { IfOk result (λ rule. target_of rule ≡ race_target names.now raced) }
 {
-    let (first, last) = match raced {
-        Raced::Access(_, word, site) => match name_of(names, site) {
-            Some(name) => return Ok(Rule::Site(Some(String::from_str(alloc, name)?))),
-            None => (word, word),
-        },
-        Raced::Reuse(range) => (range.lo, range.hi),
+    let (site, first, last) = match raced {
+        Raced::Access(_, word, site) => (site, word, word),
+        Raced::Reuse(range, site) => (site, range.lo, range.hi),
     };
-    Ok(Rule::Words(Some(WordSpan { first, last })))
+    match name_of(names, site) {
+        Some(name) => Ok(Rule::Site(Some(String::from_str(alloc, name)?))),
+        None => Ok(Rule::Words(Some(WordSpan { first, last }))),
+    }
 }

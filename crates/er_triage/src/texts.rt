@@ -126,7 +126,7 @@ fn put_raced(out: &mut Vec<u8>, names: &Names, race: &KnownRace) -> Result<(), A
             ];
             put_all(out, Style::Plain, names, &pieces)
         }
-        Raced::Reuse(range) => {
+        Raced::Reuse(range, _) => {
             let pieces = [
                 Thread(b"", race.thread),
                 Address(b" reuse ", range.lo),

@@ -12,7 +12,6 @@ use Rattle.er_event.specs.declared.steps.Reply.{Reply}
 use Rattle.er_event.specs.declared.steps.Reply.TheVariants.{Done, Quiet, Race, Ignored, State}
 use Rattle.er_event.specs.declared.steps.WordState.{WordState}
 use Rattle.er_event.specs.declared.steps.Step.{Step}
-use Rattle.er_before.specs.Standing.{Ordered, holding, answered_by}
 use Rattle.er_model.proofs.Prefixes.{holdings-front, holdings-grow}
 use Rattle.er_model.specs.Answers.{answer_unless}
 use Rattle.er_model.specs.Holdings.{Holdings, changed_unless, refused_by, holdings, holdings_at, holdings_end}
@@ -54,22 +53,6 @@ module _ (steps more : List Step) where
   order-front k below =
       let at = some-at steps k below in
       order-front-by k at.0 at.1 below at.0.event refl
-
--- only an access and a reuse are races
-not-race : (o : Option Refusal) → answer_unless o Done ≡ Ok Race → ⊥
-not-race None same = cc
-not-race (Some why) same = cc
-
-pub race-may : (machine : Ordered) (t : ℕ) (e : Event) → answered_by machine (record { thread = t; event = e }) ≡ Ok Race → may_race e ≡ false → ⊥
-race-may machine t (Access kind w site) race none = cc
-race-may machine t (Acquire l m) race none = not-race (refused_by (holding machine t) (Acquire l m)) race
-race-may machine t (Release l m) race none = not-race (refused_by (holding machine t) (Release l m)) race
-race-may machine t (Reuse range) race none = cc
-race-may machine t IgnoreOn race none = not-race (refused_by (holding machine t) IgnoreOn) race
-race-may machine t IgnoreOff race none = not-race (refused_by (holding machine t) IgnoreOff) race
-race-may machine t (Show w) race none = not-race (refused_by (holding machine t) (Show w)) race
-race-may machine t (Level n) race none = not-race (refused_by (holding machine t) (Level n)) race
-race-may machine t (Sync sync) race none = not-race (refused_by (holding machine t) (Sync sync)) race
 
 -- an access and a reuse leave what their thread holds
 after-access : (h : Holdings) (event : Event) → (may_race event ≡ false → ⊥) → changed_unless (refused_by h event) h event ≡ h

@@ -1,119 +1,154 @@
 -- A replay that forgets its steps is one over all of them: a batch goes on behind what was answered, and the names may have grown.
-use Rattle.std.proofs.Common.{◌≡◌, ◌+◌, ◌∙◌, ℕ, suc, add-one, nat_lt, Bool, true, false, cond, List, [], ◌∷◌, ◌++◌, length, length-append, take, slice_get, slice_index, Option, Some, Result, refl, sym, ap, ap₂, subst, arith}
+use Rattle.std.proofs.Common.{◌≡◌, ◌+◌, ◌∙◌, ℕ, suc, add-one, nat_lt, Bool, true, false, cond, is_none, List, [], ◌∷◌, ◌++◌, append-nil, length, length-append, take, slice_get, slice_index, Option, Some, Result, Ok, Err, refl, sym, ap, ap₂, subst, arith}
 use Rattle.std.specs.List.{All}
+use Rattle.std.specs.Option.{option_map}
+use Rattle.std.proofs.lemmas.Bool.{and_parts}
 use Rattle.std.proofs.lemmas.Bool.Decides.{nat_tests}
 use Rattle.std.proofs.Math.Seq.{take-append_seam, take-length}
 use Rattle.std.proofs.lemmas.List.Elements.{All-append}
-use Rattle.er_before.specs.Standing.{Ordered, Stands, answered_by, clock_of}
-use Rattle.er_clock.specs.Clock.{Counts}
-use Rattle.er_clocks.specs.Counts.{count_by}
-use Rattle.er_epochs.specs.Standing.{IsClockAfter}
-use Rattle.er_order.specs.Clocks.{OfThread}
-use Rattle.er_report.specs.Report.{Answering, Summary, count_below, is_printed_by}
+use Rattle.er_report.specs.Report.{Answering, Summary, count_below, is_printed_by, matching_rule_by, may_race_at}
+use Rattle.er_report.specs.declared.report.Because.{Because}
 use Rattle.er_rules.specs.Rules.{Target}
 use Rattle.er_event.specs.declared.refusals.Refusal.{Refusal}
 use Rattle.er_event.specs.declared.steps.Reply.{Reply}
+use Rattle.er_event.specs.declared.steps.Reply.TheVariants.{Done, Quiet, Race, Ignored, State}
 use Rattle.er_event.specs.declared.steps.Step.{Step}
 use Rattle.er_report.proofs.GrowthLemmas.{goes-on-by}
 use Rattle.er_explain.proofs.RaceLemmas.{race-is}
+use Rattle.er_explain.specs.Racing.{is_race, places_below}
 use Rattle.er_model.specs.Holdings.{holdings_end}
 use Rattle.er_order.specs.Races.{order_answer}
-use Rattle.er_order.specs.Reasons.{word_raced}
+use Rattle.er_order.specs.Reasons.{unordered_with}
 use Rattle.er_report.specs.Builder.{ArePlainBy, Built, IsBuiltBy, IsStepBy, GoesOn, is_plain, report_below_by}
-use Rattle.er_batch.proofs.BatchLemmas.{all-named}
+use Rattle.er_batch.proofs.BatchLemmas.{all-known, all-named}
 use Rattle.er_text.specs.Batches.{joined}
 use Rattle.er_text.specs.Named.{KeepsNames}
 use Rattle.er_trace.specs.Names.{NameTable}
-use Rattle.er_trace.specs.Trace.{Recording, IsNamed}
+use Rattle.er_trace.specs.Trace.{Recording, IsNamed, HasSiteName}
 use Rattle.er_batch.proofs.StepLemmas.{past-next}
-use Rattle.er_unordered.proofs.AnswerLemmas.{locks-here, order-front, order-here, race-may, word-here}
-use Rattle.er_unordered.proofs.ReasonLemmas.{kept-there}
-use Rattle.er_unordered.specs.Inner.Passes.{HasAnswered, HasComeTo, HasExplained, HasExplainedTo, recorded}
-use Rattle.er_unordered.specs.Inner.Reasons.{HasReasons, Reasoned}
+use Rattle.er_unordered.proofs.AnswerLemmas.{locks-here, long, order-front, order-here, with-here}
+use Rattle.er_unordered.proofs.ReasonLemmas.{races-told, tag-there, told-next, told-stays}
+use Rattle.er_unordered.proofs.StandingLemmas.{stands-tags}
+use Rattle.er_unordered.specs.Inner.Passes.{HasAnswered, HasComeTo, recorded}
+use Rattle.er_unordered.specs.Inner.Reasons.{tag_at, told_at}
+use Rattle.er_unordered.specs.Standing.{Ordered, Stands}
 
 -- a batch of steps behind those that are past
-module _ (past : List Step) (lines : List ℕ) (names : NameTable) (trace : Recording) (kept : KeepsNames names trace.names)
-    (told : All (IsNamed trace.names) trace.steps) (even : length trace.lines ≡ length trace.steps)
-    (old : Ordered) (oldest : Built) (run : HasAnswered old oldest (recorded past lines names)) where
+module _ {A : Type 0} (tag_of : ℕ → Option Step → A) (told_of : Option A → List (List Because)) (past : List Step) (lines sites : List ℕ) (names : NameTable) (trace : Recording) (kept : KeepsNames names trace.names)
+    (known : All (IsNamed trace.names) trace.steps) (even : length trace.lines ≡ length trace.steps)
+    (seen : All (HasSiteName trace.names) trace.sites) (level : length trace.sites ≡ length trace.steps)
+    (old : Ordered A) (oldest : Built) (before : List (List Because)) (run : HasAnswered tag_of told_of old oldest before (recorded past lines sites names)) where
   abbrev after : Recording
-  after = joined past lines trace
+  after = joined past lines sites trace
 
-  on : GoesOn (recorded past lines names) after
-  on = record { named = run.named; long = run.long; more = trace.steps; others = trace.lines; steps = refl; lines = refl; sites = kept.sites }
+  on : GoesOn (recorded past lines sites names) after
+  on = record {
+    named = run.named;
+    long = run.long;
+    one_each = run.one_each;
+    known = run.seen;
+    more = trace.steps;
+    others = trace.lines;
+    other_sites = trace.sites;
+    steps = refl;
+    lines = refl;
+    places = refl;
+    sites = kept.sites;
+  }
 
   -- what is past was answered, and its answers stay
-  pub start : HasComeTo old oldest after (length past)
+  pub start : HasComeTo tag_of told_of old oldest before after (length past)
   start =
       record {
-        stands = subst (Stands old) (sym (take-append_seam past trace.steps)) run.stands;
-        built = goes-on-by (order_answer past) (order_answer (past ++ trace.steps)) oldest (recorded past lines names) after (length past) on (omega arith)
-            (λ k below. sym (order-front past trace.steps k below)) run.built;
+        stands = subst (Stands (tag_at tag_of after) old) (sym (take-append_seam past trace.steps))
+            (stands-tags (tag_at tag_of (recorded past lines sites names)) (tag_at tag_of after) old past (λ k below. tag-there (recorded past lines sites names) after on tag_of told_of k below)
+            (subst (Stands (tag_at tag_of (recorded past lines sites names)) old) (take-length past) run.come.stands));
+        built = goes-on-by (order_answer past) (order_answer (past ++ trace.steps)) oldest (recorded past lines sites names) after (length past) on (omega arith)
+            (λ k below. sym (order-front past trace.steps k below)) run.come.built;
+        reasons = run.come.reasons ∙ told-stays (recorded past lines sites names) after on tag_of told_of oldest.races _ run.come.built.races;
       }
 
   -- and at the end of the batch all is answered
-  pub whole : (machine : Ordered) (builder : Built) → HasComeTo machine builder after (length past + length trace.steps) → HasAnswered machine builder after
-  whole machine builder come =
-      let all : length past + length trace.steps ≡ length (past ++ trace.steps) = sym (length-append past trace.steps) in
-      let end : HasComeTo machine builder after (length (past ++ trace.steps)) = subst (λ (n : ℕ). HasComeTo machine builder after n) all come in
+  pub whole : (machine : Ordered A) (builder : Built) (told : List (List Because)) → HasComeTo tag_of told_of machine builder told after (length past + length trace.steps) → HasAnswered tag_of told_of machine builder told after
+  whole machine builder told come =
       record {
-        stands = subst (Stands machine) (take-length (past ++ trace.steps)) end.stands;
-        built = end.built;
-        named = All-append (IsNamed trace.names) past trace.steps (all-named names trace.names kept past run.named) told;
+        come = subst (λ (n : ℕ). HasComeTo tag_of told_of machine builder told after n) (sym (length-append past trace.steps)) come;
+        named = All-append (IsNamed trace.names) past trace.steps (all-named names trace.names kept past run.named) known;
         long = (let a : length lines ≡ length past = run.long in omega (arith, length-append lines trace.lines, length-append past trace.steps, even));
+        seen = All-append (HasSiteName trace.names) sites trace.sites (all-known names trace.names kept sites run.seen) seen;
+        one_each = (let a : length sites ≡ length past = run.one_each in omega (arith, length-append sites trace.sites, length-append past trace.steps, level));
       }
 
-  -- what is kept for reasons stays too
-  pub start-explained : (reasoned : Reasoned) → HasReasons reasoned (recorded past lines names) oldest.rules (length past) → HasExplainedTo old oldest reasoned after (length past)
-  start-explained reasoned explained = record {
-    come = start;
-    explained = kept-there (recorded past lines names) after on reasoned oldest.rules (sym run.built.races ∙ start.built.races) explained;
-  }
-
-  pub whole-explained : (machine : Ordered) (builder : Built) (reasoned : Reasoned) → HasExplainedTo machine builder reasoned after (length past + length trace.steps)
-      → HasExplained machine builder reasoned after
-  whole-explained machine builder reasoned come = record {
-    answered = whole machine builder come.come;
-    explained = subst (λ (n : ℕ). HasReasons reasoned after builder.rules n) (sym (length-append past trace.steps)) come.explained;
-  }
-
 -- one step more
-module _ (machine next : Ordered) (builder : Built) (r : Recording) (n : ℕ) (step : Step) (here : slice_get r.steps n ≡ Some step) (come : HasComeTo machine builder r n)
-    (given : Result Reply Refusal) (answered : given ≡ answered_by machine step)
-    (answer : (past : List Step) → Stands machine past → given ≡ order_answer (past ++ step ∷ []) (length past))
-    (goes_on : (past : List Step) → Stands machine past → Stands next (past ++ step ∷ [])) where
+module _ {A : Type 0} (tag_of : ℕ → Option Step → A) (told_of : Option A → List (List Because)) (machine next : Ordered A) (builder : Built) (told : List (List Because)) (r : Recording) (n : ℕ) (step : Step)
+    (here : slice_get r.steps n ≡ Some step) (come : HasComeTo tag_of told_of machine builder told r n)
+    (given : Result Reply Refusal) (rival : Option A) (number : ℕ) (line : number ≡ slice_index r.lines n)
+    (answer : (past : List Step) (tags : ℕ → A) → Stands tags machine past → given ≡ order_answer (past ++ step ∷ []) (length past))
+    (named : (past : List Step) (tags : ℕ → A) → Stands tags machine past → given ≡ Ok Race → rival ≡ option_map tags (unordered_with (past ++ step ∷ []) (length past)))
+    (goes_on : (past : List Step) (tags : ℕ → A) → Stands tags machine past → tags (length past) ≡ tag_of number (Some step) → Stands tags next (past ++ step ∷ [])) where
   known : given ≡ order_answer r.steps n
-  known = answer (take n r.steps) come.stands ∙ order-here r.steps n step here
+  known = answer (take n r.steps) (tag_at tag_of r) come.stands ∙ order-here r.steps n step here
 
-  stands : Stands next (take (n + 1) r.steps)
-  stands = subst (Stands next) (past-next r.steps n step here) (goes_on (take n r.steps) come.stands)
+  tag_here : tag_at tag_of r (length (take n r.steps)) ≡ tag_of number (Some step)
+  unfolding tag_at
+  tag_here = ap (λ (k : ℕ). tag_of (slice_index r.lines k) (slice_get r.steps k)) (long r.steps n step here) ∙ ap₂ tag_of (sym line) here
+
+  stands : Stands (tag_at tag_of r) next (take (n + 1) r.steps)
+  stands = subst (Stands (tag_at tag_of r) next) (past-next r.steps n step here) (goes_on (take n r.steps) (tag_at tag_of r) come.stands tag_here)
 
   pub plain-here : is_plain given ≡ true → ArePlainBy (order_answer r.steps) n 1
   plain-here plain i low high =
       let same : n ≡ i = omega (arith, low, high) in
       subst (λ (k : ℕ). is_plain (order_answer r.steps k) ≡ true) same (ap is_plain (sym known) ∙ plain)
 
-  pub step-here : (names : NameTable) (number : ℕ) (locks : List ℕ) → number ≡ slice_index r.lines n → names ≡ r.names
-      → ((past : List Step) → Stands next past → locks ≡ (holdings_end past step.thread).held) → IsStepBy (order_answer r.steps) r n names number step given locks
-  step-here names number locks line named locked =
+  pub step-here : (names : NameTable) (site : ℕ) (locks : List ℕ) → site ≡ slice_index r.sites n → names ≡ r.names → ((past : List Step) (tags : ℕ → A) → Stands tags next past → locks ≡ (holdings_end past step.thread).held)
+      → IsStepBy (order_answer r.steps) r n names number site step given locks
+  step-here names site locks at listed locked =
       record {
         here = here;
         line = line;
-        named = named;
+        site = at;
+        named = listed;
         answered = known;
-        locked = λ race. locked (take n r.steps ++ step ∷ []) (goes_on (take n r.steps) come.stands)
-            ∙ locks-here r.steps n step here (race-may machine step.thread step.event (sym answered ∙ race-is given race)) step.thread;
+        locked = λ race. locked (take n r.steps ++ step ∷ []) (tag_at tag_of r) (goes_on (take n r.steps) (tag_at tag_of r) come.stands tag_here)
+            ∙ locks-here r.steps n step here (λ none. races-told r.steps n (sym known ∙ race-is given race) (ap may_race_at here ∙ none)) step.thread;
       }
 
-  -- the word on which it would be a race is that of the definitions
-  pub raced-here : (raced : Option ℕ) → ((past : List Step) → Stands machine past → raced ≡ word_raced (past ++ step ∷ []) (length past)) → raced ≡ word_raced r.steps n
-  raced-here raced word = word (take n r.steps) come.stands ∙ word-here r.steps n step here
+  -- the access that it names is that of the definitions
+  rival-here : given ≡ Ok Race → rival ≡ option_map (tag_at tag_of r) (unordered_with r.steps n)
+  rival-here race = named (take n r.steps) (tag_at tag_of r) come.stands race ∙ ap (option_map (tag_at tag_of r)) (with-here r.steps n step here)
 
-  -- the answer is that of the definitions
-  pub known-here : given ≡ order_answer r.steps n
-  known-here = known
+  abbrev printed : Bool
+  printed = is_printed_by (order_answer r.steps) r builder.rules n
 
-  pub come-to : (new : Built) → IsBuiltBy (order_answer r.steps) new r (n + 1) → HasComeTo next new r (n + 1)
-  come-to new built = record { stands = stands; built = built }
+  told_step : cond printed (told_of rival) [] ≡ cond printed (told_of (option_map (tag_at tag_of r) (unordered_with r.steps n))) []
+  told_step = by printed refl
+    where
+      by : (b : Bool) → printed ≡ b → cond b (told_of rival) [] ≡ cond b (told_of (option_map (tag_at tag_of r) (unordered_with r.steps n))) []
+      by true is = ap told_of (rival-here (known ∙ race-is (order_answer r.steps n) (and_parts (is_race (order_answer r.steps n)) (is_none (matching_rule_by (order_answer r.steps) r builder.rules n)) is).0))
+      by false is = refl
+
+  pub come-to : (new : Built) (now : List (List Because)) → IsBuiltBy (order_answer r.steps) new r (n + 1) → new.rules ≡ builder.rules → now ≡ told ++ cond printed (told_of rival) []
+      → HasComeTo tag_of told_of next new now r (n + 1)
+  come-to new now built rules is = record {
+    stands = stands;
+    built = built;
+    reasons = is ∙ ap₂ (λ a b. a ++ b) (come.reasons ∙ ap (told_at tag_of told_of r) come.built.races) told_step
+        ∙ sym (told-next (λ k. told_of (option_map (tag_at tag_of r) (unordered_with r.steps k))) (is_printed_by (order_answer r.steps) r builder.rules) n)
+        ∙ sym (ap (told_at tag_of told_of r) (built.races ∙ ap (λ (l : List Target). places_below (is_printed_by (order_answer r.steps) r l) (n + 1)) rules));
+  }
+
+  -- of what is plain nothing is told
+  pub told-plain : is_plain given ≡ true → told ≡ told ++ cond printed (told_of rival) []
+  told-plain plain = sym (append-nil told) ∙ ap (λ more. told ++ more) (by given known plain)
+    where
+      by : (g : Result Reply Refusal) → g ≡ order_answer r.steps n → is_plain g ≡ true → [] ≡ cond printed (told_of rival) []
+      by (Ok Done) is plain = rw (← is) refl
+      by (Ok Quiet) is plain = rw (← is) refl
+      by (Ok Ignored) is plain = rw (← is) refl
+      by (Ok Race) is plain = cc
+      by (Ok (State s)) is plain = cc
+      by (Err why) is plain = cc
 
 -- a race is printed exactly if there is one printed race more
 count-more : (b : Bool) (n : ℕ) → nat_lt n (n + cond b 1 0) ≡ b
@@ -133,8 +168,3 @@ pub printed-here : (a : Answering) (before after : Built) (r : Recording) (k : �
 printed-here a before after r k built next rules =
     ap₂ nat_lt (races-of a before r k built) (races-of a after r (k + 1) next ∙ ap₂ (λ (l : List Target) (n : ℕ). count_below (is_printed_by a r l) n) rules (add-one k))
     ∙ next-count (is_printed_by a r before.rules) k
-
--- the clock that a machine lends is that of its thread
-pub clock-lent : (machine : Ordered) (steps : List Step) (t : ℕ) (clock : ℕ × Counts) → Stands machine steps → clock.0 ≡ t → ((u : ℕ) → count_by clock u ≡ clock_of machine t u)
-    → IsClockAfter steps t clock
-clock-lent machine steps t clock stands thread counts = record { thread = thread; counts = λ u. counts u ∙ stands.clocks (OfThread t) u }

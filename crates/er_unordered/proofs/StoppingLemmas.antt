@@ -1,31 +1,33 @@
 -- A count that is full at a step is full there whatever steps come behind it, so is a step that crowds, and an analyst goes on by a batch or stops in it.
 use Rattle.std.proofs.Common.{◌≡◌, ◌<◌, ◌+◌, ◌∙◌, ◌++◌, ◌||◌, ◌∷◌, [], ℕ, Bool, true, false, List, length, slice_get, length-append, take, drop, is_some, Option, Some, None, IfSome, refl, sym, ap, arith}
 use Rattle.std.proofs.lemmas.List.{take-append-drop, length-take-le}
-use Rattle.std.proofs.lemmas.List.Elements.{All-nil}
 use Rattle.std.proofs.lemmas.List.Folds.{list_any-append}
 use Rattle.std.proofs.lemmas.Option.{slice_get_within}
+use Rattle.std.proofs.lemmas.List.Elements.{All-nil}
 use Rattle.er_batch.proofs.StepLemmas.{past-next}
 use Rattle.er_batch.specs.Analysts.{Asked}
-use Rattle.er_before.specs.Standing.{IsFullAfter, Ordered, Stands, crowds_after}
+use Rattle.er_unordered.specs.Standing.{IsFullAfter, Ordered, Stands, crowds_after}
 use Rattle.er_clock.specs.declared.clock.NoTick.{NoTick}
-use Rattle.er_clock.specs.declared.clock.NoTick.TheVariants as tick
+use Rattle.er_clock.specs.declared.clock.NoTick.TheVariants.{CountFull, ThreadsFull, OutOfMemory}
 use Rattle.er_event.specs.declared.steps.Step.{Step}
-use Rattle.er_clocks.specs.Crowding.{CrowdsIn, crowds}
-use Rattle.er_clocks.specs.Standing.{act_flows}
+use Rattle.er_clock.specs.Crowding.{CrowdsIn, crowds}
+use Rattle.er_clock.specs.Standing.{act_flows}
 use Rattle.er_order.proofs.StepLemmas.{acts-front, clocks-front}
 use Rattle.er_order.specs.Clocks.{Clocks, OfThread, clocks_at, own_count}
 use Rattle.er_order.specs.Order.{Act, acts_of}
+use Rattle.er_explain.specs.Racing.{places_below}
 use Rattle.er_order.specs.Races.{order_answer}
-use Rattle.er_report.specs.Builder.{IsBuiltBy}
+use Rattle.er_report.specs.declared.report.Because.{Because}
+use Rattle.er_report.specs.Builder.{Built, IsBuiltBy}
 use Rattle.er_text.specs.Batches.{joined}
 use Rattle.er_trace.specs.Names.{NameTable, no_names}
-use Rattle.er_trace.specs.Trace.{IsNamed, Recording, no_steps}
-use Rattle.er_unordered.specs.Inner.Passes.{HasGathered, IsReasoned, OrderBuilt, recorded}
+use Rattle.er_trace.specs.Trace.{IsNamed, HasSiteName, Recording, no_steps}
+use Rattle.er_unordered.specs.Inner.Passes.{HasAnswered, HasGathered, recorded, tells}
+use Rattle.er_unordered.specs.Inner.Reasons.{tag_at, told_at}
 use Rattle.er_unordered.specs.Ordered.{HasGatheredFor, HasOrdered, OrderRan}
 use Rattle.er_unordered.specs.Reports.{has_order, is_order}
-use Rattle.er_unordered.specs.Stops.{IsStopIn, OverflowsIn, stop_of}
-use Rattle.er_unordered.specs.declared.stop.OrderStop.{OrderStop}
-use Rattle.er_unordered.specs.declared.stop.OrderStop.TheVariants.{CountFull, ThreadsFull, Memory}
+use Rattle.er_unordered.specs.declared.ordering.Machines.{Machines}
+use Rattle.er_unordered.specs.Stops.{IsStopIn, OverflowsIn}
 
 -- more steps come behind
 pub overflows-on : (steps more : List Step) → OverflowsIn steps → OverflowsIn (steps ++ more)
@@ -85,30 +87,33 @@ crowds-here steps n step here full =
     }
 
 -- why a step isn't answered
-pub stop-by : (steps : List Step) (why : NoTick) (stop : OrderStop) → stop ≡ stop_of why → (why ≡ tick.CountFull → OverflowsIn steps) → (why ≡ tick.ThreadsFull → CrowdsIn steps)
-    → IsStopIn steps stop
-stop-by steps tick.CountFull stop is full crowd = rw is (full refl)
-stop-by steps tick.ThreadsFull stop is full crowd = rw is (crowd refl)
-stop-by steps tick.OutOfMemory stop is full crowd = rw is tt
+pub stop-by : (steps : List Step) (why : NoTick) → (why ≡ CountFull → OverflowsIn steps) → (why ≡ ThreadsFull → CrowdsIn steps) → IsStopIn steps why
+stop-by steps CountFull full crowd = full refl
+stop-by steps ThreadsFull full crowd = crowd refl
+stop-by steps OutOfMemory full crowd = tt
 
 -- why one of the steps can't be answered stays so
-pub stop-on : (steps more : List Step) (why : OrderStop) → IsStopIn steps why → IsStopIn (steps ++ more) why
+pub stop-on : (steps more : List Step) (why : NoTick) → IsStopIn steps why → IsStopIn (steps ++ more) why
 stop-on steps more CountFull is = overflows-on steps more is
 stop-on steps more ThreadsFull is = crowds-on steps more is
-stop-on steps more Memory is = tt
+stop-on steps more OutOfMemory is = tt
 
 -- before any step
-pub begun : (machine : Ordered) (builder : OrderBuilt) (asked : Asked) → Stands machine [] → IsBuiltBy (order_answer []) builder.built no_steps 0 → IsReasoned builder no_steps 0
-    → builder.built.rules ≡ asked.rules → is_some builder.reasons ≡ asked.explain → HasOrdered (record { machine = machine; builder = builder; stop = None; has_order = false }) asked no_steps
-begun machine builder asked stands built reasoned rules explain = record {
-  all = λ none. record {
-    gathered = record {
-      answered = record { stands = stands; built = built; named = All-nil (IsNamed no_names); long = refl };
-      reasoned = reasoned;
-    };
-    rules = rules;
-    explain = explain;
-  };
+pub started : {A : Type 0} (tag_of : ℕ → Option Step → A) (told_of : Option A → List (List Because)) (machine : Ordered A) → ((tags : ℕ → A) → Stands tags machine [])
+    → (builder : Built) → IsBuiltBy (order_answer []) builder no_steps 0 → HasAnswered tag_of told_of machine builder [] no_steps
+unfolding places_below
+started tag_of told_of machine stands builder built = record {
+  come = record { stands = stands (tag_at tag_of no_steps); built = built; reasons = sym (ap (told_at tag_of told_of no_steps) built.races) };
+  named = All-nil (IsNamed no_names);
+  long = refl;
+  seen = All-nil (HasSiteName no_names);
+  one_each = refl;
+}
+
+pub begun : (machine : Machines) (built : Built) (asked : Asked) → HasGathered machine built [] no_steps → built.rules ≡ asked.rules → tells machine ≡ asked.explain
+    → HasOrdered (record { machine = machine; built = built; told = []; stop = None; has_order = false }) asked no_steps
+begun machine built asked gathered rules explain = record {
+  all = λ none. record { gathered = gathered; rules = rules; explain = explain };
   stopped = tt;
   order = refl;
 }
@@ -120,29 +125,29 @@ order-on old new past trace said before =
     said ∙ ap (λ (b : Bool). b || has_order trace.steps) before ∙ sym (list_any-append is_order past trace.steps)
 
 -- what has stopped stands for whatever comes behind
-pub stopped-on : (old new : OrderRan) (asked : Asked) (past : List Step) (lines : List ℕ) (names : NameTable) (trace : Recording) → is_some old.stop ≡ true → new.stop ≡ old.stop
-    → new.has_order ≡ (old.has_order || has_order trace.steps) → HasOrdered old asked (recorded past lines names) → HasOrdered new asked (joined past lines trace)
-stopped-on old new asked past lines names trace some same said ordered = record {
-  all = λ none. absurd (let clash = ap (λ (o : Option OrderStop). is_some o) (sym same ∙ none) in cc);
+pub stopped-on : (old new : OrderRan) (asked : Asked) (past : List Step) (lines sites : List ℕ) (names : NameTable) (trace : Recording) → is_some old.stop ≡ true → new.stop ≡ old.stop
+    → new.has_order ≡ (old.has_order || has_order trace.steps) → HasOrdered old asked (recorded past lines sites names) → HasOrdered new asked (joined past lines sites trace)
+stopped-on old new asked past lines sites names trace some same said ordered = record {
+  all = λ none. absurd (let clash = ap (λ (o : Option NoTick). is_some o) (sym same ∙ none) in cc);
   stopped = rw same (on old.stop ordered.stopped);
   order = order-on old new past trace said ordered.order;
 }
   where
-    on : (o : Option OrderStop) → IfSome o (λ why. IsStopIn past why) → IfSome o (λ why. IsStopIn (past ++ trace.steps) why)
+    on : (o : Option NoTick) → IfSome o (λ why. IsStopIn past why) → IfSome o (λ why. IsStopIn (past ++ trace.steps) why)
     on None is = tt
     on (Some why) is = stop-on past trace.steps why is
 
-none-by : (o : Option OrderStop) → is_some o ≡ false → o ≡ None
+none-by : (o : Option NoTick) → is_some o ≡ false → o ≡ None
 none-by None going = refl
 none-by (Some why) going = absurd (cc)
 
 -- what hasn't stopped goes on
-pub goes-on : (old new : OrderRan) (asked : Asked) (past : List Step) (lines : List ℕ) (names : NameTable) (trace : Recording) → is_some old.stop ≡ false → new.stop ≡ old.stop
-    → new.has_order ≡ (old.has_order || has_order trace.steps) → HasOrdered old asked (recorded past lines names) → (HasGathered old.machine old.builder (recorded past lines names) → HasGathered new.machine new.builder (joined past lines trace))
-    → new.builder.built.rules ≡ old.builder.built.rules → is_some new.builder.reasons ≡ is_some old.builder.reasons → HasOrdered new asked (joined past lines trace)
-goes-on old new asked past lines names trace going same said ordered gathers rules explain =
+pub goes-on : (old new : OrderRan) (asked : Asked) (past : List Step) (lines sites : List ℕ) (names : NameTable) (trace : Recording) → is_some old.stop ≡ false → new.stop ≡ old.stop
+    → new.has_order ≡ (old.has_order || has_order trace.steps) → HasOrdered old asked (recorded past lines sites names) → (HasGathered old.machine old.built old.told (recorded past lines sites names) → HasGathered new.machine new.built new.told (joined past lines sites trace))
+    → new.built.rules ≡ old.built.rules → tells new.machine ≡ tells old.machine → HasOrdered new asked (joined past lines sites trace)
+goes-on old new asked past lines sites names trace going same said ordered gathers rules explain =
     let none : old.stop ≡ None = none-by old.stop going in
-    let all : HasGatheredFor old asked (recorded past lines names) = ordered.all none in
+    let all : HasGatheredFor old asked (recorded past lines sites names) = ordered.all none in
     record {
       all = λ still. record { gathered = gathers all.gathered; rules = rules ∙ all.rules; explain = explain ∙ all.explain };
       stopped = rw (same ∙ none) tt;
@@ -150,10 +155,10 @@ goes-on old new asked past lines names trace going same said ordered gathers rul
     }
 
 -- or stops in a batch
-pub stops : (old new : OrderRan) (asked : Asked) (past : List Step) (lines : List ℕ) (names : NameTable) (trace : Recording) (why : OrderStop) → is_some old.stop ≡ false → new.stop ≡ Some why
-    → new.has_order ≡ (old.has_order || has_order trace.steps) → HasOrdered old asked (recorded past lines names) → (HasGathered old.machine old.builder (recorded past lines names) → IsStopIn (past ++ trace.steps) why)
-    → HasOrdered new asked (joined past lines trace)
-stops old new asked past lines names trace why going some said ordered full =
+pub stops : (old new : OrderRan) (asked : Asked) (past : List Step) (lines sites : List ℕ) (names : NameTable) (trace : Recording) (why : NoTick) → is_some old.stop ≡ false → new.stop ≡ Some why
+    → new.has_order ≡ (old.has_order || has_order trace.steps) → HasOrdered old asked (recorded past lines sites names) → (HasGathered old.machine old.built old.told (recorded past lines sites names) → IsStopIn (past ++ trace.steps) why)
+    → HasOrdered new asked (joined past lines sites trace)
+stops old new asked past lines sites names trace why going some said ordered full =
     record {
       all = λ none. absurd (let clash = sym none ∙ some in cc);
       stopped = rw some (full (ordered.all (none-by old.stop going)).gathered);

@@ -2,4 +2,5 @@ pub mod Inner
 pub mod Ordered
 pub mod Reasons
 pub mod Reports
+pub mod Standing
 pub mod Stops

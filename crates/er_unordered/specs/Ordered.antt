@@ -1,25 +1,28 @@
 -- What happens-before keeps of the steps so far.
-use Rattle.std.specs.Prelude.{◌≡◌, Bool, is_some, Option, None, IfSome}
+use Rattle.std.specs.Prelude.{◌≡◌, Bool, List, Option, None, IfSome}
 use Rattle.er_batch.specs.Analysts.{Asked}
-use Rattle.er_before.specs.Standing.{Ordered}
+use Rattle.er_clock.specs.declared.clock.NoTick.{NoTick}
+use Rattle.er_report.specs.Builder.{Built}
+use Rattle.er_report.specs.declared.report.Because.{Because}
 use Rattle.er_trace.specs.Trace.{Recording}
-use Rattle.er_unordered.specs.Inner.Passes.{HasGathered, OrderBuilt}
+use Rattle.er_unordered.specs.Inner.Passes.{HasGathered, tells}
 use Rattle.er_unordered.specs.Reports.{has_order}
 use Rattle.er_unordered.specs.Stops.{IsStopIn}
-use Rattle.er_unordered.specs.declared.stop.OrderStop.{OrderStop}
+use Rattle.er_unordered.specs.declared.ordering.Machines.{Machines}
 
--- its machine, what is built for a report, why it has stopped, and whether a step was an order event
+-- its machine, what is built for a report, the reasons that are told, why it has stopped, and whether a step was an order event
 pub record OrderRan : Type 0 where
-  pub machine : Ordered
-  pub builder : OrderBuilt
-  pub stop : Option OrderStop
+  pub machine : Machines
+  pub built : Built
+  pub told : List (List Because)
+  pub stop : Option NoTick
   pub has_order : Bool
 
 -- all of the recording's steps were answered, under the rules that are asked for
 pub record HasGatheredFor (ran : OrderRan) (asked : Asked) (r : Recording) : Type 0 where
-  pub gathered : HasGathered ran.machine ran.builder r
-  pub rules : ran.builder.built.rules ≡ asked.rules
-  pub explain : is_some ran.builder.reasons ≡ asked.explain
+  pub gathered : HasGathered ran.machine ran.built ran.told r
+  pub rules : ran.built.rules ≡ asked.rules
+  pub explain : tells ran.machine ≡ asked.explain
 
 -- or one of them can't be answered
 pub record HasOrdered (ran : OrderRan) (asked : Asked) (r : Recording) : Type 0 where

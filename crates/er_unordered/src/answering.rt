@@ -1,111 +1,96 @@
-//! Answers the steps of a batch by happens-before, one by one, with reasons or without.
-ghost use Rattle.std.specs.Prelude.{◌≡◌, ◌+◌, ◌++◌, ◌<◌, ◌^◌, ℕ, List, Some, slice_get, slice_index, IfErr, OnOk};
+//! Answers the steps of a batch by happens-before, one by one.
+ghost use Rattle.std.specs.Prelude.{◌≡◌, ◌+◌, ◌++◌, ◌<◌, ◌≤◌, ◌^◌, [], ℕ, List, cond, length, IfErr, OnOk};
 ghost use Rattle.er_event.specs.declared.steps.Step.{Step as Steps};
-ghost use Rattle.er_report.specs.Builder.{is_plain};
+ghost use Rattle.er_order.specs.Races.{order_answer};
+ghost use Rattle.er_report.specs.Builder.{IsBuiltBy, IsStepBy, is_plain};
 ghost use Rattle.er_report.specs.Names.{HasSiteName};
+ghost use Rattle.er_report.specs.Report.{is_printed_by};
 ghost use Rattle.er_text.specs.Batches.{joined};
 ghost use Rattle.er_text.specs.Named.{KeepsNames};
 ghost use Rattle.er_trace.specs.Names.{NameTable};
 ghost use Rattle.er_trace.specs.Trace.{Recording};
-ghost use Rattle.er_unordered.specs.Inner.Passes.{HasAnswered, HasExplained, HasExplainedTo, recorded};
+ghost use Rattle.er_unordered.specs.Inner.Passes.{HasAnswered, recorded};
 ghost use Rattle.er_unordered.specs.Stops.{IsStopIn};
 
-use crate::OrderStop;
-use crate::reasons::Reasons;
+use crate::machine::{OrderAnswer, OrderMachine};
+use crate::reasons::{Tag, Told};
 use er_batch::has_room;
-use er_before::OrderMachine;
-use er_event::{Refusal, Reply, Step};
+use er_clock::NoTick;
+use er_event::{Lockset, Refusal, Reply, Site, Step};
 use er_report::ReportBuilder;
 use er_trace::{Names, Trace};
+use std::alloc::AllocError;
 
-/// Answers each step of a batch by happens-before, and adds it to the report. So many steps that they can't be counted any more are
-/// reported as a want of memory.
-pub(crate) fn answer_steps(
-    machine: &mut OrderMachine,
+/// Answers each step of a batch by happens-before, and adds it to the report, with its reason if it is a race that has a line and reasons are
+/// wanted. So many steps that they can't be counted any more are reported as a want of memory.
+pub(crate) fn answer_steps<T: Tag>(
+    machine: &mut OrderMachine<T>,
     trace: &Trace,
     builder: &mut ReportBuilder<'_>,
-) -> Result<(), OrderStop>
+    told: &mut Told,
+) -> Result<(), NoTick>
     ensures rules { OnOk result (builder.new.rules ≡ builder.old.rules) }
-    ensures run { (past : List Steps) (lines : List ℕ) (names : NameTable) → KeepsNames names trace.now.names → HasAnswered machine.old builder.old (recorded past lines names)
-        → OnOk result (HasAnswered machine.new builder.new (joined past lines trace.now)) }
-    ensures full { (past : List Steps) (lines : List ℕ) (names : NameTable) → KeepsNames names trace.now.names → HasAnswered machine.old builder.old (recorded past lines names)
+    ensures run { (past : List Steps) (lines sites : List ℕ) (names : NameTable) → KeepsNames names trace.now.names → HasAnswered T.tag_of T.told_of machine.old builder.old told.old (recorded past lines sites names)
+        → OnOk result (HasAnswered T.tag_of T.told_of machine.new builder.new told.new (joined past lines sites trace.now)) }
+    ensures full { (past : List Steps) (lines sites : List ℕ) (names : NameTable) → KeepsNames names trace.now.names → HasAnswered T.tag_of T.told_of machine.old builder.old told.old (recorded past lines sites names)
         → IfErr result (λ why. IsStopIn (past ++ trace.now.steps) why) }
 {
     let steps = trace.steps();
     prove!(steps.len() == trace.lines().len());
+    prove!(steps.len() == trace.sites().len());
     if !has_room(builder, steps) {
-        return Err(OrderStop::Memory);
+        return Err(NoTick::OutOfMemory);
     }
     for (k, step) in steps.iter().enumerate() {
         machine.look_ahead(steps, k);
-        let answer = machine.step(step)?;
-        if is_plain(&answer) {
+        let line = trace.lines()[k];
+        let answer = machine.step(step, T::of(line, step))?;
+        if is_plain(&answer.reply) {
             builder.add_plain(1);
         } else {
             let held = machine.held(step.thread).held();
-            builder.add(trace.names(), trace.lines()[k], step, &answer, held)?;
+            let site = trace.sites()[k];
+            add_told(
+                builder,
+                told,
+                trace.names(),
+                line,
+                site,
+                step,
+                &answer,
+                held,
+            )?;
         }
     }
     Ok(())
 }
 
-/// The same, and finds the reason of each race that has a line.
-pub(crate) fn explain_steps(
-    machine: &mut OrderMachine,
-    trace: &Trace,
+// Adds a step to the report, with its reason if it is a race that has a line and reasons are wanted.
+fn add_told<T: Tag>(
     builder: &mut ReportBuilder<'_>,
-    reasons: &mut Reasons,
-) -> Result<(), OrderStop>
-    ensures rules { OnOk result (builder.new.rules ≡ builder.old.rules) }
-    ensures run { (past : List Steps) (lines : List ℕ) (names : NameTable) → KeepsNames names trace.now.names → HasExplained machine.old builder.old reasons.old (recorded past lines names)
-        → OnOk result (HasExplained machine.new builder.new reasons.new (joined past lines trace.now)) }
-    ensures full { (past : List Steps) (lines : List ℕ) (names : NameTable) → KeepsNames names trace.now.names → HasExplained machine.old builder.old reasons.old (recorded past lines names)
-        → IfErr result (λ why. IsStopIn (past ++ trace.now.steps) why) }
-{
-    let steps = trace.steps();
-    prove!(steps.len() == trace.lines().len());
-    if !has_room(builder, steps) {
-        return Err(OrderStop::Memory);
-    }
-    for (k, step) in steps.iter().enumerate() {
-        machine.look_ahead(steps, k);
-        explain_step(
-            machine,
-            trace.names(),
-            trace.lines()[k],
-            step,
-            builder,
-            reasons,
-        )?;
-    }
-    Ok(())
-}
-
-// Answers one step and adds it to the report, with its reason if it is a race that has a line.
-fn explain_step(
-    machine: &mut OrderMachine,
+    told: &mut Told,
     names: &Names,
     line: u64,
+    site: Site,
     step: &Step,
-    builder: &mut ReportBuilder<'_>,
-    reasons: &mut Reasons,
-) -> Result<(), OrderStop>
+    answer: &OrderAnswer<T>,
+    held: &Lockset,
+) -> Result<(), AllocError>
     requires room { builder.old.report.steps + 1 < 2 ^ 64 }
     requires site { HasSiteName names.now step.now.event }
+    requires at { site ≤ length names.now.sites }
     ensures rules { OnOk result (builder.new.rules ≡ builder.old.rules) }
     ensures steps { OnOk result (builder.new.report.steps ≡ builder.old.report.steps + 1) }
-    ensures run { (r : Recording) (k : ℕ) → HasExplainedTo machine.old builder.old reasons.old r k → slice_get r.steps k ≡ Some step.now → line ≡ slice_index r.lines k → names.now ≡ r.names
-        → OnOk result (HasExplainedTo machine.new builder.new reasons.new r (k + 1)) }
-    ensures full { (r : Recording) (k : ℕ) → HasExplainedTo machine.old builder.old reasons.old r k → slice_get r.steps k ≡ Some step.now → IfErr result (λ why. IsStopIn r.steps why) }
+    ensures built { (r : Recording) (k : ℕ) → IsBuiltBy (order_answer r.steps) builder.old r k → IsStepBy (order_answer r.steps) r k names.now line site step.now answer.now.reply held.now
+        → OnOk result (IsBuiltBy (order_answer r.steps) builder.new r (k + 1)) }
+    ensures told { (r : Recording) (k : ℕ) → IsBuiltBy (order_answer r.steps) builder.old r k → IsStepBy (order_answer r.steps) r k names.now line site step.now answer.now.reply held.now
+        → OnOk result (told.new ≡ told.old ++ cond (is_printed_by (order_answer r.steps) r builder.old.rules k) (T.told_of answer.now.rival) []) }
 {
-    let raced = machine.word_raced(step);
-    let answer = machine.step(step)?;
     let before = builder.races();
-    let held = machine.held(step.thread).held();
-    builder.add(names, line, step, &answer, held)?;
-    let clock = machine.clock(step.thread);
-    let printed = builder.races() > before;
-    reasons.follow(line, step, &answer, raced, &clock, printed)?;
+    builder.add(names, line, site, step, &answer.reply, held)?;
+    if builder.races() > before {
+        T::tell(answer.rival, told)?;
+    }
     Ok(())
 }
 

@@ -1,11 +1,15 @@
-//! Happens-before as an analyst: it answers the steps of a trace, and gives the report of the accesses and reuses that were not ordered.
+//! Happens-before: a machine that answers a list of steps, and an analyst that gives the report of a trace's unordered accesses and reuses.
 //!
 //! Begin with [`OrderAnalyst`]. `er_batch::analyse` has it answer the batches of a text, alone or beside the lockset rule (`er_run` does
-//! both). By happens-before, a race is an access that conflicts with an earlier access of the same word and is not ordered after it.
+//! both). By happens-before, a race is an access that conflicts with an earlier access of the same word and is not ordered after it. Behind the
+//! analyst is [`OrderMachine`]: it has each thread's holdings, the clocks, and what is kept of each word, and `step` answers one more step.
 //!
-//! What it promises, by the names of clauses: what stands for no steps before the pass (`stands` of `new`) stands for all of them behind it,
-//! and then gives the report that the definitions give (`report` of `finish`), or says why a step can't be answered (`fault`). A count is full
-//! only where a thread's own count is 2^32 - 1 at one of the steps.
+//! What they promise, by the names of clauses: a machine that stands for a list of steps answers the next step as the definitions answer it at
+//! that list's end (`answer`), and then stands for the longer list (`goes_on`). A race names the access that it is unordered with, by the tag that
+//! the caller gave it (`named`). After an error, which names what is lacking, the machine stands for the list that it stood for (`err`). An
+//! analyst that stands for no steps before the pass (`stands` of `new`) stands for all of them behind it, and then gives the report that the
+//! definitions give (`report` of `finish`), or says why a step can't be answered (`fault`): memory was refused, a thread's own count is 2^32 - 1 at
+//! a step where it would rise, or a step orders a thread whose number is 65,536 or more.
 //!
 //! ```text
 //! let analyst = OrderAnalyst::new(alloc, &rules, false, NameKeys::KNOWN)?;
@@ -18,11 +22,11 @@
 //! conflicts with and that doesn't come before it in order.
 #![tactic(auto)]
 
+pub use machine::{OrderAnswer, OrderMachine};
 pub use ordering::OrderAnalyst;
-pub use stop::OrderStop;
 
 mod answering;
-mod building;
+mod holders;
+mod machine;
 mod ordering;
 mod reasons;
-mod stop;

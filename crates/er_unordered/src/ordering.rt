@@ -1,20 +1,28 @@
 //! Happens-before as an analyst.
-ghost use Rattle.std.specs.Prelude.{◌≡◌, ◌||◌, All, IfOk, IfErr};
+ghost use Rattle.std.specs.Prelude.{◌≡◌, ◌++◌, ◌||◌, [], ℕ, List, All, IfOk, IfErr, OnOk};
 ghost use Rattle.er_batch.specs.Analysts.{Asked};
+ghost use Rattle.er_event.specs.declared.steps.Step.{Step as Steps};
+ghost use Rattle.er_order.specs.Races.{order_answer};
+ghost use Rattle.er_report.specs.Builder.{Built, IsBuiltBy};
 ghost use Rattle.er_report.specs.Names.{HasNames};
-ghost use Rattle.er_report.specs.Report.{told};
+ghost use Rattle.er_report.specs.Report.{told as summary};
 ghost use Rattle.er_rules.specs.Rules.{targets_of};
+ghost use Rattle.er_text.specs.Batches.{joined};
+ghost use Rattle.er_text.specs.Named.{KeepsNames};
+ghost use Rattle.er_trace.specs.Names.{NameTable};
 ghost use Rattle.er_trace.specs.Trace.{Recording, no_steps};
+ghost use Rattle.er_unordered.specs.Inner.Passes.{HasGathered, recorded, tells};
 ghost use Rattle.er_unordered.specs.Ordered.{HasOrdered};
 ghost use Rattle.er_unordered.specs.Reports.{has_order, is_order, unordered_report};
 ghost use Rattle.er_unordered.specs.Stops.{IsStopIn};
 
-use crate::OrderStop;
-use crate::building::OrderBuilder;
+use crate::answering::answer_steps;
+use crate::machine::OrderMachine;
+use crate::reasons::Told;
 use er_batch::Analyst;
-use er_before::OrderMachine;
+use er_clock::NoTick;
 use er_event::{Event, Step};
-use er_report::Report;
+use er_report::{Because, Report, ReportBuilder};
 use er_rules::Suppressions;
 use er_trace::{NameKeys, Trace};
 use std::alloc::{AllocError, Global};
@@ -23,9 +31,10 @@ use std::marker::Model;
 /// Answers steps by happens-before, up to one that can't be answered.
 #[derive(Drop)]
 pub struct OrderAnalyst<'r> {
-    machine: OrderMachine,
-    builder: OrderBuilder<'r>,
-    stop: Option<OrderStop>,
+    machine: Machines,
+    report: ReportBuilder<'r>,
+    told: Told,
+    stop: Option<NoTick>,
     has_order: bool,
 }
 
@@ -34,7 +43,7 @@ impl<'r> Model for OrderAnalyst<'r> {
 
     ghost Value = { OrderRan };
 
-    ghost view = { λ a. record { machine = a.machine; builder = a.builder; stop = a.stop; has_order = a.has_order } };
+    ghost view = { λ a. record { machine = a.machine; built = a.report; told = a.told; stop = a.stop; has_order = a.has_order } };
 }
 
 impl<'r> OrderAnalyst<'r> {
@@ -47,10 +56,11 @@ impl<'r> OrderAnalyst<'r> {
     ) -> Result<OrderAnalyst<'r>, AllocError>
         ensures stands { (asked : Asked) → asked.rules ≡ targets_of suppressions.now → asked.explain ≡ explain → IfOk result (λ analyst. HasOrdered analyst asked no_steps) }
     {
-        let builder = OrderBuilder::new(alloc, suppressions, explain, keys)?;
+        let report = ReportBuilder::new(alloc, suppressions)?;
         Ok(OrderAnalyst {
-            machine: OrderMachine::keyed(alloc, keys),
-            builder,
+            machine: Machines::new(alloc, explain, keys),
+            report,
+            told: Told::new(alloc),
             stop: None,
             has_order: false,
         })
@@ -64,22 +74,24 @@ impl<'r> OrderAnalyst<'r> {
     }
 
     /// The report of the steps so far, or why they weren't all answered.
-    pub fn finish(self) -> Result<Report, OrderStop>
-        ensures report { (asked : Asked) (r : Recording) → HasOrdered self.entry asked r → IfOk result (λ report. told report ≡ unordered_report r asked.rules asked.explain) }
+    pub fn finish(self) -> Result<Report, NoTick>
+        ensures report { (asked : Asked) (r : Recording) → HasOrdered self.entry asked r → IfOk result (λ report. summary report ≡ unordered_report r asked.rules asked.explain) }
         ensures named { (asked : Asked) (r : Recording) → HasOrdered self.entry asked r → IfOk result (λ report. All (HasNames r.names) report.lines.items) }
         ensures fault { (asked : Asked) (r : Recording) → HasOrdered self.entry asked r → IfErr result (λ why. IsStopIn r.steps why) }
     {
         let OrderAnalyst {
             machine,
-            builder,
+            report,
+            told,
             stop,
             has_order: _,
         } = self;
-        drop(machine);
         match stop {
-            None => Ok(builder.finish()),
+            None => Ok(machine.finish(report, told)),
             Some(why) => {
-                drop(builder);
+                drop(machine);
+                drop(report);
+                drop(told);
                 Err(why)
             }
         }
@@ -94,18 +106,18 @@ impl<'r, R> Analyst<R> for OrderAnalyst<'r> {
 
     ghost wanted = { λ asked. asks_order asked.analysis };
 
-    ghost answered = { λ ran. ran.builder.built.report.steps };
+    ghost answered = { λ ran. ran.built.report.steps };
 
-    ghost found = { λ ran. ran.builder.built.report.races };
+    ghost found = { λ ran. ran.built.report.races };
 
     fn answer(&mut self, _rt: &R, trace: &Trace) -> Result<(), AllocError> {
         self.has_order = with_order(self.has_order, trace.steps());
         if self.stop.is_some() {
             return Ok(());
         }
-        match self.builder.answer(&mut self.machine, trace) {
+        match self.machine.answer(trace, &mut self.report, &mut self.told) {
             Ok(()) => Ok(()),
-            Err(OrderStop::Memory) => Err(AllocError),
+            Err(NoTick::OutOfMemory) => Err(AllocError),
             Err(why) => {
                 self.stop = Some(why);
                 Ok(())
@@ -114,11 +126,72 @@ impl<'r, R> Analyst<R> for OrderAnalyst<'r> {
     }
 
     fn steps(&self) -> u64 {
-        self.builder.steps()
+        self.report.steps()
     }
 
     fn races(&self) -> u64 {
-        self.builder.races()
+        self.report.races()
+    }
+}
+
+/// The machine, which keeps of each access what reasons want, or nothing.
+#[derive(Drop)]
+pub(crate) enum Machines {
+    /// Without reasons.
+    Plain(OrderMachine<()>),
+    /// With reasons.
+    Telling(OrderMachine<Because>),
+}
+
+impl Machines {
+    // One that has taken no step. It finds each word by these keys.
+    fn new(alloc: Global, explain: bool, keys: NameKeys) -> Machines
+        ensures tells { tells result ≡ explain }
+        ensures start { (builder : Built) → IsBuiltBy (order_answer []) builder no_steps 0 → HasGathered result builder [] no_steps }
+    {
+        if explain {
+            Machines::Telling(OrderMachine::keyed(alloc, keys))
+        } else {
+            Machines::Plain(OrderMachine::keyed(alloc, keys))
+        }
+    }
+
+    // Answers each step of a batch by happens-before, and adds it to the report.
+    fn answer(
+        &mut self,
+        trace: &Trace,
+        builder: &mut ReportBuilder<'_>,
+        told: &mut Told,
+    ) -> Result<(), NoTick>
+        ensures rules { OnOk result (builder.new.rules ≡ builder.old.rules) }
+        ensures tells { tells self.new ≡ tells self.old }
+        ensures run { (past : List Steps) (lines sites : List ℕ) (names : NameTable) → KeepsNames names trace.now.names → HasGathered self.old builder.old told.old (recorded past lines sites names)
+            → OnOk result (HasGathered self.new builder.new told.new (joined past lines sites trace.now)) }
+        ensures full { (past : List Steps) (lines sites : List ℕ) (names : NameTable) → KeepsNames names trace.now.names → HasGathered self.old builder.old told.old (recorded past lines sites names)
+            → IfErr result (λ why. IsStopIn (past ++ trace.now.steps) why) }
+    {
+        match self {
+            Machines::Plain(machine) => answer_steps(machine, trace, builder, told),
+            Machines::Telling(machine) => answer_steps(machine, trace, builder, told),
+        }
+    }
+
+    // The report of the steps that were answered and added to this one.
+    fn finish(self, builder: ReportBuilder<'_>, told: Told) -> Report
+        ensures report { (r : Recording) → HasGathered self builder.entry told r → summary result ≡ unordered_report r builder.entry.rules (tells self) }
+        ensures named { (r : Recording) → HasGathered self builder.entry told r → All (HasNames r.names) result.lines.items }
+    {
+        match self {
+            Machines::Plain(machine) => {
+                drop(machine);
+                drop(told);
+                builder.finish(None)
+            }
+            Machines::Telling(machine) => {
+                drop(machine);
+                builder.finish_with(told.into_reasons())
+            }
+        }
     }
 }
 

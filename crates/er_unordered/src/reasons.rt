@@ -1,122 +1,114 @@
-//! What finds the reasons of unordered accesses while steps go by.
-ghost use Rattle.std.specs.Prelude.{◌≡◌, ◌+◌, ◌++◌, ◌∷◌, [], ℕ, cond, List, Option, Some, map, slice_get, slice_index, take, IfOk, OnOk};
+//! What the machine keeps of each access for the reasons of later races, and the reasons so far.
+ghost use Rattle.std.specs.Prelude.{◌≡◌, ◌++◌, ◌∷◌, [], ℕ, List, Option, Some, map, IfOk, OnOk};
 ghost use Rattle.std.specs.Option.{option_to_list};
-ghost use Rattle.er_epochs.specs.Standing.{Follows, IsClockAfter};
+ghost use Rattle.er_event.specs.declared.steps.Step.{Step as Steps};
 ghost use Rattle.er_explain.specs.Book.{event_kind};
-ghost use Rattle.er_report.specs.Report.{is_printed_by};
-ghost use Rattle.er_rules.specs.Rules.{Target};
-ghost use Rattle.er_trace.specs.Trace.{Recording};
-ghost use Rattle.er_order.specs.Races.{order_answer};
-ghost use Rattle.er_order.specs.Reasons.{word_raced};
-ghost use Rattle.er_unordered.specs.Inner.Reasons.{HasReasons, access_reason_at, line_reason};
-ghost use Rattle.er_unordered.specs.Reasons.{order_reasons};
+ghost use Rattle.er_report.specs.declared.report.Because.{Because as Reason};
+ghost use Rattle.er_unordered.specs.Inner.Reasons.{line_reason};
 
-use er_clocks::ThreadClock;
-use er_epochs::OrderWords;
-use er_event::{Event, Kind, Refusal, Reply, Step, Word};
+use er_event::{Event, Kind, Step};
 use er_report::{Because, Label};
-use er_trace::NameKeys;
 use std::alloc::{AllocError, Global};
 use std::marker::Model;
 
-/// The reasons of the printed races so far, and the latest accesses of each word, which later ones will need. It keeps no step.
+/// What the machine keeps of each access: nothing, or the reason that it is of a later race.
+pub(crate) trait Tag: Copy {
+    /// What is kept of a step on this line of the text.
+    ghost tag_of: { ℕ → Option Steps → Self };
+
+    /// What is told of a race that has a line and names an access by this.
+    ghost told_of: { Option Self → List (List Reason) };
+
+    /// What is kept of a step on this line of the text.
+    fn of(line: u64, step: &Step) -> Self
+        ensures { result ≡ tag_of line (Some step.now) };
+
+    /// Tells of a race that has a line. `AllocError`: memory was refused, and what was told is of no more use.
+    fn tell(rival: Option<Self>, told: &mut Told) -> Result<(), AllocError>
+        ensures { OnOk result (told.new ≡ told.old ++ told_of rival) };
+}
+
+impl Tag for () {
+    ghost use Rattle.er_unordered.specs.Inner.Reasons.{no_tag, none_told};
+
+    ghost tag_of = { no_tag };
+
+    ghost told_of = { none_told };
+
+    fn of(_line: u64, _step: &Step) {}
+
+    fn tell(_rival: Option<()>, _told: &mut Told) -> Result<(), AllocError>
+        ensures { OnOk result (_told.new ≡ _told.old ++ none_told _rival) }
+    {
+        Ok(())
+    }
+}
+
+impl Tag for Because {
+    ghost use Rattle.er_unordered.specs.Inner.Reasons.{line_reason, one_told};
+
+    ghost tag_of = { line_reason };
+
+    ghost told_of = { one_told };
+
+    fn of(line: u64, step: &Step) -> Because {
+        Because {
+            label: Label::Unordered,
+            line,
+            thread: step.thread,
+            kind: event_kind(step.event),
+        }
+    }
+
+    fn tell(rival: Option<Because>, told: &mut Told) -> Result<(), AllocError>
+        ensures { OnOk result (told.new ≡ told.old ++ one_told rival) }
+    {
+        told.put(rival)
+    }
+}
+
+/// The reasons of the races that have lines so far, a list for each, if they are wanted.
 #[derive(Drop)]
-pub(crate) struct Reasons {
-    latest: OrderWords<Because>,
-    told: Vec<Vec<Because>>,
+pub(crate) struct Told {
+    reasons: Vec<Vec<Because>>,
     alloc: Global,
 }
 
-impl Model for Reasons {
-    ghost use Rattle.std.specs.Prelude.{map};
-    ghost use Rattle.er_unordered.specs.Inner.Reasons.{Reasoned};
+impl Model for Told {
+    ghost use Rattle.std.specs.Prelude.{List, map};
+    ghost use Rattle.er_report.specs.declared.report.Because.{Because as Reason};
 
-    ghost Value = { Reasoned };
+    ghost Value = { List (List Reason) };
 
-    ghost view = { λ r. record { latest = r.latest; told = map (λ reasons. reasons.items) r.told.items } };
+    ghost view = { λ t. map (λ reasons. reasons.items) t.reasons.items };
 }
 
-impl Reasons {
-    /// Nothing is kept before any step. Words are found by these keys.
-    pub(crate) fn new(alloc: Global, keys: NameKeys) -> Reasons
-        ensures { (r : Recording) (rules : List Target) → HasReasons result r rules 0 }
+impl Told {
+    /// Nothing is told before any step.
+    pub(crate) fn new(alloc: Global) -> Told
+        ensures { result ≡ [] }
     {
-        Reasons {
-            latest: OrderWords::keyed(alloc, keys),
-            told: Vec::new(alloc),
+        Told {
+            reasons: Vec::new(alloc),
             alloc,
         }
     }
 
-    /// Goes on by one step on this line of the text, which was answered so, and after which the clock is that of its thread. A race that
-    /// has a line in the report gets its reason, by the word that it is on. `AllocError`: memory was refused, and what is kept is of no more use.
-    pub(crate) fn follow(
-        &mut self,
-        line: u64,
-        step: &Step,
-        answer: &Result<Reply, Refusal>,
-        raced: Option<Word>,
-        clock: &ThreadClock<'_>,
-        printed: bool,
-    ) -> Result<(), AllocError>
-        ensures { (r : Recording) (rules : List Target) (k : ℕ) → HasReasons self.old r rules k → slice_get r.steps k ≡ Some step.now → line ≡ slice_index r.lines k
-            → answer.now ≡ order_answer r.steps k → printed ≡ is_printed_by (order_answer r.steps) r rules k → raced ≡ word_raced r.steps k
-            → IsClockAfter (take (k + 1) r.steps) step.now.thread clock.now → OnOk result (HasReasons self.new r rules (k + 1)) }
+    /// The reasons, in the races' order.
+    pub(crate) fn into_reasons(self) -> Vec<Vec<Because>>
+        ensures { map (λ reasons. reasons.items) result.items ≡ self }
     {
-        tell(
-            self.alloc,
-            &mut self.told,
-            &self.latest,
-            step,
-            raced,
-            clock,
-            printed,
-        )?;
-        self.latest
-            .follow(step, answer, clock, reason_of(line, step))?;
+        let Told { reasons, .. } = self;
+        reasons
+    }
+
+    // Puts a list of what was found behind the others.
+    fn put(&mut self, found: Option<Because>) -> Result<(), AllocError>
+        ensures { OnOk result (self.new ≡ self.old ++ option_to_list found ∷ []) }
+    {
+        self.reasons.push(list_of(self.alloc, found)?)?;
         Ok(())
     }
-
-    /// The reasons of the printed races, in order.
-    pub(crate) fn into_told(self) -> Vec<Vec<Because>>
-        ensures { map (λ reasons. reasons.items) result.items ≡ self.told }
-    {
-        let Reasons { told, .. } = self;
-        told
-    }
-}
-
-// Puts the reason of a step behind the others, if the step is a race that has a line.
-fn tell(
-    alloc: Global,
-    told: &mut Vec<Vec<Because>>,
-    latest: &OrderWords<Because>,
-    step: &Step,
-    raced: Option<Word>,
-    clock: &ThreadClock<'_>,
-    printed: bool,
-) -> Result<(), AllocError>
-    ensures { (r : Recording) (rules : List Target) (k : ℕ) → Follows (access_reason_at r) latest.now (take k r.steps) → slice_get r.steps k ≡ Some step.now
-        → printed ≡ is_printed_by (order_answer r.steps) r rules k → raced ≡ word_raced r.steps k → IsClockAfter (take (k + 1) r.steps) step.now.thread clock.now
-        → OnOk result (map (λ reasons. reasons.items) told.new.items ≡ map (λ reasons. reasons.items) told.old.items ++ cond printed (order_reasons r k ∷ []) []) }
-{
-    if printed {
-        put_found(alloc, told, latest.reason(step, raced, clock))
-    } else {
-        Ok(())
-    }
-}
-
-// Puts a list of what was found behind the others.
-fn put_found(
-    alloc: Global,
-    told: &mut Vec<Vec<Because>>,
-    found: Option<Because>,
-) -> Result<(), AllocError>
-    ensures { OnOk result (map (λ reasons. reasons.items) told.new.items ≡ map (λ reasons. reasons.items) told.old.items ++ option_to_list found ∷ []) }
-{
-    told.push(list_of(alloc, found)?)?;
-    Ok(())
 }
 
 // A list of what was found.
@@ -130,18 +122,6 @@ fn list_of(alloc: Global, found: Option<Because>) -> Result<Vec<Because>, AllocE
         list.push(Because { label, ..reason })?;
     }
     Ok(list)
-}
-
-// A step on this line, as the reason of a later race.
-fn reason_of(line: u64, step: &Step) -> Because
-    ensures { result ≡ line_reason line (Some step.now) }
-{
-    Because {
-        label: Label::Unordered,
-        line,
-        thread: step.thread,
-        kind: event_kind(step.event),
-    }
 }
 
 // The kind of an access. Another event is never a reason.

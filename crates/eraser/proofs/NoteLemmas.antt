@@ -54,3 +54,8 @@ more-notes a b c more old new failed (asked, are, adds) = (asked, are, widen (a 
     or_more true b c more some = rw (more refl) refl
     or_more false true c more some = refl
     or_more false false c more some = some
+
+-- what no word asks for is not asked for
+pub not-asked : (asked named : Bool) → (asked ≡ true → named ≡ true) → named ≡ false → asked ≡ false
+not-asked true named all none = sym (all refl) ∙ none
+not-asked false named all none = refl

@@ -1,11 +1,8 @@
 -- What a command line leaves on standard error besides faults.
-use Rattle.std.specs.Prelude.{◌≡◌, ◌⊎◌, ◌++◌, ◌&&◌, ◌||◌, ℕ, Bool, false, cond, List, [], Option, None}
-use Rattle.std.specs.Io.KnownBytes.{Keeps}
+use Rattle.std.specs.Prelude.{◌⊎◌, ◌++◌, ◌&&◌, ◌||◌, ℕ, Bool, cond, List, [], Option}
 use Rattle.er_exit.specs.Notes.{notes_text}
 use Rattle.er_exit.specs.Writes.{WritesBytes}
 use Rattle.er_exit.specs.declared.notes.TextNotes.{TextNotes}
-use Rattle.er_request.specs.declared.request.Request.{Request}
-use Rattle.er_request.specs.declared.request.Request.TheVariants.{Replay, Explain, Demo}
 use Rattle.er_text.specs.declared.endings.Ending.{Ending}
 use Rattle.er_triage.specs.Notes.{AreNotes}
 
@@ -29,9 +26,3 @@ GetsNotes hints old new failed = (asked : List ℕ) × AreNotes asked × AddsNot
 -- nothing was written but notes on a text
 abbrev pub GetsTextNotes : Bool → Option (List ℕ) → Option (List ℕ) → Bool → Type 0
 GetsTextNotes hints old new failed = AddsNotes hints [] old new failed
-
--- if no notes are asked for, a replay leaves those on the text alone, and whatever is no replay leaves nothing
-abbrev pub IsSilent : Request → Bool → Option (List ℕ) → Option (List ℕ) → Bool → Type 0
-IsSilent (Replay replay) hints old new failed = replay.unused_rules ≡ false → replay.max_races ≡ None → GetsTextNotes hints old new failed
-IsSilent (Explain explain) hints old new failed = Keeps old new
-IsSilent (Demo demo) hints old new failed = Keeps old new

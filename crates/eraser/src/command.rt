@@ -3,11 +3,11 @@ ghost use Rattle.std.specs.Prelude.{◌≡◌, ◌≢◌, ◌≤◌, ◌||◌, �
 ghost use Rattle.std.specs.Io.KnownBytes.{Keeps};
 ghost use Rattle.er_device.specs.Device.{inner_of, has_failed};
 ghost use Rattle.er_exit.specs.Writes.{LeavesOutput};
-ghost use Rattle.er_request.specs.Words.{IsUsual, asks_hints, asks_progress, asks_until_fault, asks_usual, names_hints, names_progress, names_until_fault, replays_input};
+ghost use Rattle.er_request.specs.Words.{IsUsual, names_hints, names_progress, names_until_fault, replays_input};
 ghost use Rattle.er_report.specs.Reports.{asks_order};
 ghost use Rattle.er_text.specs.Ending.{IsEndingOf};
 ghost use Rattle.er_triage.specs.Notes.{AreNotes};
-ghost use Rattle.eraser.specs.Notes.{AddsNotesOn, GetsNotes, GetsTextNotes, IsSilent};
+ghost use Rattle.eraser.specs.Notes.{AddsNotesOn, GetsNotes, GetsTextNotes};
 ghost use Rattle.eraser.specs.Replays.{AreOptionsOf, ComesTo, EndsAs, EndsUsually, FailsAs};
 
 use crate::advice::trace_path;
@@ -15,14 +15,13 @@ use crate::meter::Meter;
 use crate::notes::notes_of;
 use crate::replaying::{Ended, Job};
 use crate::rules::suppressions_of;
-use crate::sources::size_of;
 use crate::stories::explain_step;
 use crate::until::{Cut, cut_by, replay_trace, report_cut};
 use clap::error::ErrorKind;
 use er_device::Device;
-use er_exit::{Fault, put, report_fault, run_demo};
+use er_exit::{Fault, put, report_fault, run_demo, size_of};
 use er_load::Workload;
-use er_request::{Demo, Explain, Replay, Request, read_request};
+use er_request::{Replay, Request, read_request};
 use er_run::Options;
 use er_trace::NameKeys;
 use std::alloc::Global;
@@ -71,50 +70,29 @@ where
     ensures unwatched { names_progress words.now ≡ false → Keeps (P.contents (inner_of progress.old)) (P.contents (inner_of progress.new)) }
 {
     match read_request(rt.alloc(), words) {
-        Ok(request) => run_request(rt, request, input, output, errors, progress, on_terminal),
-        Err(error) => {
-            let status = refused(rt.alloc(), &error, output, errors);
-            drop(error);
-            status
-        }
-    }
-}
-
-fn run_request<R, I, O, E, P>(
-    rt: &R,
-    request: Request<'_>,
-    input: &mut Device<I>,
-    output: &mut Device<O>,
-    errors: &mut Device<E>,
-    progress: &mut Device<P>,
-    on_terminal: bool,
-) -> u8
-where
-    R: Files + Clock + RandomSource + AllocGlobal + Threads + Wait + Sync,
-    I: Read,
-    O: Write,
-    E: Write,
-    P: Write,
-    requires input { has_failed input.old ≡ false }
-    requires output { has_failed output.old ≡ false }
-    requires errors { has_failed errors.old ≡ false }
-    ensures status { result ≤ 4 }
-    ensures usual { asks_usual request.entry → IfSome (I.remaining (inner_of input.old)) (λ text. ComesTo on_terminal text (has_failed input.new) (has_failed output.new) (O.contents (inner_of output.old)) (O.contents (inner_of output.new)) (E.contents (inner_of errors.old)) (E.contents (inner_of errors.new)) (has_failed errors.new) result) }
-    ensures quiet { result ≤ 1 → GetsNotes (asks_hints request.entry || on_terminal) (E.contents (inner_of errors.old)) (E.contents (inner_of errors.new)) (has_failed errors.new) }
-    ensures silent { result ≤ 1 → IsSilent request.entry (asks_hints request.entry || on_terminal) (E.contents (inner_of errors.old)) (E.contents (inner_of errors.new)) (has_failed errors.new) }
-    ensures refused { asks_until_fault request.entry ≡ false → result ≡ 2 → Keeps (O.contents (inner_of output.old)) (O.contents (inner_of output.new)) }
-    ensures unwatched { asks_progress request.entry ≡ false → Keeps (P.contents (inner_of progress.old)) (P.contents (inner_of progress.new)) }
-{
-    match request {
-        Request::Replay(replay) => {
+        Ok(Request::Replay(replay)) => {
             let asked = with_hints(replay, on_terminal);
             let replayed = run_replay(rt, &asked, input, output, progress, on_terminal);
             let status = end_replay(rt, &asked, replayed, errors);
             drop(asked);
             status
         }
-        Request::Explain(asked) => end_story(rt, &asked, input, output, errors),
-        Request::Demo(demo) => end_demo(rt, demo, output, errors),
+        Ok(Request::Explain(asked)) => {
+            end(rt.alloc(), explain_step(rt, &asked, input, output), errors)
+        }
+        Ok(Request::Demo(demo)) => {
+            let workload = Workload::ALL[demo.place];
+            end(
+                rt.alloc(),
+                run_demo(rt, rt.alloc(), workload, output),
+                errors,
+            )
+        }
+        Err(error) => {
+            let status = refused(rt.alloc(), &error, output, errors);
+            drop(error);
+            status
+        }
     }
 }
 
@@ -170,15 +148,12 @@ where
         options: &options,
     };
     if replay.progress {
-        let mut meter = Meter::new(rt, progress, on_terminal, size_of_trace(rt, replay));
+        let size = trace_path(replay).and_then(|path| size_of(rt, path));
+        let mut meter = Meter::new(rt, Some(progress), on_terminal, size);
         return replay_trace(rt, job, input, output, &mut meter);
     }
-    let mut meter: Meter<'_, R, P> = Meter::off(rt);
+    let mut meter: Meter<'_, R, P> = Meter::new(rt, None, false, None);
     replay_trace(rt, job, input, output, &mut meter)
-}
-
-fn size_of_trace<R: Files>(rt: &R, replay: &Replay<'_>) -> Option<u64> {
-    size_of(rt, trace_path(replay)?)
 }
 
 // Writes the notes of a replay, or its fault and what helps people.
@@ -209,47 +184,17 @@ where
     }
 }
 
-// Writes the story of a step, or why there is none.
-fn end_story<R, I, O, E>(
-    rt: &R,
-    asked: &Explain<'_>,
-    input: &mut Device<I>,
-    output: &mut Device<O>,
-    errors: &mut Device<E>,
-) -> u8
-where
-    R: Files + RandomSource + AllocGlobal,
-    I: Read,
-    O: Write,
-    E: Write,
-    requires input { has_failed input.old ≡ false }
-    requires output { has_failed output.old ≡ false }
+// Ends a story or a demo: with its status, or with its fault.
+fn end<E: Write>(alloc: Global, ended: Result<u8, Fault>, errors: &mut Device<E>) -> u8
     requires errors { has_failed errors.old ≡ false }
-    ensures status { (result ≤ 4) × (result ≢ 1) }
+    ensures given { IfOk ended (λ status. result ≡ status) }
+    ensures status { IfOk ended (λ status. status ≤ 1) → result ≤ 4 }
     ensures quiet { result ≤ 1 → Keeps (E.contents (inner_of errors.old)) (E.contents (inner_of errors.new)) }
-    ensures refused { result ≡ 2 → Keeps (O.contents (inner_of output.old)) (O.contents (inner_of output.new)) }
+    ensures refused { (old new : Option (List ℕ)) → IfOk ended (λ status. status ≤ 1) → IfErr ended (LeavesOutput old new) → result ≡ 2 → Keeps old new }
 {
-    match explain_step(rt, asked, input, output) {
-        Ok(()) => 0,
-        Err(fault) => report_fault(rt.alloc(), fault, errors),
-    }
-}
-
-// Runs a demo, and writes its fault.
-fn end_demo<R, O, E>(rt: &R, demo: Demo, output: &mut Device<O>, errors: &mut Device<E>) -> u8
-where
-    R: AllocGlobal + Threads + Wait + Sync,
-    O: Write,
-    E: Write,
-    requires output { has_failed output.old ≡ false }
-    requires errors { has_failed errors.old ≡ false }
-    ensures status { result ≤ 4 }
-    ensures quiet { result ≤ 1 → Keeps (E.contents (inner_of errors.old)) (E.contents (inner_of errors.new)) }
-    ensures refused { result ≡ 2 → Keeps (O.contents (inner_of output.old)) (O.contents (inner_of output.new)) }
-{
-    match run_demo(rt, rt.alloc(), Workload::ALL[demo.place], output) {
+    match ended {
         Ok(status) => status,
-        Err(fault) => report_fault(rt.alloc(), fault, errors),
+        Err(fault) => report_fault(alloc, fault, errors),
     }
 }
 
@@ -270,10 +215,7 @@ fn note<E: Write>(alloc: Global, ended: Ended, hints: bool, errors: &mut Device<
 
 /// By which keys names and pages are hashed: by those that nobody can foretell, if the system gives random bytes.
 pub(crate) fn keys_from<R: RandomSource>(rt: &R) -> NameKeys {
-    match NameKeys::random(rt) {
-        Ok(keys) => keys,
-        Err(_) => NameKeys::KNOWN,
-    }
+    NameKeys::random(rt).unwrap_or(NameKeys::KNOWN)
 }
 
 /// How the trace is to be replayed.
@@ -303,27 +245,7 @@ fn refused<O: Write, E: Write>(
     let Ok(text) = error.to_string(alloc) else {
         return report_fault(alloc, Fault::Memory, errors);
     };
-    let status = put_refused(alloc, error.kind(), text.as_str(), output, errors);
-    drop(text);
-    status
-}
-
-// The same with the parser's text. Split for the prover.
-fn put_refused<O: Write, E: Write>(
-    alloc: Global,
-    kind: ErrorKind,
-    text: &str,
-    output: &mut Device<O>,
-    errors: &mut Device<E>,
-) -> u8
-    requires output { has_failed output.old ≡ false }
-    requires errors { has_failed errors.old ≡ false }
-    ensures status { result ≤ 4 }
-    ensures quiet { result ≤ 1 → Keeps (E.contents (inner_of errors.old)) (E.contents (inner_of errors.new)) }
-    ensures written { result ≤ 1 → has_failed output.new ≡ false }
-    ensures refused { result ≡ 2 → Keeps (O.contents (inner_of output.old)) (O.contents (inner_of output.new)) }
-{
-    match kind {
+    match error.kind() {
         ErrorKind::OutOfMemory => report_fault(alloc, Fault::Memory, errors),
         ErrorKind::DisplayHelp | ErrorKind::DisplayVersion => {
             match output.write_all(text.as_bytes()) {

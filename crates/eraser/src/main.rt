@@ -24,14 +24,10 @@ use std::io::{ErrorKind, IsTerminal};
 use std::process::ExitCode;
 
 fn words_of(rt: &HostRuntime) -> Result<Vec<String>, Fault> {
-    let found = match env::args(rt) {
-        Ok(found) => found,
-        Err(error) if error.kind() == ErrorKind::OutOfMemory => return Err(Fault::Memory),
-        Err(_) => return Err(Fault::Arguments),
-    };
-    match found.collect(rt.alloc()) {
-        Ok(words) => Ok(words),
-        Err(_) => Err(Fault::Memory),
+    match env::args(rt) {
+        Ok(found) => found.collect(rt.alloc()).map_err(|_| Fault::Memory),
+        Err(error) if error.kind() == ErrorKind::OutOfMemory => Err(Fault::Memory),
+        Err(_) => Err(Fault::Arguments),
     }
 }
 

@@ -35,30 +35,16 @@ pub(crate) struct Meter<'a, R, P> {
 }
 
 impl<'a, R: Clock + AllocGlobal, P: Write> Meter<'a, R, P> {
-    /// Shows nothing.
-    pub(crate) fn off(rt: &'a R) -> Meter<'a, R, P> {
-        Meter {
-            rt,
-            writer: None,
-            on_one_line: false,
-            size: None,
-            has_line: false,
-            start: None,
-            due: PAUSE,
-            unshown: None,
-        }
-    }
-
-    /// Shows it on this writer, on one line or on a line each time, beside the size of the trace if that is known.
+    /// Shows it on this writer if there is one, on one line or on a line each time, beside the size of the trace if that is known.
     pub(crate) fn new(
         rt: &'a R,
-        writer: &'a mut Device<P>,
+        writer: Option<&'a mut Device<P>>,
         on_one_line: bool,
         size: Option<u64>,
     ) -> Meter<'a, R, P> {
         Meter {
             rt,
-            writer: Some(writer),
+            writer,
             on_one_line,
             size,
             has_line: false,
@@ -78,18 +64,48 @@ impl<'a, R: Clock + AllocGlobal, P: Write> Meter<'a, R, P> {
     // Writes the line of this moment. If there is no memory for it, or a write has failed, there is no line.
     fn show(&mut self, progress: Progress, millis: u128) {
         self.unshown = None;
-        let Ok(line) = line_of(self.rt, progress, millis, self.size, self.on_one_line) else {
+        let Ok(line) = self.line_of(progress, millis) else {
             return;
         };
         self.write(line.as_bytes());
         self.has_line = true;
     }
 
-    fn write(&mut self, bytes: &[u8]) {
-        if let Some(writer) = &mut self.writer {
-            if !writer.failed() {
-                let _ = writer.write_all(bytes);
+    // How far a replay has come after so many milliseconds, in words. On one line it takes the place of what stands there.
+    fn line_of(&self, progress: Progress, millis: u128) -> Result<String, AllocError> {
+        let Progress {
+            bytes,
+            steps,
+            races,
+        } = progress;
+        let rate = u128::from(steps) * 1000 / millis.max(1);
+        let share = self.share_of(bytes)?;
+        let (front, back) = if self.on_one_line {
+            ("\r", "\x1b[K")
+        } else {
+            ("", "\n")
+        };
+        format!(in self.rt.alloc();
+            "{front}progress: {bytes} bytes, {steps} steps, {rate} steps a second, {races} races{share}{back}"
+        )
+    }
+
+    // How much of the trace was read, in hundredths, if its size is known.
+    fn share_of(&self, bytes: u64) -> Result<String, AllocError> {
+        match self.size {
+            Some(size) if size > 0 => {
+                let percent = (u128::from(bytes) * 100 / u128::from(size)).min(100);
+                format!(in self.rt.alloc(); ", {percent} %")
             }
+            _ => Ok(String::new(self.rt.alloc())),
+        }
+    }
+
+    fn write(&mut self, bytes: &[u8]) {
+        if let Some(writer) = &mut self.writer
+            && !writer.failed()
+        {
+            let _ = writer.write_all(bytes);
         }
     }
 }
@@ -124,41 +140,5 @@ impl<'a, R: Clock + AllocGlobal, P: Write> Watch for Meter<'a, R, P> {
         self.unshown = None;
         self.start = Instant::now(self.rt).ok();
         self.due = PAUSE;
-    }
-}
-
-// How far a replay has come after so many milliseconds, in words. On one line it takes the place of what stands there.
-fn line_of<R: AllocGlobal>(
-    rt: &R,
-    progress: Progress,
-    millis: u128,
-    size: Option<u64>,
-    on_one_line: bool,
-) -> Result<String, AllocError> {
-    let Progress {
-        bytes,
-        steps,
-        races,
-    } = progress;
-    let rate = u128::from(steps) * 1000 / millis.max(1);
-    let share = share_of(rt, bytes, size)?;
-    let (front, back) = if on_one_line {
-        ("\r", "\x1b[K")
-    } else {
-        ("", "\n")
-    };
-    format!(in rt.alloc();
-        "{front}progress: {bytes} bytes, {steps} steps, {rate} steps a second, {races} races{share}{back}"
-    )
-}
-
-// How much of the trace was read, in hundredths, if its size is known.
-fn share_of<R: AllocGlobal>(rt: &R, bytes: u64, size: Option<u64>) -> Result<String, AllocError> {
-    match size {
-        Some(size) if size > 0 => {
-            let percent = (u128::from(bytes) * 100 / u128::from(size)).min(100);
-            format!(in rt.alloc(); ", {percent} %")
-        }
-        _ => Ok(String::new(rt.alloc())),
     }
 }

@@ -26,13 +26,10 @@ pub(crate) fn notes_of(alloc: Global, ended: Ended, hints: bool) -> Vec<u8>
 fn notes_on(hints: bool, ending: Ending, unordered: u64) -> TextNotes
     ensures { result ≡ notes_on hints ending unordered }
 {
+    let is_counted = ending.is_text_3 || hints;
     TextNotes {
         no_end: ending.is_open,
         no_line_feed: ending.is_cut && hints,
-        unordered: if ending.is_text_3 || hints {
-            unordered
-        } else {
-            0
-        },
+        unordered: if is_counted { unordered } else { 0 },
     }
 }

@@ -4,8 +4,8 @@ ghost use Rattle.er_device.specs.Device.{has_failed};
 ghost use Rattle.eraser.specs.Replays.{AreOptionsOf, MayHavePlaces, shows_places, tells_places};
 
 use crate::replaying::Job;
-use crate::sources::is_ordinary;
 use er_device::Device;
+use er_exit::size_of;
 use er_places::{Places, places_of_reports};
 use er_report::{Form, Reports};
 use er_request::Replay;
@@ -36,7 +36,7 @@ fn open_again<R: Files>(rt: &R, replay: &Replay<'_>) -> Option<Device<R::File>>
     ensures open { IfSome result (λ again. has_failed again ≡ false) }
     ensures shown { IfSome result (λ again. shows_places replay.now ≡ true) }
 {
-    if !shows_places(replay) || !is_ordinary(rt, replay.trace) {
+    if !shows_places(replay) || size_of(rt, replay.trace).is_none() {
         return None;
     }
     match File::open(rt, replay.trace) {

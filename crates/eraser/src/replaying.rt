@@ -1,6 +1,7 @@
 //! One replay: a trace in, its reports out as they are asked for.
-ghost use Rattle.std.specs.Prelude.{◌≡◌, ◌≢◌, ◌≤◌, ℕ, Bool, List, [], false, None, IsSome, is_some, IfOk, IfErr, IfSome};
+ghost use Rattle.std.specs.Prelude.{◌≡◌, ◌≢◌, ◌≤◌, ℕ, List, [], false, None, IsSome, is_some, IfOk, IfErr, IfSome};
 ghost use Rattle.er_device.specs.Device.{inner_of, has_failed};
+ghost use Rattle.er_batch.specs.declared.verdict.Verdict.TheVariants.{Stopped};
 ghost use Rattle.er_exit.specs.declared.faults.Fault.TheVariants.{WriteRules};
 ghost use Rattle.er_exit.specs.Writes.{LeavesOutput};
 ghost use Rattle.er_report.specs.Reports.{HaveNames, asks_locks, asks_order};
@@ -18,8 +19,6 @@ use crate::sources::excerpts_of;
 use er_device::Device;
 use er_exit::Fault;
 use er_forms::render;
-use er_html::Excerpt;
-use er_places::Places;
 use er_print::{WriteFault, write_text};
 use er_report::Reports;
 use er_request::Replay;
@@ -28,7 +27,6 @@ use er_run::{Options, ReplayedTrace, Verdict, Watch, replay_reports, verdict_of}
 use er_text::Ending;
 use er_trace::Names;
 use er_triage::{Triaged, Wishes, triage};
-use std::alloc::Global;
 use std::io::{Read, Write};
 use std::rt::Files;
 use std::sync::Wait;
@@ -135,7 +133,11 @@ where
     ensures failed { FailsBy false (has_failed output.new) result }
 {
     let unordered = unordered_of(&reports, has_order);
-    let wishes = wishes_of(job.replay);
+    let wishes = Wishes {
+        known_races: job.replay.write_rules.is_some(),
+        unused_rules: job.replay.unused_rules,
+        max_races: job.replay.max_races,
+    };
     let Ok(triaged) = triage(rt.alloc(), reports, names, job.suppressions, wishes) else {
         return Err(Fault::Memory);
     };
@@ -145,18 +147,6 @@ where
             drop(triaged);
             Err(fault)
         }
-    }
-}
-
-fn wishes_of(replay: &Replay<'_>) -> Wishes
-    ensures known { result.known_races ≡ is_some replay.now.write_rules }
-    ensures unused { result.unused_rules ≡ replay.now.unused_rules }
-    ensures most { result.max_races ≡ replay.now.max_races }
-{
-    Wishes {
-        known_races: replay.write_rules.is_some(),
-        unused_rules: replay.unused_rules,
-        max_races: replay.max_races,
     }
 }
 
@@ -221,7 +211,9 @@ fn finish<R: Files>(
     ensures fault { IfErr result (λ fault. (fault ≡ WriteRules) × IsSome path.entry) }
 {
     let verdict = verdict_of(&triaged.reports);
-    if let Err(fault) = write_known(rt, path, &triaged, verdict) {
+    if let Some((path, text)) = rules_to_write(path, &triaged.known_races, verdict)
+        && let Err(fault) = write_rules(rt, path, text)
+    {
         drop(triaged);
         return Err(fault);
     }
@@ -240,18 +232,18 @@ fn finish<R: Files>(
     })
 }
 
-// Writes the rules for the known races, if there is a file for them and the replay didn't stop. Split for the prover.
-fn write_known<R: Files>(
-    rt: &R,
-    path: Option<&str>,
-    triaged: &Triaged,
+// Which file gets the rules for the known races, and their text. None if the replay stopped.
+fn rules_to_write<'a>(
+    path: Option<&'a str>,
+    known_races: &'a Option<Vec<u8>>,
     verdict: Verdict,
-) -> Result<(), Fault>
-    ensures { IfErr result (λ fault. (fault ≡ WriteRules) × IsSome path.entry) }
+) -> Option<(&'a str, &'a [u8])>
+    ensures stopped { verdict ≡ Stopped → result ≡ None }
+    ensures asked { IfSome result (λ file. IsSome path.entry) }
 {
-    match (path, &triaged.known_races) {
-        (Some(path), Some(text)) if verdict != Verdict::Stopped => write_rules(rt, path, text),
-        _ => Ok(()),
+    match (path, known_races) {
+        (Some(path), Some(text)) if verdict != Verdict::Stopped => Some((path, text)),
+        _ => None,
     }
 }
 

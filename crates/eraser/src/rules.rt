@@ -1,5 +1,5 @@
 //! Files of rules: those that are read, and the one that is written.
-ghost use Rattle.std.specs.Prelude.{◌≡◌, ◌≤◌, ◌^◌, [], length, IfOk, IfErr, IsOk};
+ghost use Rattle.std.specs.Prelude.{◌≡◌, ◌≤◌, ◌^◌, [], IfOk, IfErr, IsOk};
 ghost use Rattle.er_exit.specs.declared.faults.Fault.TheVariants.{WriteRules};
 ghost use Rattle.er_rules.specs.Rules.{targets_of};
 
@@ -8,9 +8,7 @@ use er_exit::Fault;
 use er_rules::Suppressions;
 use er_text::read_suppressions;
 use er_triage::append_rules;
-use std::alloc::Global;
 use std::fs::File;
-use std::mem;
 use std::rt::Files;
 
 /// The rules of these files, in their order, and from file to file.
@@ -25,19 +23,12 @@ where
     ensures none { paths.now ≡ [] → IfOk result (λ rules. targets_of rules ≡ []) }
     ensures some { paths.now ≡ [] → IsOk result }
 {
-    if paths.is_empty() {
+    let Some((first, others)) = paths.split_first() else {
         return Ok(Suppressions::new(rt.alloc()));
-    }
-    suppressions_of_some(rt, paths, byte_limit)
-}
-
-fn suppressions_of_some<R>(rt: &R, paths: &[&str], byte_limit: u64) -> Result<Suppressions, Fault>
-where
-    R: Files + AllocGlobal,
-    requires { byte_limit ≤ 2 ^ 62 }
-{
-    let mut rules = Suppressions::new(rt.alloc());
-    match read_all(rt, paths, byte_limit, &mut rules) {
+    };
+    let number = (!others.is_empty()).then_some(1);
+    let mut rules = suppressions_at(rt, first, number, byte_limit)?;
+    match append_all(rt, others, byte_limit, &mut rules) {
         Ok(()) => Ok(rules),
         Err(fault) => {
             drop(rules);
@@ -46,8 +37,8 @@ where
     }
 }
 
-// Reads the rules of these files, in their order, into a list that has none.
-fn read_all<R>(
+// Appends the rules of these files, of which the first is the second that was asked for.
+fn append_all<R>(
     rt: &R,
     paths: &[&str],
     byte_limit: u64,
@@ -57,31 +48,15 @@ where
     R: Files + AllocGlobal,
     requires { byte_limit ≤ 2 ^ 62 }
 {
-    let several = paths.len() > 1;
     for (place, path) in paths.iter().enumerate() {
-        let number = if several {
-            Some(place as u64 + 1)
-        } else {
-            None
-        };
-        let found = suppressions_at(rt, path, number, byte_limit)?;
-        put_rules(rules, found, place == 0)?;
+        let found = suppressions_at(rt, path, Some(place as u64 + 2), byte_limit)?;
+        let added = append_rules(rules, &found);
+        drop(found);
+        if added.is_err() {
+            return Err(Fault::Memory);
+        }
     }
     Ok(())
-}
-
-// The rules of the first file become the list, and those of each other file come behind them.
-fn put_rules(rules: &mut Suppressions, found: Suppressions, is_first: bool) -> Result<(), Fault> {
-    if is_first {
-        drop(mem::replace(rules, found));
-        return Ok(());
-    }
-    let added = append_rules(rules, &found);
-    drop(found);
-    match added {
-        Ok(()) => Ok(()),
-        Err(_) => Err(Fault::Memory),
-    }
 }
 
 // The rules of one file, which has this number if there are several.

@@ -1,5 +1,5 @@
 //! The story of one step of a trace.
-ghost use Rattle.std.specs.Prelude.{◌≡◌, ◌≤◌, ◌^◌, false, codes, IfErr, IfOk, IfSome, OnOk};
+ghost use Rattle.std.specs.Prelude.{◌≡◌, false, codes, IfErr, IfOk, IfSome, OnOk};
 ghost use Rattle.er_device.specs.Device.{inner_of, has_failed};
 ghost use Rattle.er_exit.specs.Writes.{LeavesOutput};
 ghost use Rattle.eraser.specs.Stories.{ExplainsTo, FailsOutput, IsExplainFault, IsStoryFault, WritesStory};
@@ -18,19 +18,20 @@ use std::io::{Read, Write};
 use std::random::RandomSource;
 use std::rt::Files;
 
-/// Writes the story of the step that was asked for.
+/// Writes the story of the step that was asked for. Returns the exit status.
 pub(crate) fn explain_step<R, I, O>(
     rt: &R,
     asked: &Explain<'_>,
     input: &mut Device<I>,
     output: &mut Device<O>,
-) -> Result<(), Fault>
+) -> Result<u8, Fault>
 where
     R: Files + RandomSource + AllocGlobal,
     I: Read,
     O: Write,
     requires input { has_failed input.old ≡ false }
     requires output { has_failed output.old ≡ false }
+    ensures status { IfOk result (λ status. status ≡ 0) }
     ensures story { asked.now.trace.now ≡ codes "-" → OnOk result (IfSome (I.remaining (inner_of input.old)) (λ text. ExplainsTo text asked.now.byte_limit asked.now.line (O.contents (inner_of output.old)) (O.contents (inner_of output.new)))) }
     ensures nothing { IfErr result (LeavesOutput (O.contents (inner_of output.old)) (O.contents (inner_of output.new))) }
     ensures fault { asked.now.trace.now ≡ codes "-" → IfErr result (λ why. IfSome (I.remaining (inner_of input.old)) (λ text. IsExplainFault text asked.now.byte_limit asked.now.line why)) }
@@ -38,49 +39,33 @@ where
 {
     let keys = keys_from(rt);
     if asked.trace == "-" {
-        return explain_from(
-            rt.alloc(),
-            asked.line,
-            asked.byte_limit,
-            keys,
-            input,
-            output,
-        );
+        return explain_from(rt.alloc(), asked, keys, input, output);
     }
     let Ok(file) = File::open(rt, asked.trace) else {
         return Err(Fault::OpenTrace);
     };
-    let mut source = Device::new(file);
-    explain_from(
-        rt.alloc(),
-        asked.line,
-        asked.byte_limit,
-        keys,
-        &mut source,
-        output,
-    )
+    explain_from(rt.alloc(), asked, keys, &mut Device::new(file), output)
 }
 
 // Reads the trace that the reader gives, and writes the story of the step on a line.
 fn explain_from<D: Read, O: Write>(
     alloc: Global,
-    line: u64,
-    byte_limit: u64,
+    asked: &Explain<'_>,
     keys: NameKeys,
     source: &mut Device<D>,
     output: &mut Device<O>,
-) -> Result<(), Fault>
+) -> Result<u8, Fault>
     requires source { has_failed source.old ≡ false }
     requires output { has_failed output.old ≡ false }
-    requires limit { byte_limit ≤ 2 ^ 62 }
-    ensures story { OnOk result (IfSome (D.remaining (inner_of source.old)) (λ text. ExplainsTo text byte_limit line (O.contents (inner_of output.old)) (O.contents (inner_of output.new)))) }
+    ensures status { IfOk result (λ status. status ≡ 0) }
+    ensures story { OnOk result (IfSome (D.remaining (inner_of source.old)) (λ text. ExplainsTo text asked.now.byte_limit asked.now.line (O.contents (inner_of output.old)) (O.contents (inner_of output.new)))) }
     ensures nothing { IfErr result (LeavesOutput (O.contents (inner_of output.old)) (O.contents (inner_of output.new))) }
-    ensures fault { IfErr result (λ why. IfSome (D.remaining (inner_of source.old)) (λ text. IsExplainFault text byte_limit line why)) }
+    ensures fault { IfErr result (λ why. IfSome (D.remaining (inner_of source.old)) (λ text. IsExplainFault text asked.now.byte_limit asked.now.line why)) }
     ensures failed { FailsOutput (has_failed output.new) result }
 {
-    match read_trace_keyed(alloc, source, byte_limit, keys) {
+    match read_trace_keyed(alloc, source, asked.byte_limit, keys) {
         Ok(trace) => {
-            let written = explain_in(alloc, &trace, line, output);
+            let written = explain_in(alloc, &trace, asked.line, output);
             drop(trace);
             written
         }
@@ -94,8 +79,9 @@ fn explain_in<O: Write>(
     trace: &Trace,
     line: u64,
     output: &mut Device<O>,
-) -> Result<(), Fault>
+) -> Result<u8, Fault>
     requires { has_failed output.old ≡ false }
+    ensures status { IfOk result (λ status. status ≡ 0) }
     ensures story { OnOk result (WritesStory (O.contents (inner_of output.old)) (O.contents (inner_of output.new)) trace.now line) }
     ensures nothing { IfErr result (LeavesOutput (O.contents (inner_of output.old)) (O.contents (inner_of output.new))) }
     ensures fault { IfErr result (IsStoryFault trace.now line) }
@@ -110,7 +96,7 @@ fn explain_in<O: Write>(
     let written = write_story(alloc, output, &story, trace.names());
     drop(story);
     match written {
-        Ok(()) => Ok(()),
+        Ok(()) => Ok(0),
         Err(WriteFault::Memory) => Err(Fault::Memory),
         Err(WriteFault::Write) => Err(Fault::Write),
     }

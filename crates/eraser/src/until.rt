@@ -16,11 +16,9 @@ ghost use Rattle.eraser.specs.Replays.{AreOptionsOf, EndsAs, FailsAs, FailsFor};
 use crate::advice::report_replay_fault;
 use crate::notes::notes_of;
 use crate::replaying::{Ended, Job, replay_from};
-use crate::sources::is_ordinary;
 use er_damage::Damage;
-use er_device::Device;
-use er_exit::{Fault, put, report_fault};
-use er_prefix::{Keeping, Prefix};
+use er_device::{Device, Keeping, Prefix};
+use er_exit::{Fault, put, report_fault, size_of};
 use er_request::Replay;
 use er_run::Watch;
 use er_text::TextFault;
@@ -126,7 +124,7 @@ where
         return Err(cut_by(rt.alloc(), Fault::OpenTrace));
     };
     let mut source = Device::new(file);
-    if replay.until_fault && !is_ordinary(rt, replay.trace) {
+    if replay.until_fault && size_of(rt, replay.trace).is_none() {
         return replay_keeping(rt, job, &mut source, output, watcher);
     }
     match replay_from(rt, job, &mut source, output, watcher) {
@@ -208,9 +206,8 @@ where
     drop(second);
     let options = job.options.with_strict(false);
     let lenient = Job {
-        replay: job.replay,
-        suppressions: job.suppressions,
         options: &options,
+        ..job
     };
     let third = replay_lines(rt, lenient, lines, again, output, watcher);
     cut_at(rt.alloc(), hints, first, third)
@@ -251,11 +248,9 @@ where
 // What is damaged in lines, and not in how the text ends behind them.
 fn damage_of_lines(damage: Damage) -> Damage {
     Damage {
-        refused: damage.refused,
-        held_twice: damage.held_twice,
         no_line_feed: None,
         no_end: None,
-        lost: damage.lost,
+        ..damage
     }
 }
 
@@ -270,21 +265,18 @@ fn lacks_end_alone(replayed: &Result<Ended, Fault>) -> bool {
 // What a replay of the lines before a fault comes to. That they lack their end is not noted: the text goes on. If they have no header, they have no report, and the fault is all that there is.
 fn cut_at(alloc: Global, hints: bool, first: TextFault, second: Result<Ended, Fault>) -> Cut {
     let fault = Fault::Text(first);
-    match second {
+    let (notes, damage) = match second {
         Ok(mut ended) => {
             ended.ending.is_open = false;
-            Cut {
-                notes: notes_of(alloc, ended, hints),
-                damage: None,
-                fault,
-            }
+            (notes_of(alloc, ended, hints), None)
         }
-        Err(Fault::Damaged(damage)) => Cut {
-            notes: Vec::new(alloc),
-            damage: Some(damage_of_lines(damage)),
-            fault,
-        },
-        Err(Fault::Text(second)) if second.line == first.line => cut_by(alloc, fault),
-        Err(other) => cut_by(alloc, other),
+        Err(Fault::Damaged(damage)) => (Vec::new(alloc), Some(damage_of_lines(damage))),
+        Err(Fault::Text(second)) if second.line == first.line => return cut_by(alloc, fault),
+        Err(other) => return cut_by(alloc, other),
+    };
+    Cut {
+        notes,
+        damage,
+        fault,
     }
 }

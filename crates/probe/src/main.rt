@@ -1,138 +1,100 @@
 //! Makes the calls that the rows of its standard input ask for, and prints what each is answered, a line for each row.
 //!
-//! The first row says what the others call: `detectors SETS SHARDS JOURNAL SEATS NAME`, `steps SETS`, `values` or `workloads ROUNDS`
-//! (tests/README.md has all rows), or it is `rate SHAPE THREADS CALLS`, which measures a detector. `#` starts a comment. A call that is refused for want of memory prints a line of its own, which says whether it left
-//! everything as it was, and is made once more. A row that asks for nothing is told with its line, and the status is 2.
+//! The first row is `table SETS`, the table of locksets over which the others call detectors and a machine (tests/README.md has all rows).
+//! `#` starts a comment. A call that is refused for want of memory prints a line of its own, which says whether it left everything as it
+//! was, and is made once more. A row that asks for nothing is told with its line, and the status is 2.
 #![tactic(auto)]
 
-mod answered;
-mod answers;
-mod calls;
-mod detectors;
-mod endings;
-mod explained;
+mod acts;
+mod fault;
+mod lists;
 mod measuring;
-mod questions;
 mod rows;
 mod seats;
-mod shards;
-mod shown;
-mod steps;
 mod values;
-mod workloads;
+mod work;
+mod world;
+mod writing;
 
-use detectors::detector_rows;
-use er_event::Refusal;
-use measuring::rate_row;
-use rows::{Row, count_of, rows_of};
-use std::alloc::{AllocError, AllocFailed};
+use acts::play_row;
+use er_replay::Machine;
+use er_table::LocksetTable;
+use fault::{Fault, Made};
+use rows::{Row, rows_of};
 use std::io;
-use std::io::ErrorKind;
 use std::process::ExitCode;
 use std::rt::Runtime;
 use std::sync::Wait;
 use std::thread::Threads;
-use steps::step_rows;
-use values::value_rows;
-use workloads::workload_rows;
+use work::{Work, count_of};
+use world::{World, table_of};
 
-/// Why there is nothing more to print.
-#[derive(Clone, Copy, PartialEq, Eq)]
-pub(crate) enum Fault {
-    Memory,
-    /// The row of this line asks for nothing.
-    Row(usize),
-    /// A call that is measured was refused.
-    Refused(Refusal),
-    System,
-}
+/// What rows are played on.
+pub(crate) trait Host: Runtime + AllocGlobal + Threads + Wait + Sync {}
 
-impl From<AllocError> for Fault {
-    fn from(_refused: AllocError) -> Fault {
-        Fault::Memory
-    }
-}
-
-impl<T: Drop> From<AllocFailed<T>> for Fault {
-    fn from(_refused: AllocFailed<T>) -> Fault {
-        Fault::Memory
-    }
-}
-
-impl From<Refusal> for Fault {
-    fn from(why: Refusal) -> Fault {
-        Fault::Refused(why)
-    }
-}
-
-impl From<io::Error> for Fault {
-    fn from(error: io::Error) -> Fault {
-        if error.kind() == ErrorKind::OutOfMemory {
-            Fault::Memory
-        } else {
-            Fault::System
-        }
-    }
-}
-
-/// Prints a text and the end of its line.
-pub(crate) fn print_line<R: Runtime>(rt: &R, text: &str) -> Result<(), Fault> {
-    Ok(rt.println(text)?)
-}
+impl<R: Runtime + AllocGlobal + Threads + Wait + Sync> Host for R {}
 
 fn main(rt: HostRuntime) -> ExitCode {
-    match probe(&rt) {
+    let mut line = 1;
+    match probe(&rt, &mut line) {
         Ok(()) => ExitCode::from(0),
-        Err(Fault::Row(line)) => {
+        Err(Fault::BadRow) => {
             let _ = eprintln!(rt; "line {line}: bad row");
             ExitCode::from(2)
         }
-        Err(Fault::Memory) => {
-            let _ = rt.eprintln("out of memory");
-            ExitCode::from(3)
-        }
-        Err(Fault::Refused(why)) => {
+        Err(Fault::Refused(why) | Fault::Stopped(_, why)) => {
             let _ = rt.eprintln(why.text());
             ExitCode::from(3)
         }
         Err(Fault::System) => {
-            let _ = rt.eprintln("standard input, standard output or the clock failed");
+            let _ = rt.eprintln("a thread, standard input, standard output or the clock failed");
             ExitCode::from(3)
         }
     }
 }
 
-// Goes over all rows, as the first of them says.
-fn probe<R: Runtime + AllocGlobal + Threads + Wait + Sync>(rt: &R) -> Result<(), Fault> {
+// Goes over all rows. The line is that of the row at work. Of these functions each owns one thing, which is short to prove.
+fn probe<R: Host>(rt: &R, line: &mut usize) -> Made {
     let text = io::read_to_string(rt.alloc(), rt.reader())?;
-    let played = play_text(rt, text.as_str());
-    drop(text);
-    played
-}
-
-fn play_text<R: Runtime + AllocGlobal + Threads + Wait + Sync>(
-    rt: &R,
-    text: &str,
-) -> Result<(), Fault> {
-    let rows = rows_of(rt.alloc(), text)?;
-    let played = play(rt, rows.as_slice());
+    let rows = rows_of(rt.alloc(), text.as_str())?;
+    let played = play(rt, rows.as_slice(), line);
     drop(rows);
     played
 }
 
-fn play<R: Runtime + AllocGlobal + Threads + Wait + Sync>(
-    rt: &R,
-    rows: &[Row<'_>],
-) -> Result<(), Fault> {
+fn play<R: Host>(rt: &R, rows: &[Row<'_>], line: &mut usize) -> Made {
     let [head, rows @ ..] = rows else {
-        return Err(Fault::Row(1));
+        return Err(Fault::BadRow);
     };
-    match head.words.as_slice() {
-        ["detectors", numbers @ ..] => detector_rows(rt, numbers, rows),
-        ["steps", sets] => step_rows(rt, count_of(sets), rows),
-        ["values"] => value_rows(rt, rows),
-        ["workloads", rounds] => workload_rows(rt, count_of(rounds), rows),
-        ["rate", words @ ..] => rate_row(rt, words, rows),
-        _ => Err(Fault::Row(head.line)),
+    *line = head.line;
+    let ["table", sets] = head.words.as_slice() else {
+        return Err(Fault::BadRow);
+    };
+    let table = table_of(rt.alloc(), count_of(sets)?)?;
+    let played = play_over(rt, &table, rows, line);
+    drop(table);
+    played
+}
+
+fn play_over<R: Host>(rt: &R, table: &LocksetTable, rows: &[Row<'_>], line: &mut usize) -> Made {
+    let alloc = rt.alloc();
+    let mut world = World {
+        table,
+        detectors: Vec::new(alloc),
+        seats: Vec::new(alloc),
+        machine: Machine::new(alloc, table)?,
+        steps: Vec::new(alloc),
+    };
+    let played = play_at(rt, &mut world, rows, line);
+    drop(world);
+    played
+}
+
+fn play_at<R: Host>(rt: &R, world: &mut World<'_>, rows: &[Row<'_>], line: &mut usize) -> Made {
+    let mut work = Work::new(rt.alloc())?;
+    for row in rows {
+        *line = row.line;
+        play_row(rt, world, &mut work, row)?;
     }
+    Ok(())
 }

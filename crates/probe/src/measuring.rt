@@ -1,21 +1,21 @@
-//! A row that measures how many accesses a second threads make at one detector: `rate SHAPE THREADS CALLS`.
+//! A row that measures how many accesses a second threads make at detector `a`: `rate SHAPE THREADS CALLS`.
 //!
-//! SHAPE is `own` (each thread keeps to a shard of its own), `spread` (all threads go over all shards and seldom meet at one) or `one`
-//! (all at one shard). The counts of a measure go to standard output, and its microseconds to standard error.
-ghost use Rattle.std.specs.Prelude.{◌≡◌, ◌<◌, ◌≤◌, ◌+◌, ◌*◌, ◌/◌, [], ◌∷◌, length, vec_len, IfSome, IfOk, OnOk, OnErr};
+//! SHAPE is `own` (each thread keeps to a page of its own), `spread` (all threads go over 64 pages and seldom meet at one) or `one` (all at
+//! one page). Each page is a shard's if the detector has as many. The microseconds go to standard error.
+ghost use Rattle.std.specs.Prelude.{◌≡◌, ◌<◌, ◌≤◌, ◌+◌, ◌*◌, ◌/◌, [], ◌∷◌, length, vec_len, IfOk, OnOk, OnErr};
 ghost use Rattle.er_event.specs.declared.steps.Event.TheVariants.{Acquire};
 ghost use Rattle.er_seat.specs.Seats.{done};
 ghost use Rattle.probe.specs.Grown.{HasMade};
 ghost use Rattle.probe.specs.Measures.{shard_count};
 
-use crate::Fault;
-use crate::rows::{Row, count_of};
-use er_detector::{Config, Detector};
+use crate::Host;
+use crate::fault::{Fault, Made};
+use crate::work::Work;
+use er_detector::Detector;
 use er_event::{Kind, LockId, Mode, Refusal, Reply, Site, Word};
 use er_seat::Seat;
-use er_table::LocksetTable;
 use std::alloc::Global;
-use std::rt::{Clock, Runtime};
+use std::fmt::Write;
 use std::sync::Wait;
 use std::thread;
 use std::thread::Threads;
@@ -69,59 +69,39 @@ struct Measure {
     calls: u32,
 }
 
-/// What came of it.
-#[derive(Clone, Copy)]
-struct Measured {
-    races: u64,
-    /// The microseconds from before the first thread to after the last.
-    micros: u128,
-}
-
-/// Measures what these words of the first row ask for. No other row follows it.
-pub(crate) fn rate_row<R: Runtime + AllocGlobal + Threads + Wait + Sync>(
-    rt: &R,
-    words: &[&str],
-    rows: &[Row<'_>],
-) -> Result<(), Fault> {
-    let Some(asked) = measure_of(words) else {
-        return Err(Fault::Row(1));
-    };
-    if let Some(row) = rows.first() {
-        return Err(Fault::Row(row.line));
-    }
-    let measured = take_rate(rt, rt.alloc(), asked)?;
+/// Makes all calls on their threads, and writes how many they are and how many races they report. Each thread holds one lock, under which
+/// all words were written before. The microseconds are those from before the first thread to after the last.
+pub(crate) fn rate<R: Host>(rt: &R, detector: &Detector<'_>, work: &mut Work<'_>) -> Made {
+    let asked = measure_of(work)?;
+    write_all(rt, detector, asked.shape)?;
+    let seats = open_all(rt.alloc(), detector, asked.threads)?;
+    let start = Instant::now(rt)?;
+    let races = count_races(rt, detector, asked, seats)?;
+    let micros = start.elapsed(rt)?.as_micros();
     let calls = u64::from(asked.threads) * u64::from(asked.calls);
-    println!(rt; "calls {calls}, races {}", measured.races)?;
-    eprintln!(rt; "{} microseconds", measured.micros)?;
-    Ok(())
+    eprintln!(rt; "{micros} microseconds")?;
+    Ok(write!(work.answer, "calls {calls}, races {races}")?)
 }
 
-fn measure_of(words: &[&str]) -> Option<Measure>
-    ensures threads { IfSome result (λ asked. (1 ≤ asked.threads) × (asked.threads ≤ 16)) }
-    ensures calls { IfSome result (λ asked. asked.calls ≤ 100000000) }
+fn measure_of(work: &mut Work<'_>) -> Result<Measure, Fault>
+    ensures threads { IfOk result (λ asked. (1 ≤ asked.threads) × (asked.threads ≤ 16)) }
+    ensures calls { IfOk result (λ asked. asked.calls ≤ 100000000) }
 {
-    let [shape, threads, calls] = words else {
-        return None;
+    let shape = match work.next()? {
+        "own" => Shape::Own,
+        "spread" => Shape::Spread,
+        "one" => Shape::One,
+        _ => return Err(Fault::BadRow),
     };
-    let shape = shape_of(shape)?;
-    let (threads, calls) = (count_of(threads)?, count_of(calls)?);
+    let (threads, calls) = (work.count()?, work.count()?);
     if threads >= 1 && threads <= 16 && calls <= 100_000_000 {
-        Some(Measure {
+        Ok(Measure {
             threads,
             shape,
             calls,
         })
     } else {
-        None
-    }
-}
-
-fn shape_of(word: &str) -> Option<Shape> {
-    match word {
-        "own" => Some(Shape::Own),
-        "spread" => Some(Shape::Spread),
-        "one" => Some(Shape::One),
-        _ => None,
+        Err(Fault::BadRow)
     }
 }
 
@@ -147,20 +127,6 @@ fn access<R: Wait>(
 }
 
 // All calls of one thread, and how many races they reported.
-fn make_calls<R: Wait>(
-    rt: &R,
-    detector: &Detector<'_>,
-    asked: Measure,
-    mut seat: Seat,
-) -> Result<u32, Refusal>
-    ensures { IfOk result (λ races. races ≤ asked.calls) }
-{
-    let races = make_all(rt, detector, asked, &mut seat);
-    drop(seat);
-    races
-}
-
-// The same at a seat that the caller keeps.
 fn make_all<R: Wait>(
     rt: &R,
     detector: &Detector<'_>,
@@ -220,80 +186,11 @@ fn write_all_by<R: Wait>(
     Ok(())
 }
 
-// Makes all calls on their threads. Each thread holds one lock, under which all words were written before.
-fn take_rate<R: Clock + Threads + Wait + Sync>(
-    rt: &R,
-    alloc: Global,
-    asked: Measure,
-) -> Result<Measured, Fault> {
-    let shards = asked.shape.shards();
-    let config = Config::new(1, shards, Config::MAX_LIMIT, 17).ok_or(Fault::Row(1))?;
-    let table = LocksetTable::new(alloc, 4)?;
-    let measured = rate_over(rt, alloc, &table, config, asked);
-    drop(table);
-    measured
-}
-
-fn rate_over<R: Clock + Threads + Wait + Sync>(
-    rt: &R,
-    alloc: Global,
-    table: &LocksetTable,
-    config: Config,
-    asked: Measure,
-) -> Result<Measured, Fault> {
-    let detector = Detector::new(alloc, table, config)?;
-    let measured = rate_at(rt, alloc, &detector, asked);
-    drop(detector);
-    measured
-}
-
-fn rate_at<R: Clock + Threads + Wait + Sync>(
-    rt: &R,
-    alloc: Global,
-    detector: &Detector<'_>,
-    asked: Measure,
-) -> Result<Measured, Fault> {
-    write_all(rt, detector, asked.shape)?;
-    let seats = open_all(alloc, detector, asked.threads)?;
-    let start = Instant::now(rt);
-    let races = count_races(rt, detector, asked, seats)?;
-    let micros = start?.elapsed(rt)?.as_micros();
-    Ok(Measured { races, micros })
-}
-
 // Seats that hold the lock, one of each thread.
-fn open_all(alloc: Global, detector: &Detector<'_>, threads: u32) -> Result<Vec<Seat>, Fault>
+fn open_all(alloc: Global, detector: &Detector<'_>, threads: u32) -> Result<Vec<Seat>, Refusal>
     ensures { IfOk result (λ seats. vec_len seats ≡ threads) }
 {
-    let mut seats = Vec::new(alloc);
-    match add_seats(detector, &mut seats, threads) {
-        Ok(()) => Ok(seats),
-        Err(fault) => {
-            drop(seats);
-            Err(fault)
-        }
-    }
-}
-
-fn add_seats(detector: &Detector<'_>, seats: &mut Vec<Seat>, threads: u32) -> Result<(), Fault>
-    ensures { OnOk result (vec_len seats.new ≡ vec_len seats.old + threads) }
-{
-    for _ in 0..threads {
-        add_seat(detector, seats)?;
-    }
-    Ok(())
-}
-
-fn add_seat(detector: &Detector<'_>, seats: &mut Vec<Seat>) -> Result<(), Fault>
-    ensures { OnOk result (vec_len seats.new ≡ vec_len seats.old + 1) }
-{
-    match seats.push(open(detector)?) {
-        Ok(()) => Ok(()),
-        Err(refused) => {
-            drop(refused);
-            Err(Fault::Memory)
-        }
-    }
+    (0..threads).map(|_| open(detector)).try_collect(alloc)
 }
 
 // Makes all calls, each seat's on a thread of its own, and counts the races.
@@ -303,7 +200,11 @@ fn count_races<R: Threads + Wait + Sync>(
     asked: Measure,
     seats: Vec<Seat>,
 ) -> Result<u64, Fault> {
-    let counts = thread::map_vec(rt, seats, &|seat| make_calls(rt, detector, asked, seat))?;
+    let counts = thread::map_vec(
+        rt,
+        seats,
+        &|mut seat| { make_all(rt, detector, asked, &mut seat) },
+    )?;
     let mut races: u64 = 0;
     for count in counts.as_slice() {
         races = races.saturating_add(u64::from((*count)?));

@@ -10,7 +10,9 @@ use Rattle.er_trace.specs.Trace.{Recording}
 pub record HasCome (Stands : Recording → Type 0) (told known : Option (List ℕ)) (reader : Reached) (trace : Recording) : Type 0 where
   pub past : List Step
   pub lines : List ℕ
-  pub read : IfSome told (λ text. HasRead text past lines reader known trace)
+  pub sites : List ℕ
+  pub read : IfSome told (λ text. HasRead text past lines sites reader known trace)
   pub no_steps : trace.steps ≡ []
   pub no_lines : trace.lines ≡ []
-  pub stands : Stands (recorded past lines trace.names)
+  pub no_sites : trace.sites ≡ []
+  pub stands : Stands (recorded past lines sites trace.names)

@@ -30,7 +30,8 @@ pub record StandsFor (wants : ℕ → Bool) (seen : Followed) (steps : List Step
 pub record HasCome (wants : ℕ → Bool) (told known : Option (List ℕ)) (reader : Reached) (trace : Recording) (seen : Followed) : Type 0 where
   pub past : List Step
   pub lines : List ℕ
-  pub read : IfSome told (λ text. HasRead text past lines reader known trace)
+  pub sites : List ℕ
+  pub read : IfSome told (λ text. HasRead text past lines sites reader known trace)
   pub even : length lines ≡ length past
   pub named : All (IsNamed trace.names) past
   pub stands : StandsFor wants seen past lines

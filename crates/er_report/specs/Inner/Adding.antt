@@ -15,10 +15,10 @@ abbrev pub one_more : List ℕ → ℕ → List ℕ
 one_more counts i = slice_set counts i (slice_index counts i + 1)
 
 -- the report with one more step, whose thread holds these locks and which is answered so, unless a rule takes its race
-abbrev pub with_answer : Summary → ℕ → List ℕ → Step → Result Reply Refusal → Option ℕ → Summary
-with_answer s number locks step answer None =
+abbrev pub with_answer : Summary → ℕ → ℕ → List ℕ → Step → Result Reply Refusal → Option ℕ → Summary
+with_answer s number line_site locks step answer None =
     record {
-      lines = s.lines ++ answer_line number locks [] step answer;
+      lines = s.lines ++ answer_line number line_site locks [] step answer;
       stop = s.stop;
       rule_counts = s.rule_counts;
       steps = s.steps + 1;
@@ -27,7 +27,7 @@ with_answer s number locks step answer None =
       refused = s.refused + cond (is_refused answer) 1 0;
       lost = s.lost;
     }
-with_answer s number locks step answer (Some i) =
+with_answer s number line_site locks step answer (Some i) =
     record {
       lines = s.lines;
       stop = s.stop;

@@ -15,14 +15,14 @@ next_reasons r (e ∷ rest) reasons = reasons_of r e
 -- the line of a race has the reasons of the next explanation
 abbrev pub line_with : Recording → List Explanation → LineView → LineView
 line_with r to_come (RaceView number thread kind word site held reasons) = RaceView number thread kind word site held (next_reasons r to_come reasons)
-line_with r to_come (ReusedView number thread range held reasons) = ReusedView number thread range held (next_reasons r to_come reasons)
+line_with r to_come (ReusedView number thread range site held reasons) = ReusedView number thread range site held (next_reasons r to_come reasons)
 line_with r to_come (RefusedView number step refusal) = RefusedView number step refusal
 line_with r to_come (ShownView number word state) = ShownView number word state
 
 -- and uses it up
 abbrev pub left_after : List Explanation → LineView → List Explanation
 left_after to_come (RaceView number thread kind word site held reasons) = drop 1 to_come
-left_after to_come (ReusedView number thread range held reasons) = drop 1 to_come
+left_after to_come (ReusedView number thread range site held reasons) = drop 1 to_come
 left_after to_come (RefusedView number step refusal) = to_come
 left_after to_come (ShownView number word state) = to_come
 
@@ -43,14 +43,14 @@ next_told (told ∷ rest) reasons = told
 
 abbrev pub line_told : List (List Because) → LineView → LineView
 line_told to_come (RaceView number thread kind word site held reasons) = RaceView number thread kind word site held (next_told to_come reasons)
-line_told to_come (ReusedView number thread range held reasons) = ReusedView number thread range held (next_told to_come reasons)
+line_told to_come (ReusedView number thread range site held reasons) = ReusedView number thread range site held (next_told to_come reasons)
 line_told to_come (RefusedView number step refusal) = RefusedView number step refusal
 line_told to_come (ShownView number word state) = ShownView number word state
 
 -- and uses them up
 abbrev pub told_left : List (List Because) → LineView → List (List Because)
 told_left to_come (RaceView number thread kind word site held reasons) = drop 1 to_come
-told_left to_come (ReusedView number thread range held reasons) = drop 1 to_come
+told_left to_come (ReusedView number thread range site held reasons) = drop 1 to_come
 told_left to_come (RefusedView number step refusal) = to_come
 told_left to_come (ShownView number word state) = to_come
 

@@ -14,7 +14,7 @@ use Rattle.er_text.specs.Trace.{IsTrace, IsFault}
 use Rattle.er_text.specs.declared.faults.ReadFault.{ReadFault}
 use Rattle.er_text.specs.declared.faults.ReadFault.TheVariants as fault
 use Rattle.er_trace.specs.Names.{NameTable}
-use Rattle.er_trace.specs.Trace.{Recording, IsNamed}
+use Rattle.er_trace.specs.Trace.{Recording, IsNamed, HasSiteName}
 
 -- the items below index `next` are those of the positions below k
 pub record IsNext (items : List Unusual) (next k : ℕ) : Type 0 where
@@ -27,28 +27,34 @@ pub record AreItems (noting : Bool) (past batch : List Step) (items : List Unusu
   pub noted : IsTrue noting → AreNoted past batch items
 
 -- the workers have answered these past steps, which are in the report, and none of the batch behind them
-pub record Pending (crew : Crewed) (builder : Built) (names : NameTable) (past : List Step) (lines : List ℕ) (batch : List Step) (numbers : List ℕ) : Type 0 where
+pub record Pending (crew : Crewed) (builder : Built) (names : NameTable) (past : List Step) (lines sites : List ℕ) (batch : List Step) (numbers places : List ℕ) : Type 0 where
   pub answered : HaveAnswered crew past
-  pub reported : IsReported builder (recorded (past ++ batch) (lines ++ numbers) names) (length past)
+  pub reported : IsReported builder (recorded (past ++ batch) (lines ++ numbers) (sites ++ places) names) (length past)
   pub named : All (IsNamed names) (past ++ batch)
+  pub known : All (HasSiteName names) (sites ++ places)
   pub even : length lines ≡ length past
+  pub each : length sites ≡ length past
   pub level : length numbers ≡ length batch
+  pub level_sites : length places ≡ length batch
 
 -- between two turns: what was read of the text is some past steps and then the batch
-pub record HasReadOn (told known : Option (List ℕ)) (reader : Reached) (trace : Recording) (crew : Crewed) (builder : Built) (batch : List Step) (numbers : List ℕ) : Type 0 where
+pub record HasReadOn (told known : Option (List ℕ)) (reader : Reached) (trace : Recording) (crew : Crewed) (builder : Built) (batch : List Step) (numbers places : List ℕ) : Type 0 where
   pub past : List Step
   pub lines : List ℕ
-  pub read : IfSome told (λ text. HasRead text (past ++ batch) (lines ++ numbers) reader known trace)
+  pub sites : List ℕ
+  pub read : IfSome told (λ text. HasRead text (past ++ batch) (lines ++ numbers) (sites ++ places) reader known trace)
   pub no_steps : trace.steps ≡ []
   pub no_lines : trace.lines ≡ []
-  pub pending : Pending crew builder trace.names past lines batch numbers
+  pub no_sites : trace.sites ≡ []
+  pub pending : Pending crew builder trace.names past lines sites batch numbers places
 
 -- behind the last turn: the text is these past steps and then the batch
-pub record HasReadAll (told : Option (List ℕ)) (limit : ℕ) (names : NameTable) (crew : Crewed) (builder : Built) (batch : List Step) (numbers : List ℕ) : Type 0 where
+pub record HasReadAll (told : Option (List ℕ)) (limit : ℕ) (names : NameTable) (crew : Crewed) (builder : Built) (batch : List Step) (numbers places : List ℕ) : Type 0 where
   pub past : List Step
   pub lines : List ℕ
-  pub read : IfSome told (λ text. IsTrace text limit (recorded (past ++ batch) (lines ++ numbers) names))
-  pub pending : Pending crew builder names past lines batch numbers
+  pub sites : List ℕ
+  pub read : IfSome told (λ text. IsTrace text limit (recorded (past ++ batch) (lines ++ numbers) (sites ++ places) names))
+  pub pending : Pending crew builder names past lines sites batch numbers places
 
 -- all steps of the text are in the report
 pub record HasReportedAll (told : Option (List ℕ)) (limit : ℕ) (used : NameTable) (builder : Built) : Type 0 where
@@ -57,6 +63,7 @@ pub record HasReportedAll (told : Option (List ℕ)) (limit : ℕ) (used : NameT
   pub names : used ≡ recording.names
   pub reported : IsReported builder recording (length recording.steps)
   pub named : All (IsNamed recording.names) recording.steps
+  pub known : All (HasSiteName recording.names) recording.sites
 
 -- the text is a trace that begins with these steps
 pub record BeginsWith (text : List ℕ) (limit : ℕ) (past : List Step) : Type 0 where
@@ -69,7 +76,8 @@ pub record BeginsWith (text : List ℕ) (limit : ℕ) (past : List Step) : Type 
 pub record HasMore (text : List ℕ) (past : List Step) (reader : Reached) (known : Option (List ℕ)) (trace : Recording) : Type 0 where
   pub more : List Step
   pub lines : List ℕ
-  pub read : HasRead text (past ++ more) lines reader known trace
+  pub sites : List ℕ
+  pub read : HasRead text (past ++ more) lines sites reader known trace
 
 -- a fault of the text is its first
 abbrev pub IsReadFault : List ℕ → ℕ → ReadFault → Type 0

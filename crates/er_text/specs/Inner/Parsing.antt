@@ -63,50 +63,52 @@ run_in address size =
 abbrev pub access_in : Version → Kind → List ℕ → List ℕ → Result Operation TextKind
 access_in version k address site = and_then (number_in address) (λ n. and_then (site_in version site) (λ s. map_ok (λ w. Accesses k w s) (word_in n)))
 
-abbrev pub reuse_in : List ℕ → List ℕ → Result Operation TextKind
-reuse_in address size = and_then (number_in address) (λ a. and_then (number_in size) (λ n. map_ok Reuses (run_in a n)))
+abbrev pub reuse_in : Version → List ℕ → List ℕ → List ℕ → Result Operation TextKind
+reuse_in version address size site =
+    and_then (number_in address) (λ a. and_then (number_in size) (λ n. and_then (site_in version site) (λ s. map_ok (λ run. Reuses run s) (run_in a n))))
 
-abbrev pub operands_in : Version → Verb → List ℕ → List ℕ → Result Operation TextKind
-operands_in version verb.Lock first second = map_ok (λ l. Acquires l mode.Write) (lock_in first)
-operands_in version verb.Unlock first second = map_ok (λ l. Releases l mode.Write) (lock_in first)
-operands_in version verb.ReadLock first second = map_ok (λ l. Acquires l mode.Read) (lock_in first)
-operands_in version verb.ReadUnlock first second = map_ok (λ l. Releases l mode.Read) (lock_in first)
-operands_in version verb.Read first second = access_in version kind.Read first second
-operands_in version verb.Write first second = access_in version kind.Write first second
-operands_in version verb.Reuse first second = reuse_in first second
-operands_in version verb.IgnoreOn first second = Ok IgnoresOn
-operands_in version verb.IgnoreOff first second = Ok IgnoresOff
-operands_in version verb.Show first second = and_then (number_in first) (λ n. map_ok Shows (word_in n))
-operands_in version verb.Level first second = and_then (number_in first) (λ n. map_ok Levels (level_in n))
-operands_in version verb.Start first second = map_ok Starts (name_in first)
-operands_in version verb.Join first second = map_ok Joins (name_in first)
-operands_in version verb.Signal first second = map_ok Signals (lock_in first)
-operands_in version verb.Await first second = map_ok Awaits (lock_in first)
+abbrev pub operands_in : Version → Verb → List ℕ → List ℕ → List ℕ → Result Operation TextKind
+operands_in version verb.Lock first second third = map_ok (λ l. Acquires l mode.Write) (lock_in first)
+operands_in version verb.Unlock first second third = map_ok (λ l. Releases l mode.Write) (lock_in first)
+operands_in version verb.ReadLock first second third = map_ok (λ l. Acquires l mode.Read) (lock_in first)
+operands_in version verb.ReadUnlock first second third = map_ok (λ l. Releases l mode.Read) (lock_in first)
+operands_in version verb.Read first second third = access_in version kind.Read first second
+operands_in version verb.Write first second third = access_in version kind.Write first second
+operands_in version verb.Reuse first second third = reuse_in version first second third
+operands_in version verb.IgnoreOn first second third = Ok IgnoresOn
+operands_in version verb.IgnoreOff first second third = Ok IgnoresOff
+operands_in version verb.Show first second third = and_then (number_in first) (λ n. map_ok Shows (word_in n))
+operands_in version verb.Level first second third = and_then (number_in first) (λ n. map_ok Levels (level_in n))
+operands_in version verb.Start first second third = map_ok Starts (name_in first)
+operands_in version verb.Join first second third = map_ok Joins (name_in first)
+operands_in version verb.Signal first second third = map_ok Signals (lock_in first)
+operands_in version verb.Await first second third = map_ok Awaits (lock_in first)
 
--- how many of three operands there are, of which those that are missing are empty
-abbrev pub count_of : List ℕ → List ℕ → List ℕ → ℕ
-count_of first second third = if not (has_bytes first) then 0 else if not (has_bytes second) then 1 else if not (has_bytes third) then 2 else 3
+-- how many of four operands there are, of which those that are missing are empty
+abbrev pub count_of : List ℕ → List ℕ → List ℕ → List ℕ → ℕ
+count_of first second third fourth =
+    if not (has_bytes first) then 0 else if not (has_bytes second) then 1 else if not (has_bytes third) then 2 else if not (has_bytes fourth) then 3 else 4
 
-abbrev pub counted_in : Version → Verb → ℕ → List ℕ → List ℕ → Result Operation TextKind
-counted_in version v count first second =
-    if nat_lt count (least_of v) then Err MissingOperand else if nat_lt (most_of v) count then Err ExtraOperand else operands_in version v first second
+abbrev pub counted_in : Version → Verb → ℕ → List ℕ → List ℕ → List ℕ → Result Operation TextKind
+counted_in version v count first second third =
+    if nat_lt count (least_of v) then Err MissingOperand else if nat_lt (most_of version v) count then Err ExtraOperand else operands_in version v first second third
 
-abbrev pub operation_in : Version → Option Verb → List ℕ → List ℕ → List ℕ → Result Operation TextKind
-operation_in version None first second third = Err BadVerb
-operation_in version (Some v) first second third = counted_in version v (count_of first second third) first second
+abbrev pub operation_in : Version → Option Verb → List ℕ → List ℕ → List ℕ → List ℕ → Result Operation TextKind
+operation_in version None first second third fourth = Err BadVerb
+operation_in version (Some v) first second third fourth = counted_in version v (count_of first second third fourth) first second third
 
--- what five words say, of which those that are missing are empty
-abbrev pub parsed_in : Version → List ℕ → List ℕ → List ℕ → List ℕ → List ℕ → Result EventLine TextKind
-parsed_in version thread verb first second third =
+-- what six words say, of which those that are missing are empty
+abbrev pub parsed_in : Version → List ℕ → List ℕ → List ℕ → List ℕ → List ℕ → List ℕ → Result EventLine TextKind
+parsed_in version thread verb first second third fourth =
     and_then (name_in thread) (λ t. if not (has_bytes verb) then Err MissingOperand
-    else map_ok (λ operation. record { thread = t; operation = operation }) (operation_in version (verb_of version verb) first second third))
+    else map_ok (λ operation. record { thread = t; operation = operation }) (operation_in version (verb_of version verb) first second third fourth))
 
 -- what the words of a line say, or the first fault among them
 abbrev pub parsed_of : Version → List (List ℕ) → Result EventLine TextKind
-parsed_of version words = parsed_in version (word_at 0 words) (word_at 1 words) (word_at 2 words) (word_at 3 words) (word_at 4 words)
+parsed_of version words = parsed_in version (word_at 0 words) (word_at 1 words) (word_at 2 words) (word_at 3 words) (word_at 4 words) (word_at 5 words)
 
 abbrev pub parsed_by : Version → Words → Result EventLine TextKind
-parsed_by version w = parsed_in version w.first.now w.second.now w.third.now w.fourth.now w.fifth.now
+parsed_by version w = parsed_in version w.first.now w.second.now w.third.now w.fourth.now w.fifth.now w.sixth.now
 
 -- the code's values, without where they lie in memory
 abbrev pub seen_name : Option (Bor (List ℕ)) → Option (List ℕ)
@@ -117,7 +119,7 @@ abbrev pub action_view : Action → Operation
 action_view (action.Acquire lock m) = Acquires lock.now m
 action_view (action.Release lock m) = Releases lock.now m
 action_view (action.Access k w site) = Accesses k w (seen_name site)
-action_view (action.Reuse run) = Reuses run
+action_view (action.Reuse run site) = Reuses run (seen_name site)
 action_view action.IgnoreOn = IgnoresOn
 action_view action.IgnoreOff = IgnoresOff
 action_view (action.Show w) = Shows w
@@ -147,10 +149,11 @@ GivesOperation = GivesBy action_view
 abbrev pub GivesEventLine : Result ParsedLine TextKind → Result EventLine TextKind → Type 0
 GivesEventLine = GivesBy event_line
 
--- the first five words
+-- the first six words
 pub record AreWords (words : List (List ℕ)) (w : Words) : Type 0 where
   pub first : w.first.now ≡ word_at 0 words
   pub second : w.second.now ≡ word_at 1 words
   pub third : w.third.now ≡ word_at 2 words
   pub fourth : w.fourth.now ≡ word_at 3 words
   pub fifth : w.fifth.now ≡ word_at 4 words
+  pub sixth : w.sixth.now ≡ word_at 5 words

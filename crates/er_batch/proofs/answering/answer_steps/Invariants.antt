@@ -11,6 +11,6 @@ invariant-loop-k g l = record {
   steps : l.builder.report.steps + l.plain ≡ l.fn.builder.report.steps + l.k;
   rules : l.builder.rules ≡ l.fn.builder.rules;
   explains : is_some l.builder.kept ≡ is_some l.fn.builder.kept;
-  run : (past : List Step) (lines : List ℕ) → length lines ≡ length past → HasAnswered l.fn.machine l.fn.builder (joined past lines l.trace) (length past)
-      → HasComeTo l.machine l.builder (joined past lines l.trace) (length past + l.k) l.plain;
+  run : (past : List Step) (lines sites : List ℕ) → length lines ≡ length past → length sites ≡ length past → HasAnswered l.fn.machine l.fn.builder (joined past lines sites l.trace) (length past)
+      → HasComeTo l.machine l.builder (joined past lines sites l.trace) (length past + l.k) l.plain;
 }

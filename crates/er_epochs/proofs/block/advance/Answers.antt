@@ -1,4 +1,4 @@
-use Rattle.er_clocks.specs.Counts.{count_by}
+use Rattle.er_clock.specs.Counts.{count_by}
 use Rattle.er_epochs.specs.Epochs.{tagged}
 use Rattle.er_epochs.specs.Words.{list_of, said, stored_beside}
 use Rattle.er_epochs.proofs.Noted.{stored_exactly}

@@ -1,5 +1,5 @@
 use Rattle.std.proofs.Common.{◌≡◌, ◌∷◌, ◌++◌, ◌∙◌, [], filter, if◌then◌else◌, IsOk, ap, ap₂, rules, tests, arith}
-use Rattle.er_clocks.specs.Counts.{count_by}
+use Rattle.er_clock.specs.Counts.{count_by}
 use Rattle.er_epochs.specs.Epochs.{is_apart}
 use Rattle.er_epochs.proofs.Epochs.{retained}
 use Rattle.er_epochs.proofs.reads.note_among_few.Goals as goal

@@ -1,5 +1,5 @@
 use Rattle.std.proofs.Common.{◌∷◌, ◌++◌, ◌∙◌, [], reverse, ap, ap₂}
-use Rattle.er_clocks.specs.Counts.{count_by}
+use Rattle.er_clock.specs.Counts.{count_by}
 use Rattle.er_epochs.specs.Epochs.{tagged}
 use Rattle.er_epochs.proofs.Noted.{noted_many}
 use Rattle.er_epochs.proofs.reads.note_among_many.Goals as goal

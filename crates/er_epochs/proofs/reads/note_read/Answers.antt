@@ -1,5 +1,5 @@
 use Rattle.er_event.proofs.Results.{on_ok}
-use Rattle.er_clocks.specs.Counts.{count_by}
+use Rattle.er_clock.specs.Counts.{count_by}
 use Rattle.er_epochs.specs.Epochs.{tagged}
 use Rattle.er_epochs.proofs.Noted.{noted_few}
 use Rattle.er_epochs.proofs.reads.note_read.Goals as goal

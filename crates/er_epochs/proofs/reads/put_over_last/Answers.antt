@@ -1,6 +1,6 @@
 use Rattle.std.proofs.Common.{◌≡◌, ◌∷◌, ◌++◌, ◌∙◌, ◌-◌, suc, length, [], ap, sym, arith}
 use Rattle.std.proofs.lemmas.Bool.Decides.{nat_tests}
-use Rattle.er_clocks.specs.Counts.{count_by}
+use Rattle.er_clock.specs.Counts.{count_by}
 use Rattle.er_epochs.specs.Epochs.{tagged}
 use Rattle.er_epochs.proofs.Noted.{last_over, noted_over}
 use Rattle.er_epochs.proofs.reads.put_over_last.Goals as goal

@@ -1,7 +1,7 @@
 -- Each turn leaves the next read, unless it is of no use.
 use Rattle.std.proofs.Common.{◌≡◌, ◌∙◌, ◌∷◌, ◌++◌, ◌+◌, [], nat_eq, sym, take}
 use Rattle.indexmap.specs.IndexMap.{get}
-use Rattle.er_clocks.specs.Counts.{count_by}
+use Rattle.er_clock.specs.Counts.{count_by}
 use Rattle.er_epochs.proofs.Noted.{item_next, leaves_put, leaves_out}
 use Rattle.er_epochs.proofs.reads.useful_of.Goals as goal
 use Rattle.er_epochs.proofs.reads.useful_of.Goals.{then-is_useful+in_ok-insert+in_ok-push, else-is_useful}

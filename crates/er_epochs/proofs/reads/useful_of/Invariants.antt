@@ -1,6 +1,6 @@
 use Rattle.std.proofs.Common.{nat_eq, take}
 use Rattle.indexmap.specs.IndexMap.{get}
-use Rattle.er_clocks.specs.Counts.{count_by}
+use Rattle.er_clock.specs.Counts.{count_by}
 use Rattle.er_epochs.proofs.Noted.{Leaves}
 use Rattle.er_epochs.proofs.reads.useful_of.Given as goal
 

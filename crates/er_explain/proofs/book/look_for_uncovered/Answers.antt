@@ -8,5 +8,5 @@ use Rattle.er_explain.proofs.book.look_for_uncovered.Goals as goal
 pub loop-i-preserved : goal.loop-i-preserved
 loop-i-preserved g c =
     rw c.pair_after.ensures
-    (map_over_more (pair_after c.args.at (locks_for (held_by c.args.locks.now c.args.thread) c.args.kind)) c.args.pairs.now c.loop-i.pairs c.loop-i.i c.index-pairs-i.result
+    (map_over_more (pair_after c.args.access (locks_for (held_by c.args.locks.now c.args.access.thread) c.args.access.kind)) c.args.pairs.now c.loop-i.pairs c.loop-i.i c.index-pairs-i.result
     (omega arith) c.loop-i.invariant c.index-pairs-i.is)

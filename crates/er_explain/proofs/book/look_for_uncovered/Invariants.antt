@@ -6,4 +6,4 @@ use Rattle.er_explain.proofs.book.look_for_uncovered.Given as goal
 
 abbrev pub invariant-loop-i : goal.invariant-loop-i
 invariant-loop-i g l =
-    l.pairs ≡ map (pair_after l.at (locks_for (held_by l.locks l.thread) l.kind)) (take l.i l.fn.pairs) ++ drop l.i l.fn.pairs
+    l.pairs ≡ map (pair_after l.access (locks_for (held_by l.locks l.access.thread) l.access.kind)) (take l.i l.fn.pairs) ++ drop l.i l.fn.pairs

@@ -1,16 +1,11 @@
-use Rattle.std.proofs.Common.{◌≡◌, ◌∙◌, ℕ, List, Option, Some, None, IfSome, nat_eq, position, slice_get, sym, ap}
+use Rattle.std.proofs.Common.{◌≡◌, ℕ, List, Option, Some, None, IfSome, nat_eq, position, slice_get, sym}
 use Rattle.indexmap.specs.IndexMap.{keys}
-use Rattle.er_explain.proofs.BlockLemmas.{key_at, number_at}
+use Rattle.er_explain.proofs.BlockLemmas.{number_at}
 use Rattle.er_explain.proofs.word_books.index_of_block.Goals as goal
 
 by : (ks : List ℕ) (n : ℕ) (o : Option ℕ) → o ≡ position (nat_eq n) ks → IfSome o (λ index. slice_get ks index ≡ Some n)
 by ks n None found = tt
 by ks n (Some i) found = number_at ks n i (sym found)
-
-pub returns-in-Some-clause-key : goal.returns-in-Some-clause-key
-returns-in-Some-clause-key g c =
-    key_at _ c.args.hint c.in-Some.key.now c.in-Some.field-0-1.now (c.in-Some.ensures.entry ∙ ap (λ es. slice_get es c.args.hint) c.as_slice.ensures.entries)
-    ∙ ap Some c.if-key-number.true
 
 pub returns-in_default-clause-key : goal.returns-in_default-clause-key
 returns-in_default-clause-key g c = by (keys c.args.blocks.now) c.args.number c.get_index_of.result c.get_index_of.ensures.index

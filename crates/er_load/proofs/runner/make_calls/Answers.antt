@@ -1,5 +1,5 @@
-use Rattle.std.proofs.Common.{refl}
-use Rattle.er_load.proofs.CallLemmas.{ok-made}
+use Rattle.std.proofs.Common.{Ok, refl}
+use Rattle.er_load.proofs.CallLemmas.{accessed, ok-made}
 use Rattle.er_load.proofs.runner.make_calls.Goals as goal
 
 pub returns-in-Acquire-clause-made : goal.returns-in-Acquire-clause-made
@@ -13,3 +13,7 @@ returns-in-IgnoreOn-clause-made g c = rw c.in-IgnoreOn.is (ok-made _ _ _ _ _ c.i
 
 pub returns-in-IgnoreOff-clause-made : goal.returns-in-IgnoreOff-clause-made
 returns-in-IgnoreOff-clause-made g c = rw c.in-IgnoreOff.is (ok-made _ _ _ _ _ c.ignore_off.ensures.ok refl)
+
+pub returns-in_ok-access-in-Access-clause-made : goal.returns-in_ok-access-in-Access-clause-made
+returns-in_ok-access-in-Access-clause-made g c =
+    rw c.in-Access.is (accessed (Ok c.in_ok-access-in-Access.field-0) _ _ _ _ c.in_ok-access-in-Access.ensures.counted c.in_ok-access-in-Access.ensures.listed)

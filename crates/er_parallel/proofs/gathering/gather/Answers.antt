@@ -1,14 +1,24 @@
-use Rattle.std.proofs.Common.{◌∙◌}
-use Rattle.std.proofs.lemmas.List.{take_all}
-use Rattle.er_parallel.proofs.PuttingLemmas.{next-worker, put-of}
+use Rattle.std.proofs.Common.{List, subst, sym, ◌∙◌}
+use Rattle.er_parallel.specs.Inner.Gathering.{AreRightBut}
+use Rattle.er_parallel.specs.Usual.{usual_answers}
+use Rattle.er_parallel.specs.declared.unusual.Unusual.{Unusual}
+use Rattle.er_parallel.proofs.GatheringLemmas.{item-within, right-all, right-next, right-usual}
 use Rattle.er_parallel.proofs.gathering.gather.Goals as goal
 
-pub loop-worked-preserved : goal.loop-worked-preserved
-loop-worked-preserved c = record {
-  size = c.in_ok-put.ensures.length ∙ c.loop-worked.invariant.size;
-  put = λ steps are. next-worker steps _ _ c.worked-item.result _ _ _ c.loop-worked-test.true c.worked-item.is (c.loop-worked.invariant.put steps are)
-      (put-of steps _ _ c.worked-item.result _ _ c.loop-worked-test.true c.worked-item.is are c.in_ok-put.ensures.put);
-}
+pub loop-item-init : goal.loop-item-init
+loop-item-init c = rw c.in-Ok.ensures
+    (subst (λ (items : List Unusual). AreRightBut c.args.steps.now (usual_answers c.args.steps.now) items) (sym c.into_iter-item-iterator.ensures.into_iter_gives.0) (right-usual c.args.steps.now c.args.unusual.items c.requires))
 
-pub returns-clause-put : goal.returns-clause-put
-returns-clause-put c steps are = rw (take_all c.loop-worked.worked-index c.args.all.now c.loop-worked-test.false) at (c.loop-worked.invariant.put steps are)
+pub set-requires : goal.set-requires
+set-requires c = item-within c.args.steps.now c.loop-item.given c.in-Some.item _ (rw c.in-Some.ensures.steps.0 at c.loop-item.invariant)
+
+pub loop-item-preserved-in_ok-set : goal.loop-item-preserved-in_ok-set
+loop-item-preserved-in_ok-set c =
+    right-next c.args.steps.now c.loop-item.given c.set.new.self c.in-Some.item _ (rw c.in-Some.ensures.steps.0 at c.loop-item.invariant) c.in_ok-set.ensures.ok
+
+pub loop-item-preserved : goal.loop-item-preserved
+loop-item-preserved c =
+    right-next c.args.steps.now c.loop-item.given c.set.new.self c.in-Some.item _ (rw c.in-Some.ensures.steps.0 at c.loop-item.invariant) c.in_ok-set.ensures.ok
+
+pub returns : goal.returns
+returns c = right-all c.args.steps.now c.loop-item.given _ (sym c.loop-item.item-iterator.rest.ok.0 ∙ c.in-None.ensures.steps.0) c.loop-item.invariant

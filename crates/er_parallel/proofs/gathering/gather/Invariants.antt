@@ -1,10 +1,7 @@
-use Rattle.std.proofs.Common.{◌≡◌, List, length, take}
-use Rattle.er_event.specs.declared.steps.Step.{Step}
-use Rattle.er_parallel.specs.Putting.{AreAllPut, AreOf}
+-- Each place is right, but for those of the items that are left.
+use Rattle.std.specs.Vec.Iter.{into_iter_items}
+use Rattle.er_parallel.specs.Inner.Gathering.{AreRightBut}
 use Rattle.er_parallel.proofs.gathering.gather.Given as goal
 
-abbrev pub invariant-loop-worked : goal.invariant-loop-worked
-invariant-loop-worked l = record {
-  size : length l.answers ≡ length l.initial.answers;
-  put : (steps : List Step) → AreOf steps l.all → AreAllPut steps (take l.worked-index l.all) l.initial.answers l.answers;
-}
+abbrev pub invariant-loop-item : goal.invariant-loop-item
+invariant-loop-item l = AreRightBut l.steps l.given (into_iter_items l.item-iterator)

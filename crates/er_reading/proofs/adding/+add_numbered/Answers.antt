@@ -9,8 +9,8 @@ use Rattle.er_reading.proofs.AddedLemmas.{first_may, names_are, others_may, told
 use Rattle.er_reading.proofs.adding.+add_numbered.Goals as goal
 
 pub returns-in_default-clause-told : goal.returns-in_default-clause-told
-returns-in_default-clause-told t c = λ text steps numbers known names read front whole ready named had.
-    subst (λ (r : Recording). HasRead text steps numbers c.args.lines.now known r)
+returns-in_default-clause-told t c = λ text steps numbers sites known names read front whole ready named had.
+    subst (λ (r : Recording). HasRead text steps numbers sites c.args.lines.now known r)
     (names_are c.args.lines.now.place.number names read c.args.pieces.now c.args.trace.now c.in_default.ensures.cases ready named) had
 
 pub returns-in_default-clause-grows : goal.returns-in_default-clause-grows
@@ -32,11 +32,11 @@ add_numbered-requires t c =
     search rules
 
 pub returns-clause-told : goal.returns-clause-told
-returns-clause-told t c = λ text steps numbers known names read front whole ready named had.
+returns-clause-told t c = λ text steps numbers sites known names read front whole ready named had.
     let step = c.in_ok-add_piece.ensures in
     told_on c.args.lines.now c.add_piece.new.self c.args.trace.now c.add_piece.new.trace c.in-Some.first.now c.in-Some.others.now step.stage.0 step.stage.1 step.number step.start
-    step.limit step.ahead (ap (λ (r : Recording). r.names) step.trace) text steps numbers known
-    (OnOk c.add_numbered.result (HasRead text steps numbers c.add_numbered.new.lines known c.add_numbered.new.trace))
-    (λ names read front whole ready had. step.told text steps numbers known names read front whole ready had)
-    (λ names read front whole ready named had. c.add_numbered.ensures.told text steps numbers known names read front whole ready named had)
+    step.limit step.ahead (ap (λ (r : Recording). r.names) step.trace) text steps numbers sites known
+    (OnOk c.add_numbered.result (HasRead text steps numbers sites c.add_numbered.new.lines known c.add_numbered.new.trace))
+    (λ names read front whole ready had. step.told text steps numbers sites known names read front whole ready had)
+    (λ names read front whole ready named had. c.add_numbered.ensures.told text steps numbers sites known names read front whole ready named had)
     names read front whole (subst (λ (ps : List ReadPiece). AreReady c.args.lines.now.place.number names read ps) c.in-Some.ensures.cases.0 ready) named had

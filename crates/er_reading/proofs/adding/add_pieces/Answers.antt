@@ -22,12 +22,12 @@ add_numbered-requires-clause-front g c =
     c.lines_before-before.ensures.value c.in_ok-enter_pieces.ensures.entered c.number_pieces.ensures c.in_ok-enter_pieces.ensures.names
 
 pub returns-clause-told : goal.returns-clause-told
-returns-clause-told g c = λ text steps numbers known read.
+returns-clause-told g c = λ text steps numbers sites known read.
     told_some c.args.lines.now c.args.pieces.now c.split_at_mut-whole.result.0.now c.whole_count-count.result c.lines_before-before.result c.requires.front
-    c.split_at_mut-whole.ensures.front c.whole_count-count.ensures.whole text steps numbers known c.args.trace.now c.enter_pieces.new.trace c.enter_pieces.new.pieces
-    c.number_pieces.new.pieces (HasRead text steps numbers c.add_numbered.new.lines known c.add_numbered.new.trace) c.lines_before-before.ensures.value
+    c.split_at_mut-whole.ensures.front c.whole_count-count.ensures.whole text steps numbers sites known c.args.trace.now c.enter_pieces.new.trace c.enter_pieces.new.pieces
+    c.number_pieces.new.pieces (HasRead text steps numbers sites c.add_numbered.new.lines known c.add_numbered.new.trace) c.lines_before-before.ensures.value
     c.in_ok-enter_pieces.ensures.entered c.number_pieces.ensures c.in_ok-enter_pieces.ensures.names
-    (λ names read front whole ready named had. c.in_ok-add_numbered.ensures.told text steps numbers known names read front whole ready named had) read
+    (λ names read front whole ready named had. c.in_ok-add_numbered.ensures.told text steps numbers sites known names read front whole ready named had) read
 
 pub returns-clause-grows : goal.returns-clause-grows
 returns-clause-grows g c =

@@ -16,7 +16,7 @@ invariant-loop-k l = record {
   explains : is_some l.builder.kept ≡ is_some l.fn.builder.kept;
   within : l.next ≤ l.k;
   place : Rise l.items → IsNext l.items l.next l.k;
-  reported : (past : List Steps) (lines : List ℕ) → length lines ≡ length past → AreItems (is_some l.fn.builder.kept) past l.steps l.items
-      → IsReported l.fn.builder (recorded (past ++ l.steps) (lines ++ l.numbers) l.names) (length past)
-      → Lags l.builder (recorded (past ++ l.steps) (lines ++ l.numbers) l.names) (length past + l.k) l.plain;
+  reported : (past : List Steps) (lines places : List ℕ) → length lines ≡ length past → length places ≡ length past → AreItems (is_some l.fn.builder.kept) past l.steps l.items
+      → IsReported l.fn.builder (recorded (past ++ l.steps) (lines ++ l.numbers) (places ++ l.sites) l.names) (length past)
+      → Lags l.builder (recorded (past ++ l.steps) (lines ++ l.numbers) (places ++ l.sites) l.names) (length past + l.k) l.plain;
 }

@@ -9,16 +9,16 @@ use Rattle.er_run.proofs.SeveralLemmas.{ended-begins, known-of, of-crew, read-of
 use Rattle.er_run.proofs.rest.fault_behind.Goals as goal
 
 pub returns-in-End-clause-fault : goal.returns-in-End-clause-fault
-returns-in-End-clause-fault g c = λ told past numbers may gives.
+returns-in-End-clause-fault g c = λ told past numbers sites may gives.
     let known : Option (List ℕ) = g.D.Read.remaining (inner_of c.args.reader.now) in
     subst (IsFaultOfText Lockset told c.args.lines.now.place.limit) (sym c.from.ensures)
-    (of-crew told c.args.lines.now.place.limit past c.args.why (ended-begins told known c.args.lines.now c.args.trace.now past numbers c.args.batch c.in-End.is gives) may)
+    (of-crew told c.args.lines.now.place.limit past c.args.why (ended-begins told known c.args.lines.now c.args.trace.now past numbers sites c.args.batch c.in-End.is gives) may)
 
 pub returns-in-Ok-clause-fault : goal.returns-in-Ok-clause-fault
-returns-in-Ok-clause-fault g c = λ told past numbers may gives.
+returns-in-Ok-clause-fault g c = λ told past numbers sites may gives.
     let known : Option (List ℕ) = g.D.Read.remaining (inner_of c.args.reader.now) in
     subst (IsFaultOfText Lockset told c.args.lines.now.place.limit) (sym c.from-in-Ok.ensures)
     (of-crew told c.args.lines.now.place.limit past c.args.why
-    (known-of (λ text. HasRead text past numbers c.args.lines.now known c.args.trace.now) (λ text. BeginsWith text c.args.lines.now.place.limit past) told
-    (λ text read. c.in-Ok.ensures.ended text past numbers read)
-    (read-of told known c.args.lines.now c.args.trace.now past numbers c.args.batch c.in-More.is gives)) may)
+    (known-of (λ text. HasRead text past numbers sites c.args.lines.now known c.args.trace.now) (λ text. BeginsWith text c.args.lines.now.place.limit past) told
+    (λ text read. c.in-Ok.ensures.ended text past numbers sites read)
+    (read-of told known c.args.lines.now c.args.trace.now past numbers sites c.args.batch c.in-More.is gives)) may)

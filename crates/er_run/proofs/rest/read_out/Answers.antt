@@ -8,5 +8,5 @@ loop-init g c = record {
   unfailed = c.requires.open;
   limit = refl;
   taken = omega arith;
-  more = λ text past numbers read. none-more text past numbers c.args.lines.now (g.D.Read.remaining (inner_of c.args.reader.now)) c.args.trace.now read;
+  more = λ text past numbers sites read. none-more text past numbers sites c.args.lines.now (g.D.Read.remaining (inner_of c.args.reader.now)) c.args.trace.now read;
 }

@@ -12,7 +12,7 @@ invariant-loop g l = record {
   unfailed : has_failed l.reader ≡ false;
   limit : l.lines.place.limit ≡ l.fn.lines.place.limit;
   taken : taken_of l.reader + taken_by l.fn.lines.place ≤ taken_of l.fn.reader + taken_by l.lines.place;
-  more : (text : List ℕ) (past : List Step) (numbers : List ℕ) → HasRead text past numbers l.fn.lines (g.D.Read.remaining (inner_of l.fn.reader)) l.fn.trace
+  more : (text : List ℕ) (past : List Step) (numbers sites : List ℕ) → HasRead text past numbers sites l.fn.lines (g.D.Read.remaining (inner_of l.fn.reader)) l.fn.trace
       → HasMore text past l.lines (g.D.Read.remaining (inner_of l.reader)) l.trace;
 }
 

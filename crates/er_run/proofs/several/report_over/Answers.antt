@@ -17,8 +17,8 @@ returns-in-Ok-run-clause-replay g c =
     let told : Option (List ℕ) = g.D.Read.remaining (inner_of c.args.reader.now) in
     let asked : Asked = asked_by c.args.options.now (targets_of c.args.suppressions.now) Lockset in
     let s = c.in-Ok.shared in
-    let state : HasReadOn told (g.D.Read.remaining (inner_of c.start.new.reader)) s.lines s.trace s.crew s.builder s.steps.items s.numbers.items =
-    subst (λ (known : Option (List ℕ)). HasReadOn told known s.lines s.trace s.crew s.builder s.steps.items s.numbers.items) (sym c.in-Ok.ensures.same.0) (c.in-Ok.ensures.come told) in
+    let state : HasReadOn told (g.D.Read.remaining (inner_of c.start.new.reader)) s.lines s.trace s.crew s.builder s.steps.items s.numbers.items s.sites.items =
+    subst (λ (known : Option (List ℕ)). HasReadOn told known s.lines s.trace s.crew s.builder s.steps.items s.numbers.items s.sites.items) (sym c.in-Ok.ensures.same.0) (c.in-Ok.ensures.come told) in
     let seen : HasCome (IsInspected s.inspection.inspector asked.strict) told (g.D.Read.remaining (inner_of c.start.new.reader)) s.lines s.trace =
     subst (λ (known : Option (List ℕ)). HasCome (IsInspected s.inspection.inspector asked.strict) told known s.lines s.trace) (sym c.in-Ok.ensures.same.0) (c.in-Ok.ensures.seen told) in
     record {
@@ -34,8 +34,8 @@ returns-in-Err-run-clause-replay g c =
     let told : Option (List ℕ) = g.D.Read.remaining (inner_of c.args.reader.now) in
     let asked : Asked = asked_by c.args.options.now (targets_of c.args.suppressions.now) Lockset in
     let s = c.in-Ok.shared in
-    let state : HasReadOn told (g.D.Read.remaining (inner_of c.start.new.reader)) s.lines s.trace s.crew s.builder s.steps.items s.numbers.items =
-    subst (λ (known : Option (List ℕ)). HasReadOn told known s.lines s.trace s.crew s.builder s.steps.items s.numbers.items) (sym c.in-Ok.ensures.same.0) (c.in-Ok.ensures.come told) in
+    let state : HasReadOn told (g.D.Read.remaining (inner_of c.start.new.reader)) s.lines s.trace s.crew s.builder s.steps.items s.numbers.items s.sites.items =
+    subst (λ (known : Option (List ℕ)). HasReadOn told known s.lines s.trace s.crew s.builder s.steps.items s.numbers.items s.sites.items) (sym c.in-Ok.ensures.same.0) (c.in-Ok.ensures.come told) in
     let fault : IsFaultOfText Lockset told c.args.options.now.byte_limit c.in-Err-run.why =
     subst (λ (n : ℕ). IsFaultOfText Lockset told n c.in-Err-run.why) c.in-Ok.ensures.limit (c.in-Err-run.ensures.fault told state) in
     record {

@@ -8,6 +8,6 @@ use Rattle.er_sarif.proofs.suppressed.put_suppressed.Given as goal
 -- the results of the rules so far are put behind the others
 abbrev pub invariant-loop-place : goal.invariant-loop-place
 invariant-loop-place l = record {
-  first : (rows : List (List ℕ)) → l.fn.is_first ≡ has_none rows → l.still_first ≡ has_none (rows ++ suppressed_below l.cause l.rule_counts (targets_of l.rules) l.place);
-  text : (old : List ℕ) (rows : List (List ℕ)) → l.fn.is_first ≡ has_none rows → l.fn.out.items ≡ old ++ rows_text rows → l.out.items ≡ old ++ rows_text (rows ++ suppressed_below l.cause l.rule_counts (targets_of l.rules) l.place);
+  first : (rows : List (List ℕ)) → l.fn.is_first ≡ has_none rows → l.still_first ≡ has_none (rows ++ suppressed_below l.of l.rule_counts (targets_of l.rules) l.place);
+  text : (old : List ℕ) (rows : List (List ℕ)) → l.fn.is_first ≡ has_none rows → l.fn.out.items ≡ old ++ rows_text rows → l.out.items ≡ old ++ rows_text (rows ++ suppressed_below l.of l.rule_counts (targets_of l.rules) l.place);
 }

@@ -1,14 +1,23 @@
 -- Each number of the step has a name by then.
 use Rattle.er_text.specs.Inner.Parsing.{seen_name}
 use Rattle.er_text.proofs.AddingLemmas.{thread_named, lock_named, other_named, site_named}
-use Rattle.er_text.proofs.adding.add_steps.Goals.{in-Acquire+in_ok-lock-in-Acquire, in-Release+in_ok-lock-in-Release, in-Access+in_ok-site_number-in-Access, in-IgnoreOn, in-IgnoreOff, in-Show, in-Level, in-Start+in_ok-thread-in-Start, in-Join+in_ok-thread-in-Join, in-Signal+in_ok-lock-in-Signal, in-Await+in_ok-lock-in-Await}
+use Rattle.er_text.proofs.adding.add_steps.Goals.{in-Acquire+in_ok-lock-in-Acquire, in-Release+in_ok-lock-in-Release, in-IgnoreOn, in-IgnoreOff, in-Show, in-Level, in-Start+in_ok-thread-in-Start, in-Join+in_ok-thread-in-Join, in-Signal+in_ok-lock-in-Signal, in-Await+in_ok-lock-in-Await}
 use Rattle.er_text.proofs.adding.add_steps.Goals as goal
-
-pub add_reuse-requires : goal.add_reuse-requires
-add_reuse-requires c = thread_named c.args.trace.now c.thread.new.self c.args.parsed.now.thread.now c.in_ok-thread.thread c.in_ok-thread.ensures.number c.in_ok-thread.ensures.ok
 
 pub push-requires : goal.push-requires
 push-requires c =
+    let named = thread_named c.args.trace.now c.thread.new.self c.args.parsed.now.thread.now c.in_ok-thread.thread c.in_ok-thread.ensures.number c.in_ok-thread.ensures.ok in
+    let n = site_named c.thread.new.self c.site_number.new.trace (seen_name c.in-Access.site) c.in_ok-site-in-Access.site c.in_ok-thread.thread named c.in_ok-site-in-Access.ensures.number c.in_ok-site-in-Access.ensures.trace in
+    record { step = record { thread = n.0; event = n.1 }; site = n.1 }
+
+pub add_reuse-requires : goal.add_reuse-requires
+add_reuse-requires c =
+    let named = thread_named c.args.trace.now c.thread.new.self c.args.parsed.now.thread.now c.in_ok-thread.thread c.in_ok-thread.ensures.number c.in_ok-thread.ensures.ok in
+    let n = site_named c.thread.new.self c.site_number-in-Reuse.new.trace (seen_name c.in-Reuse.site) c.in_ok-site-in-Reuse.site c.in_ok-thread.thread named c.in_ok-site-in-Reuse.ensures.number c.in_ok-site-in-Reuse.ensures.trace in
+    record { thread = n.0; site = n.1 }
+
+pub push-requires-2-clause-step : goal.push-requires-2-clause-step
+push-requires-2-clause-step c =
     let named = thread_named c.args.trace.now c.thread.new.self c.args.parsed.now.thread.now c.in_ok-thread.thread c.in_ok-thread.ensures.number c.in_ok-thread.ensures.ok in
     elim c.match-parsed.branch [
       | in-Acquire+in_ok-lock-in-Acquire w ↦
@@ -16,9 +25,6 @@ push-requires c =
           rw (w.trace-is, w.event-is) (record { thread = n.0; event = n.1 })
       | in-Release+in_ok-lock-in-Release w ↦
           let n = lock_named c.thread.new.self w.lock-in-Release.new.self w.in-Release.lock.now w.in_ok-lock-in-Release.field-0 c.in_ok-thread.thread named w.in_ok-lock-in-Release.ensures.number w.in_ok-lock-in-Release.ensures.ok in
-          rw (w.trace-is, w.event-is) (record { thread = n.0; event = n.1 })
-      | in-Access+in_ok-site_number-in-Access w ↦
-          let n = site_named c.thread.new.self w.site_number.new.trace (seen_name w.in-Access.site) w.in_ok-site_number-in-Access.field-0 c.in_ok-thread.thread named w.in_ok-site_number-in-Access.ensures.number w.in_ok-site_number-in-Access.ensures.trace in
           rw (w.trace-is, w.event-is) (record { thread = n.0; event = n.1 })
       | in-Start+in_ok-thread-in-Start w ↦
           let n = other_named c.thread.new.self w.thread-in-Start.new.self w.in-Start.other.now w.in_ok-thread-in-Start.field-0 c.in_ok-thread.thread named w.in_ok-thread-in-Start.ensures.number w.in_ok-thread-in-Start.ensures.ok in

@@ -1,87 +1,97 @@
 -- Each step is answered as the definitions say, and added to the report.
-use Rattle.std.proofs.Common.{◌≡◌, ◌<◌, ◌≤◌, ◌+◌, ◌∙◌, ◌++◌, ℕ, List, length, Err, take, slice_get, slice_index, Some, refl, sym, ap, subst, arith}
+use Rattle.std.proofs.Common.{◌≡◌, ◌<◌, ◌≤◌, ◌+◌, ◌∙◌, ◌++◌, ◌∷◌, [], ℕ, List, length, Err, take, slice_get, slice_index, Some, refl, sym, ap, subst, arith}
 use Rattle.std.proofs.lemmas.Option.{slice_get_read}
-use Rattle.er_before.specs.Standing.{Ordered, Stands}
 use Rattle.er_event.proofs.Lists.{get_behind}
 use Rattle.er_event.specs.declared.steps.Step.{Step}
 use Rattle.er_model.specs.Holdings.{Holdings}
 use Rattle.er_replay.proofs.ThreadsLemmas.{err_from}
-use Rattle.er_batch.proofs.BatchLemmas.{number-behind}
+use Rattle.er_batch.proofs.BatchLemmas.{number-behind, site-behind}
 use Rattle.er_text.specs.Batches.{joined}
 use Rattle.er_order.specs.Races.{order_answer}
 use Rattle.er_trace.specs.Trace.{Recording}
 use Rattle.er_unordered.specs.Inner.Passes.{HasComeTo}
-use Rattle.er_unordered.proofs.PassLemmas.{come-to, plain-here, start, step-here, whole}
+use Rattle.er_unordered.specs.Inner.Reasons.{tag_at}
+use Rattle.er_unordered.specs.Standing.{Ordered, Stands}
+use Rattle.er_unordered.proofs.PassLemmas.{come-to, plain-here, start, step-here, told-plain, whole}
 use Rattle.er_unordered.proofs.StoppingLemmas.{crowds-here, full-here, stop-by}
 use Rattle.er_unordered.proofs.answering.answer_steps.Goals as goal
-use Rattle.er_unordered.proofs.answering.answer_steps.Goals.{then-is_plain, else-is_plain+in_ok-add}
+use Rattle.er_unordered.proofs.answering.answer_steps.Goals.{then-is_plain, else-is_plain+in_ok-add_told}
 
 pub loop-k-preserved : goal.loop-k-preserved
-loop-k-preserved c =
+loop-k-preserved g c =
     let k : ℕ = c.loop-k.k in
     let step : Step = c.index-steps-k.result in
     let read : slice_get c.steps-steps.result.now k ≡ Some step = slice_get_read c.steps-steps.result.now _ k step refl (omega arith) c.index-steps-k.is in
     let here : (past : List Step) → slice_get (past ++ c.args.trace.now.steps) (length past + k) ≡ Some step =
     λ past. get_behind past c.args.trace.now.steps k (length past + k) refl ∙ (rw c.steps-steps.ensures.value at read) in
-    let ahead : (r : Recording) (at : ℕ) → HasComeTo c.loop-k.machine c.loop-k.builder r at → HasComeTo c.look_ahead.new.self c.loop-k.builder r at =
-    λ r at come. subst (λ (m : Ordered). HasComeTo m c.loop-k.builder r at) (sym c.look_ahead.ensures) come in
+    let line : (past : List Step) (lines : List ℕ) → length lines ≡ length past → (slice_index c.lines-in-loop-k.result.now k) ≡ slice_index (lines ++ c.args.trace.now.lines) (length past + k) =
+    λ past lines long. ap (λ (numbers : List ℕ). slice_index numbers k) c.lines-in-loop-k.ensures.value ∙ number-behind lines c.args.trace.now.lines (length past) k long in
+    let ahead : (r : Recording) (at : ℕ) → HasComeTo g.T.Tag.tag_of g.T.Tag.told_of c.loop-k.machine c.loop-k.builder c.loop-k.told r at → HasComeTo g.T.Tag.tag_of g.T.Tag.told_of c.look_ahead.new.self c.loop-k.builder c.loop-k.told r at =
+    λ r at come. subst (λ (m : Ordered g.row.T.Denot). HasComeTo g.T.Tag.tag_of g.T.Tag.told_of m c.loop-k.builder c.loop-k.told r at) (sym c.look_ahead.ensures) come in
+    let goes_on : (past : List Step) (tags : ℕ → g.row.T.Denot) → Stands tags c.look_ahead.new.self past → tags (length past) ≡ g.T.Tag.tag_of (slice_index c.lines-in-loop-k.result.now k) (Some step) → Stands tags c.step.new.self (past ++ step ∷ []) =
+    λ past tags stands last. c.in_ok-answer.ensures.goes_on past tags stands (last ∙ sym c.of.ensures) in
     elim c.if-is_plain.branch [
       | then-is_plain w ↦ record {
         steps = rw w.builder-is (let so_far = c.loop-k.invariant.steps in let added = w.add_plain.ensures.steps in omega arith);
         rules = rw w.builder-is (w.add_plain.ensures.rules ∙ c.loop-k.invariant.rules);
-        run = λ past lines long before.
-            let r : Recording = joined past lines c.args.trace.now in
+        run = λ past lines sites long each before.
+            let r : Recording = joined past lines sites c.args.trace.now in
             let at : ℕ = length past + k in
-            let come = ahead r at (c.loop-k.invariant.run past lines long before) in
+            let come = ahead r at (c.loop-k.invariant.run past lines sites long each before) in
             let one : at + 1 ≡ length past + (k + 1) = omega arith in
-            let plain = plain-here c.look_ahead.new.self c.step.new.self c.loop-k.builder r at step (here past) come c.in_ok-answer.answer c.in_ok-answer.ensures.answered c.in_ok-answer.ensures.answer c.in_ok-answer.ensures.goes_on
-            (sym c.is_plain.ensures ∙ w.if-is_plain.true) in
-            rw w.builder-is
-            (subst (λ (n : ℕ). HasComeTo c.step.new.self w.add_plain.new.self r n) one
-            (come-to c.look_ahead.new.self c.step.new.self c.loop-k.builder r at step (here past) come c.in_ok-answer.answer c.in_ok-answer.ensures.answered c.in_ok-answer.ensures.answer c.in_ok-answer.ensures.goes_on w.add_plain.new.self
-            (w.add_plain.ensures.built_by (order_answer r.steps) r at come.built plain)));
+            let plain = sym c.is_plain.ensures ∙ w.if-is_plain.true in
+            rw (w.builder-is, w.told-is)
+            (subst (λ (n : ℕ). HasComeTo g.T.Tag.tag_of g.T.Tag.told_of c.step.new.self w.add_plain.new.self c.loop-k.told r n) one
+            (come-to g.T.Tag.tag_of g.T.Tag.told_of c.look_ahead.new.self c.step.new.self c.loop-k.builder c.loop-k.told r at step (here past) come c.in_ok-answer.answer.reply c.in_ok-answer.answer.rival (slice_index c.lines-in-loop-k.result.now k) (line past lines long) c.in_ok-answer.ensures.answer c.in_ok-answer.ensures.named goes_on
+            w.add_plain.new.self c.loop-k.told
+            (w.add_plain.ensures.built_by (order_answer r.steps) r at come.built
+            (plain-here g.T.Tag.tag_of g.T.Tag.told_of c.look_ahead.new.self c.step.new.self c.loop-k.builder c.loop-k.told r at step (here past) come c.in_ok-answer.answer.reply c.in_ok-answer.answer.rival (slice_index c.lines-in-loop-k.result.now k) (line past lines long) c.in_ok-answer.ensures.answer c.in_ok-answer.ensures.named goes_on plain))
+            w.add_plain.ensures.rules
+            (told-plain g.T.Tag.tag_of g.T.Tag.told_of c.look_ahead.new.self c.step.new.self c.loop-k.builder c.loop-k.told r at step (here past) come c.in_ok-answer.answer.reply c.in_ok-answer.answer.rival (slice_index c.lines-in-loop-k.result.now k) (line past lines long) c.in_ok-answer.ensures.answer c.in_ok-answer.ensures.named goes_on plain)));
       }
-      | else-is_plain+in_ok-add w ↦ record {
-        steps = rw w.builder-is (let so_far = c.loop-k.invariant.steps in let added = w.in_ok-add.ensures.steps in omega arith);
-        rules = rw w.builder-is (w.in_ok-add.ensures.rules ∙ c.loop-k.invariant.rules);
-        run = λ past lines long before.
-            let r : Recording = joined past lines c.args.trace.now in
+      | else-is_plain+in_ok-add_told w ↦ record {
+        steps = rw w.builder-is (let so_far = c.loop-k.invariant.steps in let added = w.in_ok-add_told.ensures.steps in omega arith);
+        rules = rw w.builder-is (w.in_ok-add_told.ensures.rules ∙ c.loop-k.invariant.rules);
+        run = λ past lines sites long each before.
+            let r : Recording = joined past lines sites c.args.trace.now in
             let at : ℕ = length past + k in
-            let come = ahead r at (c.loop-k.invariant.run past lines long before) in
+            let come = ahead r at (c.loop-k.invariant.run past lines sites long each before) in
             let one : at + 1 ≡ length past + (k + 1) = omega arith in
-            let line = ap (λ (numbers : List ℕ). slice_index numbers k) w.lines-else-is_plain.ensures.value ∙ number-behind lines c.args.trace.now.lines (length past) k long in
-            let told = step-here c.look_ahead.new.self c.step.new.self c.loop-k.builder r at step (here past) come c.in_ok-answer.answer c.in_ok-answer.ensures.answered c.in_ok-answer.ensures.answer c.in_ok-answer.ensures.goes_on
-            _ _ _ line w.names.ensures (λ past stands. w.held-held.ensures.locks ∙ ap (λ (h : Holdings). h.held) (w.held.ensures past stands)) in
-            rw w.builder-is
-            (subst (λ (n : ℕ). HasComeTo c.step.new.self w.add.new.self r n) one
-            (come-to c.look_ahead.new.self c.step.new.self c.loop-k.builder r at step (here past) come c.in_ok-answer.answer c.in_ok-answer.ensures.answered c.in_ok-answer.ensures.answer c.in_ok-answer.ensures.goes_on w.add.new.self
-            (w.in_ok-add.ensures.built_by (order_answer r.steps) r at come.built told)));
+            let inside : k < length w.sites-else-is_plain.result.now = rw (w.sites-else-is_plain.ensures.value, w.sites-else-is_plain.ensures.one_per_step) (rw c.steps-steps.ensures.value at c.loop-k-test.true) in
+            let site = site-behind w.sites-else-is_plain.result.now sites c.args.trace.now.sites (length past) k w.index-sites-k.result w.sites-else-is_plain.ensures.value each inside w.index-sites-k.is in
+            let given =
+            step-here g.T.Tag.tag_of g.T.Tag.told_of c.look_ahead.new.self c.step.new.self c.loop-k.builder c.loop-k.told r at step (here past) come c.in_ok-answer.answer.reply c.in_ok-answer.answer.rival (slice_index c.lines-in-loop-k.result.now k) (line past lines long) c.in_ok-answer.ensures.answer c.in_ok-answer.ensures.named goes_on
+            _ _ _ site w.names.ensures (λ past tags stands. w.held-held.ensures.locks ∙ ap (λ (h : Holdings). h.held) (w.held.ensures past tags stands)) in
+            rw (w.builder-is, w.told-is)
+            (subst (λ (n : ℕ). HasComeTo g.T.Tag.tag_of g.T.Tag.told_of c.step.new.self w.add_told.new.builder w.add_told.new.told r n) one
+            (come-to g.T.Tag.tag_of g.T.Tag.told_of c.look_ahead.new.self c.step.new.self c.loop-k.builder c.loop-k.told r at step (here past) come c.in_ok-answer.answer.reply c.in_ok-answer.answer.rival (slice_index c.lines-in-loop-k.result.now k) (line past lines long) c.in_ok-answer.ensures.answer c.in_ok-answer.ensures.named goes_on
+            w.add_told.new.builder w.add_told.new.told (w.in_ok-add_told.ensures.built r at come.built given) w.in_ok-add_told.ensures.rules (w.in_ok-add_told.ensures.told r at come.built given)));
       }
     ]
 
 pub returns-clause-run : goal.returns-clause-run
-returns-clause-run c = λ past lines names kept run.
-    let before : HasComeTo c.args.machine.now c.args.builder.now (joined past lines c.args.trace.now) (length past) =
-    start past lines names c.args.trace.now kept c.steps-steps.ensures.named c.lines.ensures.one_per_step c.args.machine.now c.args.builder.now run in
-    let come : HasComeTo c.loop-k.machine c.loop-k.builder (joined past lines c.args.trace.now) (length past + c.loop-k.k) = c.loop-k.invariant.run past lines run.long before in
+returns-clause-run g c = λ past lines sites names kept run.
+    let before : HasComeTo g.T.Tag.tag_of g.T.Tag.told_of c.args.machine.now c.args.builder.now c.args.told.now (joined past lines sites c.args.trace.now) (length past) =
+    start g.T.Tag.tag_of g.T.Tag.told_of past lines sites names c.args.trace.now kept c.steps-steps.ensures.named c.lines.ensures.one_per_step c.sites.ensures.named c.sites.ensures.one_per_step c.args.machine.now c.args.builder.now c.args.told.now run in
+    let come : HasComeTo g.T.Tag.tag_of g.T.Tag.told_of c.loop-k.machine c.loop-k.builder c.loop-k.told (joined past lines sites c.args.trace.now) (length past + c.loop-k.k) = c.loop-k.invariant.run past lines sites run.long run.one_each before in
     let low : length c.args.trace.now.steps ≤ c.loop-k.k = rw c.steps-steps.ensures.value at c.loop-k-test.false in
     let high : c.loop-k.k ≤ length c.args.trace.now.steps = rw c.steps-steps.ensures.value at c.loop-k.auto.k-end in
     let all : c.loop-k.k ≡ length c.args.trace.now.steps = omega (arith, low, high) in
-    whole past lines names c.args.trace.now kept c.steps-steps.ensures.named c.lines.ensures.one_per_step c.args.machine.now c.args.builder.now run c.loop-k.machine c.loop-k.builder
-    (subst (λ (n : ℕ). HasComeTo c.loop-k.machine c.loop-k.builder (joined past lines c.args.trace.now) (length past + n)) all come)
+    whole g.T.Tag.tag_of g.T.Tag.told_of past lines sites names c.args.trace.now kept c.steps-steps.ensures.named c.lines.ensures.one_per_step c.sites.ensures.named c.sites.ensures.one_per_step c.args.machine.now c.args.builder.now c.args.told.now run c.loop-k.machine c.loop-k.builder c.loop-k.told
+    (subst (λ (n : ℕ). HasComeTo g.T.Tag.tag_of g.T.Tag.told_of c.loop-k.machine c.loop-k.builder c.loop-k.told (joined past lines sites c.args.trace.now) (length past + n)) all come)
 
 pub returns-in_err-answer-clause-full : goal.returns-in_err-answer-clause-full
-returns-in_err-answer-clause-full c = λ past lines names kept run.
-    let r : Recording = joined past lines c.args.trace.now in
+returns-in_err-answer-clause-full g c = λ past lines sites names kept run.
+    let r : Recording = joined past lines sites c.args.trace.now in
     let at : ℕ = length past + c.loop-k.k in
-    let before : HasComeTo c.args.machine.now c.args.builder.now r (length past) =
-    start past lines names c.args.trace.now kept c.steps-steps.ensures.named c.lines.ensures.one_per_step c.args.machine.now c.args.builder.now run in
-    let come : HasComeTo c.loop-k.machine c.loop-k.builder r at = c.loop-k.invariant.run past lines run.long before in
+    let before : HasComeTo g.T.Tag.tag_of g.T.Tag.told_of c.args.machine.now c.args.builder.now c.args.told.now r (length past) =
+    start g.T.Tag.tag_of g.T.Tag.told_of past lines sites names c.args.trace.now kept c.steps-steps.ensures.named c.lines.ensures.one_per_step c.sites.ensures.named c.sites.ensures.one_per_step c.args.machine.now c.args.builder.now c.args.told.now run in
+    let come : HasComeTo g.T.Tag.tag_of g.T.Tag.told_of c.loop-k.machine c.loop-k.builder c.loop-k.told r at = c.loop-k.invariant.run past lines sites run.long run.one_each before in
     let low : c.loop-k.k < length c.args.trace.now.steps = rw c.steps-steps.ensures.value at c.loop-k-test.true in
     let step : Step = c.index-steps-k.result in
     let read : slice_get c.steps-steps.result.now c.loop-k.k ≡ Some step = slice_get_read c.steps-steps.result.now _ c.loop-k.k step refl (omega arith) c.index-steps-k.is in
     let here : slice_get r.steps at ≡ Some step = get_behind past c.args.trace.now.steps c.loop-k.k at refl ∙ (rw c.steps-steps.ensures.value at read) in
-    let stands : Stands c.look_ahead.new.self (take at r.steps) = subst (λ (m : Ordered). Stands m (take at r.steps)) (sym c.look_ahead.ensures) come.stands in
+    let stands : Stands (tag_at g.T.Tag.tag_of r) c.look_ahead.new.self (take at r.steps) = subst (λ (m : Ordered g.row.T.Denot). Stands (tag_at g.T.Tag.tag_of r) m (take at r.steps)) (sym c.look_ahead.ensures) come.stands in
     err_from c.from_residual.result _ _ c.from_residual.ensures.1 (λ e is.
-    stop-by r.steps c.in_err-answer.field-0.0 e is (λ full. full-here r.steps at step here (c.in_err-answer.ensures.full (take at r.steps) stands (ap Err full)))
-    (λ crowd. crowds-here r.steps at step here (c.in_err-answer.ensures.threads (take at r.steps) stands (ap Err crowd))))
+    rw is (stop-by r.steps c.in_err-answer.field-0.0 (λ full. full-here r.steps at step here (c.in_err-answer.ensures.full (take at r.steps) (tag_at g.T.Tag.tag_of r) stands (ap Err full)))
+    (λ crowd. crowds-here r.steps at step here (c.in_err-answer.ensures.threads (take at r.steps) (tag_at g.T.Tag.tag_of r) stands (ap Err crowd)))))

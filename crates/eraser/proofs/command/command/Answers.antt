@@ -1,14 +1,45 @@
--- A word asks for each hint that a request does, and wrong arguments leave no note.
-use Rattle.std.proofs.Common.{◌||◌}
+-- Each request leaves its own notes, a word asks for what a request does, and wrong arguments leave no note.
+use Rattle.std.proofs.Common.{◌≡◌, ◌||◌, ◌∙◌, false, refl, subst}
 use Rattle.er_device.specs.Device.{inner_of, has_failed}
-use Rattle.er_request.specs.Words.{asks_hints, names_hints}
-use Rattle.eraser.proofs.NoteLemmas.{more-notes, none-written}
+use Rattle.er_request.specs.Words.{IsUsual, names_hints, names_until_fault}
+use Rattle.eraser.specs.Notes.{GetsNotes}
+use Rattle.eraser.specs.Replays.{ComesTo}
+use Rattle.eraser.proofs.EndLemmas.{for-text}
+use Rattle.eraser.proofs.NoteLemmas.{more-notes, none-written, not-asked}
 use Rattle.eraser.proofs.command.command.Goals as goal
 
-pub returns-in-Ok-clause-quiet : goal.returns-in-Ok-clause-quiet
-returns-in-Ok-clause-quiet g c le =
-    more-notes (asks_hints c.in-Ok.request) (names_hints c.args.words.now) c.args.on_terminal c.in-Ok.ensures.hints
-    (g.E.Write.contents (inner_of c.args.errors.now)) (g.E.Write.contents (inner_of c.run_request.new.errors)) (has_failed c.run_request.new.errors) (c.run_request.ensures.quiet le)
+pub returns-in-Ok-Replay-clause-usual : goal.returns-in-Ok-Replay-clause-usual
+returns-in-Ok-Replay-clause-usual g c input =
+    let asked : IsUsual c.in-Ok-Replay.replay × (c.in-Ok-Replay.replay.hints ≡ false) = (rw c.in-Ok-Replay.field-0-is at c.in-Ok-Replay.ensures.asks) input in
+    for-text (g.I.Read.remaining (inner_of c.args.input.now))
+    (λ text ends. subst (λ people. ComesTo people text (has_failed c.run_replay-replayed.new.input) (has_failed c.run_replay-replayed.new.output) (g.O.Write.contents (inner_of c.args.output.now)) (g.O.Write.contents (inner_of c.run_replay-replayed.new.output))
+    (g.E.Write.contents (inner_of c.args.errors.now)) (g.E.Write.contents (inner_of c.end_replay-status.new.errors)) (has_failed c.end_replay-status.new.errors) c.end_replay-status.result)
+    (c.with_hints-asked.ensures.hints ∙ rw asked.1 refl) (c.end_replay-status.ensures.usual text _ _ _ _ ends))
+    (c.run_replay-replayed.ensures.usual (c.with_hints-asked.ensures.usual asked.0))
+
+pub returns-in-Ok-Replay-clause-quiet : goal.returns-in-Ok-Replay-clause-quiet
+returns-in-Ok-Replay-clause-quiet g c le =
+    let old = g.E.Write.contents (inner_of c.args.errors.now) in
+    let new = g.E.Write.contents (inner_of c.end_replay-status.new.errors) in
+    let failed = has_failed c.end_replay-status.new.errors in
+    more-notes c.in-Ok-Replay.replay.hints (names_hints c.args.words.now) c.args.on_terminal (rw c.in-Ok-Replay.field-0-is at c.in-Ok-Replay.ensures.hints) old new failed
+    (subst (λ hints. GetsNotes hints old new failed) c.with_hints-asked.ensures.hints (c.end_replay-status.ensures.quiet le))
+
+pub returns-in-Ok-Replay-clause-refused : goal.returns-in-Ok-Replay-clause-refused
+returns-in-Ok-Replay-clause-refused g c unnamed two =
+    let unasked : c.in-Ok-Replay.replay.until_fault ≡ false =
+    not-asked c.in-Ok-Replay.replay.until_fault (names_until_fault c.args.words.now) (rw c.in-Ok-Replay.field-0-is at c.in-Ok-Replay.ensures.until_fault) unnamed in
+    c.end_replay-status.ensures.refused (g.O.Write.contents (inner_of c.args.output.now)) (g.O.Write.contents (inner_of c.run_replay-replayed.new.output))
+    c.run_replay-replayed.ensures.not_two (c.run_replay-replayed.ensures.nothing (c.with_hints-asked.ensures.until ∙ unasked)) two
+
+pub returns-in-Ok-Explain-clause-quiet : goal.returns-in-Ok-Explain-clause-quiet
+returns-in-Ok-Explain-clause-quiet g c le =
+    none-written (names_hints c.args.words.now || c.args.on_terminal) (g.E.Write.contents (inner_of c.args.errors.now)) (g.E.Write.contents (inner_of c.end.new.errors)) (has_failed c.end.new.errors) (c.end.ensures.quiet le)
+
+pub returns-in-Ok-Demo-clause-quiet : goal.returns-in-Ok-Demo-clause-quiet
+returns-in-Ok-Demo-clause-quiet g c le =
+    none-written (names_hints c.args.words.now || c.args.on_terminal) (g.E.Write.contents (inner_of c.args.errors.now)) (g.E.Write.contents (inner_of c.end-in-Ok-Demo.new.errors)) (has_failed c.end-in-Ok-Demo.new.errors)
+    (c.end-in-Ok-Demo.ensures.quiet le)
 
 pub returns-in-Err-clause-quiet : goal.returns-in-Err-clause-quiet
 returns-in-Err-clause-quiet g c le =

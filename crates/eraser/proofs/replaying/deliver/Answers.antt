@@ -9,8 +9,8 @@ pub returns-in-Ok-write_reports-clause-ends : goal.returns-in-Ok-write_reports-c
 returns-in-Ok-write_reports-clause-ends g c by text reports is order =
     ends g.R.File.Read.remaining c.args.job.replay.now text (targets_of c.args.job.suppressions.now) c.args.names.now c.args.reports c.in-Ok.triaged.reports c.args.ending c.args.has_order
     (g.O.Write.contents (inner_of c.args.output.now)) (g.O.Write.contents (inner_of c.write_reports.new.output)) c.in-Ok.triaged.notes.items c.unordered_of-unordered.result c.finish.result
-    (record { reports = reports; locks = c.requires.locks; order = c.requires.order; first = rw c.wishes_of-wishes.ensures.most at c.in-Ok.ensures.report })
-    (c.in-Ok-write_reports.ensures.shown by) (rw c.wishes_of-wishes.ensures.unused at c.in-Ok.ensures.says) c.unordered_of-unordered.ensures
+    (record { reports = reports; locks = c.requires.locks; order = c.requires.order; first = c.in-Ok.ensures.report })
+    (c.in-Ok-write_reports.ensures.shown by) c.in-Ok.ensures.says c.unordered_of-unordered.ensures
     c.finish.ensures.status c.finish.ensures.notes c.finish.ensures.text is order
 
 pub returns-in-Ok-write_reports-clause-locks : goal.returns-in-Ok-write_reports-clause-locks

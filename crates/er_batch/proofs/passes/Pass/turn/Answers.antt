@@ -10,7 +10,7 @@ pub returns-in-End-clause-ended : goal.returns-in-End-clause-ended
 returns-in-End-clause-ended g c = λ asked told come last.
     whole (g.A.Analyst.stands c.args.self.now.analyst asked) (g.A.Analyst.stands c.answer.new.self asked) told c.args.self.now.lines c.next_batch.new.self
     (g.D.Read.remaining (inner_of c.args.reader.now)) (g.D.Read.remaining (inner_of c.next_batch.new.reader)) c.args.self.now.trace c.next_batch.new.trace c.in_ok-batch.batch come
-    c.in_ok-batch.ensures.told (λ past lines stands. c.in_ok-answer.ensures.goes_on asked past lines c.args.self.now.trace.names c.in_ok-batch.ensures.grows.names stands)
+    c.in_ok-batch.ensures.told (λ past lines sites stands. c.in_ok-answer.ensures.goes_on asked past lines sites c.args.self.now.trace.names c.in_ok-batch.ensures.grows.names stands)
     c.in-End.is c.in_ok-batch.ensures.limit
 
 pub returns-in-More-clause-come : goal.returns-in-More-clause-come
@@ -18,7 +18,7 @@ returns-in-More-clause-come g c = λ asked told come more.
     subst (λ (t : Recording). HasCome (g.A.Analyst.stands c.answer.new.self asked) told (g.D.Read.remaining (inner_of c.next_batch.new.reader)) c.next_batch.new.self t) (sym c.clear.ensures)
     (part (g.A.Analyst.stands c.args.self.now.analyst asked) (g.A.Analyst.stands c.answer.new.self asked) told c.args.self.now.lines c.next_batch.new.self
     (g.D.Read.remaining (inner_of c.args.reader.now)) (g.D.Read.remaining (inner_of c.next_batch.new.reader)) c.args.self.now.trace c.next_batch.new.trace c.in_ok-batch.batch come
-    c.in_ok-batch.ensures.told (λ past lines stands. c.in_ok-answer.ensures.goes_on asked past lines c.args.self.now.trace.names c.in_ok-batch.ensures.grows.names stands)
+    c.in_ok-batch.ensures.told (λ past lines sites stands. c.in_ok-answer.ensures.goes_on asked past lines sites c.args.self.now.trace.names c.in_ok-batch.ensures.grows.names stands)
     c.in-More.is)
 
 pub returns-in-End-clause-ends : goal.returns-in-End-clause-ends

@@ -1,5 +1,5 @@
 use Rattle.std.proofs.Common.{arith}
-use Rattle.er_clock.proofs.Blocks.{one_more_covered, past_covered}
+use Rattle.er_clock.proofs.Parts.{one_more_covered, past_covered}
 use Rattle.er_clock.proofs.block.Block.covers.Goals as goal
 
 pub loop-place-init : goal.loop-place-init

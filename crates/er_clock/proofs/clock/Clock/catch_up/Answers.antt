@@ -1,4 +1,4 @@
-use Rattle.er_clock.proofs.Blocks.{joined_covered}
+use Rattle.er_clock.proofs.Parts.{joined_covered}
 use Rattle.er_clock.proofs.clock.Clock.catch_up.Goals as goal
 
 pub returns-clause-ok : goal.returns-clause-ok

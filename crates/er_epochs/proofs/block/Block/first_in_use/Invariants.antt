@@ -1,7 +1,7 @@
 use Rattle.std.proofs.Common.{◌≤◌, ◌+◌, ◌*◌}
 use Rattle.er_event.specs.declared.steps.Kind.TheVariants.{Write}
 use Rattle.er_epochs.specs.Epochs.{is_raced}
-use Rattle.er_clocks.specs.Counts.{count_by}
+use Rattle.er_clock.specs.Counts.{count_by}
 use Rattle.er_epochs.specs.Words.{stored_beside, word_at}
 use Rattle.er_epochs.proofs.Lowest.{IsNoneBelow}
 use Rattle.er_epochs.proofs.block.Block.first_in_use.Given as goal

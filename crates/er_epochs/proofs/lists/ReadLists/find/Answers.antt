@@ -1,5 +1,5 @@
 use Rattle.std.proofs.Common.{◌∙◌, ap}
-use Rattle.er_clocks.specs.Counts.{count_by}
+use Rattle.er_clock.specs.Counts.{count_by}
 use Rattle.er_epochs.specs.Epochs.{tag_of_first}
 use Rattle.er_epochs.specs.Words.{list_of}
 use Rattle.er_epochs.proofs.Maps.{entry_found}

@@ -1,5 +1,5 @@
 use Rattle.std.proofs.Common.{◌∙◌, sym}
-use Rattle.er_clocks.specs.Counts.{count_by}
+use Rattle.er_clock.specs.Counts.{count_by}
 use Rattle.er_epochs.proofs.FoundLemmas.{found-read, found-write}
 use Rattle.er_epochs.proofs.word.OrderWord.find_latest.Goals as goal
 

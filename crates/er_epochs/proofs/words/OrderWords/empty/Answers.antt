@@ -1,13 +1,13 @@
-use Rattle.std.proofs.Common.{◌≡◌, ℕ, ◌+◌, ◌*◌, ◌&&◌, cond, false, Option, sym, subst}
+use Rattle.std.proofs.Common.{◌≡◌, ◌∙◌, ℕ, ◌+◌, ◌*◌, ◌&&◌, cond, false, Option, Some, IfSome, ap, sym, subst}
 use Rattle.std.specs.Option.{option_map}
 use Rattle.er_event.specs.declared.steps.Kind.TheVariants.{Write}
-use Rattle.er_epochs.specs.Epochs.{Accesses, untouched, is_raced}
-use Rattle.er_clocks.specs.Counts.{count_by}
+use Rattle.er_epochs.specs.Epochs.{Accesses, untouched, is_raced, tag_found}
+use Rattle.er_clock.specs.Counts.{count_by}
 use Rattle.er_epochs.specs.Words.{AllWords, stored_among, is_place_in, IsLowest}
 use Rattle.indexmap.specs.IndexMap.{with_value_at}
 use Rattle.er_epochs.proofs.Maps.{entry_found, entry_put}
 use Rattle.er_epochs.proofs.Blocks.{reset_block, absent_block}
-use Rattle.er_epochs.proofs.Lowest.{lowest_in_block, none_in_absent}
+use Rattle.er_epochs.proofs.Lowest.{found_in, lowest_in_block, named_in_block, none_in_absent}
 use Rattle.er_epochs.proofs.words.OrderWords.empty.Goals as goal
 
 pub returns-in-Some-clause-reset : goal.returns-in-Some-clause-reset
@@ -23,11 +23,21 @@ returns-in-Some-clause-reset g c =
 pub returns-in-Some-clause-in_use : goal.returns-in-Some-clause-in_use
 returns-in-Some-clause-in_use g c =
     let old : AllWords g.row.A.Denot = record { blocks = c.self.inside.blocks.entries; lists = c.self.inside.lists } in
-    subst (λ (found : Option ℕ). IsLowest (λ w. is_place_in c.args.number c.args.«from» c.args.to w && is_raced (count_by c.args.clock.now) (stored_among c.args.self.now w) Write) found) (sym c.word_in.ensures)
-    (subst (λ (before : AllWords g.row.A.Denot). IsLowest (λ w. is_place_in c.args.number c.args.«from» c.args.to w && is_raced (count_by c.args.clock.now) (stored_among before w) Write) (option_map (λ place. c.args.number * 128 + place) c.first_in_use-found.result)) c.self.view_is
-    (lowest_in_block old c.args.number c.args.«from» c.args.to c.index_mut-block.result.now (count_by c.args.clock.now) c.first_in_use-found.result
+    subst (λ (found : Option ℕ). IsLowest (λ w. is_place_in c.args.number c.args.«from» c.args.to w && is_raced (count_by c.args.clock.now) (stored_among c.args.self.now w) Write) found)
+    (sym (ap (option_map (λ (found : ℕ × g.row.A.Denot). found.0)) c.word_in.ensures ∙ found_in c.args.number c.first_in_use-found.result))
+    (subst (λ (before : AllWords g.row.A.Denot). IsLowest (λ w. is_place_in c.args.number c.args.«from» c.args.to w && is_raced (count_by c.args.clock.now) (stored_among before w) Write) (option_map (λ place. c.args.number * 128 + place) (option_map (λ (found : ℕ × g.row.A.Denot). found.0) c.first_in_use-found.result))) c.self.view_is
+    (lowest_in_block old c.args.number c.args.«from» c.args.to c.index_mut-block.result.now (count_by c.args.clock.now) (option_map (λ (found : ℕ × g.row.A.Denot). found.0) c.first_in_use-found.result)
     (entry_found c.self.inside.blocks c.in-Some.index c.args.number c.index_mut-block.result.now c.in-Some.ensures.unique c.in-Some.ensures.key c.index_mut-block.ensures.value)
-    c.requires.to c.first_in_use-found.ensures))
+    c.requires.to c.first_in_use-found.ensures.lowest))
+
+pub returns-in-Some-clause-named : goal.returns-in-Some-clause-named
+returns-in-Some-clause-named g c =
+    let old : AllWords g.row.A.Denot = record { blocks = c.self.inside.blocks.entries; lists = c.self.inside.lists } in
+    subst (λ (o : Option (ℕ × g.row.A.Denot)). IfSome o (λ found. Some found.1 ≡ tag_found (count_by c.args.clock.now) (stored_among c.args.self.now found.0) Write)) (sym c.word_in.ensures)
+    (subst (λ (before : AllWords g.row.A.Denot). IfSome {T = ℕ × g.row.A.Denot} (option_map (λ (found : ℕ × g.row.A.Denot). (c.args.number * 128 + found.0, found.1)) c.first_in_use-found.result) (λ found. Some found.1 ≡ tag_found (count_by c.args.clock.now) (stored_among before found.0) Write)) c.self.view_is
+    (named_in_block old c.args.number c.args.«from» c.args.to c.index_mut-block.result.now (count_by c.args.clock.now) c.first_in_use-found.result
+    (entry_found c.self.inside.blocks c.in-Some.index c.args.number c.index_mut-block.result.now c.in-Some.ensures.unique c.in-Some.ensures.key c.index_mut-block.ensures.value)
+    c.requires.to c.first_in_use-found.ensures.lowest c.first_in_use-found.ensures.named))
 
 pub returns-in-None-clause-reset : goal.returns-in-None-clause-reset
 returns-in-None-clause-reset g c =

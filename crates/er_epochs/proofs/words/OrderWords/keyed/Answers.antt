@@ -1,5 +1,3 @@
-use Rattle.std.proofs.Common.{ap}
-use Rattle.er_epochs.specs.Epochs.{plain}
 use Rattle.er_epochs.proofs.Blocks.{no_words}
 use Rattle.er_epochs.proofs.FollowLemmas.{follows-start}
 use Rattle.er_epochs.proofs.words.OrderWords.keyed.Goals as goal
@@ -7,6 +5,5 @@ use Rattle.er_epochs.proofs.words.OrderWords.keyed.Goals as goal
 pub returns : goal.returns
 returns g c = record {
   stored = no_words _ c.with_hasher.ensures.empty;
-  kept = λ w. ap plain (no_words _ c.with_hasher.ensures.empty w);
   follows = λ tags. follows-start _ (no_words _ c.with_hasher.ensures.empty) tags;
 }

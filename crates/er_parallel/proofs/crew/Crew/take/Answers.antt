@@ -1,7 +1,8 @@
 use Rattle.std.proofs.Common.{◌++◌, ◌∙◌, List, OnOk, ap, length, sym, subst}
 use Rattle.er_parallel.specs.Crews.{Crewed, HaveAnswered}
 use Rattle.er_parallel.specs.declared.worker.Worker.{Worker}
-use Rattle.er_parallel.proofs.CrewLemmas.{crewed, whole-back}
+use Rattle.er_parallel.specs.Inner.Crewing.{crewed}
+use Rattle.er_parallel.proofs.CrewLemmas.{whole-back}
 use Rattle.er_parallel.proofs.crew.Crew.take.Goals as goal
 
 pub returns-clause-goes_on : goal.returns-clause-goes_on

@@ -18,9 +18,9 @@ returns-then-is_printed-clause-built_by c = λ a r k built at.
     let place : ℕ = c.self.inside.report.steps in
     let before : Built = record { report = told c.self.inside.report; races = races; rules = targets_of c.self.inside.rules.now; kept = c.self.inside.explainer } in
     let printed : (is_race given && is_none c.first_rule-rule.result) ≡ true = sym c.is_printed.ensures ∙ c.if-is_printed.true in
-    built-next a before _ r k c.args.names.now c.args.line c.args.step.now given c.args.held.now
+    built-next a before _ r k c.args.names.now c.args.line c.args.site c.args.step.now given c.args.held.now
     (subst (λ (builder : Built). IsBuiltBy a builder r k) (sym c.self.view_is) built) at refl
-    (c.in_ok-add_step.ensures.ok ∙ ap (with_answer before.report c.args.line c.args.held.now c.args.step.now given) c.first_rule-rule.ensures.value)
+    (c.in_ok-add_step.ensures.ok ∙ ap (with_answer before.report c.args.line c.args.site c.args.held.now c.args.step.now given) c.first_rule-rule.ensures.value)
     (c.push_reserved.ensures.items
     ∙ ap (λ (before : List ℕ). before ++ place ∷ []) c.in_ok-reserve.ensures.items
     ∙ ap (λ (b : Bool). races ++ cond b (place ∷ []) []) (sym printed)
@@ -33,9 +33,9 @@ returns-clause-built_by c = λ a r k built at.
     let place : ℕ = c.self.inside.report.steps in
     let before : Built = record { report = told c.self.inside.report; races = races; rules = targets_of c.self.inside.rules.now; kept = c.self.inside.explainer } in
     let printed : (is_race given && is_none c.first_rule-rule.result) ≡ false = sym c.is_printed.ensures ∙ c.if-is_printed.false in
-    built-next a before _ r k c.args.names.now c.args.line c.args.step.now given c.args.held.now
+    built-next a before _ r k c.args.names.now c.args.line c.args.site c.args.step.now given c.args.held.now
     (subst (λ (builder : Built). IsBuiltBy a builder r k) (sym c.self.view_is) built) at refl
-    (c.in_ok-add_step-2.ensures.ok ∙ ap (with_answer before.report c.args.line c.args.held.now c.args.step.now given) c.first_rule-rule.ensures.value)
+    (c.in_ok-add_step-2.ensures.ok ∙ ap (with_answer before.report c.args.line c.args.site c.args.held.now c.args.step.now given) c.first_rule-rule.ensures.value)
     (sym (append-nil races)
     ∙ ap (λ (b : Bool). races ++ cond b (place ∷ []) []) (sym printed)
     ∙ ap (λ (rule : Option ℕ). races ++ cond (is_race given && is_none rule) (place ∷ []) []) c.first_rule-rule.ensures.value)

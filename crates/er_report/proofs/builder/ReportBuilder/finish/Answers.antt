@@ -16,12 +16,12 @@ returns-clause-report_by c = λ a r stopped built stop.
     ∙ ap (λ (builder : Built). report_by a no_reasons r builder.rules stopped) c.self.view_is
 
 pub returns-clause-named_by : goal.returns-clause-named_by
-returns-clause-named_by c = λ a r n built all states.
+returns-clause-named_by c = λ a r n built all sites states.
     let before : Built = record { report = told c.self.inside.report; races = c.self.inside.races.items; rules = targets_of c.self.inside.rules.now; kept = c.self.inside.explainer } in
     report-named a no_reasons r before.rules n c.self.inside.report.lines.items
-    (built-lines a before r n (subst (λ (builder : Built). IsBuiltBy a builder r n) (sym c.self.view_is) built)) all states (λ k. All-nil (HasReasonNames r.names))
+    (built-lines a before r n (subst (λ (builder : Built). IsBuiltBy a builder r n) (sym c.self.view_is) built)) all sites states (λ k. All-nil (HasReasonNames r.names))
 
 -- by the lockset rule
 pub returns-clause-named : goal.returns-clause-named
 unfolding IsBuilt
-returns-clause-named c = λ r n built all. returns-clause-named_by c (answer r.steps) r n built all (named_states r all)
+returns-clause-named c = λ r n built all sites. returns-clause-named_by c (answer r.steps) r n built all sites (named_states r all)

@@ -14,7 +14,7 @@ returns-in-None-clause-outcome c = λ asked told limit all alone same_rules same
     let ending = ending-of told c.args.self.lines c.ending-ending.result ends c.ending-ending.ensures in
     let found : HasFound told limit asked.strict None = subst (HasFound told limit asked.strict) c.in-None.is (c.damage-damage.ensures.found asked.strict told limit c.args.self.trace.names seen ending) in
     let built = finished asked all.recording c.args.self.builder c.finish_explained.result alone same_rules same_explain (c.finish_explained.ensures.report all.recording None all.reported refl)
-    (c.finish_explained.ensures.named all.recording (length all.recording.steps) all.reported all.named) in
+    (c.finish_explained.ensures.named all.recording (length all.recording.steps) all.reported all.named all.known) in
     subst (λ (x : ReplayedTrace). IsOutcomeOf told limit asked (Ok x)) (sym c.with_lost.ensures)
     (outcome-of told limit asked all.recording all.read _ _ built c.args.self.trace all.names c.ending-ending.result ending (λ strict. found strict))
 

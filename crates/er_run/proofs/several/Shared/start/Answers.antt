@@ -12,7 +12,7 @@ pub returns-in-Err-new-clause-fault : goal.returns-in-Err-new-clause-fault
 returns-in-Err-new-clause-fault g c =
     let told : Option (List ℕ) = g.D.Read.remaining (inner_of c.args.reader.now) in
     subst (λ (n : ℕ). IsFaultOfText Lockset told n c.fault_behind-fault.result) c.in_ok-lines.ensures.limit
-    (c.fault_behind-fault.ensures.fault told [] [] (start-may c.in-Err-new.why c.in-Err-new.ensures.fault)
+    (c.fault_behind-fault.ensures.fault told [] [] [] (start-may c.in-Err-new.why c.in-Err-new.ensures.fault)
     (start-read told c.in_ok-lines.lines c.keyed-trace.result c.keyed-trace.ensures c.in_ok-lines.ensures.starts))
 
 pub returns-in-Ok-new-clause-seen : goal.returns-in-Ok-new-clause-seen

@@ -1,2 +1,0 @@
-pub mod HoldingLemmas
-pub mod StandingLemmas

@@ -1,4 +1,0 @@
-pub mod Counts
-pub mod Outcomes
-pub mod Standing
-pub mod Notes

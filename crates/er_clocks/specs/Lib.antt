@@ -1,4 +1,0 @@
-pub mod Counts
-pub mod Crowding
-pub mod Standing
-pub mod Inner

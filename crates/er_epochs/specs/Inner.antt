@@ -1,2 +1,0 @@
--- How what is stored goes on step by step.
-pub mod Steps

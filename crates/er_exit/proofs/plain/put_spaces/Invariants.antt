@@ -1,0 +1,5 @@
+use Rattle.std.proofs.Common.{◌≡◌, ◌++◌, ℕ, take, map}
+use Rattle.er_exit.proofs.plain.put_spaces.Given as goal
+
+abbrev pub invariant-loop-byte : goal.invariant-loop-byte
+invariant-loop-byte l = l.out.items ≡ l.fn.out.items ++ map (λ (byte : ℕ). 32) (take l._byte-index l.bytes)

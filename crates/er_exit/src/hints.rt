@@ -1,0 +1,71 @@
+//! Where to look in a faulty line, and what to do about the fault.
+ghost use Rattle.std.specs.Prelude.{◌≤◌, length};
+
+use crate::places::{extra_at, find, name_at, word_start};
+use er_text::TextKind;
+
+// How a file begins that is no text, and what helps.
+#[rattlefmt::skip]
+const FILES: [(&[u8], &str); 7] = [
+    (&[31, 139], "the file is compressed by gzip; try: gzip -dc FILE | eraser replay -"),
+    (&[40, 181, 47, 253], "the file is compressed by zstd; try: zstd -dc FILE | eraser replay -"),
+    (&[253, 55, 122, 88, 90, 0], "the file is compressed by xz; try: xz -dc FILE | eraser replay -"),
+    (&[80, 75, 3, 4], "the file is a zip archive; unpack it first"),
+    (&[239, 187, 191], "the file begins with a byte-order mark; take its first three bytes away"),
+    (&[255, 254], WIDE_TEXT),
+    (&[254, 255], WIDE_TEXT),
+];
+
+const WIDE_TEXT: &str = "the file is in UTF-16; convert it: iconv -f UTF-16 -t ASCII FILE";
+
+/// What helps with a file that begins so, if that is no text.
+pub(crate) fn file_hint(head: &[u8]) -> Option<&'static str> {
+    let (_, hint) = FILES.iter().find(|row| head.starts_with(row.0))?;
+    Some(*hint)
+}
+
+/// The byte of the line at which a person should look, and a hint, which may be empty. The byte is the first one if no place is known.
+#[rattlefmt::skip]
+pub(crate) fn row_of(kind: TextKind, of_rules: bool, line: &[u8]) -> (usize, &'static str)
+    ensures { result.0 ≤ length line.now }
+{
+    if let [before @ .., b'\r'] = line {
+        return (before.len(), "the line ends with CR LF; take the CRs away: tr -d '\\r' < FILE");
+    }
+    // Rules have no thread and no verb in front of their operands, as steps have.
+    let front = if of_rules { 0 } else { 1 };
+    let (verb, operand, size) = (word_start(line, front), word_start(line, front + 1), word_start(line, front + 2));
+    let step = &line[verb..];
+    match kind {
+        TextKind::LineTooLong => (0, "a line has at most 1024 bytes; is this a text?"),
+        TextKind::TextTooLong => (0, "the option --byte-limit BYTES takes a longer text"),
+        TextKind::NotAscii => (find(line, |byte| byte >= 128).unwrap_or(0), "a text has bytes of ASCII alone"),
+        TextKind::NoHeader if line.starts_with(b"eraser trace ") => (0, "the header has a version that this program does not know"),
+        TextKind::NoHeader => (0, "the first line of a trace is its header, eraser trace 1"),
+        TextKind::BadName if of_rules => (name_at(line), "a site has 1 to 128 printable bytes"),
+        TextKind::BadName if begins(step, &[b"read", b"write", b"reuse"]) =>
+            (name_at(line), "a name has 1 to 128 letters, digits and _ . : / - and a site of a trace 3 has any printable bytes"),
+        TextKind::BadName => (name_at(line), "a name has 1 to 128 letters, digits and _ . : / - and no lock is named none"),
+        TextKind::MissingOperand => (line.len(), "the line ends early; was the file cut off?"),
+        TextKind::BadVerb if of_rules => (verb, "a rule is: site SITE, or: words ADDRESS BYTES"),
+        TextKind::BadVerb if begins(step, &[b"level"]) => (verb, "the verb level needs the header eraser trace 2"),
+        TextKind::BadVerb if begins(step, &[b"start", b"join", b"signal", b"await"]) =>
+            (verb, "the verbs start, join, signal and await need the header eraser trace 3"),
+        TextKind::BadVerb => (verb, "verbs are lock, unlock, rlock, runlock, read, write, reuse, ignore-on, ignore-off, show"),
+        TextKind::ExtraOperand if line.contains(&b'#') => (extra_at(line), "a comment needs a line of its own"),
+        TextKind::ExtraOperand if begins(step, &[b"reuse"]) =>
+            (extra_at(line), "a reuse has one site at most, and needs the header eraser trace 3 for that"),
+        TextKind::ExtraOperand => (extra_at(line), ""),
+        TextKind::BadNumber => (0, "a number has decimal digits, or 0x and hexadecimal digits, and is below 2^64"),
+        TextKind::SizeTooLarge => (size, "a reuse has at most 4194304 bytes; write several"),
+        TextKind::AddressOutOfRange => (operand, "addresses are below 2^48"),
+        TextKind::LevelTooHigh => (operand, "levels are 0 to 31"),
+        TextKind::OwnThread => (operand, "a thread neither starts nor joins itself"),
+        TextKind::AlreadyRunning => (operand, "a thread is started before its first line; was its name used before?"),
+        TextKind::AfterEnd => (0, "nothing but comments follows the line end; are these two traces?"),
+    }
+}
+
+fn begins(bytes: &[u8], fronts: &[&[u8]]) -> bool {
+    fronts.iter().any(|front| bytes.starts_with(front))
+}

@@ -1,4 +1,0 @@
-pub mod Lines
-pub mod Plain
-pub mod Quote
-pub mod Written

@@ -1,3 +1,0 @@
-pub mod Prefix
-pub mod Keeping
-pub mod Inner

@@ -1,0 +1,204 @@
+//! The options of each command, as rows of tables, and the command line that they make.
+use clap::builder::ValueParser;
+use clap::{Arg, ArgAction, Command};
+use std::alloc::{AllocError, Global};
+
+pub(crate) const MOST_SHARDS: u32 = 64;
+
+pub(crate) const MOST_WORKERS: u32 = 16;
+
+pub(crate) const MOST_BYTES: u64 = 4_611_686_018_427_387_904;
+
+/// What `demo` runs, by its name.
+#[rattlefmt::skip]
+pub(crate) const DEMOS: [&str; 6] = ["locked-counter", "racy-counter", "init-then-read", "rw-table", "reuse-pool", "ignored-stats"];
+
+const ANALYSES: [&str; 3] = ["lockset", "happens-before", "both"];
+
+const FORMS: [&str; 4] = ["text", "json", "sarif", "html"];
+
+// How a row is given.
+#[derive(Clone, Copy)]
+enum Shape {
+    // An option without a value.
+    Flag,
+    // An option with a value, and the value that it has if it isn't given.
+    Value(Option<&'static str>),
+    // An option with a value that may be given several times.
+    Values,
+    // A value that must be given, without an option's name before it.
+    Word,
+}
+
+// An option, or a word that must be given: its name, what `--help` calls its value if it has one, what the value has to be, and the option that
+// it can't be used with.
+#[derive(Clone, Copy)]
+struct Row {
+    name: &'static str,
+    value: &'static str,
+    shape: Shape,
+    takes: ValueParser<'static>,
+    without: Option<&'static str>,
+    help: &'static str,
+}
+
+// `--help` lists the rows of a command in their order.
+#[rattlefmt::skip]
+const REPLAY: [Row; 17] = [
+    Row { name: "analysis", value: "ANALYSIS", shape: Shape::Value(Some("lockset")), takes: ValueParser::Names(&ANALYSES), without: None,
+          help: "Report accesses that no lock protects, accesses and reuses that were not ordered in this run, or both" },
+    Row { name: "suppress", value: "FILE", shape: Shape::Values, takes: ValueParser::String, without: None,
+          help: "Count the races that this file's rules take, and leave their lines out" },
+    Row { name: "write-rules", value: "FILE", shape: Shape::Value(None), takes: ValueParser::String, without: None,
+          help: "Write rules to this file that take each race of the report" },
+    Row { name: "unused-rules", value: "", shape: Shape::Flag, takes: ValueParser::Bool, without: None, help: "Name each rule that took no race, on standard error" },
+    Row { name: "max-races", value: "COUNT", shape: Shape::Value(None), takes: ValueParser::Unsigned(0, u64::MAX), without: Some("by-site"),
+          help: "Write the lines of the first races alone, and how many were left out" },
+    Row { name: "explain", value: "", shape: Shape::Flag, takes: ValueParser::Bool, without: None, help: "Name the accesses that make each race" },
+    Row { name: "by-site", value: "", shape: Shape::Flag, takes: ValueParser::Bool, without: None, help: "Write a table of the sites with races, most words first, and explain a race of each" },
+    Row { name: "format", value: "FORM", shape: Shape::Value(Some("text")), takes: ValueParser::Names(&FORMS), without: Some("by-site"),
+          help: "How the report is written: as text for scripts, as JSON for programs, as SARIF for code hosts, or as one page of HTML for people" },
+    Row { name: "source", value: "DIR", shape: Shape::Value(None), takes: ValueParser::String, without: None,
+          help: "With --format html, show the lines around each site, from the files below this folder" },
+    Row { name: "strict", value: "", shape: Shape::Flag, takes: ValueParser::Bool, without: None, help: "End with 2 if the trace is damaged, and write no report" },
+    Row { name: "until-fault", value: "", shape: Shape::Flag, takes: ValueParser::Bool, without: None, help: "Report the steps before the first faulty line of the trace, and then its fault" },
+    Row { name: "progress", value: "", shape: Shape::Flag, takes: ValueParser::Bool, without: None, help: "Show on standard error, about twice a second, how far the replay has come" },
+    Row { name: "hints", value: "", shape: Shape::Flag, takes: ValueParser::Bool, without: None, help: "Write on standard error, as on a terminal, what helps people behind the line of a fault" },
+    Row { name: "workers", value: "N", shape: Shape::Value(Some("1")), takes: ValueParser::Signed(1, MOST_WORKERS as i64), without: None,
+          help: "How many threads replay the trace, 1 to 16" },
+    Row { name: "shards", value: "N", shape: Shape::Value(Some("8")), takes: ValueParser::Signed(1, MOST_SHARDS as i64), without: None,
+          help: "Into how many parts several workers cut the words, 1 to 64" },
+    BYTE_LIMIT,
+    Row { name: "trace", value: "TRACE", shape: Shape::Word, takes: ValueParser::String, without: None, help: "The trace to replay, or - for standard input" },
+];
+
+#[rattlefmt::skip]
+const EXPLAIN: [Row; 3] = [
+    BYTE_LIMIT,
+    Row { name: "line", value: "LINE", shape: Shape::Word, takes: ValueParser::Unsigned(0, u64::MAX), without: None, help: "The line of the trace that the step stands on, from 1" },
+    Row { name: "trace", value: "TRACE", shape: Shape::Word, takes: ValueParser::String, without: None, help: "The trace, or - for standard input" },
+];
+
+#[rattlefmt::skip]
+const DEMO: [Row; 1] = [
+    Row { name: "name", value: "NAME", shape: Shape::Word, takes: ValueParser::Names(&DEMOS), without: None, help: "What the threads do" },
+];
+
+#[rattlefmt::skip]
+const BYTE_LIMIT: Row =
+    Row { name: "byte-limit", value: "BYTES", shape: Shape::Value(Some("268435456")), takes: ValueParser::Unsigned(1, MOST_BYTES), without: None,
+          help: "The most bytes that a text may have, 1 to 4611686018427387904" };
+
+const AFTER_EXPLAIN: &str = "\
+Example:
+  printf 'eraser trace 1\\nt1 write 0x1000\\nt2 write 0x1000\\n' | eraser explain 3 -
+prints
+  line 3: t2 write 0x000000001000 at -, holding none
+  answer: race: the word was written, and no lock was held at each access since a second thread came
+  before: exclusive t1
+  after: shared-modified, candidates none: this access left no candidate
+  earlier accesses: 1
+    access 1: line 2, t1 write at -, holding none: exclusive t1
+
+The earlier accesses are those that count since the word's last reuse. Each one that changed the word's state has a line.";
+
+const AFTER_HELP: &str = "\
+Example:
+  printf 'eraser trace 1\\nt1 write 0x1000\\nt2 write 0x1000\\n' | eraser replay -
+prints
+  line 3: race: t2 write 0x000000001000 at -, holds none
+  steps 2, races 1, suppressed 0, refused 0
+
+With --explain the race is followed by the accesses that make it one:
+  line 3: race: t2 write 0x000000001000 at -, holds none
+    first: line 2, t1 write
+    joined: line 3, t2 write
+    write: line 3, t2 write
+
+A suppression file has a rule a line, and the first that fits a race takes it:
+  site parser.c:120
+  words 0x1000 64
+
+Exit status:
+  0  no race was printed
+  1  some race was printed
+  2  wrong arguments, a text with a fault, or with --strict a damaged trace
+  3  the replay ran out of room, or a demo was refused or did not settle
+  4  a file could not be opened, read or written
+
+The texts of traces, suppressions and reports are described in docs/FORMATS.md.";
+
+// A command, what `--help` says of it before and behind its options, and these.
+#[derive(Clone, Copy)]
+struct Part {
+    name: &'static str,
+    about: &'static str,
+    after: Option<&'static str>,
+    rows: &'static [Row],
+}
+
+#[rattlefmt::skip]
+static PARTS: [Part; 3] = [
+    Part { name: "replay", about: "Replay a trace and report its races", after: None, rows: &REPLAY },
+    Part { name: "explain", about: "Say why one step is a race or not, by the story of its word", after: Some(AFTER_EXPLAIN), rows: &EXPLAIN },
+    Part { name: "demo", about: "Run threads that call the detector, and print how many steps and races they made", after: None, rows: &DEMO },
+];
+
+/// The command line of the program.
+pub(crate) fn eraser_command<'a>(alloc: Global) -> Result<Command<'a>, AllocError> {
+    let parts = parts_of(alloc)?;
+    Command::new(alloc, "eraser")
+        .version("0.1.0")
+        .about("Finds data races by the locks that are held at each access")
+        .after_help(AFTER_HELP)
+        .subcommand_required(true)
+        .arg_required_else_help(true)
+        .subcommands(parts)
+}
+
+fn parts_of<'a>(alloc: Global) -> Result<Vec<Command<'a>>, AllocError> {
+    let mut parts = Vec::new(alloc);
+    for part in PARTS.as_slice() {
+        parts.push(part_of(alloc, *part)?)?;
+    }
+    Ok(parts)
+}
+
+fn part_of<'a>(alloc: Global, part: Part) -> Result<Command<'a>, AllocError> {
+    let arguments = arguments_of(alloc, part.rows)?;
+    let command = Command::new(alloc, part.name).about(part.about);
+    match part.after {
+        Some(text) => command.after_help(text).args(arguments),
+        None => command.args(arguments),
+    }
+}
+
+// The arguments of these rows.
+fn arguments_of<'a>(alloc: Global, rows: &[Row]) -> Result<Vec<Arg<'a>>, AllocError> {
+    let mut arguments = Vec::new(alloc);
+    for row in rows {
+        arguments.push(argument_of(alloc, *row)?)?;
+    }
+    Ok(arguments)
+}
+
+fn argument_of<'a>(alloc: Global, row: Row) -> Result<Arg<'a>, AllocError> {
+    let named = Arg::new(alloc, row.name).help(row.help);
+    let argument = match row.shape {
+        Shape::Flag => named.long(row.name).action(ArgAction::SetTrue),
+        Shape::Value(None) => with_value(named, row).long(row.name),
+        Shape::Value(Some(value)) => with_value(named, row).long(row.name).default_value(value),
+        Shape::Values => with_value(named, row)
+            .long(row.name)
+            .action(ArgAction::Append),
+        Shape::Word => with_value(named, row).required(true),
+    };
+    match row.without {
+        Some(other) => argument.conflicts_with(other),
+        None => Ok(argument),
+    }
+}
+
+fn with_value<'a>(argument: Arg<'a>, row: Row) -> Arg<'a> {
+    argument.value_name(row.value).value_parser(row.takes)
+}

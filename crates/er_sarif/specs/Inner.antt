@@ -1,2 +1,0 @@
--- What the loop over the lines of a report keeps.
-pub mod Results

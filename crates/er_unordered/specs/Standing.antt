@@ -1,0 +1,128 @@
+-- The lists of steps that a machine stands for, and what one more step makes of it.
+use Rattle.std.specs.Prelude.{ℕ, suc, ◌≡◌, ◌-◌, ◌^◌, ◌&&◌, nat_lt, Bool, true, false, IsTrue, cond, List, [], ◌∷◌, ◌++◌, length, Option, Some, None}
+use Rattle.er_event.specs.declared.addresses.PageRange.{PageRange}
+use Rattle.er_event.specs.declared.steps.Event.{Event}
+use Rattle.er_event.specs.declared.steps.Event.TheVariants.{Access, Reuse, Show, IgnoreOn, IgnoreOff, Level}
+use Rattle.er_event.specs.declared.steps.Kind.TheVariants.{Write as writing}
+use Rattle.er_event.specs.declared.steps.Reply.{Reply}
+use Rattle.er_event.specs.declared.steps.Reply.TheVariants.{Done, Quiet, Race, Ignored}
+use Rattle.er_event.specs.declared.steps.Step.{Step}
+use Rattle.er_model.specs.Search.{least_below}
+use Rattle.er_model.specs.Words.{is_within}
+use Rattle.er_model.specs.Holdings.{Holdings, refused_by, after_step, holdings_at}
+use Rattle.er_model.specs.Answers.{answer_unless}
+use Rattle.er_model.specs.Following.{marked}
+use Rattle.er_held.specs.ThreadLocks.{holding_among}
+use Rattle.er_order.specs.Clocks.{OfThread, own_count}
+use Rattle.er_order.specs.Order.{acts_of}
+use Rattle.er_order.specs.Races.{reuse_reply}
+use Rattle.er_order.specs.Following.{act_by}
+use Rattle.er_clock.specs.Crowding.{crowds}
+use Rattle.er_clock.specs.Standing.{ClockMaps, counts, SameCounts, Moves, StandsForClocksOf, act_flows}
+use Rattle.er_epochs.specs.Epochs.{Stored, is_raced, tag_found}
+use Rattle.er_epochs.specs.Standing.{Follows, IsStoredMoved}
+use Rattle.er_epochs.specs.Words.{AllWords, stored_among}
+use Rattle.er_unordered.specs.declared.machine.OrderAnswer.{OrderAnswer}
+
+-- the threads that took something, with their holdings; the clocks; and what is kept of the words
+pub record Ordered (A : Type 0) : Type 0 where
+  pub holders : List (ℕ × Holdings)
+  pub clocks : ClockMaps
+  pub words : AllWords A
+
+-- thread t's holdings
+abbrev pub holding : {A : Type 0} → Ordered A → ℕ → Holdings
+holding machine t = holding_among machine.holders t
+
+-- thread t's clock
+abbrev pub clock_of : {A : Type 0} → Ordered A → ℕ → ℕ → ℕ
+clock_of machine t u = counts machine.clocks (OfThread t) u
+
+-- what is stored of word w
+abbrev pub stored_of : {A : Type 0} → Ordered A → ℕ → Stored A
+stored_of machine w = stored_among machine.words w
+
+-- its holdings and its clocks are those at the end of the list, and what it stores serves for what the list says, where these are the tags of
+-- the positions
+pub record Stands {A : Type 0} (tags : ℕ → A) (machine : Ordered A) (steps : List Step) : Type 0 where
+  pub held : (t : ℕ) → holding machine t ≡ holdings_at steps t (length steps)
+  pub clocks : StandsForClocksOf machine.clocks steps
+  pub words : Follows tags machine.words steps
+
+-- the event finds room always: an access inside a bracket, a reuse, a show, and the end of a bracket
+abbrev pub wants_nothing : Holdings → Event → Bool
+wants_nothing h (Access kind w site) = nat_lt 0 h.depth
+wants_nothing h (Reuse range) = true
+wants_nothing h (Show w) = true
+wants_nothing h IgnoreOff = true
+wants_nothing h _ = false
+
+-- the step makes the clock of a thread flow into another one, and that thread's own count is the greatest
+abbrev pub HasFullCount : {A : Type 0} → Ordered A → Step → Type 0
+HasFullCount machine step = (t : ℕ) × IsTrue (act_flows (act_by (holding machine step.thread) step) t) × (clock_of machine t t ≡ 2 ^ 32 - 1)
+
+-- the same of a step that comes after the list
+abbrev pub IsFullAfter : List Step → Step → Type 0
+IsFullAfter steps step = (t : ℕ) × IsTrue (act_flows (acts_of (steps ++ step ∷ []) (length steps)) t) × (own_count (acts_of steps) (length steps) t ≡ 2 ^ 32 - 1)
+
+-- the step does to the order what clocks have no room for
+abbrev pub is_crowding : {A : Type 0} → Ordered A → Step → Bool
+is_crowding machine step = crowds (act_by (holding machine step.thread) step)
+
+-- the same of a step that comes after the list
+abbrev pub crowds_after : List Step → Step → Bool
+crowds_after steps step = crowds (acts_of (steps ++ step ∷ []) (length steps))
+
+-- they are what the step, for which there is room, makes of those before, or what may be stored after it, where this is its tag
+pub record Changes {A : Type 0} (before : Ordered A) (step : Step) (tag : A) (after : Ordered A) : Type 0 where
+  pub held : (t : ℕ) → holding after t ≡ after_step (holding before t) t step
+  pub clocks : Moves before.clocks (act_by (holding before step.thread) step) after.clocks
+  pub room : is_crowding before step ≡ false
+  pub words : (w : ℕ) → IsStoredMoved (clock_of before step.thread) tag (stored_of before w) w (marked (holding before step.thread) step.thread step.event) (stored_of after w)
+
+-- they are the same
+pub record IsSame {A : Type 0} (before after : Ordered A) : Type 0 where
+  pub held : (t : ℕ) → holding after t ≡ holding before t
+  pub clocks : SameCounts before.clocks after.clocks
+  pub words : (w : ℕ) → stored_of after w ≡ stored_of before w
+
+-- the lowest word of the range of which a write, by a thread whose clock this is, would be reported
+abbrev pub word_used : {A : Type 0} → (ℕ → ℕ) → (ℕ → Stored A) → PageRange → Option ℕ
+word_used clock stored range = least_below (suc range.hi) (λ w. is_within w range && is_raced clock (stored w) writing)
+
+-- what is found of that word
+abbrev pub use_found : {A : Type 0} → (ℕ → ℕ) → (ℕ → Stored A) → Option ℕ → Option A
+use_found clock stored None = None
+use_found clock stored (Some w) = tag_found clock (stored w) writing
+
+-- the reply to an event that isn't refused, by these
+abbrev pub reply_by : {A : Type 0} → Holdings → (ℕ → ℕ) → (ℕ → Stored A) → Event → Reply
+reply_by h clock stored (Access kind w site) = cond (nat_lt 0 h.depth) Ignored (cond (is_raced clock (stored w) kind) Race Quiet)
+reply_by h clock stored (Reuse range) = cond (nat_lt 0 h.depth) Done (reuse_reply (word_used clock stored range))
+reply_by h clock stored _ = Done
+
+-- the tag of the access that a race names
+abbrev pub rival_by : {A : Type 0} → Holdings → (ℕ → ℕ) → (ℕ → Stored A) → Event → Option A
+rival_by h clock stored (Access kind w site) = cond (nat_lt 0 h.depth) None (tag_found clock (stored w) kind)
+rival_by h clock stored (Reuse range) = cond (nat_lt 0 h.depth) None (use_found clock stored (word_used clock stored range))
+rival_by h clock stored _ = None
+
+-- and the answer
+abbrev pub answered_by : {A : Type 0} → Ordered A → Step → OrderAnswer A
+answered_by machine step = record {
+  reply = answer_unless (refused_by (holding machine step.thread) step.event) (reply_by (holding machine step.thread) (clock_of machine step.thread) (stored_of machine) step.event);
+  rival = rival_by (holding machine step.thread) (clock_of machine step.thread) (stored_of machine) step.event;
+}
+
+-- the event changes what its thread holds, and nothing else
+abbrev pub holds_alone : Event → Bool
+holds_alone IgnoreOn = true
+holds_alone IgnoreOff = true
+holds_alone (Level level) = true
+holds_alone _ = false
+
+-- it is neither an access nor a reuse, so it is no race
+abbrev pub names_none : Event → Bool
+names_none (Access kind w site) = false
+names_none (Reuse range) = false
+names_none _ = true

@@ -1,0 +1,320 @@
+//! The machine: every thread's holdings, the clocks, and what is kept of every word.
+ghost use Rattle.std.specs.Prelude.{◌≡◌, ◌<◌, ℕ, List, ◌++◌, ◌∷◌, [], IfOk, IsErrOf, IsOk, IsTrue, Ok, Err, false, None, OnOk, OnErr, Some, cond, is_some, length, true};
+ghost use Rattle.std.specs.Option.{option_map};
+ghost use Rattle.er_model.specs.Holdings.{refused_by, holdings_end};
+ghost use Rattle.er_event.specs.declared.steps.Step.{Step as Steps};
+ghost use Rattle.er_explain.specs.Racing.{is_race};
+ghost use Rattle.er_order.specs.Races.{order_answer, reuse_reply};
+ghost use Rattle.er_order.specs.Reasons.{unordered_with};
+
+use crate::holders::Holders;
+use er_clock::{Clocks, NoTick};
+use er_epochs::OrderWords;
+use er_event::{Event, Kind, LockId, Mode, PageRange, Refusal, Reply, Step, Sync, ThreadId, Word};
+use er_held::Held;
+use er_keys::HashKeys;
+use std::alloc::Global;
+use std::marker::Model;
+
+/// How many steps are looked at together.
+const AHEAD: usize = 16;
+
+/// Each thread's holdings, the clocks of threads, locks and objects, and what happens-before keeps of each word. Each access has a tag, by which a
+/// later race names it; whoever wants no names takes `()`, which has no bytes.
+#[derive(Drop)]
+pub struct OrderMachine<A> {
+    holders: Holders,
+    clocks: Clocks,
+    words: OrderWords<A>,
+}
+
+/// What a step is answered.
+#[derive(Drop)]
+pub struct OrderAnswer<A> {
+    /// The reply, or why the step is refused.
+    pub reply: Result<Reply, Refusal>,
+    /// The tag of the last access that a race is unordered with.
+    pub rival: Option<A>,
+}
+
+impl<A> Model for OrderMachine<A> {
+    ghost use Rattle.er_unordered.specs.Standing.{Ordered};
+
+    ghost Value = { Ordered A };
+
+    ghost view = { λ m. record { holders = m.holders; clocks = m.clocks; words = m.words } };
+}
+
+impl<A: Copy> OrderMachine<A> {
+    ghost use Rattle.er_unordered.specs.Standing.{Stands, Changes, IsSame, HasFullCount, IsFullAfter, is_crowding, crowds_after, wants_nothing, holding, answered_by, holds_alone, names_none};
+
+    /// A machine that has taken no step, and finds each word and each thread by these keys. Whoever knows them can make it slow.
+    pub fn keyed(alloc: Global, keys: HashKeys) -> Self
+        ensures { (tags : ℕ → A) → Stands tags result [] }
+    {
+        OrderMachine {
+            holders: Holders::new(alloc, keys),
+            clocks: Clocks::new(alloc),
+            words: OrderWords::keyed(alloc, keys),
+        }
+    }
+
+    /// Takes one step and says what it is answered: a reply, or why it is refused. An access gets the tag.
+    ///
+    /// # Errors
+    /// `CountFull`: a thread's own count would rise, and is the greatest, 2^32 - 1. `ThreadsFull`: a step that orders threads is by a
+    /// thread whose number is 65,536 or more, or starts or joins one. `OutOfMemory`: memory was refused. The step may be tried again. A
+    /// refused step has none of these, nor has an access inside a bracket, a reuse, a show or the end of a bracket.
+    pub fn step(&mut self, step: &Step, tag: A) -> Result<OrderAnswer<A>, NoTick>
+        ensures answer { (past : List Steps) (tags : ℕ → A) → Stands tags self.old past
+            → IfOk result (λ answer. answer.reply ≡ order_answer (past ++ step.now ∷ []) (length past)) }
+        ensures goes_on { (past : List Steps) (tags : ℕ → A) → Stands tags self.old past → tags (length past) ≡ tag → OnOk result (Stands tags self.new (past ++ step.now ∷ [])) }
+        ensures err { (past : List Steps) (tags : ℕ → A) → Stands tags self.old past → OnErr result (Stands tags self.new past) }
+        ensures full { (past : List Steps) (tags : ℕ → A) → Stands tags self.old past → IsErrOf result NoTick.CountFull → IsFullAfter past step.now }
+        ensures threads { (past : List Steps) (tags : ℕ → A) → Stands tags self.old past → IsErrOf result NoTick.ThreadsFull → IsTrue (crowds_after past step.now) }
+        ensures room { (past : List Steps) (tags : ℕ → A) → Stands tags self.old past → IsOk result → crowds_after past step.now ≡ false }
+
+        // A race names the access that it is unordered with, and nothing else names one.
+        ensures named { (past : List Steps) (tags : ℕ → A) → Stands tags self.old past
+            → IfOk result (λ answer. answer.reply ≡ Ok Reply.Race → answer.rival ≡ option_map tags (unordered_with (past ++ step.now ∷ []) (length past))) }
+        ensures names { IfOk result (λ answer. is_some answer.rival ≡ is_race answer.reply) }
+
+        // What the definitions refuse is answered so, whatever room there is.
+        ensures refused { (why : Refusal) → refused_by (holding self.old step.now.thread) step.now.event ≡ Some why → result ≡ Ok (record { reply = Err why; rival = None }) }
+        ensures free { IsTrue (wants_nothing (holding self.old step.now.thread) step.now.event) → IsOk result }
+
+        // The same by the machine's own holdings, clocks and words.
+        ensures answered { IfOk result (λ answer. answer ≡ answered_by self.old step.now) }
+        ensures changes { OnOk result (Changes self.old step.now tag self.new) }
+        ensures same { OnErr result (IsSame self.old self.new) }
+        ensures full_count { IsErrOf result NoTick.CountFull → HasFullCount self.old step.now }
+        ensures crowded { IsErrOf result NoTick.ThreadsFull → IsTrue (is_crowding self.old step.now) }
+    {
+        self.take(step.thread, step.event, tag)
+    }
+
+    /// Each few steps reads what is kept of the words that the next few access, so that it comes from memory side by side. `at` is the
+    /// place of the step that is answered next. It only saves time, and a caller that leaves it out gets the same answers.
+    #[inline(always)]
+    pub fn look_ahead(&mut self, steps: &[Step], at: usize)
+        ensures { self.new ≡ self.old }
+    {
+        if at % AHEAD == 0 {
+            self.read_ahead(steps, at);
+        }
+    }
+
+    fn read_ahead(&mut self, steps: &[Step], at: usize)
+        ensures { self.new ≡ self.old }
+    {
+        let end = at.saturating_add(AHEAD).min(steps.len());
+        for place in at..end {
+            if let Event::Access(_, word, _) = steps[place].event {
+                self.words.look_ahead(word);
+            }
+        }
+    }
+
+    /// What a thread holds after the steps so far.
+    pub fn held(&self, thread: ThreadId) -> &Held
+        ensures { (past : List Steps) (tags : ℕ → A) → Stands tags self.now past → result.now ≡ holdings_end past thread }
+    {
+        self.holders.get(thread)
+    }
+
+    // An event of this thread. An access and a reuse are never refused.
+    fn take(&mut self, thread: ThreadId, event: Event, tag: A) -> Result<OrderAnswer<A>, NoTick>
+        ensures answered { IfOk result (λ answer. answer ≡ answered_by self.old (record { thread = thread; event = event })) }
+        ensures changes { OnOk result (Changes self.old (record { thread = thread; event = event }) tag self.new) }
+        ensures same { OnErr result (IsSame self.old self.new) }
+        ensures refused { (why : Refusal) → refused_by (holding self.old thread) event ≡ Some why → result ≡ Ok (record { reply = Err why; rival = None }) }
+        ensures free { IsTrue (wants_nothing (holding self.old thread) event) → IsOk result }
+        ensures full { IsErrOf result NoTick.CountFull → HasFullCount self.old (record { thread = thread; event = event }) }
+        ensures crowded { IsErrOf result NoTick.ThreadsFull → IsTrue (is_crowding self.old (record { thread = thread; event = event })) }
+    {
+        match event {
+            Event::Access(kind, word, _) => self.access(thread, kind, word, tag),
+            Event::Reuse(range) => Ok(self.reuse(thread, range)),
+            _ => self.take_unless_refused(thread, event),
+        }
+    }
+
+    // The same, if the event isn't refused.
+    fn take_unless_refused(
+        &mut self,
+        thread: ThreadId,
+        event: Event,
+    ) -> Result<OrderAnswer<A>, NoTick>
+        requires { names_none event ≡ true }
+        ensures answered { IfOk result (λ answer. answer ≡ answered_by self.old (record { thread = thread; event = event })) }
+        ensures changes { (tag : A) → OnOk result (Changes self.old (record { thread = thread; event = event }) tag self.new) }
+        ensures same { OnErr result (IsSame self.old self.new) }
+        ensures refused { (why : Refusal) → refused_by (holding self.old thread) event ≡ Some why → result ≡ Ok (record { reply = Err why; rival = None }) }
+        ensures free { IsTrue (wants_nothing (holding self.old thread) event) → IsOk result }
+        ensures full { IsErrOf result NoTick.CountFull → HasFullCount self.old (record { thread = thread; event = event }) }
+        ensures crowded { IsErrOf result NoTick.ThreadsFull → IsTrue (is_crowding self.old (record { thread = thread; event = event })) }
+    {
+        if let Some(why) = self.holders.refusal(thread, &event) {
+            return Ok(OrderAnswer {
+                reply: Err(why),
+                rival: None,
+            });
+        }
+        self.accept(thread, event)?;
+        Ok(answer(None, Reply::Done))
+    }
+
+    // An accepted event that is neither an access nor a reuse.
+    fn accept(&mut self, thread: ThreadId, event: Event) -> Result<(), NoTick>
+        requires accepted { refused_by (holding self.old thread) event ≡ None }
+        requires names_none { names_none event ≡ true }
+        ensures changes { (tag : A) → OnOk result (Changes self.old (record { thread = thread; event = event }) tag self.new) }
+        ensures same { OnErr result (IsSame self.old self.new) }
+        ensures free { IsTrue (wants_nothing (holding self.old thread) event) → IsOk result }
+        ensures full { IsErrOf result NoTick.CountFull → HasFullCount self.old (record { thread = thread; event = event }) }
+        ensures crowded { IsErrOf result NoTick.ThreadsFull → IsTrue (is_crowding self.old (record { thread = thread; event = event })) }
+    {
+        match event {
+            Event::Acquire(lock, mode) => self.acquire(thread, lock, mode),
+            Event::Release(lock, mode) => self.release(thread, lock, mode),
+            Event::IgnoreOn => self.hold(thread, Event::IgnoreOn),
+            Event::IgnoreOff => self.hold(thread, Event::IgnoreOff),
+            Event::Level(level) => self.hold(thread, Event::Level(level)),
+            Event::Sync(sync) => self.synchronize(thread, sync),
+            Event::Show(_) => Ok(()),
+            Event::Access(..) => Ok(()),
+            Event::Reuse(_) => Ok(()),
+        }
+    }
+
+    // An access, which isn't counted while its thread ignores.
+    fn access(
+        &mut self,
+        thread: ThreadId,
+        kind: Kind,
+        word: Word,
+        tag: A,
+    ) -> Result<OrderAnswer<A>, NoTick>
+        ensures answered { IfOk result (λ answer. answer ≡ answered_by self.old (record { thread = thread; event = Event.Access kind word 0 })) }
+        ensures changes { OnOk result (Changes self.old (record { thread = thread; event = Event.Access kind word 0 }) tag self.new) }
+        ensures same { OnErr result (IsSame self.old self.new) }
+        ensures free { 0 < (holding self.old thread).depth → IsOk result }
+        ensures full { IsErrOf result NoTick.CountFull → ⊥ }
+        ensures crowded { IsErrOf result NoTick.ThreadsFull → ⊥ }
+    {
+        if self.holders.get(thread).ignoring() {
+            return Ok(answer(None, Reply::Ignored));
+        }
+        let clock = self.clocks.clock(thread);
+        let found = self.words.access(word, &clock, kind, tag)?;
+        Ok(answer(found, Reply::Quiet))
+    }
+
+    // The words of the range begin a new era. Outside a bracket that is a race if one of them is still in use.
+    fn reuse(&mut self, thread: ThreadId, range: PageRange) -> OrderAnswer<A>
+        ensures answered { result ≡ answered_by self.old (record { thread = thread; event = Event.Reuse range }) }
+        ensures changes { (tag : A) → Changes self.old (record { thread = thread; event = Event.Reuse range }) tag self.new }
+    {
+        let ignores = self.holders.get(thread).ignoring();
+        let clock = self.clocks.clock(thread);
+        let found = self.words.reset(range, &clock);
+        answer_to_reuse(ignores, found)
+    }
+
+    // If the clocks lack room, the lock is given back.
+    fn acquire(&mut self, thread: ThreadId, lock: LockId, mode: Mode) -> Result<(), NoTick>
+        requires { refused_by (holding self.old thread) (Event.Acquire lock mode) ≡ None }
+        ensures changes { (tag : A) → OnOk result (Changes self.old (record { thread = thread; event = Event.Acquire lock mode }) tag self.new) }
+        ensures same { OnErr result (IsSame self.old self.new) }
+        ensures full { IsErrOf result NoTick.CountFull → HasFullCount self.old (record { thread = thread; event = Event.Acquire lock mode }) }
+        ensures crowded { IsErrOf result NoTick.ThreadsFull → IsTrue (is_crowding self.old (record { thread = thread; event = Event.Acquire lock mode })) }
+    {
+        self.holders.change(thread, Event::Acquire(lock, mode))?;
+        let step = Step {
+            thread,
+            event: Event::Acquire(lock, mode),
+        };
+        match self.clocks.follow(&step, true) {
+            Ok(()) => Ok(()),
+            Err(why) => {
+                self.holders.release(thread, lock, mode);
+                Err(why)
+            }
+        }
+    }
+
+    // The clocks go first, since the lock is given up without memory.
+    fn release(&mut self, thread: ThreadId, lock: LockId, mode: Mode) -> Result<(), NoTick>
+        requires { refused_by (holding self.old thread) (Event.Release lock mode) ≡ None }
+        ensures changes { (tag : A) → OnOk result (Changes self.old (record { thread = thread; event = Event.Release lock mode }) tag self.new) }
+        ensures same { OnErr result (IsSame self.old self.new) }
+        ensures full { IsErrOf result NoTick.CountFull → HasFullCount self.old (record { thread = thread; event = Event.Release lock mode }) }
+        ensures crowded { IsErrOf result NoTick.ThreadsFull → IsTrue (is_crowding self.old (record { thread = thread; event = Event.Release lock mode })) }
+    {
+        let step = Step {
+            thread,
+            event: Event::Release(lock, mode),
+        };
+        match self.clocks.follow(&step, true) {
+            Ok(()) => {
+                self.holders.release(thread, lock, mode);
+                Ok(())
+            }
+            Err(why) => Err(why),
+        }
+    }
+
+    // What only orders threads holds nothing.
+    fn synchronize(&mut self, thread: ThreadId, sync: Sync) -> Result<(), NoTick>
+        ensures changes { (tag : A) → OnOk result (Changes self.old (record { thread = thread; event = Event.Sync sync }) tag self.new) }
+        ensures same { OnErr result (IsSame self.old self.new) }
+        ensures full { IsErrOf result NoTick.CountFull → HasFullCount self.old (record { thread = thread; event = Event.Sync sync }) }
+        ensures crowded { IsErrOf result NoTick.ThreadsFull → IsTrue (is_crowding self.old (record { thread = thread; event = Event.Sync sync })) }
+    {
+        let step = Step {
+            thread,
+            event: Event::Sync(sync),
+        };
+        self.clocks.follow(&step, true)
+    }
+
+    // A bracket or a level orders nothing.
+    fn hold(&mut self, thread: ThreadId, event: Event) -> Result<(), NoTick>
+        requires accepted { refused_by (holding self.old thread) event ≡ None }
+        requires local { holds_alone event ≡ true }
+        ensures changes { (tag : A) → OnOk result (Changes self.old (record { thread = thread; event = event }) tag self.new) }
+        ensures same { OnErr result (IsSame self.old self.new) }
+        ensures free { event ≡ Event.IgnoreOff → IsOk result }
+        ensures full { IsErrOf result NoTick.CountFull → ⊥ }
+        ensures crowded { IsErrOf result NoTick.ThreadsFull → ⊥ }
+    {
+        self.holders.change(thread, event)?;
+        Ok(())
+    }
+}
+
+// The answer to a reuse that found the use of a word that this names.
+fn answer_to_reuse<A: Copy>(ignores: bool, found: Option<(Word, A)>) -> OrderAnswer<A>
+    ensures reply { result.reply ≡ Ok (cond ignores Reply.Done (reuse_reply (option_map (λ (found : ℕ × A). found.0) found))) }
+    ensures rival { result.rival ≡ cond ignores None (option_map (λ (found : ℕ × A). found.1) found) }
+{
+    match found {
+        Some((_, rival)) if !ignores => answer(Some(rival), Reply::Done),
+        _ => answer(None, Reply::Done),
+    }
+}
+
+// A race with the access of this tag, or else this reply.
+#[inline]
+fn answer<A: Copy>(rival: Option<A>, otherwise: Reply) -> OrderAnswer<A>
+    ensures { result ≡ record { reply = Ok (cond (is_some rival) Reply.Race otherwise); rival = rival } }
+{
+    let reply = match rival {
+        Some(_) => Reply::Race,
+        None => otherwise,
+    };
+    OrderAnswer {
+        reply: Ok(reply),
+        rival,
+    }
+}

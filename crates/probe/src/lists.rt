@@ -1,0 +1,124 @@
+//! Steps of a machine, and what a list of steps is answered by others and explained by.
+use crate::Host;
+use crate::fault::{Fault, Made};
+use crate::work::{Work, kind_of, lock_of, number_of};
+use crate::world::{World, table_of};
+use crate::writing::{put_answers, put_explanation, put_reply};
+use er_check::check_explanation;
+use er_event::{Event, Level, Refusal, Step, Sync};
+use er_explain::{Explanation, Uncovered, explain};
+use er_gate::OpenGate;
+use er_journal::Outcome;
+use er_parallel::{ReplayConfig, ReplayFault, replay_parallel};
+use er_replay::{Machine, run};
+use er_table::LocksetTable;
+use std::alloc::{AllocError, Global};
+use std::fmt::Write;
+use std::sync::Wait;
+
+/// `thread M CALL`: one more step, which the machine answers. One that finds no memory isn't put into the list.
+pub(crate) fn step<R: Wait>(rt: &R, world: &mut World<'_>, work: &mut Work<'_>) -> Made {
+    let thread = work.thread()?;
+    let event = event_of(work)?;
+    world.steps.reserve(1)?;
+    let answer = world.machine.step(rt, Step { thread, event });
+    if !matches!(&answer, Err(Refusal::OutOfMemory)) {
+        world.steps.push_reserved(Step { thread, event });
+    }
+    Ok(put_reply(&mut work.answer, answer?)?)
+}
+
+// The step of a call. A reuse is that of its first page.
+fn event_of(work: &mut Work<'_>) -> Result<Event, Fault> {
+    Ok(match work.next()? {
+        "acquire" => Event::Acquire(work.lock()?, work.mode()?),
+        "release" => Event::Release(work.lock()?, work.mode()?),
+        "ignore-on" => Event::IgnoreOn,
+        "ignore-off" => Event::IgnoreOff,
+        "level" => Event::Level(Level::of_number(work.number()?)?),
+        "start" => Event::Sync(Sync::Start(work.thread()?)),
+        "join" => Event::Sync(Sync::Join(work.thread()?)),
+        "signal" => Event::Sync(Sync::Signal(work.lock()?)),
+        "await" => Event::Sync(Sync::Await(work.lock()?)),
+        "reuse" => Event::Reuse(work.part()?),
+        "show" => Event::Show(work.word()?),
+        kind => Event::Access(kind_of(kind)?, work.word()?, work.site()),
+    })
+}
+
+/// `run SETS`: the answers of a new machine, over a table of so many sets, up to where it stops.
+pub(crate) fn replayed<R: Host>(rt: &R, steps: &[Step], work: &mut Work<'_>) -> Made {
+    let table = table_of(rt.alloc(), work.count()?)?;
+    let outcome = outcome_over(rt, &table, steps);
+    drop(table);
+    Ok(put_outcome(&mut work.answer, outcome?)?)
+}
+
+fn outcome_over<R: Host>(
+    rt: &R,
+    table: &LocksetTable,
+    steps: &[Step],
+) -> Result<Outcome, AllocError> {
+    let mut machine = Machine::new(rt.alloc(), table)?;
+    let outcome = run(rt, rt.alloc(), &mut machine, steps);
+    drop(machine);
+    Ok(outcome)
+}
+
+fn put_outcome(out: &mut String, outcome: Outcome) -> Result<(), AllocError> {
+    let Outcome { answers, stopped } = outcome;
+    let put = put_answers(out, &answers);
+    drop(answers);
+    put?;
+    match stopped {
+        Some(stopped) => write!(out, "; stopped at {}: {}", stopped.at, stopped.cause),
+        None => Ok(()),
+    }
+}
+
+/// `parallel SHARDS SETS WORKERS`: the same by several workers.
+pub(crate) fn replayed_in_parallel<R: Host>(rt: &R, steps: &[Step], work: &mut Work<'_>) -> Made {
+    let config = ReplayConfig::new(work.count()?, work.count()?).ok_or(Fault::BadRow)?;
+    let workers = work.count()?;
+    if workers < 1 || workers > 16 {
+        return Err(Fault::BadRow);
+    }
+    match replay_parallel(rt, rt.alloc(), config, steps, workers, &OpenGate) {
+        Ok(outcome) => Ok(put_outcome(&mut work.answer, outcome)?),
+        Err(ReplayFault::TableFull) => Err(Refusal::TableFull.into()),
+        // Nothing but memory keeps a worker of a test from its start.
+        Err(_) => Err(Refusal::OutOfMemory.into()),
+    }
+}
+
+/// `explain K`: why step K is a race.
+pub(crate) fn explained(alloc: Global, steps: &[Step], work: &mut Work<'_>) -> Made {
+    let found = explain(alloc, steps, work.number()?)?;
+    let put = put_explanation(&mut work.answer, found.as_ref());
+    drop(found);
+    Ok(put?)
+}
+
+/// `check K FIRST JOIN WRITE LOCK@PLACE ..`: whether this explains step K.
+pub(crate) fn check(alloc: Global, steps: &[Step], work: &mut Work<'_>) -> Made {
+    let place = work.number()?;
+    let explanation = Explanation {
+        first: work.number()?,
+        join: work.number()?,
+        write: work.number()?,
+        uncovered: uncovered_of(alloc, work)?,
+    };
+    let is_accepted = check_explanation(alloc, steps, place, &explanation);
+    drop(explanation);
+    work.say(if is_accepted? { "yes" } else { "no" })
+}
+
+fn uncovered_of(alloc: Global, work: &mut Work<'_>) -> Result<Vec<Uncovered>, Fault> {
+    let mut uncovered = Vec::new(alloc);
+    for _ in work.left {
+        let (lock, at) = work.next()?.split_once('@').ok_or(Fault::BadRow)?;
+        let (lock, at) = (lock_of(lock)?, number_of(at)?);
+        uncovered.push(Uncovered { lock, at })?;
+    }
+    Ok(uncovered)
+}

@@ -1,0 +1,55 @@
+//! What rows call.
+use crate::fault::Fault;
+use er_detector::Detector;
+use er_event::Step;
+use er_replay::Machine;
+use er_seat::Seat;
+use er_shard::Shard;
+use er_table::LocksetTable;
+use std::alloc::Global;
+use std::sync::{MutexGuard, Wait};
+
+/// Detectors over one table and their seats, each of which is there until it is settled, and a machine with the list of its steps.
+#[derive(Drop)]
+pub(crate) struct World<'t> {
+    pub(crate) table: &'t LocksetTable,
+    pub(crate) detectors: Vec<Option<Detector<'t>>>,
+    pub(crate) seats: Vec<Option<Seat>>,
+    pub(crate) machine: Machine<'t>,
+    pub(crate) steps: Vec<Step>,
+}
+
+/// A table that takes so many sets.
+pub(crate) fn table_of(alloc: Global, sets: u32) -> Result<LocksetTable, Fault> {
+    if sets >= 1 && sets <= 1_048_576 {
+        Ok(LocksetTable::new(alloc, sets)?)
+    } else {
+        Err(Fault::BadRow)
+    }
+}
+
+/// The detector at a place.
+pub(crate) fn detector_at<'a, 't>(
+    detectors: &'a [Option<Detector<'t>>],
+    side: usize,
+) -> Result<&'a Detector<'t>, Fault> {
+    match detectors.get(side) {
+        Some(Some(detector)) => Ok(detector),
+        _ => Err(Fault::BadRow),
+    }
+}
+
+/// A shard of the detector at a place, under its lock.
+pub(crate) fn shard_at<'a, 't, R: Wait>(
+    rt: &R,
+    detectors: &'a [Option<Detector<'t>>],
+    side: usize,
+    number: u32,
+) -> Result<MutexGuard<'a, Shard<'t>>, Fault> {
+    let detector = detector_at(detectors, side)?;
+    if number < detector.config().shards {
+        Ok(detector.shard(rt, number))
+    } else {
+        Err(Fault::BadRow)
+    }
+}

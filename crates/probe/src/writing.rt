@@ -1,0 +1,217 @@
+//! What stands in answers: replies, states, locks, steps, entries and seats in words.
+use er_detector::Run;
+use er_event::{Event, Kind, LockId, Lockset, Mode, Reply, Site, WordState};
+use er_explain::Explanation;
+use er_journal::{Answer, Answers, Entry, Stamp, What};
+use er_owner::{NumberedState, Shadow};
+use er_seat::Seat;
+use std::alloc::AllocError;
+use std::fmt::Write;
+
+fn put_lock(out: &mut String, lock: LockId) -> Result<(), AllocError> {
+    match lock.number().checked_sub(LockId::BELOW_LEVELS) {
+        Some(level) if level > 0 => write!(out, "level-{level}"),
+        _ => write!(out, "{}", lock.number()),
+    }
+}
+
+/// The locks, rising, or `none`.
+pub(crate) fn put_locks(out: &mut String, locks: &Lockset) -> Result<(), AllocError> {
+    if locks.is_empty() {
+        out.push_str("none")?;
+    }
+    for (place, lock) in locks.as_slice().iter().enumerate() {
+        out.push_str(if place > 0 { " " } else { "" })?;
+        put_lock(out, *lock)?;
+    }
+    Ok(())
+}
+
+pub(crate) fn put_known(out: &mut String, state: &WordState) -> Result<(), AllocError> {
+    match state {
+        WordState::Virgin => out.push_str("virgin"),
+        WordState::Exclusive(thread) => write!(out, "exclusive {}", thread.number()),
+        WordState::Shared(locks) => {
+            out.push_str("shared ")?;
+            put_locks(out, locks)
+        }
+        WordState::SharedModified(locks) => {
+            out.push_str("shared-modified ")?;
+            put_locks(out, locks)
+        }
+    }
+}
+
+pub(crate) fn put_shadow(out: &mut String, shadow: Shadow) -> Result<(), AllocError> {
+    write!(out, "{:#x} ", shadow.bits())?;
+    match shadow.state() {
+        NumberedState::Virgin => out.push_str("virgin"),
+        NumberedState::Exclusive(thread) => write!(out, "exclusive {}", thread.number()),
+        NumberedState::Shared(set) => write!(out, "shared {set}"),
+        NumberedState::SharedModified(set) => write!(out, "shared-modified {set}"),
+    }
+}
+
+fn put_view(out: &mut String, answer: Answer<'_>) -> Result<(), AllocError> {
+    match answer {
+        Answer::Done => out.push_str("done"),
+        Answer::Quiet => out.push_str("quiet"),
+        Answer::Race => out.push_str("race"),
+        Answer::Ignored => out.push_str("ignored"),
+        Answer::State(state) => put_known(out, state),
+        Answer::Refused(why) => out.push_str(why.text()),
+    }
+}
+
+/// Answers, or `no answers`.
+pub(crate) fn put_answers(out: &mut String, answers: &Answers) -> Result<(), AllocError> {
+    if answers.is_empty() {
+        out.push_str("no answers")?;
+    }
+    for place in 0..answers.len() {
+        out.push_str(if place > 0 { ", " } else { "" })?;
+        if let Some(answer) = answers.get(place) {
+            put_view(out, answer)?;
+        }
+    }
+    Ok(())
+}
+
+fn view(reply: &Reply) -> Answer<'_> {
+    match reply {
+        Reply::Done => Answer::Done,
+        Reply::Quiet => Answer::Quiet,
+        Reply::Race => Answer::Race,
+        Reply::Ignored => Answer::Ignored,
+        Reply::State(state) => Answer::State(state),
+    }
+}
+
+pub(crate) fn put_reply(out: &mut String, reply: Reply) -> Result<(), AllocError> {
+    let put = put_view(out, view(&reply));
+    drop(reply);
+    put
+}
+
+fn kind_text(kind: Kind) -> &'static str {
+    match kind {
+        Kind::Read => "read",
+        Kind::Write => "write",
+    }
+}
+
+fn put_event(out: &mut String, event: Event) -> Result<(), AllocError> {
+    match event {
+        Event::Acquire(lock, mode) => put_lock_event(out, "acquire", lock, mode),
+        Event::Release(lock, mode) => put_lock_event(out, "release", lock, mode),
+        Event::Access(kind, word, site) => {
+            write!(out, "{} {:#x}", kind_text(kind), word.address())?;
+            if site != Site::MISSING {
+                write!(out, " {}", site.number())?;
+            }
+            Ok(())
+        }
+        Event::Reuse(range) => {
+            let (lo, hi) = (range.lo.address(), range.hi.address());
+            write!(out, "reuse {lo:#x} to {hi:#x}")
+        }
+        Event::IgnoreOn => out.push_str("ignore-on"),
+        Event::IgnoreOff => out.push_str("ignore-off"),
+        Event::Level(level) => write!(out, "level {}", level.number()),
+        // No seat makes these.
+        Event::Show(_) | Event::Sync(_) => write!(out, "{event:?}"),
+    }
+}
+
+fn put_lock_event(
+    out: &mut String,
+    verb: &str,
+    lock: LockId,
+    mode: Mode,
+) -> Result<(), AllocError> {
+    write!(out, "{verb} ")?;
+    put_lock(out, lock)?;
+    out.push_str(match mode {
+        Mode::Read => " read",
+        Mode::Write => " write",
+    })
+}
+
+/// What a seat is, and what it holds.
+pub(crate) fn put_seat(out: &mut String, seat: &Seat) -> Result<(), AllocError> {
+    let (thread, name, calls) = (seat.thread().number(), seat.name(), seat.calls().len());
+    write!(out, "thread {thread} of {name}, calls {calls}, held ")?;
+    put_locks(out, seat.held())?;
+    out.push_str(", to write ")?;
+    put_locks(out, seat.write_held())?;
+    write!(out, ", level {}", seat.level().number())?;
+    out.push_str(if seat.ignoring() { ", ignoring" } else { "" })
+}
+
+/// Entries, oldest first, or `none`.
+pub(crate) fn put_entries(out: &mut String, entries: &[Entry]) -> Result<(), AllocError> {
+    if entries.is_empty() {
+        out.push_str("none")?;
+    }
+    for (place, entry) in entries.iter().enumerate() {
+        out.push_str(if place > 0 { "; " } else { "" })?;
+        put_entry(out, entry)?;
+    }
+    Ok(())
+}
+
+fn put_entry(out: &mut String, entry: &Entry) -> Result<(), AllocError> {
+    let (ticket, thread) = (entry.ticket, entry.thread.number());
+    write!(out, "ticket {ticket} thread {thread} ")?;
+    match &entry.what {
+        What::Access(stamp) => put_stamp(out, stamp)?,
+        What::Reset(range) => {
+            let (lo, hi) = (range.lo.address(), range.hi.address());
+            write!(out, "reset {lo:#x} to {hi:#x}")?
+        }
+    }
+    out.push_str(" ")?;
+    put_reply(out, entry.reply.reply())
+}
+
+fn put_stamp(out: &mut String, stamp: &Stamp) -> Result<(), AllocError> {
+    let (thread, kind) = (stamp.thread().number(), kind_text(stamp.kind()));
+    write!(
+        out,
+        "by {thread} {kind} {:#x} holding ",
+        stamp.word().address()
+    )?;
+    put_locks(out, stamp.held())?;
+    out.push_str(" to write ")?;
+    put_locks(out, stamp.write_held())
+}
+
+/// A settled run.
+pub(crate) fn put_run(out: &mut String, run: &Run) -> Result<(), AllocError> {
+    write!(out, "steps {}", run.steps.len())?;
+    for (step, reply) in run.steps.iter().zip(&run.replies) {
+        write!(out, "; {} ", step.thread.number())?;
+        put_event(out, step.event)?;
+        out.push_str(" ")?;
+        put_view(out, view(reply))?;
+    }
+    Ok(())
+}
+
+/// Why an access is a race, or that it is none.
+pub(crate) fn put_explanation(
+    out: &mut String,
+    found: Option<&Explanation>,
+) -> Result<(), AllocError> {
+    let Some(found) = found else {
+        return out.push_str("no race");
+    };
+    let (first, join, write) = (found.first, found.join, found.write);
+    write!(out, "first {first}, join {join}, write {write}")?;
+    for pair in &found.uncovered {
+        out.push_str(", ")?;
+        put_lock(out, pair.lock)?;
+        write!(out, "@{}", pair.at)?;
+    }
+    Ok(())
+}

@@ -1,0 +1,35 @@
+/* What the hooks of memory share. */
+#ifndef ERASER_MEMORY_H
+#define ERASER_MEMORY_H
+
+#include "emit.h"
+
+#include <malloc.h>
+#include <stdlib.h>
+
+typedef __typeof__(&malloc_usable_size) size_function; /* NULL: nobody knows how long a block is */
+
+/* That of the functions behind this library. The program may have functions in front of it, of an allocator of its own or not. */
+struct allocator {
+    __typeof__(&malloc) malloc;
+    __typeof__(&calloc) calloc;
+    __typeof__(&free) free;
+    size_function size_of;
+    size_function size_in_front; /* of a block for the program's own `free` */
+    bool is_first;   /* the program has no `free` itself */
+    bool is_foreign; /* not the C library's: it may have ways to give memory back that nobody sees */
+    bool is_plain;   /* neither: the program has no `malloc` and no `free` itself, and the C library has them */
+};
+/* All zero until it is known. */
+extern struct allocator allocator;
+
+/* Gives a block back, if it is one, and records before that a call at this place does so. */
+void give_back(void *block, uint64_t site);
+/* Records that an allocator which isn't the C library's gives out a block, and returns it. */
+void *note_taken(void *block);
+/* Whether a function is in the allocator's file. */
+bool is_of_allocator(const void *function);
+/* Whether calls of `free` are recorded. They are not if the program has one itself. */
+bool is_free_seen(void);
+
+#endif
