@@ -26,10 +26,8 @@ pub data LineView : Type 0 where
 
 -- what a line says
 abbrev pub line_view : Line → LineView
-line_view (Race number thread kind word site held explained) =
-    RacedView (record { line = number; thread = thread; deed = deed.Access kind word; site = site; held = held; explained = explained.items })
-line_view (Reused number thread range site held explained) =
-    RacedView (record { line = number; thread = thread; deed = deed.Reuse range; site = site; held = held; explained = explained.items })
+line_view (Race number thread kind word site held explained) = RacedView (record { line = number; thread = thread; deed = deed.Access kind word; site = site; held = held; explained = explained.items })
+line_view (Reused number thread range site held explained) = RacedView (record { line = number; thread = thread; deed = deed.Reuse range; site = site; held = held; explained = explained.items })
 line_view (Refused number step refusal) = RefusedView number step refusal
 line_view (Shown number word state) = ShownView number word state
 

@@ -51,10 +51,8 @@ told r =
 -- the line of a race or of a show, and none of another reply; these are the number and the site of the step's line in the text, the
 -- locks that the thread holds, and why it is a race
 abbrev pub reply_line : ℕ → ℕ → List ℕ → List Because → ℕ → Event → Reply → List LineView
-reply_line number line_site locks reasons thread (Access kind word site) Race =
-    RacedView (record { line = number; thread = thread; deed = deed.Access kind word; site = site; held = locks; explained = reasons }) ∷ []
-reply_line number line_site locks reasons thread (Reuse range) Race =
-    RacedView (record { line = number; thread = thread; deed = deed.Reuse range; site = line_site; held = locks; explained = reasons }) ∷ []
+reply_line number line_site locks reasons thread (Access kind word site) Race = RacedView (record { line = number; thread = thread; deed = deed.Access kind word; site = site; held = locks; explained = reasons }) ∷ []
+reply_line number line_site locks reasons thread (Reuse range) Race = RacedView (record { line = number; thread = thread; deed = deed.Reuse range; site = line_site; held = locks; explained = reasons }) ∷ []
 reply_line number line_site locks reasons thread (Show word) (State state) = ShownView number word state ∷ []
 reply_line number line_site locks reasons thread event reply = []
 

@@ -19,10 +19,10 @@ use crate::reasons::{explain_lines, give_reasons};
 use crate::rules::first_rule;
 use crate::{Because, Line, Made, Report};
 use er_event::{Event, Lockset, NoRoom, Refusal, Reply, Site, Step};
-use er_journal::Answer;
+use er_journal::{Answer, Stopped};
 use er_keys::HashKeys;
 use er_rules::Suppressions;
-use er_trace::Names;
+use er_trace::{Names, Trace};
 use std::alloc::{AllocError, Global};
 use std::marker::Model;
 
@@ -231,6 +231,19 @@ impl<'r> ReportBuilder<'r> {
         give_reasons(reasons, &mut report.lines);
         report
     }
+
+    /// The report of a run of a trace, whose answered steps were added and explained.
+    pub fn finish_for(self, trace: &Trace, stopped: Option<Stopped>) -> Report
+        requires stop { IfSome stopped (λ stop. stop.at < length trace.now.steps) }
+        requires built { IsReported self trace.now (length (answered_steps trace.now.steps stopped)) }
+        ensures report { told result ≡ report_of trace.now self.entry.rules (is_some self.entry.kept) stopped }
+        ensures named { All (HasNames trace.now.names) result.lines.items }
+    {
+        prove!(trace.lines().len() == trace.steps().len());
+        prove!(trace.sites().len() == trace.lines().len());
+        let stop = stop_line(trace, stopped);
+        self.finish_explained(stop)
+    }
 }
 
 // What finds reasons, if they are wanted.
@@ -359,4 +372,15 @@ fn line_of(
         }),
         _ => None,
     })
+}
+
+// The line of the step at which a run stopped, and why.
+fn stop_line(trace: &Trace, stopped: Option<Stopped>) -> Option<(u64, NoRoom)>
+    requires { IfSome stopped (λ stop. stop.at < length trace.now.steps) }
+    ensures { result ≡ stop_line trace.now stopped }
+{
+    match stopped {
+        Some(Stopped { at, cause }) => Some((trace.lines()[at as usize], cause)),
+        None => None,
+    }
 }

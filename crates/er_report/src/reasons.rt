@@ -22,13 +22,7 @@ pub(crate) fn explain_lines(explainer: Option<Explainer>, lines: &mut [Line])
 pub(crate) fn give_reasons(told: Vec<Vec<Because>>, lines: &mut [Line])
     ensures { map line_view lines.new ≡ with_told (map (λ reasons. reasons.items) told.items) (map line_view lines.old) }
 {
-    put_reasons(told.into_iter(), lines);
-}
-
-// Gives each line of a race the next reasons.
-fn put_reasons(mut to_come: IntoIter<Vec<Because>>, lines: &mut [Line])
-    ensures { map line_view lines.new ≡ with_told (map (λ reasons. reasons.items) (into_iter_items to_come)) (map line_view lines.old) }
-{
+    let mut to_come = told.into_iter();
     for i in 0..lines.len() {
         explain_line(&mut to_come, &mut lines[i]);
     }

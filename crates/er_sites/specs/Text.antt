@@ -124,11 +124,8 @@ abbrev pub at_text : NameTable → ℕ → List ℕ
 at_text names site = cond (site == 0) [] (codes "    at " ++ site_in style.Short names site ++ codes "\n")
 
 -- and of one that was made without
-unfoldable pub alone_text : NameTable → ℕ → List ℕ
-alone_text names site = codes "    at " ++ site_in style.Short names site ++ codes ", holding no lock\n"
-
 abbrev pub bare_text : NameTable → ℕ → List ℕ
-bare_text names site = cond (site == 0) (codes "    holding no lock\n") (alone_text names site)
+bare_text names site = cond (site == 0) (codes "    holding no lock\n") (codes "    at " ++ site_in style.Short names site ++ codes ", holding no lock\n")
 
 -- where an access stood, and what its thread held, of which these to write
 abbrev pub stood_text : NameTable → ℕ → List ℕ → List ℕ → List ℕ

@@ -92,10 +92,7 @@ impl Counts {
 pub(crate) fn count_at(counts: &[u64], site: Site) -> u64
     ensures { result ≡ slice_index counts.now site }
 {
-    match counts.get(site.number() as usize) {
-        Some(count) => *count,
-        None => 0,
-    }
+    counts.get(site.number() as usize).copied().unwrap_or(0)
 }
 
 /// The races of a report at each site.

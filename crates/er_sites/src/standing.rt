@@ -2,7 +2,7 @@
 ghost use Rattle.std.specs.Prelude.{◌≡◌, ◌++◌, ◌≤◌, flat_map, length, OnOk};
 ghost use Rattle.er_places.specs.Places.{HasPlaceNames};
 ghost use Rattle.er_report.specs.Names.{HasLockName, HasLockNames};
-ghost use Rattle.er_sites.specs.Text.{alone_text, at_text, bare_text, kept_text, read_text, stood_text, where_text};
+ghost use Rattle.er_sites.specs.Text.{at_text, bare_text, kept_text, read_text, stood_text, where_text};
 
 use er_event::{LockId, Lockset, Site};
 use er_places::{Place, Places};
@@ -45,14 +45,6 @@ fn put_bare(out: &mut Vec<u8>, names: &Names, site: Site) -> Put
     if site.number() == 0 {
         return out.extend_from_slice(b"    holding no lock\n");
     }
-    put_alone(out, names, site)
-}
-
-#[tactic(auto, unfolding(crate::specs::Text::alone_text))]
-fn put_alone(out: &mut Vec<u8>, names: &Names, site: Site) -> Put
-    requires { site ≤ length names.now.sites }
-    ensures { OnOk result (out.new.items ≡ out.old.items ++ alone_text names.now site) }
-{
     let pieces = [At(b"    at ", site), Text(b", holding no lock\n")];
     put_all(out, Style::Short, names, &pieces)
 }

@@ -107,7 +107,7 @@ impl Past {
 
     /// What is told of the word, which the next step leaves in this state.
     pub(crate) fn told(self, word: Word, after: WordState) -> WordStory
-        ensures { result ≡ record { word = word; before = self.entry.state; after = after; accesses = self.entry.accesses; turns = self.entry.turns } }
+        ensures { result ≡ record { word = word; before = self.state; after = after; accesses = self.accesses; turns = self.turns } }
     {
         let Past {
             state: before,

@@ -2,7 +2,7 @@ use Rattle.std.proofs.Common.{◌≡◌, ◌++◌, take, drop, map}
 use Rattle.std.specs.Vec.Iter.{into_iter_items}
 use Rattle.er_report.specs.Inner.Explained.{with_told}
 use Rattle.er_report.specs.Lines.{line_view}
-use Rattle.er_report.proofs.reasons.put_reasons.Given as goal
+use Rattle.er_report.proofs.reasons.give_reasons.Given as goal
 
 -- the first lines have their reasons, and the others get those that are to come
 abbrev pub invariant-loop-i : goal.invariant-loop-i

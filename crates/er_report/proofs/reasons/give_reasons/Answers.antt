@@ -1,4 +1,4 @@
-use Rattle.std.proofs.Common.{◌≡◌, ◌∙◌, ◌+◌, ◌++◌, ℕ, List, length, map, take, drop, set, get_or, sym, ap, arith}
+use Rattle.std.proofs.Common.{Global, Vec, ◌≡◌, ◌∙◌, ◌+◌, ◌++◌, ℕ, List, length, map, take, drop, set, get_or, sym, ap, arith}
 use Rattle.std.proofs.lemmas.List.{get_or-map, map-set, length-map}
 use Rattle.std.specs.Vec.Iter.{into_iter_items}
 use Rattle.er_report.specs.Inner.Explained.{line_told, with_told}
@@ -6,7 +6,7 @@ use Rattle.er_report.specs.Lines.{LineView, line_view}
 use Rattle.er_report.specs.declared.report.Because.{Because}
 use Rattle.er_report.specs.declared.report.Line.{Line}
 use Rattle.er_report.proofs.ReasonLemmas.{explained-next, explained-end}
-use Rattle.er_report.proofs.reasons.put_reasons.Goals as goal
+use Rattle.er_report.proofs.reasons.give_reasons.Goals as goal
 
 pub loop-i-preserved : goal.loop-i-preserved
 loop-i-preserved c =
@@ -30,3 +30,4 @@ returns c =
     let long : length lines ≡ length c.loop-i.lines = length-map c.loop-i.lines line_view in
     sym (c.loop-i.invariant
     ∙ explained-end lines c.loop-i.i (map (λ reasons. reasons.items) (into_iter_items c.loop-i.to_come)) (omega (arith, long, c.loop-i-test.false, c.loop-i.auto.lines)))
+    ∙ ap (λ (told : List (Vec Because Global)). with_told (map (λ reasons. reasons.items) told) (map line_view c.args.lines.now)) c.into_iter-to_come.ensures.rest

@@ -1,0 +1,124 @@
+//! The report of a whole run.
+ghost use Rattle.std.specs.Prelude.{◌≡◌, ◌<◌, ◌≤◌, ◌+◌, ◌^◌, ℕ, [], All, IsTrue, is_some, length, IfOk, IfSome, OnOk};
+ghost use Rattle.er_explain.specs.Racing.{is_race};
+ghost use Rattle.er_held.specs.ThreadLocks.{held_by};
+ghost use Rattle.er_journal.specs.AnswerList.{shown};
+ghost use Rattle.er_model.specs.Answers.{answers};
+ghost use Rattle.er_report.specs.Builder.{IsReported, IsStepAt};
+ghost use Rattle.er_report.specs.Names.{HasNames, HasSiteName};
+ghost use Rattle.er_report.specs.Report.{told, report_of, answered_steps};
+ghost use Rattle.er_rules.specs.Rules.{targets_of};
+ghost use Rattle.er_trace.specs.Trace.{Recording};
+
+use crate::{Made, Report, ReportBuilder};
+use er_event::{Lockset, Site, Step, ThreadId};
+use er_held::ThreadLocks;
+use er_journal::{Answer, Outcome};
+use er_keys::HashKeys;
+use er_rules::Suppressions;
+use er_trace::{Names, Trace};
+use std::alloc::{AllocError, Global};
+
+/// The report of a run of a trace's steps, which may have stopped at one of them. A race that a rule takes has no line and counts
+/// for the first such rule. With `explain` each race that has a line has its reasons.
+pub fn summarise(
+    alloc: Global,
+    trace: &Trace,
+    outcome: &Outcome,
+    suppressions: &Suppressions,
+    explain: bool,
+) -> Result<Report, AllocError>
+    requires stop { IfSome outcome.now.stopped (λ stop. stop.at < length trace.now.steps) }
+    requires answers { outcome.now.answers ≡ answers (answered_steps trace.now.steps outcome.now.stopped) }
+    ensures report { IfOk result (λ report. told report ≡ report_of trace.now (targets_of suppressions.now) explain outcome.now.stopped) }
+    ensures named { IfOk result (λ report. All (HasNames trace.now.names) report.lines.items) }
+{
+    let mut builder = ReportBuilder::explaining_keyed(
+        alloc,
+        suppressions,
+        explain,
+        HashKeys::KNOWN,
+    )?;
+    let mut locks = ThreadLocks::new(alloc);
+    let added = add_steps(alloc, trace, outcome, &mut builder, &mut locks);
+    drop(locks);
+    match added {
+        Ok(()) => Ok(builder.finish_for(trace, outcome.stopped)),
+        Err(refused) => {
+            drop(builder);
+            Err(refused)
+        }
+    }
+}
+
+// Adds the steps that were answered to a report that has none yet. Before the first step no thread holds a lock.
+fn add_steps(
+    alloc: Global,
+    trace: &Trace,
+    outcome: &Outcome,
+    builder: &mut ReportBuilder<'_>,
+    locks: &mut ThreadLocks,
+) -> Made<()>
+    requires answers { outcome.now.answers ≡ answers (answered_steps trace.now.steps outcome.now.stopped) }
+    requires begun { IsReported builder.old trace.now 0 }
+    requires locks { locks.old ≡ [] }
+    ensures reported { OnOk result (IsReported builder.new trace.now (length (answered_steps trace.now.steps outcome.now.stopped))) }
+    ensures rules { OnOk result (builder.new.rules ≡ builder.old.rules) }
+    ensures explains { OnOk result (is_some builder.new.kept ≡ is_some builder.old.kept) }
+{
+    for (k, step) in trace.steps().iter().enumerate() {
+        let Some(answer) = outcome.answers.get(k) else {
+            break;
+        };
+        let held = race_locks(alloc, locks, step.thread, answer)?;
+        let added = add_one(
+            builder,
+            trace.names(),
+            trace.lines()[k],
+            trace.sites()[k],
+            step,
+            answer,
+            &held,
+        );
+        drop(held);
+        added?;
+        locks.follow(alloc, step)?;
+    }
+    Ok(())
+}
+
+// Adds a step, and finds its reasons if it has some.
+fn add_one(
+    builder: &mut ReportBuilder<'_>,
+    names: &Names,
+    line: u64,
+    site: Site,
+    step: &Step,
+    answer: Answer<'_>,
+    held: &Lockset,
+) -> Made<()>
+    requires room { builder.old.report.steps + 1 < 2 ^ 64 }
+    requires site { HasSiteName names.now step.now.event }
+    requires at { site ≤ length names.now.sites }
+    ensures rules { OnOk result (builder.new.rules ≡ builder.old.rules) }
+    ensures explains { OnOk result (is_some builder.new.kept ≡ is_some builder.old.kept) }
+    ensures reported { (r : Recording) (k : ℕ) → IsReported builder.old r k → IsStepAt r k names.now line site step.now (shown answer.entry) held.now → OnOk result (IsReported builder.new r (k + 1)) }
+{
+    builder.add_answer(names, line, site, step, answer, held)?;
+    builder.explain(line, step)
+}
+
+// The locks that the thread holds, if this answers a race; a report needs no others.
+fn race_locks(
+    alloc: Global,
+    locks: &ThreadLocks,
+    thread: ThreadId,
+    answer: Answer<'_>,
+) -> Made<Lockset>
+    ensures { IfOk result (λ held. IsTrue (is_race (shown answer.entry)) → held ≡ (held_by locks.now thread).held) }
+{
+    match answer {
+        Answer::Race => locks.locks_of(alloc, thread),
+        _ => Ok(Lockset::new(alloc)),
+    }
+}
