@@ -1,11 +1,11 @@
 //! What a step or a state says, and the verbs of steps.
 ghost use Rattle.std.specs.Prelude.{◌≡◌, ◌++◌, OnOk};
-ghost use Rattle.er_report.specs.Names.{HasLockName, HasLockNames, HasEventNames, HasStateNames};
-ghost use Rattle.er_print.specs.Printed.{kind_text, event_text, lock_text, order_text, candidates_text, state_text};
+ghost use Rattle.er_report.specs.Names.{HasLockNames, HasEventNames, HasStateNames};
+ghost use Rattle.er_print.specs.Printed.{kind_text, acquire_text, release_text, event_text, order_text, candidates_text, state_text};
 
 use crate::Put;
 use crate::styles::{Style, put_lock_in, put_locks_in};
-use er_event::{Event, Kind, LockId, Lockset, Mode, Sync, WordState};
+use er_event::{Event, Kind, Lockset, Mode, Sync, WordState};
 use er_trace::Names;
 
 /// The verb of an access.
@@ -24,10 +24,14 @@ pub(crate) fn put_event(out: &mut Vec<u8>, names: &Names, event: Event) -> Put
     ensures { OnOk result (out.new.items ≡ out.old.items ++ event_text names.now event) }
 {
     match event {
-        Event::Acquire(lock, Mode::Write) => put_asked(out, names, b"lock ", lock),
-        Event::Acquire(lock, Mode::Read) => put_asked(out, names, b"rlock ", lock),
-        Event::Release(lock, Mode::Write) => put_asked(out, names, b"unlock ", lock),
-        Event::Release(lock, Mode::Read) => put_asked(out, names, b"runlock ", lock),
+        Event::Acquire(lock, mode) => {
+            out.extend_from_slice(acquire_verb(mode))?;
+            put_lock_in(out, Style::Plain, names, lock)
+        }
+        Event::Release(lock, mode) => {
+            out.extend_from_slice(release_verb(mode))?;
+            put_lock_in(out, Style::Plain, names, lock)
+        }
         Event::IgnoreOn => out.extend_from_slice(b"ignore-on"),
         Event::IgnoreOff => out.extend_from_slice(b"ignore-off"),
         Event::Access(kind, _, _) => out.extend_from_slice(verb(kind)),
@@ -36,15 +40,6 @@ pub(crate) fn put_event(out: &mut Vec<u8>, names: &Names, event: Event) -> Put
         Event::Level(_) => out.extend_from_slice(b"level"),
         Event::Sync(sync) => out.extend_from_slice(order_verb(sync)),
     }
-}
-
-// Puts a verb, and its lock.
-fn put_asked(out: &mut Vec<u8>, names: &Names, verb: &[u8], lock: LockId) -> Put
-    requires { HasLockName names.now lock }
-    ensures { OnOk result (out.new.items ≡ out.old.items ++ (verb.now ++ lock_text names.now lock)) }
-{
-    out.extend_from_slice(verb)?;
-    put_lock_in(out, Style::Plain, names, lock)
 }
 
 /// The verb of an event that orders threads.
@@ -56,6 +51,24 @@ pub fn order_verb(sync: Sync) -> &'static [u8]
         Sync::Join(_) => b"join".as_slice(),
         Sync::Signal(_) => b"signal".as_slice(),
         Sync::Await(_) => b"await".as_slice(),
+    }
+}
+
+fn acquire_verb(mode: Mode) -> &'static [u8]
+    ensures { result.now ≡ acquire_text mode }
+{
+    match mode {
+        Mode::Write => b"lock ".as_slice(),
+        Mode::Read => b"rlock ".as_slice(),
+    }
+}
+
+fn release_verb(mode: Mode) -> &'static [u8]
+    ensures { result.now ≡ release_text mode }
+{
+    match mode {
+        Mode::Write => b"unlock ".as_slice(),
+        Mode::Read => b"runlock ".as_slice(),
     }
 }
 
