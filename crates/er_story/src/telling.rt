@@ -126,7 +126,10 @@ fn tell_of(
         | Event::IgnoreOn
         | Event::IgnoreOff
         | Event::Level(_)
-        | Event::Sync(_) => tell_other(holding, step.event),
+        | Event::Sync(_) => {
+            let told = tell_other(holding, step.event)?;
+            Ok(told)
+        }
     }
 }
 
