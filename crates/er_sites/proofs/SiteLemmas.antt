@@ -1,5 +1,5 @@
 -- The rows of the sites that have no race among some lines are among all rows.
-use Rattle.std.proofs.Common.{◌≡◌, ◌<◌, ◌≤◌, ◌+◌, ◌&&◌, ◌==◌, ◌∙◌, ℕ, Bool, true, false, All, cond, count_by, List, [], ◌∷◌, ◌++◌, length, take, get_or, flat_map, slice_index_or, Option, None, Some, IfSome, sym, ap, append_assoc}
+use Rattle.std.proofs.Common.{◌≡◌, ◌<◌, ◌≤◌, ◌+◌, ◌&&◌, ◌==◌, ℕ, Bool, true, false, All, cond, count_by, List, [], ◌∷◌, ◌++◌, length, take, get_or, flat_map, slice_index_or, Option, None, Some, IfSome}
 use Rattle.std.proofs.lemmas.Grind.{flat_map-append}
 use Rattle.std.proofs.lemmas.List.{append-nil, take_more}
 use Rattle.std.proofs.lemmas.List.Elements.{All-append, All-head, All-nil, All-cons, All-tail}

@@ -1,5 +1,5 @@
 -- One row more, which is put if its site has no race among the lines.
-use Rattle.std.proofs.Common.{◌≡◌, ◌∙◌, ◌++◌, ◌∷◌, [], Bool, cond, List, flat_map, take, sym, ap}
+use Rattle.std.proofs.Common.{◌∙◌, ◌++◌, ◌∷◌, [], Bool, cond, List, flat_map, take, sym, ap}
 use Rattle.std.proofs.lemmas.List.{append-nil}
 use Rattle.er_sites.proofs.SiteLemmas.{take_next}
 use Rattle.er_sites.specs.Sites.{if_elsewhere}

@@ -1,7 +1,6 @@
 -- An access and a show are told by the past of their word, and other steps have none.
 use Rattle.std.proofs.Common.{◌∙◌, Ok, Some, cond, nat_lt, ap, sym}
 use Rattle.er_event.specs.declared.steps.Event.{Event}
-use Rattle.er_event.specs.declared.steps.Event.TheVariants.{Access, Show}
 use Rattle.er_event.specs.declared.steps.Reply.TheVariants.{State}
 use Rattle.er_event.specs.declared.steps.Step.{Step}
 use Rattle.er_event.specs.declared.steps.WordState.{WordState}
