@@ -4,7 +4,7 @@ use Rattle.std.specs.Io.KnownBytes.{Appends, Keeps}
 use Rattle.er_exit.specs.declared.faults.Fault.{Fault}
 use Rattle.er_exit.specs.declared.faults.Fault.TheVariants as fault
 use Rattle.er_forms.specs.Forms.{IsForm}
-use Rattle.er_html.specs.declared.excerpts.Excerpt.{Excerpt}
+use Rattle.er_forms.specs.declared.excerpts.Excerpt.{Excerpt}
 use Rattle.er_parallel.specs.declared.faults.ReplayFault.TheVariants as replaying
 use Rattle.er_places.specs.Places.{PlaceTable}
 use Rattle.er_print.specs.Written.{WritesReport}

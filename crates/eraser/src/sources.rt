@@ -4,7 +4,7 @@ ghost use Rattle.er_exit.specs.declared.faults.Fault.TheVariants.{Memory};
 ghost use Rattle.er_report.specs.Reports.{HaveNames};
 
 use er_exit::{Fault, size_of};
-use er_html::{Excerpt, excerpt_around, place_of, sites_of};
+use er_forms::{Excerpt, excerpt_around, place_of, sites_of};
 use er_report::Reports;
 use er_trace::Names;
 use std::alloc::AllocError;

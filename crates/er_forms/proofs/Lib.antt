@@ -1,1 +1,2 @@
 pub mod InertLemmas
+pub mod JoinLemmas

@@ -1,10 +1,10 @@
 -- Reports as a page: the JSON of the reports and that of the excerpts, each in a block of data, between parts that are always the same.
 use Rattle.std.specs.Prelude.{◌≢◌, ℕ, ◌==◌, nat_lt, cond, All, List, [], ◌∷◌, ◌++◌, flat_map, codes, decimal, string_bytes}
-use Rattle.er_html.specs.declared.excerpts.Excerpt.{Excerpt}
-use Rattle.er_html.specs.declared.picture.TheConstants.{PICTURE}
-use Rattle.er_html.specs.declared.script.TheConstants.{SCRIPT}
-use Rattle.er_html.specs.declared.shell.TheConstants.{BEFORE_SCRIPT, BETWEEN, BODY, CLOSING, OPENING}
-use Rattle.er_html.specs.declared.style.TheConstants.{STYLE}
+use Rattle.er_forms.specs.declared.excerpts.Excerpt.{Excerpt}
+use Rattle.er_forms.specs.declared.picture.TheConstants.{PICTURE}
+use Rattle.er_forms.specs.declared.script.TheConstants.{SCRIPT}
+use Rattle.er_forms.specs.declared.shell.TheConstants.{BEFORE_SCRIPT, BETWEEN, BODY, CLOSING, OPENING}
+use Rattle.er_forms.specs.declared.style.TheConstants.{STYLE}
 use Rattle.er_json.specs.Document.{json_reports}
 use Rattle.er_places.specs.Places.{PlaceTable}
 use Rattle.er_print.specs.Styles.{escaped, string_text}
@@ -28,27 +28,18 @@ IsInert bytes = All (λ byte. byte ≢ 60) bytes
 abbrev pub source_byte : ℕ → List ℕ
 source_byte byte = cond (byte == 10) (codes "\\n") (cond (byte == 9) (codes "\\t") (cond (nat_lt byte 32) (32 ∷ []) (escaped byte)))
 
--- the lines of an excerpt, and the end of its object
-unfoldable pub source_member : List ℕ → List ℕ
-source_member text = codes ",\"text\":\"" ++ flat_map source_byte text ++ codes "\"}"
-
 -- an excerpt as an object
 unfoldable pub excerpt_text : Excerpt → List ℕ
 excerpt_text excerpt =
-    codes "\n{\"site\":" ++ string_text (string_bytes excerpt.site) ++ codes ",\"line\":" ++ decimal excerpt.first_line ++ source_member (string_bytes excerpt.text)
+    codes "\n{\"site\":" ++ string_text (string_bytes excerpt.site) ++ codes ",\"line\":" ++ decimal excerpt.first_line
+    ++ codes ",\"text\":\"" ++ flat_map source_byte (string_bytes excerpt.text) ++ codes "\"}"
 
 -- all of them
 unfoldable pub excerpts_text : List Excerpt → List ℕ
 excerpts_text excerpts = codes "[" ++ values_text excerpt_text excerpts ++ codes "]"
 
--- what stands before the reports
-unfoldable pub head_text : List ℕ
-head_text = OPENING.now ++ STYLE.now ++ BODY.now
-
--- what stands behind the excerpts
-unfoldable pub tail_text : List ℕ
-tail_text = BEFORE_SCRIPT.now ++ PICTURE.now ++ SCRIPT.now ++ CLOSING.now
-
 -- the whole page
 unfoldable pub html_reports : NameTable → PlaceTable → Reports → List Excerpt → List ℕ
-html_reports names table reports excerpts = head_text ++ block_text (json_reports names table reports) ++ BETWEEN.now ++ block_text (excerpts_text excerpts) ++ tail_text
+html_reports names table reports excerpts =
+    OPENING.now ++ STYLE.now ++ BODY.now ++ block_text (json_reports names table reports) ++ BETWEEN.now ++ block_text (excerpts_text excerpts)
+    ++ BEFORE_SCRIPT.now ++ PICTURE.now ++ SCRIPT.now ++ CLOSING.now

@@ -1,8 +1,8 @@
 -- One excerpt more.
 use Rattle.std.proofs.Common.{ℕ, List, ◌++◌, ◌∙◌, ap}
-use Rattle.er_html.specs.Page.{excerpt_text}
+use Rattle.er_forms.specs.Page.{excerpt_text}
 use Rattle.er_print.proofs.ValueLemmas.{values_next}
-use Rattle.er_html.proofs.excerpts.put_excerpt_list.Goals as goal
+use Rattle.er_forms.proofs.page.put_excerpts.Goals as goal
 
 pub loop-place-preserved : goal.loop-place-preserved
 loop-place-preserved c =

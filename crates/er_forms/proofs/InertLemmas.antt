@@ -2,7 +2,7 @@
 use Rattle.std.proofs.Common.{◌≡◌, ◌≢◌, ◌==◌, ℕ, Bool, true, false, cond, List, [], ◌∷◌, All, codes, refl}
 use Rattle.std.proofs.lemmas.List.Elements.{All-append, All-cons, All-from_recursion, All-nil}
 use Rattle.std.proofs.lemmas.Bool.{eqb-false}
-use Rattle.er_html.specs.Page.{IsInert, block_text, inert}
+use Rattle.er_forms.specs.Page.{IsInert, block_text, inert}
 
 abbrev pub Other : ℕ → Type 0
 Other byte = byte ≢ 60
