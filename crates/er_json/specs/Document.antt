@@ -20,9 +20,11 @@ use Rattle.er_print.specs.Printed.{address_text, bytes_between, kind_text, lost_
 use Rattle.er_print.specs.Styles.{lock_in, locks_in, named_site, site_in, thread_in}
 use Rattle.er_print.specs.Values.{values_text}
 use Rattle.er_print.specs.declared.styles.Style.TheVariants as style
-use Rattle.er_report.specs.Lines.{LineView, RaceView, ReusedView, RefusedView, ShownView}
+use Rattle.er_report.specs.Lines.{LineView, RaceView, RacedView, RefusedView, ShownView}
 use Rattle.er_report.specs.Report.{Summary, told}
 use Rattle.er_report.specs.declared.report.Because.{Because}
+use Rattle.er_report.specs.declared.report.Deed.{Deed}
+use Rattle.er_report.specs.declared.report.Deed.TheVariants as deed
 use Rattle.er_report.specs.declared.report.Label.{Label}
 use Rattle.er_report.specs.declared.report.Label.TheVariants as label
 use Rattle.er_report.specs.declared.report.Report.{Report}
@@ -142,28 +144,29 @@ shown_front number word = codes "{\"line\":" ++ decimal number ++ codes ",\"addr
 abbrev pub shown_text : NameTable → ℕ → ℕ → WordState → List ℕ
 shown_text names number word state = shown_front number word ++ state_member names state
 
+-- the object of a race
+abbrev pub raced_text : NameTable → PlaceTable → RaceView → Deed → List ℕ
+raced_text names table race (deed.Access kind word) = race_text names table race.line race.thread kind word race.site race.held race.explained
+raced_text names table race (deed.Reuse range) = reused_front names race.line race.thread range race.site race.held ++ reasons_end names table race.explained
+
 -- the object of a line
 abbrev pub row_text : NameTable → PlaceTable → LineView → List ℕ
-row_text names table (RaceView number thread kind word site held explained) = race_text names table number thread kind word site held explained
-row_text names table (ReusedView number thread range site held explained) = reused_front names number thread range site held ++ reasons_end names table explained
+row_text names table (RacedView race) = raced_text names table race race.deed
 row_text names table (RefusedView number step refusal) = refused_text names number step refusal
 row_text names table (ShownView number word state) = shown_text names number word state
 
 abbrev pub is_race : LineView → Bool
-is_race (RaceView number thread kind word site held explained) = true
-is_race (ReusedView number thread range site held explained) = true
+is_race (RacedView race) = true
 is_race (RefusedView number step refusal) = false
 is_race (ShownView number word state) = false
 
 abbrev pub is_refused : LineView → Bool
-is_refused (RaceView number thread kind word site held explained) = false
-is_refused (ReusedView number thread range site held explained) = false
+is_refused (RacedView race) = false
 is_refused (RefusedView number step refusal) = true
 is_refused (ShownView number word state) = false
 
 abbrev pub is_shown : LineView → Bool
-is_shown (RaceView number thread kind word site held explained) = false
-is_shown (ReusedView number thread range site held explained) = false
+is_shown (RacedView race) = false
 is_shown (RefusedView number step refusal) = false
 is_shown (ShownView number word state) = true
 

@@ -34,7 +34,7 @@ pub use builder::ReportBuilder;
 pub use er_check::check_explanation;
 pub use er_explain::{Explanation, Uncovered, an_explanation_explains, explain};
 pub use laws::{a_report_goes_on, each_reason_is_told, the_counts_add_up};
-pub use report::{Because, Label, Line, Report};
+pub use report::{Because, Deed, Label, Line, Race, Report};
 pub use reports::{Analysis, Form, Reports};
 pub use summary::summarise;
 
