@@ -3,7 +3,7 @@ use Rattle.std.proofs.Common.{ℕ, List, ◌++◌, ◌∙◌, ap, subst, sym}
 use Rattle.er_json.specs.Document.{reason_text}
 use Rattle.er_print.proofs.ValueLemmas.{values_next}
 use Rattle.er_report.specs.Names.{HasReasonNames}
-use Rattle.er_json.proofs.rows.put_reason_list.Goals as goal
+use Rattle.er_json.proofs.rows.put_reasons.Goals as goal
 
 pub put_reason-requires : goal.put_reason-requires
 put_reason-requires c = subst (HasReasonNames c.args.names.now) (sym c.index-explained-place.is) (c.requires c.loop-place.place c.index-explained-place.result c.loop-place-test.true)
