@@ -60,19 +60,12 @@ fn put_piece(out: &mut Vec<u8>, style: Style, names: &Names, piece: &Piece<'_>) 
     requires { HasPieceName names.now piece.now }
     ensures { OnOk result (out.new.items ≡ out.old.items ++ piece_text style names.now piece.now) }
 {
-    put_before(out, before_of(piece))?;
-    put_value(out, style, names, piece)
-}
-
-// Puts these bytes, if there are some: a copy of none would cost as much.
-#[inline]
-fn put_before(out: &mut Vec<u8>, before: &[u8]) -> Put
-    ensures { OnOk result (out.new.items ≡ out.old.items ++ before.now) }
-{
-    if before.is_empty() {
-        return Ok(());
+    // A copy of no bytes would cost as much as one of some.
+    let before = before_of(piece);
+    if !before.is_empty() {
+        out.extend_from_slice(before)?;
     }
-    out.extend_from_slice(before)
+    put_value(out, style, names, piece)
 }
 
 fn before_of<'a>(piece: &Piece<'a>) -> &'a [u8]

@@ -1,7 +1,7 @@
 //! How names are written.
 ghost use Rattle.std.specs.Prelude.{◌≡◌, ◌++◌, ◌≤◌, length, OnOk};
 ghost use Rattle.er_print.specs.Styles.{escaped, escaped_text, label_in, level_in, lock_in, locks_in, missing_in, named_site, name_in, short, site_in, spaced_in, string_text};
-ghost use Rattle.er_print.specs.Values.{comma_before, more_text, values_text};
+ghost use Rattle.er_print.specs.Values.{between_text, comma_before};
 ghost use Rattle.er_report.specs.Names.{HasLabelName, HasLockName, HasLockNames};
 
 use crate::Put;
@@ -151,23 +151,11 @@ pub(crate) fn put_locks_in(out: &mut Vec<u8>, style: Style, names: &Names, locks
     match style {
         Style::Json => {
             out.push(b'[')?;
-            put_values(out, names, locks)?;
+            put_between(out, b',', style, names, locks)?;
             out.extend_from_slice(b"]")
         }
         Style::Plain | Style::InString | Style::Short => put_spaced(out, style, names, locks),
     }
-}
-
-// Puts the locks of an array.
-fn put_values(out: &mut Vec<u8>, names: &Names, locks: &[LockId]) -> Put
-    requires { HasLockNames names.now locks.now }
-    ensures { OnOk result (out.new.items ≡ out.old.items ++ values_text (lock_in Style.Json names.now) locks.now) }
-{
-    for (place, lock) in locks.iter().enumerate() {
-        out.extend_from_slice(comma_before(place))?;
-        put_lock_in(out, Style::Json, names, *lock)?;
-    }
-    Ok(())
 }
 
 // Puts locks with spaces between them, or that there are none.
@@ -175,21 +163,22 @@ fn put_spaced(out: &mut Vec<u8>, style: Style, names: &Names, locks: &[LockId]) 
     requires { HasLockNames names.now locks.now }
     ensures { OnOk result (out.new.items ≡ out.old.items ++ spaced_in style names.now locks.now) }
 {
-    match locks {
-        [] => out.extend_from_slice(b"none"),
-        [first, rest @ ..] => {
-            put_lock_in(out, style, names, *first)?;
-            put_more(out, b' ', style, names, rest)
-        }
+    if locks.is_empty() {
+        return out.extend_from_slice(b"none");
     }
+    put_between(out, b' ', style, names, locks)
 }
 
-// Puts each lock behind this sign.
-fn put_more(out: &mut Vec<u8>, sign: u8, style: Style, names: &Names, locks: &[LockId]) -> Put
+// Puts locks with this sign between them.
+fn put_between(out: &mut Vec<u8>, sign: u8, style: Style, names: &Names, locks: &[LockId]) -> Put
     requires { HasLockNames names.now locks.now }
-    ensures { OnOk result (out.new.items ≡ out.old.items ++ more_text sign (lock_in style names.now) locks.now) }
+    ensures { OnOk result (out.new.items ≡ out.old.items ++ between_text sign (lock_in style names.now) locks.now) }
 {
-    for lock in locks {
+    let [first, rest @ ..] = locks else {
+        return Ok(());
+    };
+    put_lock_in(out, style, names, *first)?;
+    for lock in rest {
         out.push(sign)?;
         put_lock_in(out, style, names, *lock)?;
     }
