@@ -7,10 +7,9 @@ ghost use Rattle.er_trace.specs.Names.{is_known, number_of, with_name, no_names,
 
 use crate::NameKeys;
 use crate::appending::{NewNumbers, NewTable};
-use crate::hints::NameHints;
 use crate::recent::{RecentNames, ShortName};
 use er_event::{LockId, Site, ThreadId};
-use er_keys::KeyedHasher;
+use er_keys::{Hints, KeyedHasher};
 use indexmap::IndexSet;
 use std::alloc::{AllocError, Global};
 use std::marker::Model;
@@ -103,10 +102,11 @@ impl NameList {
 
 /// Names of one sort, of which one that appeared lately is found without a hash.
 #[derive(Drop)]
-struct CachedNames {
+pub(crate) struct CachedNames {
     list: NameList,
     recent: RecentNames,
-    hints: NameHints,
+    // The number of a long name, by its last bytes. Whoever asks compares the name that stands there.
+    hints: Hints,
 }
 
 impl Model for CachedNames {
@@ -127,13 +127,13 @@ impl CachedNames {
         CachedNames {
             list: NameList::new(alloc, keys),
             recent: RecentNames::new(alloc),
-            hints: NameHints::new(alloc),
+            hints: Hints::new(alloc),
         }
     }
 
     /// The place of a name, which is a new one if the name is new.
     #[inline(always)]
-    fn number(&mut self, name: &str) -> Result<usize, AllocError>
+    pub(crate) fn number(&mut self, name: &str) -> Result<usize, AllocError>
         ensures number { IfOk result (λ n. n ≡ number_of self.old name.now) }
         ensures ok { OnOk result (self.new ≡ with_name self.old name.now) }
         ensures err { OnErr result (self.new ≡ self.old) }
@@ -141,18 +141,19 @@ impl CachedNames {
         ensures within { IfOk result (λ n. n < most_names) }
         ensures full { most_names ≤ length self.old → is_known self.old name.now ≡ false → IsErr result }
     {
-        let Some(short) = ShortName::of(name) else {
-            return self.number_of_long(name);
-        };
-        match self.recent.find(short) {
-            Some(number) => Ok(number as usize),
-            None => self.number_and_remember(name, short),
+        let short = ShortName::of(name.as_bytes());
+        if let Some(short) = short
+            && let Some(number) = self.recent.find(short)
+        {
+            return Ok(number as usize);
         }
+        self.number_anew(name, short)
     }
 
-    /// The same of a name that isn't short.
+    /// The same of a name that isn't among the recent short ones, after which it is found without a hash.
     #[inline(never)]
-    fn number_of_long(&mut self, name: &str) -> Result<usize, AllocError>
+    fn number_anew(&mut self, name: &str, short: Option<ShortName>) -> Result<usize, AllocError>
+        requires { IfSome short (λ short. bytes_of short ≡ name.now) }
         ensures number { IfOk result (λ n. n ≡ number_of self.old name.now) }
         ensures ok { OnOk result (self.new ≡ with_name self.old name.now) }
         ensures err { OnErr result (self.new ≡ self.old) }
@@ -160,28 +161,18 @@ impl CachedNames {
         ensures within { IfOk result (λ n. n < most_names) }
         ensures full { most_names ≤ length self.old → is_known self.old name.now ≡ false → IsErr result }
     {
-        let hint = self.hints.hint(name);
+        if let Some(short) = short {
+            let number = self.list.number(name)?;
+            self.recent.remember(short, number as u32);
+            return Ok(number);
+        }
+        let ending = ending_of(name);
+        let hint = self.hints.hint(ending);
         if self.list.is_at(hint, name) {
             return Ok(hint);
         }
         let number = self.list.number(name)?;
-        self.hints.note(name, number as u32);
-        Ok(number)
-    }
-
-    /// The same, after which the name is among the recent ones.
-    #[inline(never)]
-    fn number_and_remember(&mut self, name: &str, short: ShortName) -> Result<usize, AllocError>
-        requires { bytes_of short ≡ name.now }
-        ensures number { IfOk result (λ n. n ≡ number_of self.old name.now) }
-        ensures ok { OnOk result (self.new ≡ with_name self.old name.now) }
-        ensures err { OnErr result (self.new ≡ self.old) }
-        ensures known { IsTrue (is_known self.old name.now) → IsOk result }
-        ensures within { IfOk result (λ n. n < most_names) }
-        ensures full { most_names ≤ length self.old → is_known self.old name.now ≡ false → IsErr result }
-    {
-        let number = self.list.number(name)?;
-        self.recent.remember(short, number as u32);
+        self.hints.note(ending, number);
         Ok(number)
     }
 
@@ -207,12 +198,22 @@ impl CachedNames {
     }
 }
 
+// A number for the last 16 bytes of a name, in which names of sites and locks differ most.
+fn ending_of(name: &str) -> u64 {
+    let bytes = name.as_bytes();
+    let start = bytes.len().saturating_sub(16);
+    match ShortName::of(&bytes[start..]) {
+        Some(end) => end.slot() as u64,
+        None => 0,
+    }
+}
+
 /// The names of threads, locks and sites, each sort numbered by first appearance. Threads and locks count from 0, sites from 1.
 #[derive(Drop)]
 pub struct Names {
-    threads: CachedNames,
-    locks: CachedNames,
-    sites: CachedNames,
+    pub(crate) threads: CachedNames,
+    pub(crate) locks: CachedNames,
+    pub(crate) sites: CachedNames,
 }
 
 impl Model for Names {
@@ -224,13 +225,6 @@ impl Model for Names {
 }
 
 impl Names {
-    /// No names. Whoever chooses many of them can make them slow: see [`keyed`](Names::keyed).
-    pub fn new(alloc: Global) -> Self
-        ensures { result ≡ no_names }
-    {
-        Names::keyed(alloc, NameKeys::KNOWN)
-    }
-
     /// No names, of which each will be hashed by these keys.
     pub fn keyed(alloc: Global, keys: NameKeys) -> Self
         ensures { result ≡ no_names }
@@ -240,48 +234,6 @@ impl Names {
             locks: CachedNames::new(alloc, keys),
             sites: CachedNames::new(alloc, keys),
         }
-    }
-
-    /// The thread of this name, which is a new one if the name is new. `AllocError`: memory was refused, or the name is new and there are
-    /// 2^30 others. The names are then as they were.
-    #[inline(always)]
-    pub fn thread(&mut self, name: &str) -> Result<ThreadId, AllocError>
-        ensures number { IfOk result (λ thread. thread ≡ number_of self.old.threads name.now) }
-        ensures ok { OnOk result (self.new ≡ record self.old { threads = with_name self.old.threads name.now }) }
-        ensures err { OnErr result (self.new ≡ self.old) }
-        ensures known { IsTrue (is_known self.old.threads name.now) → IsOk result }
-        ensures full { most_names ≤ length self.old.threads → is_known self.old.threads name.now ≡ false → IsErr result }
-    {
-        let number = self.threads.number(name)?;
-        Ok(ThreadId::new(number as u32))
-    }
-
-    /// The lock of this name, which is a new one if the name is new. `AllocError`: memory was refused, or the name is new and there are
-    /// 2^30 others. The names are then as they were.
-    #[inline(always)]
-    pub fn lock(&mut self, name: &str) -> Result<LockId, AllocError>
-        ensures number { IfOk result (λ lock. lock ≡ number_of self.old.locks name.now) }
-        ensures ok { OnOk result (self.new ≡ record self.old { locks = with_name self.old.locks name.now }) }
-        ensures err { OnErr result (self.new ≡ self.old) }
-        ensures known { IsTrue (is_known self.old.locks name.now) → IsOk result }
-        ensures full { most_names ≤ length self.old.locks → is_known self.old.locks name.now ≡ false → IsErr result }
-    {
-        let number = self.locks.number(name)?;
-        Ok(LockId::new(number as u32))
-    }
-
-    /// The site of this name, which is a new one if the name is new. `AllocError`: memory was refused, or the name is new and there are
-    /// 2^30 others. The names are then as they were.
-    #[inline(always)]
-    pub fn site(&mut self, name: &str) -> Result<Site, AllocError>
-        ensures number { IfOk result (λ site. site ≡ number_of self.old.sites name.now + 1) }
-        ensures ok { OnOk result (self.new ≡ record self.old { sites = with_name self.old.sites name.now }) }
-        ensures err { OnErr result (self.new ≡ self.old) }
-        ensures known { IsTrue (is_known self.old.sites name.now) → IsOk result }
-        ensures full { most_names ≤ length self.old.sites → is_known self.old.sites name.now ≡ false → IsErr result }
-    {
-        let number = self.sites.number(name)?;
-        Ok(Site::new(number as u32 + 1))
     }
 
     /// The thread of this name, if the name has appeared.

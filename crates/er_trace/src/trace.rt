@@ -224,7 +224,8 @@ impl Trace {
         ensures known { IsTrue (is_known self.old.names.threads name.now) → IsOk result }
         ensures full { most_names ≤ length self.old.names.threads → is_known self.old.names.threads name.now ≡ false → IsErr result }
     {
-        self.names.thread(name)
+        let number = self.names.threads.number(name)?;
+        Ok(ThreadId::new(number as u32))
     }
 
     /// The lock of this name, which is a new one if the name is new. `AllocError`: memory was refused, or the name is new and there are
@@ -237,7 +238,8 @@ impl Trace {
         ensures known { IsTrue (is_known self.old.names.locks name.now) → IsOk result }
         ensures full { most_names ≤ length self.old.names.locks → is_known self.old.names.locks name.now ≡ false → IsErr result }
     {
-        self.names.lock(name)
+        let number = self.names.locks.number(name)?;
+        Ok(LockId::new(number as u32))
     }
 
     /// The site of this name, which is a new one if the name is new. `AllocError`: memory was refused, or the name is new and there are
@@ -250,6 +252,7 @@ impl Trace {
         ensures known { IsTrue (is_known self.old.names.sites name.now) → IsOk result }
         ensures full { most_names ≤ length self.old.names.sites → is_known self.old.names.sites name.now ≡ false → IsErr result }
     {
-        self.names.site(name)
+        let number = self.names.sites.number(name)?;
+        Ok(Site::new(number as u32 + 1))
     }
 }
