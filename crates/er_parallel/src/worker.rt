@@ -233,7 +233,7 @@ fn answer_one<R: Wait>(
     if noting && is_access(step) {
         machine.step_noting(rt, *step)
     } else {
-        (machine.step_noting(rt, *step).0, false)
+        (machine.step(rt, *step), false)
     }
 }
 

@@ -1,6 +1,6 @@
 //! Replay of recorded steps by one machine.
 //!
-//! Begin with [`Machine`]: it has each thread's holdings and each word's state, and `step_noting` answers one more step. [`run`] takes the
+//! Begin with [`Machine`]: it has each thread's holdings and each word's state, and `step` answers one more step. [`run`] takes the
 //! steps of a list in turn and stops where there is no room for one.
 //!
 //! What it promises, by the names of clauses: a machine that stands for a list of steps answers the next step as the definitions
@@ -12,16 +12,16 @@
 //! [`no_room`], and what a thread holds by [`Machine::held`].
 //!
 //! A worker whose machine keeps only some of the words calls [`Machine::pass`] at a step on any other word: `pass` follows the holdings
-//! and leaves the words. Such a machine may stand for no list. So `step_noting` also says what it answers and changes by the machine's own
+//! and leaves the words. Such a machine may stand for no list. So `step` also says what it answers and changes by the machine's own
 //! holdings and states (`answered`, `holdings`, `states`).
 //!
-//! [`Machine::step_noting`] says also whether the step may have changed a word's state. If it says no, each word has the state that it had
-//! (`unchanged`, and `same` by the machine's own states).
+//! [`Machine::step_noting`] takes a step as `step` does, and says also whether the step may have changed a word's state. If it says no, each
+//! word has the state that it had (`unchanged`, and `same` by the machine's own states).
 //!
 //! ```text
 //! let table = LocksetTable::new(alloc, 1_048_576)?;
 //! let mut machine = Machine::new(alloc, &table)?;
-//! machine.step_noting(rt, Step { thread, event: Event::Access(Kind::Write, word, site) });
+//! machine.step(rt, Step { thread, event: Event::Access(Kind::Write, word, site) })?;
 //! let outcome = run(rt, alloc, &mut machine, steps);
 //! ```
 #![tactic(auto)]

@@ -62,9 +62,37 @@ impl<'t> Machine<'t> {
         Ok(Machine { threads, words })
     }
 
-    /// Takes one step. Returns what it is answered (sections 2 and 3 of the 1997 paper), and whether the step may have changed a word's state: `true`
-    /// at each reuse, and at an access that changed what stands for its word, `false` at any other step.
+    /// Takes one step and says what it is answered (sections 2 and 3 of the 1997 paper).
     // Two loops take steps. A call at each step would add 3 % to a replay.
+    #[inline(always)]
+    pub fn step<R: Wait>(&mut self, rt: &R, step: Step) -> Result<Reply, Refusal>
+        ensures answer { (past : List Steps) → Stands self.old past → IsFalse (found_no_room result) → result ≡ answer_next past step }
+        ensures goes_on { (past : List Steps) → Stands self.old past → IsFalse (found_no_room result) → Stands self.new (past ++ step ∷ []) }
+
+        // After any refusal the machine stands for the lists that it stood for.
+        ensures err { (past : List Steps) → Stands self.old past → OnErr result (Stands self.new past) }
+
+        // Where the definitions refuse the event, the answer is that refusal and no other. Any other refusal says that there was no
+        // room, of a kind that the event may want with these holdings and states.
+        ensures refused { (why : Refusal) → refused_by (holding self.old step.thread) step.event ≡ Some why → result ≡ Err why }
+        ensures room { refused_by (holding self.old step.thread) step.event ≡ None → IfErr result (λ why. IsTrue (may_want (holding self.old step.thread) (states self.old) step.thread step.event why)) }
+        ensures table_full { IsErrOf result Refusal.TableFull → IsTrue (asks_by (holding self.old step.thread) (states self.old) step.thread step.event) }
+        ensures ignored { 0 < (holding self.old step.thread).depth → IsTrue (is_access step.event) → IsOk result }
+
+        // A show alone is answered with a state, and changes nothing.
+        ensures shows { IsTrue (is_state result) → IsTrue (is_show step.event) }
+        ensures still { IsTrue (is_show step.event) → (past : List Steps) → Stands self.old past → Stands self.new past }
+
+        // The same by the machine's own holdings and states, for one that stands for no list because it has passed steps.
+        ensures answered { IsFalse (found_no_room result) → result ≡ answered (holding self.old step.thread) (states self.old) step }
+        ensures holdings { IsFalse (found_no_room result) → (t : ℕ) → holding self.new t ≡ after_step (holding self.old t) t step }
+        ensures states { IsFalse (found_no_room result) → (w : ℕ) → states self.new w ≡ state_after (holding self.old step.thread) (states self.old w) w step }
+    {
+        self.step_noting(rt, step).0
+    }
+
+    /// Takes one step as `step` does. Returns its answer, and whether the step may have changed a word's state: `true` at each reuse, and
+    /// at an access that changed what stands for its word, `false` at any other step.
     #[inline(always)]
     pub fn step_noting<R: Wait>(&mut self, rt: &R, step: Step) -> (Result<Reply, Refusal>, bool)
         ensures answer { (past : List Steps) → Stands self.old past → IsFalse (found_no_room result.0) → result.0 ≡ answer_next past step }
@@ -74,8 +102,7 @@ impl<'t> Machine<'t> {
         // After any refusal the machine stands for the lists that it stood for.
         ensures err { (past : List Steps) → Stands self.old past → OnErr result.0 (Stands self.new past) }
 
-        // Where the definitions refuse the event, the answer is that refusal and no other. Any other refusal says that there was no
-        // room, of a kind that the event may want with these holdings and states.
+        // As with `step`, the definitions' refusals come, and otherwise only a want of room.
         ensures refused { (why : Refusal) → refused_by (holding self.old step.thread) step.event ≡ Some why → result.0 ≡ Err why }
         ensures room { refused_by (holding self.old step.thread) step.event ≡ None → IfErr result.0 (λ why. IsTrue (may_want (holding self.old step.thread) (states self.old) step.thread step.event why)) }
         ensures table_full { IsErrOf result.0 Refusal.TableFull → IsTrue (asks_by (holding self.old step.thread) (states self.old) step.thread step.event) }

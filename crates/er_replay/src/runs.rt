@@ -71,7 +71,7 @@ fn take_step<R: Wait>(
     ensures lacks { (past : List Steps) → Stands machine.old past → IfErr result (λ cause. MayLack past step cause) }
     ensures length { length answers.new ≡ length answers.old }
 {
-    let (answer, _) = machine.step_noting(rt, step);
+    let answer = machine.step(rt, step);
     if let Some(cause) = no_room(&answer) {
         return Err(cause);
     }

@@ -1,14 +1,15 @@
 //! One owner's numbers, with what it remembers of the sets that meet.
 //!
-//! `intersect` gives what numbering the common locks of the two sets gives (`numbered`). That two equal numbers and number 0 need
+//! `intersect` gives what numbering the common locks of the two sets gives (`ok`, `names`). That two equal numbers and number 0 need
 //! no search, and that a pair is looked up before its locks are compared, saves the comparison and the search for the set:
 //! a remembered pair takes about 12 ns.
-ghost use Rattle.std.specs.Prelude.{◌≡◌, ◌+◌, ◌<◌, ◌≤◌, [], ◌∷◌, length, IsOk, IfOk, IfSome, Contains, Some};
+ghost use Rattle.std.specs.Prelude.{◌≡◌, ◌≢◌, ◌+◌, ◌<◌, ◌≤◌, [], ◌∷◌, length, IsOk, IfOk, IfSome, OnOk, OnErr, IsErrOf, Contains, Some};
 ghost use Rattle.er_event.specs.Lockset.{meet};
 ghost use Rattle.std.specs.HashMap.{get, hash_map_len};
 ghost use Rattle.er_table.specs.Known.{IsMeet, RemembersMeets, same_pair, meet_of};
 ghost use Rattle.er_table.specs.declared.known.TheConstants.{MOST_REMEMBERED};
-ghost use Rattle.er_table.specs.Sets.{set_at, AreDistinct, most_sets, IsNumbered, KeepsNumbers};
+ghost use Rattle.er_table.specs.Numbers.{IsNumbered};
+ghost use Rattle.er_table.specs.Sets.{with_set, set_at, AreDistinct, most_sets, KeepsNumbers};
 
 use crate::LocksetTable;
 use crate::numbers::Numbers;
@@ -84,9 +85,18 @@ impl<'t> Known<'t> {
     /// The number of a set, which is the next one if it had none. Refused (`TableFull`) if it had none, and either this owner
     /// has numbered all the sets that the table takes or the table is full of others.
     pub fn number_of<R: Wait>(&mut self, rt: &R, set: &Lockset) -> Result<u32, NoRoom>
-        ensures numbered { IsNumbered self.old set.now result self.new }
+        ensures ok { OnOk result (self.new ≡ with_set self.old set.now) }
+        ensures number { IfOk result (λ n. n < length self.new) }
+        ensures names { IfOk result (λ n. set_at self.new n ≡ set.now) }
+        ensures empty { IfOk result (λ n. set.now ≡ [] → n ≡ 0) }
+        ensures only_empty { IfOk result (λ n. n ≡ 0 → set.now ≡ []) }
+        ensures next { IfOk result (λ n. ¬ Contains self.old set.now → n ≡ length self.old) }
         ensures kept { KeepsNumbers self.old self.new }
         ensures found { Contains self.old set.now → IsOk result }
+        ensures err { OnErr result (self.new ≡ self.old) }
+        ensures full_only_if_new { IsErrOf result NoRoom.TableFull → ¬ Contains self.old set.now }
+        ensures full_only_if_some { IsErrOf result NoRoom.TableFull → set.now ≢ [] }
+        ensures refusals { ¬ IsErrOf result NoRoom.JournalFull }
     {
         self.numbers.number_of(rt, set)
     }
@@ -95,8 +105,17 @@ impl<'t> Known<'t> {
     pub fn intersect<R: Wait>(&mut self, rt: &R, first: u32, second: u32) -> Result<u32, NoRoom>
         requires first { first < length self.old }
         requires second { second < length self.old }
-        ensures numbered { IsNumbered self.old (meet (set_at self.old first) (set_at self.old second)) result self.new }
+        ensures ok { OnOk result (self.new ≡ with_set self.old (meet (set_at self.old first) (set_at self.old second))) }
+        ensures number { IfOk result (λ n. n < length self.new) }
+        ensures names { IfOk result (λ n. set_at self.new n ≡ meet (set_at self.old first) (set_at self.old second)) }
+        ensures empty { IfOk result (λ n. meet (set_at self.old first) (set_at self.old second) ≡ [] → n ≡ 0) }
+        ensures only_empty { IfOk result (λ n. n ≡ 0 → meet (set_at self.old first) (set_at self.old second) ≡ []) }
+        ensures next { IfOk result (λ n. ¬ Contains self.old (meet (set_at self.old first) (set_at self.old second)) → n ≡ length self.old) }
         ensures kept { KeepsNumbers self.old self.new }
+        ensures err { OnErr result (self.new ≡ self.old) }
+        ensures full_only_if_new { IsErrOf result NoRoom.TableFull → ¬ Contains self.old (meet (set_at self.old first) (set_at self.old second)) }
+        ensures full_only_if_some { IsErrOf result NoRoom.TableFull → meet (set_at self.old first) (set_at self.old second) ≢ [] }
+        ensures refusals { ¬ IsErrOf result NoRoom.JournalFull }
     {
         let pair = Pair { first, second };
         if let Some(number) = self.remembered(pair) {

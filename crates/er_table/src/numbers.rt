@@ -1,8 +1,8 @@
 //! Numbers for the sets of a table, as one owner gives them.
 ghost use Rattle.std.specs.Prelude.{◌≡◌, ◌≢◌, ◌+◌, ◌<◌, ◌≤◌, [], ◌∷◌, ◌++◌, length, IsTrue, IsFalse, IsOk, IfOk, IfSome, OnOk, OnErr, IsErrOf, Contains};
 ghost use Rattle.er_event.specs.Lockset.{meet};
-ghost use Rattle.er_table.specs.Numbers.{numbered};
-ghost use Rattle.er_table.specs.Sets.{set_at, AreDistinct, most_sets, IsNumbered};
+ghost use Rattle.er_table.specs.Numbers.{numbered, IsNumbered};
+ghost use Rattle.er_table.specs.Sets.{set_at, AreDistinct, most_sets};
 
 use crate::LocksetTable;
 use er_event::{Lockset, NoRoom};

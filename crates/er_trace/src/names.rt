@@ -102,7 +102,7 @@ impl NameList {
 
 /// Names of one sort, of which one that appeared lately is found without a hash.
 #[derive(Drop)]
-pub(crate) struct CachedNames {
+struct CachedNames {
     list: NameList,
     recent: RecentNames,
     // The number of a long name, by its last bytes. Whoever asks compares the name that stands there.
@@ -133,7 +133,7 @@ impl CachedNames {
 
     /// The place of a name, which is a new one if the name is new.
     #[inline(always)]
-    pub(crate) fn number(&mut self, name: &str) -> Result<usize, AllocError>
+    fn number(&mut self, name: &str) -> Result<usize, AllocError>
         ensures number { IfOk result (λ n. n ≡ number_of self.old name.now) }
         ensures ok { OnOk result (self.new ≡ with_name self.old name.now) }
         ensures err { OnErr result (self.new ≡ self.old) }
@@ -211,9 +211,9 @@ fn ending_of(name: &str) -> u64 {
 /// The names of threads, locks and sites, each sort numbered by first appearance. Threads and locks count from 0, sites from 1.
 #[derive(Drop)]
 pub struct Names {
-    pub(crate) threads: CachedNames,
-    pub(crate) locks: CachedNames,
-    pub(crate) sites: CachedNames,
+    threads: CachedNames,
+    locks: CachedNames,
+    sites: CachedNames,
 }
 
 impl Model for Names {
@@ -225,6 +225,13 @@ impl Model for Names {
 }
 
 impl Names {
+    /// No names. Whoever chooses many of them can make them slow: see [`keyed`](Names::keyed).
+    pub fn new(alloc: Global) -> Self
+        ensures { result ≡ no_names }
+    {
+        Names::keyed(alloc, NameKeys::KNOWN)
+    }
+
     /// No names, of which each will be hashed by these keys.
     pub fn keyed(alloc: Global, keys: NameKeys) -> Self
         ensures { result ≡ no_names }
@@ -234,6 +241,48 @@ impl Names {
             locks: CachedNames::new(alloc, keys),
             sites: CachedNames::new(alloc, keys),
         }
+    }
+
+    /// The thread of this name, which is a new one if the name is new. `AllocError`: memory was refused, or the name is new and there are
+    /// 2^30 others. The names are then as they were.
+    #[inline(always)]
+    pub fn thread(&mut self, name: &str) -> Result<ThreadId, AllocError>
+        ensures number { IfOk result (λ thread. thread ≡ number_of self.old.threads name.now) }
+        ensures ok { OnOk result (self.new ≡ record self.old { threads = with_name self.old.threads name.now }) }
+        ensures err { OnErr result (self.new ≡ self.old) }
+        ensures known { IsTrue (is_known self.old.threads name.now) → IsOk result }
+        ensures full { most_names ≤ length self.old.threads → is_known self.old.threads name.now ≡ false → IsErr result }
+    {
+        let number = self.threads.number(name)?;
+        Ok(ThreadId::new(number as u32))
+    }
+
+    /// The lock of this name, which is a new one if the name is new. `AllocError`: memory was refused, or the name is new and there are
+    /// 2^30 others. The names are then as they were.
+    #[inline(always)]
+    pub fn lock(&mut self, name: &str) -> Result<LockId, AllocError>
+        ensures number { IfOk result (λ lock. lock ≡ number_of self.old.locks name.now) }
+        ensures ok { OnOk result (self.new ≡ record self.old { locks = with_name self.old.locks name.now }) }
+        ensures err { OnErr result (self.new ≡ self.old) }
+        ensures known { IsTrue (is_known self.old.locks name.now) → IsOk result }
+        ensures full { most_names ≤ length self.old.locks → is_known self.old.locks name.now ≡ false → IsErr result }
+    {
+        let number = self.locks.number(name)?;
+        Ok(LockId::new(number as u32))
+    }
+
+    /// The site of this name, which is a new one if the name is new. `AllocError`: memory was refused, or the name is new and there are
+    /// 2^30 others. The names are then as they were.
+    #[inline(always)]
+    pub fn site(&mut self, name: &str) -> Result<Site, AllocError>
+        ensures number { IfOk result (λ site. site ≡ number_of self.old.sites name.now + 1) }
+        ensures ok { OnOk result (self.new ≡ record self.old { sites = with_name self.old.sites name.now }) }
+        ensures err { OnErr result (self.new ≡ self.old) }
+        ensures known { IsTrue (is_known self.old.sites name.now) → IsOk result }
+        ensures full { most_names ≤ length self.old.sites → is_known self.old.sites name.now ≡ false → IsErr result }
+    {
+        let number = self.sites.number(name)?;
+        Ok(Site::new(number as u32 + 1))
     }
 
     /// The thread of this name, if the name has appeared.

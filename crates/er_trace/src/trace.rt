@@ -224,8 +224,7 @@ impl Trace {
         ensures known { IsTrue (is_known self.old.names.threads name.now) → IsOk result }
         ensures full { most_names ≤ length self.old.names.threads → is_known self.old.names.threads name.now ≡ false → IsErr result }
     {
-        let number = self.names.threads.number(name)?;
-        Ok(ThreadId::new(number as u32))
+        self.names.thread(name)
     }
 
     /// The lock of this name, which is a new one if the name is new. `AllocError`: memory was refused, or the name is new and there are
@@ -238,8 +237,7 @@ impl Trace {
         ensures known { IsTrue (is_known self.old.names.locks name.now) → IsOk result }
         ensures full { most_names ≤ length self.old.names.locks → is_known self.old.names.locks name.now ≡ false → IsErr result }
     {
-        let number = self.names.locks.number(name)?;
-        Ok(LockId::new(number as u32))
+        self.names.lock(name)
     }
 
     /// The site of this name, which is a new one if the name is new. `AllocError`: memory was refused, or the name is new and there are
@@ -252,7 +250,6 @@ impl Trace {
         ensures known { IsTrue (is_known self.old.names.sites name.now) → IsOk result }
         ensures full { most_names ≤ length self.old.names.sites → is_known self.old.names.sites name.now ≡ false → IsErr result }
     {
-        let number = self.names.sites.number(name)?;
-        Ok(Site::new(number as u32 + 1))
+        self.names.site(name)
     }
 }

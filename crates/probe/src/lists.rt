@@ -21,7 +21,7 @@ pub(crate) fn step<R: Wait>(rt: &R, world: &mut World<'_>, work: &mut Work<'_>) 
     let thread = work.thread()?;
     let event = event_of(work)?;
     world.steps.reserve(1)?;
-    let (answer, _) = world.machine.step_noting(rt, Step { thread, event });
+    let answer = world.machine.step(rt, Step { thread, event });
     if !matches!(&answer, Err(Refusal::OutOfMemory)) {
         world.steps.push_reserved(Step { thread, event });
     }

@@ -1,25 +1,25 @@
 //! Names, traces and the texts of refusals.
 use er_event::{Event, Kind, LockId, Mode, NoRoom, Refusal, Site, Step, ThreadId, Word};
-use er_trace::Trace;
+use er_trace::{Names, Trace};
 use std::process::Abort;
 use std::test::Fail;
 
 #[test]
 fn names_are_numbered_by_first_appearance(rt: HostRuntime) {
-    let mut trace = Trace::new(rt.alloc());
-    assert_eq!(rt; trace.thread("main"), Ok(ThreadId::new(0)));
-    assert_eq!(rt; trace.thread("worker"), Ok(ThreadId::new(1)));
+    let mut names = Names::new(rt.alloc());
+    assert_eq!(rt; names.thread("main"), Ok(ThreadId::new(0)));
+    assert_eq!(rt; names.thread("worker"), Ok(ThreadId::new(1)));
 }
 
 #[test]
 fn each_sort_of_names_counts_by_itself(rt: HostRuntime) {
-    let mut trace = Trace::new(rt.alloc());
-    assert_eq!(rt; trace.lock("main"), Ok(LockId::new(0)));
-    let Ok(site) = trace.site("main.rs:7") else {
+    let mut names = Names::new(rt.alloc());
+    assert_eq!(rt; names.lock("main"), Ok(LockId::new(0)));
+    let Ok(site) = names.site("main.rs:7") else {
         rt.abort()
     };
     assert_eq!(rt; site.number(), 1);
-    assert_eq!(rt; trace.names().site_name(site), "main.rs:7");
+    assert_eq!(rt; names.site_name(site), "main.rs:7");
 }
 
 #[test]

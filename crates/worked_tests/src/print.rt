@@ -6,7 +6,7 @@ use er_device::Device;
 use er_event::NoRoom;
 use er_print::{WriteFault, write_report};
 use er_report::Report;
-use er_trace::{NameKeys, Names};
+use er_trace::Names;
 use std::alloc::Global;
 use std::process::Abort;
 
@@ -31,7 +31,7 @@ const CUT: &[u8] = b"line 12: stopped: table full\nsteps 10, races 0, suppressed
 // A writer that fails behind these bytes of `CUT` took just these, and all of them are written without a fault.
 fn assert_cut<R: Abort + AllocGlobal>(rt: &R, expected: &[u8]) {
     let report = stopped_report(rt.alloc());
-    let names = Names::keyed(rt.alloc(), NameKeys::KNOWN);
+    let names = Names::new(rt.alloc());
     let mut device = Device::new(FailingWriter {
         good: expected.len(),
         fails: true,

@@ -1,7 +1,8 @@
 -- What is said of the set that was found is said of the locks in common.
 use Rattle.std.proofs.Common.{◌≡◌, ℕ, List, ap, subst, ◌∙◌}
 use Rattle.er_event.specs.Lockset.{meet}
-use Rattle.er_table.specs.Sets.{set_at, IsNumbered}
+use Rattle.er_table.specs.Sets.{set_at}
+use Rattle.er_table.specs.Numbers.{IsNumbered}
 use Rattle.er_table.proofs.numbers.Numbers.number_of_meet.Goals as goal
 
 pub returns : goal.returns
