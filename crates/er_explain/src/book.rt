@@ -128,23 +128,21 @@ impl<A: Copy> Joint<Access<A>> {
         let cover = locks.cover_of(alloc, join.thread, join.kind)?;
         let mut joint = match spare.pop() {
             Some(joint) => joint,
-            None => Joint::blank(alloc, join)?,
+            None => {
+                let pairs = Vec::new(alloc);
+                let parts = Parts {
+                    first,
+                    join,
+                    write: None,
+                    pairs,
+                };
+                Joint {
+                    parts: Box::new(alloc, parts)?,
+                }
+            }
         };
         joint.restart(first, join, &cover)?;
         Ok(joint)
-    }
-
-    // One that is to be begun.
-    fn blank(alloc: Global, any: Access<A>) -> Result<Joint<Access<A>>, AllocError> {
-        let parts = Parts {
-            first: any,
-            join: any,
-            write: None,
-            pairs: Vec::new(alloc),
-        };
-        Ok(Joint {
-            parts: Box::new(alloc, parts)?,
-        })
     }
 
     // Forgets what it says and begins anew.
@@ -255,11 +253,10 @@ impl<A: Copy> Book<A> {
         Ok(())
     }
 
-    /// The joining of a book that nobody needs, if it has one.
-    pub(crate) fn into_joining(self) -> Option<Joint<Access<A>>> {
-        match self.packed {
-            Packed::Together(joint) => Some(joint),
-            Packed::Alone(..) => None,
+    /// Keeps the joining of a book that nobody needs, if it has one. Without memory for it, it is dropped.
+    pub(crate) fn keep_joining(self, spare: &mut Vec<Joint<Access<A>>>) {
+        if let Packed::Together(joint) = self.packed {
+            let _ = spare.push(joint);
         }
     }
 }
