@@ -1,7 +1,7 @@
 //! Calls at one detector, by two threads at once or beside a shard whose lock is held. Two threads wait for each other first, so that mostly
 //! neither is done before the other begins; the answers are the same in whatever order they come.
-use crate::sets::table_of_hundred;
 use crate::gates::meeting_gate;
+use crate::sets::table_of_hundred;
 use er_detector::{Config, Detector, settle};
 use er_event::{Kind, LockId, Mode, Refusal, Site, Word, WordRange};
 use er_gate::{Gate, PairGate};
@@ -149,7 +149,9 @@ fn reuse_all<R: Wait>(rt: &R, detector: &Detector, gate: &PairGate, mut seat: Se
 fn open_two<R: Abort + AllocGlobal>(rt: &R, detector: &Detector) -> Vec<Seat> {
     let mut seats = Vec::new(rt.alloc());
     for _ in 0..2u32 {
-        seats.push(detector.open_seat().expect(rt, "a seat")).expect(rt, "memory");
+        seats
+            .push(detector.open_seat().expect(rt, "a seat"))
+            .expect(rt, "memory");
     }
     seats
 }
