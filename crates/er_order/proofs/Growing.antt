@@ -1,18 +1,17 @@
 -- A list grows by a step, and the latest reads are of distinct threads.
-use Rattle.std.proofs.Common.{◌≡◌, ℕ, zero, suc, ◌<◌, ◌≤◌, Bool, true, false, ◌&&◌, not, cond, List, [], ◌∷◌, ◌++◌, filter, map, length, Option, refl, ap, sym, ◌∙◌, arith, ⊎_elim, inl, inr, ◌⊎◌}
+use Rattle.std.proofs.Common.{◌≡◌, ℕ, zero, suc, ◌<◌, ◌≤◌, Bool, true, false, ◌&&◌, not, cond, List, [], ◌∷◌, ◌++◌, filter, length, refl, ap, sym, ◌∙◌, arith, ⊎_elim, inl, inr, ◌⊎◌}
 use Rattle.std.proofs.lemmas.Bool.{and_parts, both_ways, not-true}
 use Rattle.er_event.specs.Lockset.{has}
 use Rattle.er_event.proofs.LocksetLemmas.{has-filtered}
 use Rattle.er_event.specs.declared.steps.Event.TheVariants.{Access}
 use Rattle.er_event.specs.declared.steps.Kind.{Kind}
-use Rattle.er_event.specs.declared.steps.Kind.TheVariants.{Read as reading, Write as writing}
 use Rattle.er_model.specs.Words.{Reading, writes, counted_from}
 use Rattle.er_event.proofs.Lists.{get_front, get_last}
 use Rattle.er_event.specs.declared.steps.Step.{Step}
 use Rattle.er_model.specs.Answers.{reading_of}
 use Rattle.er_model.specs.Holdings.{holdings_at}
 use Rattle.er_order.specs.Order.{acts_of}
-use Rattle.er_order.specs.Clocks.{Epoch, Keeper, OfThread, clocks_after, clocks_at}
+use Rattle.er_order.specs.Clocks.{Keeper, OfThread, clocks_after, clocks_at}
 use Rattle.er_order.specs.Races.{Order, order_answer, latest_from}
 use Rattle.er_order.specs.Following.{act_by, kept_at, kept_after, access_answered}
 use Rattle.er_order.proofs.Order.{next-cases}
