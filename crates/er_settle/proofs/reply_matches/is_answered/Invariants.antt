@@ -2,7 +2,7 @@ use Rattle.std.proofs.Common.{◌≡◌, length, take}
 use Rattle.er_settle.specs.Seats.{holdings_by}
 use Rattle.er_settle.specs.Inner.EntryMatches.{ticketed_calls}
 use Rattle.er_settle.specs.Inner.ReplyMatches.{AreAlikeBelow}
-use Rattle.er_settle.proofs.reply_matches.is_answered_from.Given as goal
+use Rattle.er_settle.proofs.reply_matches.is_answered.Given as goal
 
 abbrev pub invariant-loop-call : goal.invariant-loop-call
 invariant-loop-call l = record {

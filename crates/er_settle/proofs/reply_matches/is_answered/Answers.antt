@@ -1,8 +1,8 @@
 use Rattle.std.proofs.Common.{◌∙◌, sym, refl, arith}
 use Rattle.std.proofs.lemmas.Option.{slice_get_read}
 use Rattle.er_settle.proofs.AnswerLemmas.{holdings-start, holdings-next, met-within, met-event, alike-none, alike-skip, alike-more, not-alike, some-count, none-count}
-use Rattle.er_settle.proofs.reply_matches.is_answered_from.Goals.{then-is_some+else-prove+else-not-is_alike, else-is_some}
-use Rattle.er_settle.proofs.reply_matches.is_answered_from.Goals as goal
+use Rattle.er_settle.proofs.reply_matches.is_answered.Goals.{then-is_some+else-prove+else-not-is_alike, else-is_some}
+use Rattle.er_settle.proofs.reply_matches.is_answered.Goals as goal
 
 pub loop-call-init : goal.loop-call-init
 loop-call-init c = record { at = refl; held = c.requires.nothing ∙ sym (holdings-start c.args.seat.now.thread c.args.seat.now.calls); alike = alike-none c.args.seat.now c.args.group.now }
