@@ -4,6 +4,7 @@ ghost use Rattle.er_exit.specs.Faults.{demo_fault, rules_fault, trace_fault};
 ghost use Rattle.er_exit.specs.Lines.{text_of};
 ghost use Rattle.er_exit.specs.Statuses.{fault_status};
 
+use er_clock::Limit;
 use er_damage::Damage;
 use er_event::Refusal;
 use er_load::LoadFault;
@@ -27,10 +28,8 @@ pub enum Fault {
     Memory,
     /// Several workers, or both analyses, wanted more sets of locks than the table takes.
     TableFull,
-    /// A thread releases, starts, signals and is joined 2^32 - 1 times or more.
-    CountFull,
-    /// By happens-before: a step orders a thread whose number is 65,536 or more.
-    ThreadsFull,
+    /// By happens-before: a step is beyond a limit of the clocks.
+    Beyond(Limit),
     /// The trace can't be opened.
     OpenTrace,
     /// The suppressions can't be opened, of several files the one of that number.
@@ -80,8 +79,7 @@ impl Fault {
             Fault::NoStep(_) => (2, "no step"),
             Fault::Memory => (3, "out of memory"),
             Fault::TableFull => (3, "table full"),
-            Fault::CountFull => (3, "count full"),
-            Fault::ThreadsFull => (3, "too many threads"),
+            Fault::Beyond(limit) => (3, limit.text()),
             Fault::Refused(refusal) => (3, refusal.text()),
             Fault::WorkerNotStarted => (3, "worker not started"),
             Fault::WorkerLost => (3, "worker lost"),
