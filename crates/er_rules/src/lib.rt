@@ -18,8 +18,12 @@
 //! ```
 #![tactic(auto)]
 
+pub use laws::rules_or_fault;
 pub use rules::{Rule, Suppressions, WordSpan};
+pub use texts::read_suppressions;
 
 mod index;
+mod laws;
 mod pieces;
 mod rules;
+mod texts;

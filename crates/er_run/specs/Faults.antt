@@ -19,7 +19,7 @@ use Rattle.er_report.specs.declared.reports.Analysis.TheVariants.{Lockset, Happe
 use Rattle.er_run.specs.declared.fault.RunFault.{RunFault}
 use Rattle.er_run.specs.declared.fault.RunFault.TheVariants.{Read, Write, Replay, CountFull, ThreadsFull, Memory, Damaged}
 use Rattle.er_text.specs.Trace.{IsTrace, IsFault}
-use Rattle.er_text.specs.declared.faults.ReadFault.TheVariants as reading
+use Rattle.er_lines.specs.declared.faults.ReadFault.TheVariants as reading
 use Rattle.er_trace.specs.Trace.{Recording}
 use Rattle.er_unordered.specs.Stops.{OverflowsIn}
 

@@ -2,7 +2,8 @@
 ghost use Rattle.std.specs.Prelude.{◌≡◌, ◌<◌, ℕ, length, Some, None, IfOk, OnOk};
 ghost use Rattle.er_trace.specs.Names.{number_of};
 ghost use Rattle.er_trace.specs.Trace.{HasSiteName};
-ghost use Rattle.er_text.specs.Inner.Parsing.{event_line, seen_name};
+ghost use Rattle.er_text.specs.Inner.Parsing.{event_line};
+ghost use Rattle.er_lines.specs.Words.{seen_name};
 ghost use Rattle.er_text.specs.Events.{Acquires, Releases, Accesses, with_line, site_number, with_site_of, with_reuses, run_parts};
 
 use crate::parsing::{Action, ParsedLine};

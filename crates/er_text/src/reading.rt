@@ -1,33 +1,32 @@
 //! Traces, line by line, and batch by batch.
 ghost use Rattle.std.specs.Prelude.{◌≡◌, ◌+◌, ◌++◌, ◌<◌, ◌≤◌, ◌^◌, length, OnOk, IfOk, IfSome, IfErr, IsErrOf, IsTrue, Ok, Err, true, false, Option, ℕ, List, [], Some, None};
 ghost use Rattle.er_device.specs.Device.{inner_of, has_failed, taken_of};
-ghost use Rattle.er_text.specs.Lines.{bytes_past_limit, is_comment};
-ghost use Rattle.er_text.specs.Trace.{Tells, HasFailedBy};
+ghost use Rattle.er_lines.specs.Lines.{bytes_past_limit, is_comment, AreWhole};
+ghost use Rattle.er_text.specs.Trace.{Tells};
+ghost use Rattle.er_lines.specs.Faults.{HasFailedBy};
 ghost use Rattle.er_trace.specs.Trace.{Recording, no_steps};
 ghost use Rattle.er_event.specs.declared.steps.Step.{Step};
 ghost use Rattle.er_text.specs.Named.{Grows};
 ghost use Rattle.er_text.specs.Batches.{HasRead, GivesBatch, batch_steps};
-ghost use Rattle.er_text.specs.Pieces.{AreWhole, StaysAt};
+ghost use Rattle.er_text.specs.Pieces.{StaysAt};
 ghost use Rattle.er_text.specs.Places.{no_tail};
 ghost use Rattle.er_text.specs.Ending.{KnowsEnd, IsEndingOf, comment_past};
 ghost use Rattle.er_text.specs.Inner.Endings.{PassesTail, BatchesTail};
-ghost use Rattle.er_text.specs.Inner.Lending.{taken_by, lines_from, lines_left};
-ghost use Rattle.er_text.specs.Inner.Reading.{Continues, Reads, Turns};
+ghost use Rattle.er_lines.specs.Lending.{taken_by, lines_from, lines_left};
+ghost use Rattle.er_lines.specs.Reading.{Continues, Reads, Turns};
 ghost use Rattle.er_text.specs.Inner.FastPath.{ReadsUsual};
 ghost use Rattle.er_text.specs.Verbs.{version_of};
 ghost use Rattle.er_text.specs.Inner.Parsing.{event_line};
 ghost use Rattle.er_text.specs.Inner.Traces.{progress, at_front, at_line, open_with, add_parsed, read_at, plain_at, read_content, read_text, IsOutcome, Batches};
 
 use crate::adding::add_steps;
-use crate::bytes::{is_ascii, says_something};
 use crate::endings::{Ending, Lost, comment_past, if_any_lost, is_of_third, lacks_end};
 use crate::fast_path::add_usual;
-use crate::faults::{ReadFault, TextKind, fault_at};
-use crate::lines::LineReader;
-use crate::parsing::{ParsedLine, Words, split_words};
+use crate::parsing::{ParsedLine, is_end, parse, version_of};
 use crate::stages::{IdleThreads, Stage, is_known_thread};
 use crate::verbs::Version;
 use er_device::Device;
+use er_lines::{LineReader, ReadFault, TextKind, Words, fault_at, is_ascii, says_something, split_words};
 use er_trace::{NameKeys, Trace};
 use std::alloc::{AllocError, Global};
 use std::io::Read;
@@ -73,7 +72,7 @@ impl Header {
         ensures comment { self.new.comment ≡ self.old.comment }
         ensures failed { IsErrOf result ReadFault.Read → ⊥ }
     {
-        let Some(version) = words.version() else {
+        let Some(version) = version_of(words) else {
             return Err(fault_at(line, TextKind::NoHeader));
         };
         self.stage = Stage::Events(version);
@@ -116,11 +115,11 @@ impl Header {
         match self.stage {
             Stage::Front => self.open(line, &words),
             Stage::Events(version) => {
-                if words.is_end(version) {
+                if is_end(version, &words) {
                     self.stage = Stage::Ended;
                     return Ok(());
                 }
-                match words.parse(version) {
+                match parse(version, &words) {
                     Err(kind) => Err(fault_at(line, kind)),
                     Ok(parsed) => self.add(trace, line, &parsed),
                 }

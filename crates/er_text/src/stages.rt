@@ -1,12 +1,13 @@
 //! How far a text has come, and which threads it has named that don't act yet.
 ghost use Rattle.std.specs.Prelude.{◌≡◌, ℕ, IsTrue, OnOk, Some, []};
-ghost use Rattle.er_text.specs.Inner.Parsing.{event_line, seen_name};
+ghost use Rattle.er_text.specs.Inner.Parsing.{event_line};
+ghost use Rattle.er_lines.specs.Words.{seen_name};
 ghost use Rattle.er_text.specs.Inner.Idle.{is_idle, without_idle, with_idle, last_actor, has_run, order_fault, is_known_name, waits_for};
 
-use crate::faults::TextKind;
 use crate::parsing::{Action, ParsedLine};
 use crate::verbs::Version;
 use er_event::{Step, ThreadId};
+use er_lines::TextKind;
 use er_trace::Names;
 use std::alloc::{AllocError, Global};
 use std::marker::Model;

@@ -1,5 +1,5 @@
 use Rattle.std.proofs.Common.{◌≡◌, ℕ, List, true, ap, rules}
-use Rattle.er_text.specs.Naming.{is_lock_name}
+use Rattle.er_lines.specs.Naming.{is_lock_name}
 use Rattle.er_text.specs.Events.{Releases}
 use Rattle.er_text.proofs.fast_path.add_usual_release.Goals as goal
 

@@ -1,7 +1,7 @@
 -- The bytes up to the first that no name has, and a space.
 use Rattle.std.proofs.Common.{◌≡◌, true, take}
 use Rattle.std.specs.List.{list_all}
-use Rattle.er_text.specs.Naming.{is_name_byte}
+use Rattle.er_lines.specs.Naming.{is_name_byte}
 use Rattle.er_text.proofs.FastPathLemmas.{front_passes}
 use Rattle.er_text.proofs.FastPathLaws.{front_found}
 use Rattle.er_text.proofs.fast_path.leading_name.Goals as goal
