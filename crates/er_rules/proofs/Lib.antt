@@ -1,5 +1,5 @@
 pub mod IndexLemmas
-pub mod PieceLemmas
+pub mod ReachLemmas
 pub mod MatchLemmas
 pub mod RuleLaws
 pub mod PlaceLemmas

@@ -24,6 +24,6 @@ pub use texts::read_suppressions;
 
 mod index;
 mod laws;
-mod pieces;
+mod reach;
 mod rules;
 mod texts;

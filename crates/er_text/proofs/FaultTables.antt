@@ -24,6 +24,7 @@ use Rattle.er_lines.specs.FirstFault.{first_kind}
 use Rattle.er_text.specs.Trace.{site_kind, operand_kinds, verb_kinds, event_kinds}
 use Rattle.er_lines.proofs.SpelledLemmas.{AreWhole}
 use Rattle.er_text.proofs.SiteLemmas.{dash_named}
+use Rattle.er_lines.proofs.SaidLemmas.{fault_of, fault_of-map, number_faults}
 
 named : (b : Bool) (w : List ℕ) → cond (not b) (Some BadName) None ≡ fault_of (or_fault BadName (cond b (Some w) None))
 named true w = refl

@@ -19,6 +19,7 @@ use Rattle.er_text.specs.Inner.Parsing.{name_in, lock_in, site_in, word_in, leve
 use Rattle.er_text.specs.Trace.{acquire_word, release_word, kind_word, IsSite, IsReuseSite, IsOperation, Says}
 use Rattle.er_text.proofs.SpellingLaws.{spelled_verb}
 use Rattle.er_text.proofs.SiteLemmas.{site_parts}
+use Rattle.er_lines.proofs.SaidLemmas.{some_number}
 
 pub some_name : (word : List ℕ) → is_name word ≡ true → has_bytes word ≡ true
 some_name [] name = absurd (cc)

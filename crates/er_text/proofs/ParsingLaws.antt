@@ -25,6 +25,7 @@ use Rattle.er_lines.proofs.SpelledLemmas.{AreWhole}
 use Rattle.er_text.proofs.SpellingLaws.{spelling, IsKnown, verb_spelled}
 use Rattle.er_text.proofs.SiteLemmas.{dash_named}
 use Rattle.er_text.proofs.FaultTables.{count}
+use Rattle.er_lines.proofs.SaidLemmas.{mapped, bound, number_found}
 
 tested : (b : Bool) (w t : List ℕ) → or_fault BadName (cond b (Some w) None) ≡ Ok t → (b ≡ true) × (w ≡ t)
 tested true w t e = (refl, cc)

@@ -1,7 +1,6 @@
 -- What the line in front did to a reading, by its place, its number and its bytes.
 use Rattle.std.proofs.Common.{◌≡◌, ℕ, true, false, List, take, Option, Some, None, IfSome, Ok, Err, subst, sym, ap, ◌∙◌}
 use Rattle.er_trace.specs.Trace.{Recording}
-use Rattle.er_rules.specs.Rules.{Target}
 use Rattle.er_lines.specs.declared.faults.ReadFault.{ReadFault}
 use Rattle.er_lines.specs.declared.faults.ReadFault.TheVariants as fault
 use Rattle.er_lines.specs.declared.faults.TextKind.TheVariants.{NoHeader}
@@ -14,7 +13,6 @@ use Rattle.er_text.specs.Places.{Reached}
 use Rattle.er_lines.specs.Lending.{lines_from, lines_left, front_line, past, limit_fault, LineThen}
 use Rattle.er_lines.specs.Reading.{Reads, Turns, Continues}
 use Rattle.er_text.specs.Inner.Traces.{Progress, at_front, at_line, progress, plain_at, read_content, finish_as, finish, read_text, IsOutcome}
-use Rattle.er_rules.specs.Inner.RuleLines.{plain_rule_at, add_line}
 use Rattle.er_lines.proofs.TurnLemmas.{turn_on, turn_fails}
 
 -- what a line of a trace did to the reading

@@ -11,6 +11,7 @@ use Rattle.er_text.specs.declared.verbs.Version.TheVariants.{One, Two, Three}
 use Rattle.er_lines.specs.Lines.{has_bytes, word_at}
 use Rattle.er_text.specs.Verbs.{version_word, has_levels, is_third, header_version, verb_of, rarer_verb_of, order_verb_of}
 use Rattle.er_text.specs.Trace.{header_words, version_in}
+use Rattle.er_lines.proofs.SpelledLemmas.{equal, AreWhole}
 
 -- how a verb is spelled, and in which versions it is one
 abbrev pub spelling : Verb → List ℕ

@@ -8,7 +8,7 @@ use Rattle.er_text.specs.declared.endings.Lost.{Lost}
 use Rattle.er_text.specs.declared.stages.Stage.{Stage}
 use Rattle.er_text.specs.declared.stages.Stage.TheVariants.{Front, Events, Ended}
 use Rattle.er_lines.specs.FirstFault.{known_after}
-use Rattle.er_lines.specs.Lines.{Placed, placed, is_comment}
+use Rattle.er_lines.specs.Lines.{Placed, placed, is_comment, before_space, behind_space}
 use Rattle.er_lines.specs.Number.{value_in}
 use Rattle.er_text.specs.Places.{Reached}
 use Rattle.er_text.specs.Trace.{nothing_known, known_past}

@@ -10,7 +10,7 @@ use Rattle.er_text.specs.declared.endings.Lost.{Lost}
 use Rattle.er_text.specs.declared.verbs.Version.{Version}
 use Rattle.er_text.specs.declared.stages.Stage.TheVariants.{Events}
 use Rattle.er_text.specs.Ending.{comment_after}
-use Rattle.er_lines.specs.Lines.{lines_of, placed_from}
+use Rattle.er_lines.specs.Lines.{lines_of, placed_from, AreWhole}
 use Rattle.er_text.specs.Places.{Reached}
 use Rattle.er_text.specs.Inner.Pieces.{AreRead}
 

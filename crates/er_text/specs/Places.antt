@@ -2,6 +2,7 @@
 use Rattle.std.specs.Prelude.{ℕ, Bool, false, List, Option, None}
 use Rattle.er_text.specs.declared.endings.Lost.{Lost}
 use Rattle.er_text.specs.declared.stages.Stage.{Stage}
+use Rattle.er_lines.specs.Places.{Place}
 
 -- how the lines before end: whether the last lacks its LF, and what the last comment says
 pub record Tail : Type 0 where

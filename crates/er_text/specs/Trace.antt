@@ -21,7 +21,7 @@ use Rattle.er_text.specs.declared.stages.Stage.{Stage}
 use Rattle.er_text.specs.declared.stages.Stage.TheVariants.{Front, Events, Ended}
 use Rattle.er_lines.specs.Lines.{Placed, placed, has_content, has_bytes, words, word_at}
 use Rattle.er_lines.specs.FirstFault.{IsPlain, known_after, HasNone, IsFirstFaulty}
-use Rattle.er_lines.specs.Number.{number_of}
+use Rattle.er_lines.specs.Number.{number_of, number_at, is_number_at}
 use Rattle.er_lines.specs.Naming.{is_name, is_lock_name}
 use Rattle.er_text.specs.Naming.{is_site_word}
 use Rattle.er_text.specs.Verbs.{version_word, has_levels, is_third, verb_of, version_of, least_of, most_of}

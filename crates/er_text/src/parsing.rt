@@ -79,7 +79,7 @@ pub(crate) fn parse<'a>(version: Version, words: &Words<'a>) -> Result<ParsedLin
     if words.second.is_empty() {
         return Err(TextKind::MissingOperand);
     }
-    match action(version, words) {
+    match parse_action(version, words) {
         Ok(action) => Ok(ParsedLine { thread, action }),
         Err(kind) => Err(kind),
     }
@@ -102,7 +102,7 @@ fn operand_count(words: &Words<'_>) -> u32
     }
 }
 
-fn action<'a>(version: Version, words: &Words<'a>) -> Result<Action<'a>, TextKind>
+fn parse_action<'a>(version: Version, words: &Words<'a>) -> Result<Action<'a>, TextKind>
     ensures { GivesOperation result (operation_in version (verb_of version words.now.second.now) words.now.third.now words.now.fourth.now words.now.fifth.now words.now.sixth.now) }
 {
     let Some(verb) = verb_of(version, words.second) else {

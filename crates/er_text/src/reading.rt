@@ -26,7 +26,9 @@ use crate::parsing::{ParsedLine, is_end, parse, version_of};
 use crate::stages::{IdleThreads, Stage, is_known_thread};
 use crate::verbs::Version;
 use er_device::Device;
-use er_lines::{LineReader, ReadFault, TextKind, Words, fault_at, is_ascii, says_something, split_words};
+use er_lines::{
+    LineReader, ReadFault, TextKind, Words, fault_at, is_ascii, says_something, split_words,
+};
 use er_trace::{NameKeys, Trace};
 use std::alloc::{AllocError, Global};
 use std::io::Read;

@@ -21,6 +21,7 @@ use Rattle.er_lines.specs.Naming.{name_of, lock_name_of}
 use Rattle.er_text.specs.Naming.{site_name_of}
 use Rattle.er_text.specs.Verbs.{verb_of, least_of, most_of}
 use Rattle.er_text.specs.Events.{Operation, Acquires, Releases, Accesses, Reuses, IgnoresOn, IgnoresOff, Shows, Levels, Starts, Joins, Signals, Awaits, EventLine, run_of}
+use Rattle.er_lines.specs.Words.{and_then, map_ok, or_fault, number_in, seen_name, GivesBy}
 
 abbrev pub name_in : List ℕ → Result (List ℕ) TextKind
 name_in word = or_fault BadName (name_of word)

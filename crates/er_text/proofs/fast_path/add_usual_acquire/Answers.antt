@@ -6,4 +6,4 @@ use Rattle.er_text.proofs.fast_path.add_usual_acquire.Goals as goal
 pub returns : goal.returns
 returns c =
     let named : is_lock_name c.args.bytes.now ≡ true = search rules in
-    (Acquires c.text.result.now c.args.mode, (named, ap (λ (lock : List ℕ). Acquires lock c.args.mode) c.text.ensures), c.in_ok-add_acquire.ensures)
+    (Acquires c.name_text.result.now c.args.mode, (named, ap (λ (lock : List ℕ). Acquires lock c.args.mode) c.name_text.ensures), c.in_ok-add_acquire.ensures)

@@ -2,9 +2,9 @@ use Rattle.std.proofs.Common.{rules, ◌≡◌, true, false, nat_le, arith}
 use Rattle.std.specs.List.Sorted.{IsPartitionPoint}
 use Rattle.std.proofs.lemmas.List.Sorted.{IsPartitionPoint-from_clause, IsPartitionedBy-leb}
 use borrow.Author.Tests.{leb-true, leb-false}
-use Rattle.er_rules.specs.declared.pieces.Border.{Border}
-use Rattle.er_rules.specs.Inner.Pieces.{no_border}
-use Rattle.er_rules.proofs.pieces.count_up_to.Goals as goal
+use Rattle.er_rules.specs.declared.reach.Border.{Border}
+use Rattle.er_rules.specs.Inner.Reach.{no_border}
+use Rattle.er_rules.proofs.reach.count_up_to.Goals as goal
 
 pub returns-clause-before : goal.returns-clause-before
 returns-clause-before c = λ k within.
