@@ -1,8 +1,8 @@
 //! Suppressions read from such readers.
 use crate::streams::{Drops, Endless, Failing};
 use er_device::Device;
-use er_rules::Suppressions;
-use er_text::{ReadFault, TextFault, TextKind, read_suppressions};
+use er_rules::{Suppressions, read_suppressions};
+use er_text::{ReadFault, TextFault, TextKind};
 use std::alloc::Global;
 use std::io::{ErrorKind, Read};
 
