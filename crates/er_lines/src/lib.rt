@@ -24,7 +24,9 @@ pub use bytes::{is_ascii, is_comment, line_len, says_something, split_at_space};
 pub use classes::{class_of, is_name_byte};
 pub use faults::{ReadFault, TextFault, TextKind, fault_at};
 pub use lines::{FrontLine, LineReader};
-pub use naming::{is_lock_name, is_name, is_site_name, lock_name_of, name_of, name_text, site_text};
+pub use naming::{
+    is_lock_name, is_name, is_site_name, lock_name_of, name_of, name_text, site_text,
+};
 pub use numbers::{number_of, value_in};
 pub use words::{Words, number, split_words};
 

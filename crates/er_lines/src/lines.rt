@@ -59,11 +59,7 @@ impl LineReader {
     }
 
     /// The same, with room for `size` bytes that are read ahead.
-    pub fn with_window(
-        alloc: Global,
-        limit: u64,
-        size: usize,
-    ) -> Result<LineReader, AllocError>
+    pub fn with_window(alloc: Global, limit: u64, size: usize) -> Result<LineReader, AllocError>
         requires limit { limit ≤ 2 ^ 62 }
         requires size { (65536 ≤ size) × (size ≤ 2 ^ 30) }
         ensures limit { IfOk result (λ r. r.limit ≡ limit) }
@@ -152,10 +148,7 @@ impl LineReader {
     }
 
     /// Looks for the next line, which stays the next one. None at the end of the text.
-    pub fn find<R: Read>(
-        &mut self,
-        reader: &mut Device<R>,
-    ) -> Result<Option<FrontLine>, ReadFault>
+    pub fn find<R: Read>(&mut self, reader: &mut Device<R>) -> Result<Option<FrontLine>, ReadFault>
         requires open { has_failed reader.old ≡ false }
         ensures found { Finds (lines_left self.old (R.remaining (inner_of reader.old))) self.new (R.remaining (inner_of reader.new)) result }
         ensures front { IfOk result (λ found. IfSome found (λ front. IsInFront self.new front)) }

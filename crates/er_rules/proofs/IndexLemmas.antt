@@ -1,5 +1,5 @@
 -- The first rule whose words have both of two, or of a site, while rules are added one by one.
-use Rattle.std.proofs.Common.{◌≡◌, ◌∙◌, ℕ, ◌+◌, ◌-◌, ◌≤◌, ◌<◌, min, max, Bool, true, false, ◌&&◌, cond, suc, nat_le, List, [], ◌∷◌, ◌++◌, length, take, drop, get_or, Option, Some, None, ◌⊎◌, inl, inr, refl, sym, ap, subst, arith, take-append-drop}
+use Rattle.std.proofs.Common.{◌≡◌, ◌∙◌, ℕ, ◌+◌, ◌-◌, ◌≤◌, ◌<◌, min, max, Bool, true, false, ◌&&◌, cond, zero, suc, nat_le, List, [], ◌∷◌, ◌++◌, length, take, drop, get_or, Option, Some, None, ◌⊎◌, inl, inr, refl, sym, ap, subst, arith, take-append-drop}
 use Rattle.std.specs.Option.{option_or}
 use Rattle.std.proofs.lemmas.List.{take_more, drop_more, take_all, get_or_append_left, get_or_push, length_push}
 use Rattle.std.proofs.lemmas.Bool.Decides.{nat_tests}
@@ -38,9 +38,9 @@ first_of-push entries e lo hi = first_of-append entries (e ∷ []) lo hi ∙ ap 
 -- the next entry has not both, or has them
 pub first_of-more : (entries : List Entry) (i lo hi : ℕ) (e : Entry) → i < length entries → first_of (take i entries) lo hi ≡ None → has_both (Some (span_of (get_or entries i e).words)) lo hi ≡ false
     → first_of (take (i + 1) entries) lo hi ≡ None
-first_of-more entries i lo hi e within none no =
+first_of-more entries i lo hi e within none fails =
     ap (λ es. first_of es lo hi) (take_more entries i e within)
-    ∙ (first_of-push (take i entries) (get_or entries i e) lo hi ∙ (λ k. option_or (none k) (cond (no k) (Some (get_or entries i e).rule) None)))
+    ∙ (first_of-push (take i entries) (get_or entries i e) lo hi ∙ (λ k. option_or (none k) (cond (fails k) (Some (get_or entries i e).rule) None)))
 
 first_of-front : (e : Entry) (others : List Entry) (lo hi : ℕ) → has_both (Some (span_of e.words)) lo hi ≡ true → first_of (e ∷ others) lo hi ≡ Some e.rule
 unfolding first_of
@@ -84,7 +84,7 @@ pub skipped : (entries : List Entry) (past width lo hi : ℕ) (d : Entry) → Re
 skipped entries past width lo hi d reaches within some start short none = go width (omega arith)
   where
     go : (m : ℕ) → m ≤ width → first_of (take (past + m) entries) lo hi ≡ None
-    go 0 less = ap (λ n. first_of (take n entries) lo hi) (omega arith) ∙ none
+    go zero less = ap (λ n. first_of (take n entries) lo hi) (omega arith) ∙ none
     go (suc m) less =
         let here : first_of (take (past + m + 1) entries) lo hi ≡ None =
         first_of-more entries (past + m) lo hi d (omega arith) (go m (omega arith))
@@ -147,9 +147,21 @@ pub reaching-push : (entries : List Entry) (e : Entry) → Reaching entries → 
 reaching-push entries e reaches covers = λ p k w d f below from upto begins.
     at_push (λ q x. (x.start ≤ k → k ≤ q → (get_or (entries ++ e ∷ []) k f).words.first ≤ w → (get_or (entries ++ e ∷ []) k f).words.last < end_at x.reach w)) entries e d
     (λ q short from' upto' begins'.
-      let same = get_or_append_left entries (e ∷ []) f k (omega (arith, short, upto')) in
-      subst (λ (x : Entry). x.words.first ≤ w → x.words.last < end_at (get_or entries q d).reach w) (sym same) (reaches q k w d f short from' upto') begins')
+    let same = get_or_append_left entries (e ∷ []) f k (omega (arith, short, upto')) in
+    subst (λ (x : Entry). x.words.first ≤ w → x.words.last < end_at (get_or entries q d).reach w) (sym same) (reaches q k w d f short from' upto') begins')
     (λ from' upto' begins'.
-      at_push (λ m y. (e.start ≤ m → y.words.first ≤ w → y.words.last < end_at e.reach w)) entries e f
-      (λ m short from'' begins''. covers.front m w f from'' short begins'') (λ from'' begins''. covers.own w begins'') k (omega (arith, length_push entries e, upto')) from' begins')
+    at_push (λ m y. (e.start ≤ m → y.words.first ≤ w → y.words.last < end_at e.reach w)) entries e f
+    (λ m short from'' begins''. covers.front m w f from'' short begins'') (λ from'' begins''. covers.own w begins'') k (omega (arith, length_push entries e, upto')) from' begins')
     p below from upto begins
+
+pub both_true : (a b : Bool) → a ≡ true → b ≡ true → (a && b) ≡ true
+both_true true b is also = also
+both_true false b is also = is
+
+pub first_false : (a b : Bool) → a ≡ false → (a && b) ≡ false
+first_false true b is = absurd (cc)
+first_false false b is = refl
+
+pub second_false : (a b : Bool) → b ≡ false → (a && b) ≡ false
+second_false true b is = is
+second_false false b is = refl

@@ -1,5 +1,5 @@
 -- The first rule that takes a race, while rules are added one by one.
-use Rattle.std.proofs.Common.{◌≡◌, ◌∙◌, ◌≤◌, ◌+◌, ℕ, min, Bool, true, false, not, ◌&&◌, ◌||◌, cond, option_map, nat_eq, nat_lt, List, [], ◌∷◌, ◌++◌, map, length, position, Option, Some, None, refl, sym, ap, ap₂, arith}
+use Rattle.std.proofs.Common.{◌≡◌, ◌∙◌, ◌≤◌, ◌+◌, ℕ, suc, min, Bool, true, false, not, ◌&&◌, ◌||◌, cond, option_map, nat_eq, nat_lt, List, [], ◌∷◌, ◌++◌, map, length, position, Option, Some, None, refl, sym, subst, ap, ap₂, arith}
 use Rattle.std.specs.List.{position_or_len}
 use Rattle.std.specs.Option.{option_or}
 use Rattle.std.proofs.lemmas.List.{length_push, map_push, length-map}
@@ -34,16 +34,16 @@ position-pushed p rules rule =
     ap (λ ts. position p ts) (map_push target_of rules rule) ∙ (position-push p (map target_of rules) (target_of rule)
     ∙ ap (λ n. option_or (position p (map target_of rules)) (cond (p (target_of rule)) (Some n) None)) (length-map rules target_of))
 
-later : Option ℕ → Option ℕ
+abbrev later : Option ℕ → Option ℕ
 later o = option_map (λ n. 1 + n) o
 
 later-cond : (t : Bool) (i : ℕ) → cond t (Some (1 + i)) None ≡ later (cond t (Some i) None)
 later-cond true i = refl
 later-cond false i = refl
 
-step : (b : Bool) (i l : ℕ) → cond (nat_lt (cond (not b) (1 + i) 0) (1 + l)) (Some (cond (not b) (1 + i) 0)) None ≡ cond b (Some 0) (later (cond (nat_lt i l) (Some i) None))
-step true i l = ap (λ t. cond t (Some 0) None) (lt-ltb 0 (1 + l) (omega arith))
-step false i l = let same : nat_lt (1 + i) (1 + l) ≡ nat_lt i l = grind (arith, nat_tests) in ap (λ t. cond t (Some (1 + i)) None) same ∙ later-cond (nat_lt i l) i
+step : (b : Bool) (i l : ℕ) → cond (nat_lt (cond (not b) (1 + i) 0) (suc l)) (Some (cond (not b) (1 + i) 0)) None ≡ cond b (Some 0) (later (cond (nat_lt i l) (Some i) None))
+step true i l = ap (λ t. cond t (Some 0) None) (lt-ltb 0 (suc l) (omega arith))
+step false i l = let same : nat_lt (1 + i) (suc l) ≡ nat_lt i l = grind (arith, nat_tests) in ap (λ t. cond t (Some (1 + i)) None) same ∙ later-cond (nat_lt i l) i
 
 position-cons : {X : Type 0} (p : X → Bool) (x : X) (xs : List X) → position p (x ∷ xs) ≡ cond (p x) (Some 0) (later (position p xs))
 position-cons p x xs = step (p x) (position_or_len p xs) (length xs)
@@ -97,8 +97,12 @@ first_by_words targets lo hi = position (λ target. is_of_words target lo hi) ta
 pub matching_is : (targets : List Target) (site : Option (List ℕ)) (word : ℕ) → least_of (first_by_site targets site) (first_by_words targets word word) ≡ matching_rule targets site word
 matching_is targets site word = sym ((λ k. position (λ t. takes_is t site word k) targets) ∙ position-or (λ t. is_of_site t site) (λ t. is_of_words t word word) targets)
 
-pub matching_reuse_is : (targets : List Target) (site : List ℕ) (lo hi : ℕ) → least_of (first_by_site targets (Some site)) (first_by_words targets lo hi) ≡ matching_reuse_rule targets (Some site) lo hi
+matching_reuse_is : (targets : List Target) (site : List ℕ) (lo hi : ℕ) → least_of (first_by_site targets (Some site)) (first_by_words targets lo hi) ≡ matching_reuse_rule targets (Some site) lo hi
 matching_reuse_is targets site lo hi = sym ((λ k. position (λ t. reuse_is t site lo hi k) targets) ∙ position-or (λ t. is_of_site t (Some site)) (λ t. is_of_words t lo hi) targets)
 
 pub matching_nowhere_is : (targets : List Target) (lo hi : ℕ) → first_by_words targets lo hi ≡ matching_reuse_rule targets None lo hi
 matching_nowhere_is targets lo hi = sym (λ k. position (λ t. nowhere_is t lo hi k) targets)
+
+pub matching_reuse_at : (targets : List Target) (site : Option (List ℕ)) (name : List ℕ) (lo hi : ℕ) → site ≡ Some name → least_of (first_by_site targets site) (first_by_words targets lo hi) ≡ matching_reuse_rule targets site lo hi
+matching_reuse_at targets site name lo hi is =
+    subst (λ (s : Option (List ℕ)). least_of (first_by_site targets s) (first_by_words targets lo hi) ≡ matching_reuse_rule targets s lo hi) (sym is) (matching_reuse_is targets name lo hi)

@@ -145,9 +145,12 @@ some_site : (w : List ℕ) → is_site_name w ≡ true → has_bytes w ≡ true
 some_site [] is = absurd (cc)
 some_site (x ∷ xs) is = refl
 
+site_again : (dash : Bool) (w : List ℕ) → bytes_eq w (codes "-") ≡ dash → is_site_name w ≡ true → site_in w ≡ Ok (cond dash None (Some w))
+site_again true w is site = rw (site, is) refl
+site_again false w is site = rw (site, is) refl
+
 site_rule_again : (dash : Bool) (w : List ℕ) → bytes_eq w (codes "-") ≡ dash → is_site_name w ≡ true → rule_of (codes "site" ∷ w ∷ []) ≡ Ok (AtSite (cond dash None (Some w)))
-site_rule_again true w is site = rw (some_site w site, site, is) refl
-site_rule_again false w is site = rw (some_site w site, site, is) refl
+site_rule_again dash w is site = rw (site_again dash w is site, some_site w site) refl
 
 run_rule_again : (a b : List ℕ) (m n : ℕ) → number_of a ≡ Some m → number_of b ≡ Some n → m < 2 ^ 48 → m + n ≤ 2 ^ 48
     → rule_of (codes "words" ∷ a ∷ b ∷ []) ≡ Ok (AtWords (run_of m n))

@@ -49,7 +49,7 @@ impl WordIndex {
         self.entries.reserve(1)?;
         let place = self.entries.len();
         let mut start = place;
-        let mut reach = Reach::of_words(alloc, words)?;
+        let mut reach = Reach::of_words(alloc, &words)?;
         // The rules that the entry in front stands for join this one, if they are as many as it stands for.
         while start > 0 && start - self.entries[start - 1].start == place - start + 1 {
             let before = &self.entries[start - 1];

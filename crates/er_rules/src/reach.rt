@@ -33,8 +33,8 @@ impl Model for Reach {
 
 impl Reach {
     /// How far one run reaches.
-    pub(crate) fn of_words(alloc: Global, words: WordSpan) -> Result<Reach, AllocError>
-        ensures { IfOk result (λ reach. (w : ℕ) → end_at reach w ≡ cond (nat_le words.first w) (words.last + 1) 0) }
+    pub(crate) fn of_words(alloc: Global, words: &WordSpan) -> Result<Reach, AllocError>
+        ensures { IfOk result (λ reach. (w : ℕ) → end_at reach w ≡ cond (nat_le words.now.first w) (words.now.last + 1) 0) }
     {
         let mut borders = Vec::new(alloc);
         borders.push(Border {

@@ -13,7 +13,10 @@ ghost use Rattle.er_rules.specs.Texts.{TellsRules};
 use crate::rules::{Rule, Suppressions, WordSpan};
 use er_device::Device;
 use er_event::Word;
-use er_lines::{LineReader, ReadFault, TextKind, Words, fault_at, is_ascii, is_site_name, number, says_something, site_text, split_words};
+use er_lines::{
+    LineReader, ReadFault, TextKind, Words, fault_at, is_ascii, is_site_name, number,
+    says_something, site_text, split_words,
+};
 use std::alloc::{AllocError, Global};
 use std::io::Read;
 
