@@ -4,7 +4,7 @@ use Rattle.er_clock.specs.NoTick.{limit_text}
 use Rattle.er_damage.specs.declared.damage.Damage.{Damage}
 use Rattle.er_event.specs.Refusal.{text_of as refusal_text}
 use Rattle.er_settle.specs.Texts.{text_of as unsettled_text}
-use Rattle.er_text.specs.Faults.{text_of as kind_text}
+use Rattle.er_lines.specs.Faults.{text_of as kind_text}
 use Rattle.er_text.specs.declared.endings.Lost.{Lost}
 use Rattle.er_exit.specs.declared.faults.Fault.{Fault}
 use Rattle.er_exit.specs.declared.faults.Fault.TheVariants.{Arguments, Text, Suppressions, Damaged, NoStep, Memory, TableFull, Beyond, OpenTrace, OpenSuppressions, Read, ReadSuppressions, Write, WriteRules, Refused, WorkerNotStarted, WorkerLost, Unsettled}

@@ -17,8 +17,8 @@ use Rattle.er_run.specs.Inner.Inspected.{IsInspected}
 use Rattle.er_run.specs.Inner.Outcomes.{AllStand, IsRunBuilt}
 use Rattle.er_run.specs.declared.fault.RunFault.TheVariants.{Read}
 use Rattle.er_text.specs.Trace.{IsTrace}
-use Rattle.er_text.specs.declared.faults.ReadFault.{ReadFault}
-use Rattle.er_text.specs.declared.faults.ReadFault.TheVariants as reading
+use Rattle.er_lines.specs.declared.faults.ReadFault.{ReadFault}
+use Rattle.er_lines.specs.declared.faults.ReadFault.TheVariants as reading
 use Rattle.er_trace.specs.Names.{NameTable}
 use Rattle.er_trace.specs.Trace.{Recording}
 use Rattle.er_unordered.specs.Ordered.{OrderRan}

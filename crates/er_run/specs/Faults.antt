@@ -21,7 +21,7 @@ use Rattle.er_report.specs.declared.reports.Analysis.TheVariants.{Lockset, Happe
 use Rattle.er_run.specs.declared.fault.RunFault.{RunFault}
 use Rattle.er_run.specs.declared.fault.RunFault.TheVariants.{Read, Write, Replay, Beyond, Memory, Damaged}
 use Rattle.er_text.specs.Trace.{IsTrace, IsFault}
-use Rattle.er_text.specs.declared.faults.ReadFault.TheVariants as reading
+use Rattle.er_lines.specs.declared.faults.ReadFault.TheVariants as reading
 use Rattle.er_trace.specs.Trace.{Recording}
 
 -- a fault in words

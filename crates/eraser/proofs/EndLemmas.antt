@@ -23,7 +23,7 @@ use Rattle.er_run.specs.Reports.{AreReportsOfText, IsOrderOfText, IsReportOfRun,
 use Rattle.er_run.specs.declared.fault.RunFault.{RunFault}
 use Rattle.er_run.specs.declared.fault.RunFault.TheVariants as running
 use Rattle.er_text.specs.Ending.{IsEndingOf, lost_told}
-use Rattle.er_text.specs.declared.faults.ReadFault.TheVariants as reading
+use Rattle.er_lines.specs.declared.faults.ReadFault.TheVariants as reading
 use Rattle.er_trace.specs.Names.{NameTable}
 use Rattle.er_trace.specs.Trace.{Recording}
 use Rattle.er_triage.specs.First.{KeepFirst}

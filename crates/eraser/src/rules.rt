@@ -5,8 +5,7 @@ ghost use Rattle.er_rules.specs.Rules.{targets_of};
 
 use er_device::Device;
 use er_exit::Fault;
-use er_rules::Suppressions;
-use er_text::read_suppressions;
+use er_rules::{Suppressions, read_suppressions};
 use er_triage::append_rules;
 use std::fs::File;
 use std::rt::Files;
