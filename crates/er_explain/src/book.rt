@@ -6,7 +6,7 @@ ghost use Rattle.er_explain.specs.WordBooks.{joining_in};
 ghost use Rattle.er_held.specs.ThreadLocks.{held_by};
 ghost use Rattle.er_model.specs.Following.{locks_for};
 
-use er_event::{Kind, LockId, Lockset, ThreadId};
+use er_event::{Kind, LockId, ThreadId};
 use er_held::ThreadLocks;
 use std::alloc::{AllocError, Global};
 use std::marker::Model;
@@ -141,26 +141,14 @@ impl<A: Copy> Joint<Access<A>> {
                 }
             }
         };
-        joint.restart(first, join, &cover)?;
-        Ok(joint)
-    }
-
-    // Forgets what it says and begins anew.
-    fn restart(
-        &mut self,
-        first: Access<A>,
-        join: Access<A>,
-        cover: &Lockset,
-    ) -> Result<(), AllocError>
-        ensures { OnOk result (self.new ≡ begun first join join.kind cover.now) }
-    {
-        self.parts.first = first;
-        self.parts.join = join;
-        self.parts.write = match join.kind {
+        joint.parts.first = first;
+        joint.parts.join = join;
+        joint.parts.write = match join.kind {
             Kind::Read => None,
             Kind::Write => Some(join),
         };
-        put_locks(&mut self.parts.pairs, cover.as_slice())
+        put_locks(&mut joint.parts.pairs, cover.as_slice())?;
+        Ok(joint)
     }
 
     // A later access.

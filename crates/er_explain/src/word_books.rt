@@ -41,14 +41,8 @@ impl<A> Model for WordBooks<A> {
 }
 
 impl<A: Copy> WordBooks<A> {
-    /// Empty books of all words. Whoever chooses the words that are accessed can make it slow: see [`keyed`](WordBooks::keyed).
-    pub fn new(alloc: Global) -> WordBooks<A>
-        ensures { (w : ℕ) → book_in result w ≡ Untouched }
-    {
-        WordBooks::keyed(alloc, HashKeys::KNOWN)
-    }
-
-    /// Empty books of all words, and each word will be found by these keys.
+    /// Empty books of all words, and each word will be found by these keys. If whoever chooses the words that are accessed knows the keys, that can
+    /// be slow.
     pub fn keyed(alloc: Global, keys: HashKeys) -> WordBooks<A>
         ensures { (w : ℕ) → book_in result w ≡ Untouched }
     {
