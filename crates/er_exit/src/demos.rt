@@ -2,10 +2,10 @@
 ghost use Rattle.std.specs.Prelude.{IfOk, IfErr};
 ghost use Rattle.er_device.specs.Device.{inner_of};
 ghost use Rattle.er_exit.specs.Demos.{IsDemo};
-ghost use Rattle.er_exit.specs.Writes.{LeavesOutput};
+ghost use Rattle.er_exit.specs.Lines.{demo_line};
+ghost use Rattle.er_exit.specs.Writes.{LeavesOutput, WritesLine};
 
 use crate::faults::Fault;
-use crate::lines::write_demo;
 use er_device::Device;
 use er_gate::OpenGate;
 use er_load::{Workload, run_workload};
@@ -32,4 +32,21 @@ where
     let races = run.races();
     write_demo(alloc, workload.name(), run.steps.len(), races, output)?;
     Ok(u8::from(races > 0))
+}
+
+// Writes the line of a demo to the output.
+fn write_demo<O: Write>(
+    alloc: Global,
+    name: &str,
+    steps: usize,
+    races: usize,
+    output: &mut Device<O>,
+) -> Result<(), Fault>
+    ensures { WritesLine (O.contents (inner_of output.old)) (O.contents (inner_of output.new)) (demo_line name.now steps races) result }
+{
+    let line = format!(in alloc; "{name}: steps {steps}, races {races}\n")?;
+    match output.write_all(line.as_bytes()) {
+        Ok(()) => Ok(()),
+        Err(_) => Err(Fault::Write),
+    }
 }
