@@ -12,13 +12,11 @@ use std::fs::File;
 use std::rt::Files;
 
 /// The rules of these files, in their order, and from file to file.
-pub(crate) fn suppressions_of<R>(
+pub(crate) fn suppressions_of<R: Files + AllocGlobal>(
     rt: &R,
     paths: &[&str],
     byte_limit: u64,
 ) -> Result<Suppressions, Fault>
-where
-    R: Files + AllocGlobal,
     requires { byte_limit ≤ 2 ^ 62 }
     ensures none { paths.now ≡ [] → IfOk result (λ rules. targets_of rules ≡ []) }
     ensures some { paths.now ≡ [] → IsOk result }
@@ -38,36 +36,30 @@ where
 }
 
 // Appends the rules of these files, of which the first is the second that was asked for.
-fn append_all<R>(
+fn append_all<R: Files + AllocGlobal>(
     rt: &R,
     paths: &[&str],
     byte_limit: u64,
     rules: &mut Suppressions,
 ) -> Result<(), Fault>
-where
-    R: Files + AllocGlobal,
     requires { byte_limit ≤ 2 ^ 62 }
 {
     for (place, path) in paths.iter().enumerate() {
         let found = suppressions_at(rt, path, Some(place as u64 + 2), byte_limit)?;
         let added = append_rules(rules, &found);
         drop(found);
-        if added.is_err() {
-            return Err(Fault::Memory);
-        }
+        added?;
     }
     Ok(())
 }
 
 // The rules of one file, which has this number if there are several.
-fn suppressions_at<R>(
+fn suppressions_at<R: Files + AllocGlobal>(
     rt: &R,
     path: &str,
     number: Option<u64>,
     byte_limit: u64,
 ) -> Result<Suppressions, Fault>
-where
-    R: Files + AllocGlobal,
     requires { byte_limit ≤ 2 ^ 62 }
 {
     let Ok(file) = File::open(rt, path) else {

@@ -19,16 +19,12 @@ use std::random::RandomSource;
 use std::rt::Files;
 
 /// Writes the story of the step that was asked for. Returns the exit status.
-pub(crate) fn explain_step<R, I, O>(
+pub(crate) fn explain_step<R: Files + RandomSource + AllocGlobal, I: Read, O: Write>(
     rt: &R,
     asked: &Explain<'_>,
     input: &mut Device<I>,
     output: &mut Device<O>,
 ) -> Result<u8, Fault>
-where
-    R: Files + RandomSource + AllocGlobal,
-    I: Read,
-    O: Write,
     requires input { has_failed input.old ≡ false }
     requires output { has_failed output.old ≡ false }
     ensures status { IfOk result (λ status. status ≡ 0) }
