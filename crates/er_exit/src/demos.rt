@@ -16,15 +16,12 @@ use std::thread::Threads;
 
 /// Runs a workload and writes its line: its name, how many steps its threads made, and how many races there were. Returns the exit
 /// status, which is 1 if there was a race and else 0.
-pub fn run_demo<R, O>(
+pub fn run_demo<R: Threads + Wait + Sync, O: Write>(
     rt: &R,
     alloc: Global,
     workload: Workload,
     output: &mut Device<O>,
 ) -> Result<u8, Fault>
-where
-    R: Threads + Wait + Sync,
-    O: Write,
     ensures demo { IfOk result (IsDemo workload (O.contents (inner_of output.old)) (O.contents (inner_of output.new))) }
     ensures nothing { IfErr result (LeavesOutput (O.contents (inner_of output.old)) (O.contents (inner_of output.new))) }
 {

@@ -14,7 +14,7 @@ use crate::advice::trace_path;
 use crate::meter::Meter;
 use crate::notes::notes_of;
 use crate::replaying::{Ended, Job};
-use crate::rules::suppressions_of;
+use crate::rules::rules_of;
 use crate::stories::explain_step;
 use crate::until::{Cut, cut_by, replay_trace, report_cut};
 use clap::error::ErrorKind;
@@ -81,11 +81,8 @@ where
         }
         Ok(Request::Demo(demo)) => {
             let workload = Workload::ALL[demo.place];
-            end(
-                rt.alloc(),
-                run_demo(rt, rt.alloc(), workload, output),
-                errors,
-            )
+            let made = run_demo(rt, rt.alloc(), workload, output);
+            end(rt.alloc(), made, errors)
         }
         Err(error) => {
             let status = refused(rt.alloc(), &error, output, errors);
@@ -137,7 +134,7 @@ where
     ensures unwatched { replay.now.progress ≡ false → Keeps (P.contents (inner_of progress.old)) (P.contents (inner_of progress.new)) }
 {
     let options = options_of(replay, keys_from(rt));
-    let suppressions = match suppressions_of(rt, &replay.suppressions, options.byte_limit) {
+    let suppressions = match rules_of(rt, &replay.suppressions, options.byte_limit) {
         Ok(suppressions) => suppressions,
         Err(fault) => return Err(cut_by(rt.alloc(), fault)),
     };

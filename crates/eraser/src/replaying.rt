@@ -78,15 +78,8 @@ where
     ensures nothing { IfErr result (LeavesOutput (O.contents (inner_of output.old)) (O.contents (inner_of output.new))) }
     ensures failed { FailsBy (has_failed source.new) (has_failed output.new) result }
 {
-    match replay_reports(
-        rt,
-        rt.alloc(),
-        source,
-        job.suppressions,
-        job.options,
-        job.replay.analysis,
-        watcher,
-    ) {
+    let (rules, options, analysis) = (job.suppressions, job.options, job.replay.analysis);
+    match replay_reports(rt, rt.alloc(), source, rules, options, analysis, watcher) {
         Ok(
             ReplayedTrace {
                 reports,
@@ -173,15 +166,8 @@ fn write_reports<R: Files + AllocGlobal, O: Write>(
 {
     let excerpts = excerpts_of(rt, job.replay.source, reports, names)?;
     let places = places_of(rt, job, reports);
-    let text = render(
-        rt.alloc(),
-        job.replay.form,
-        reports,
-        names,
-        &places,
-        job.suppressions,
-        &excerpts,
-    );
+    let (form, rules) = (job.replay.form, job.suppressions);
+    let text = render(rt.alloc(), form, reports, names, &places, rules, &excerpts);
     drop(places);
     drop(excerpts);
     match write_text(output, text) {

@@ -239,10 +239,7 @@ fn damage_of_lines(damage: Damage) -> Damage {
 
 // Whether a strict replay found nothing but that the text lacks its end.
 fn lacks_end_alone(replayed: &Result<Ended, Fault>) -> bool {
-    match replayed {
-        Err(Fault::Damaged(damage)) => !damage_of_lines(*damage).is_any(),
-        _ => false,
-    }
+    matches!(replayed, Err(Fault::Damaged(damage)) if !damage_of_lines(*damage).is_any())
 }
 
 // What a replay of the lines before a fault comes to. That they lack their end is not noted: the text goes on. If they have no header, they have no report, and the fault is all that there is.
