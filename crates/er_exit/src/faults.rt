@@ -2,6 +2,7 @@
 ghost use Rattle.std.specs.Prelude.{◌≡◌};
 ghost use Rattle.er_exit.specs.Faults.{demo_fault, rules_fault, trace_fault};
 ghost use Rattle.er_exit.specs.Lines.{text_of};
+ghost use Rattle.er_exit.specs.declared.faults.Fault.TheVariants.{Memory};
 ghost use Rattle.er_exit.specs.Statuses.{fault_status};
 
 use er_clock::Limit;
@@ -10,6 +11,7 @@ use er_event::Refusal;
 use er_load::LoadFault;
 use er_settle::Unsettled;
 use er_text::{ReadFault, TextFault};
+use std::alloc::AllocError;
 
 /// Why a command line ended without its result.
 #[derive(Clone, Copy, Debug, PartialEq, Eq)]
@@ -53,22 +55,8 @@ pub enum Fault {
 }
 
 impl Fault {
-    /// The exit status, from 2 to 4.
-    pub fn status(self) -> u8
-        ensures { result ≡ fault_status self }
-    {
-        self.row().0
-    }
-
-    /// The fault in words.
-    pub fn text(self) -> &'static str
-        ensures { result.now ≡ text_of self }
-    {
-        self.row().1
-    }
-
-    // The exit status, and the fault in words.
-    fn row(self) -> (u8, &'static str)
+    /// The exit status, from 2 to 4, and the fault in words.
+    pub(crate) fn row(self) -> (u8, &'static str)
         ensures status { result.0 ≡ fault_status self }
         ensures text { result.1.now ≡ text_of self }
     {
@@ -109,9 +97,8 @@ impl Fault {
     {
         match (fault, file) {
             (ReadFault::Text(fault), file) => Fault::Suppressions(file, fault),
-            (ReadFault::Memory, _) => Fault::Memory,
-            (ReadFault::Read, None) => Fault::Read,
             (ReadFault::Read, Some(file)) => Fault::ReadSuppressions(file),
+            (fault, _) => Fault::of_trace(fault),
         }
     }
 }
@@ -126,5 +113,13 @@ impl From<LoadFault> for Fault {
             LoadFault::WorkerLost => Fault::WorkerLost,
             LoadFault::Unsettled(unsettled) => Fault::Unsettled(unsettled),
         }
+    }
+}
+
+impl From<AllocError> for Fault {
+    ghost from_gives = { λ _ fault. fault ≡ Memory };
+
+    fn from(_error: AllocError) -> Fault {
+        Fault::Memory
     }
 }
