@@ -7,7 +7,7 @@ use er_report::ReportBuilder;
 use er_rules::Suppressions;
 use er_table::LocksetTable;
 use er_text::read_trace;
-use er_trace::{NameKeys, Trace};
+use er_trace::Trace;
 use std::process::Abort;
 use std::sync::Wait;
 
@@ -15,7 +15,7 @@ use std::sync::Wait;
 
 fn trace_of<R: Abort + AllocGlobal>(rt: &R) -> Trace {
     let mut text = Device::new(b"eraser trace 1\nt1 write 0x1000\nt2 write 0x1000\n".as_slice());
-    match read_trace(rt.alloc(), &mut text, 100, NameKeys::KNOWN) {
+    match read_trace(rt.alloc(), &mut text, 100) {
         Ok(trace) => trace,
         Err(_) => rt.abort(),
     }

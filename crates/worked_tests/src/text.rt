@@ -2,7 +2,6 @@
 use crate::streams::{Drops, Endless, Failing};
 use er_device::Device;
 use er_text::{ReadFault, TextFault, TextKind, read_trace};
-use er_trace::NameKeys;
 use std::alloc::Global;
 use std::io::{ErrorKind, Read};
 
@@ -16,7 +15,7 @@ struct Answer {
 
 fn outcome<R: Read + Drop>(alloc: Global, inner: R, limit: u16) -> Answer {
     let mut reader = Device::new(inner);
-    let fault = read_trace(alloc, &mut reader, u64::from(limit), NameKeys::KNOWN).err();
+    let fault = read_trace(alloc, &mut reader, u64::from(limit)).err();
     Answer {
         fault,
         failed: reader.failed(),
