@@ -10,7 +10,7 @@
 //!
 //! ```
 //! let mut reader = Device::new(b"t1 write 0x1000\n".as_slice());
-//! let mut lines = LineReader::new(alloc, 1 << 20)?;
+//! let mut lines = LineReader::new(alloc, 1 << 20, 65_536)?;
 //! if let Some(front) = lines.find(&mut reader)? {
 //!     // The words `t1`, `write` and `0x1000`.
 //!     let words = split_words(lines.bytes(front));

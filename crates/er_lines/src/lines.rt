@@ -46,20 +46,8 @@ impl Model for LineReader {
 }
 
 impl LineReader {
-    /// A reader in front of a text of at most `limit` bytes.
-    pub fn new(alloc: Global, limit: u64) -> Result<LineReader, AllocError>
-        requires { limit ≤ 2 ^ 62 }
-        ensures limit { IfOk result (λ r. r.limit ≡ limit) }
-        ensures number { IfOk result (λ r. r.number ≡ 1) }
-        ensures start { IfOk result (λ r. r.start ≡ 0) }
-        ensures ahead { IfOk result (λ r. length r.ahead ≡ 0) }
-    {
-        let window = Window::new(alloc)?;
-        Ok(LineReader::over(window, limit))
-    }
-
-    /// The same, with room for `size` bytes that are read ahead.
-    pub fn with_window(alloc: Global, limit: u64, size: usize) -> Result<LineReader, AllocError>
+    /// A reader in front of a text of at most `limit` bytes, with room for `size` bytes that are read ahead.
+    pub fn new(alloc: Global, limit: u64, size: usize) -> Result<LineReader, AllocError>
         requires limit { limit ≤ 2 ^ 62 }
         requires size { (65536 ≤ size) × (size ≤ 2 ^ 30) }
         ensures limit { IfOk result (λ r. r.limit ≡ limit) }
@@ -67,25 +55,12 @@ impl LineReader {
         ensures start { IfOk result (λ r. r.start ≡ 0) }
         ensures ahead { IfOk result (λ r. length r.ahead ≡ 0) }
     {
-        let window = Window::with_size(alloc, size)?;
-        Ok(LineReader::over(window, limit))
-    }
-
-    /// A reader in front of a text, with a window that shows nothing.
-    fn over(window: Window, limit: u64) -> LineReader
-        requires limit { limit ≤ 2 ^ 62 }
-        requires nothing { length (items window) ≡ 0 }
-        ensures limit { result.limit ≡ limit }
-        ensures number { result.number ≡ 1 }
-        ensures start { result.start ≡ 0 }
-        ensures ahead { length result.ahead ≡ 0 }
-    {
-        LineReader {
-            window,
+        Ok(LineReader {
+            window: Window::new(alloc, size)?,
             limit,
             number: 1,
             start: 0,
-        }
+        })
     }
 
     /// The number of the next line, from 1.

@@ -8,9 +8,6 @@ use er_device::{Device, Failed};
 use std::alloc::{AllocError, Global};
 use std::io::Read;
 
-/// How many bytes a window has room for, unless its maker asks for more.
-const SIZE: usize = 65536;
-
 /// The most bytes that a line has, without its LF.
 const LINE: usize = 1024;
 
@@ -40,14 +37,8 @@ pub(crate) struct Window {
 impl Window {
     ghost use Rattle.er_lines.specs.Inner.Windows.{items, Shows};
 
-    pub(crate) fn new(alloc: Global) -> Result<Window, AllocError>
-        ensures { IfOk result (λ w. length (items w) ≡ 0) }
-    {
-        Window::with_size(alloc, SIZE)
-    }
-
     /// A window with room for so many bytes.
-    pub(crate) fn with_size(alloc: Global, size: usize) -> Result<Window, AllocError>
+    pub(crate) fn new(alloc: Global, size: usize) -> Result<Window, AllocError>
         requires { (65536 ≤ size) × (size ≤ 2 ^ 30) }
         ensures { IfOk result (λ w. length (items w) ≡ 0) }
     {

@@ -8,10 +8,11 @@ ghost use Rattle.er_rules.specs.Targets.{span_of, target_of, same_site};
 ghost use Rattle.er_rules.specs.Inner.Index.{least_of, first_of, has_both, is_of_site, is_of_words};
 ghost use Rattle.er_rules.specs.Inner.Reach.{end_at};
 
+use crate::Put;
 use crate::reach::Reach;
 use crate::rules::{Rule, WordSpan};
 use er_event::Word;
-use std::alloc::{AllocError, Global};
+use std::alloc::Global;
 use std::collections::BTreeMap;
 
 /// A rule of words, and how far it and those in front of it reach from `start` on, as in a binary indexed tree.
@@ -42,7 +43,7 @@ impl WordIndex {
     }
 
     /// Adds a rule that counts where no earlier one does.
-    fn push(&mut self, alloc: Global, words: WordSpan, rule: usize) -> Result<(), AllocError>
+    fn push(&mut self, alloc: Global, words: WordSpan, rule: usize) -> Put
         ensures ok { OnOk result ((lo hi : ℕ) → first_of self.new.entries.items lo hi ≡ option_or (first_of self.old.entries.items lo hi) (cond (has_both (Some (span_of words)) lo hi) (Some rule) None)) }
         ensures err { OnErr result ((lo hi : ℕ) → first_of self.new.entries.items lo hi ≡ first_of self.old.entries.items lo hi) }
     {
@@ -121,7 +122,7 @@ impl SiteIndex {
     }
 
     /// Adds a rule that counts unless an earlier one has its site.
-    fn push(&mut self, name: &Option<String>, rule: usize) -> Result<(), AllocError>
+    fn push(&mut self, name: &Option<String>, rule: usize) -> Put
         ensures ok { OnOk result ((site : Option (List ℕ)) → site_rule self.new site ≡ option_or (site_rule self.old site) (cond (same_site (option_map string_bytes name.now) site) (Some rule) None)) }
         ensures err { OnErr result ((site : Option (List ℕ)) → site_rule self.new site ≡ site_rule self.old site) }
     {
@@ -145,11 +146,7 @@ impl SiteIndex {
     }
 }
 
-fn push_name(
-    named: &mut BTreeMap<String, usize>,
-    name: &String,
-    rule: usize,
-) -> Result<(), AllocError>
+fn push_name(named: &mut BTreeMap<String, usize>, name: &String, rule: usize) -> Put
     ensures ok { OnOk result ((q : List ℕ) → get_by_text named.new q ≡ option_or (get_by_text named.old q) (cond (bytes_eq (string_bytes name.now) q) (Some rule) None)) }
     ensures err { OnErr result ((q : List ℕ) → get_by_text named.new q ≡ get_by_text named.old q) }
 {
@@ -185,7 +182,7 @@ impl RuleIndex {
     }
 
     /// Adds a rule that comes after all others.
-    pub(crate) fn push(&mut self, rule: &Rule, number: usize) -> Result<(), AllocError>
+    pub(crate) fn push(&mut self, rule: &Rule, number: usize) -> Put
         ensures sites { OnOk result ((site : Option (List ℕ)) → rule_of_site self.new site ≡ option_or (rule_of_site self.old site) (cond (is_of_site (target_of rule.now) site) (Some number) None)) }
         ensures words { OnOk result ((lo hi : ℕ) → rule_of_words self.new lo hi ≡ option_or (rule_of_words self.old lo hi) (cond (is_of_words (target_of rule.now) lo hi) (Some number) None)) }
         ensures err_sites { OnErr result ((site : Option (List ℕ)) → rule_of_site self.new site ≡ rule_of_site self.old site) }

@@ -28,3 +28,9 @@ mod laws;
 mod reach;
 mod rules;
 mod texts;
+
+/// What was put into a list of rules, unless memory was refused.
+type Put = Result<(), std::alloc::AllocError>;
+
+/// What was read, unless a fault ended it.
+type Done = Result<(), er_lines::ReadFault>;

@@ -5,9 +5,10 @@ ghost use Rattle.er_rules.specs.Targets.{matching_rule, matching_reuse_rule, tar
 ghost use Rattle.er_rules.specs.Inner.Index.{is_of_site, is_of_words};
 ghost use Rattle.er_rules.specs.Inner.Rules.{rule_of_site, rule_of_words};
 
+use crate::Put;
 use crate::index::RuleIndex;
 use er_event::{PageRange, Word};
-use std::alloc::{AllocError, Global};
+use std::alloc::Global;
 
 /// The words from the first to the last, both included.
 #[derive(Clone, Copy, Debug, PartialEq, Eq, Hash)]
@@ -73,7 +74,7 @@ impl Suppressions {
     }
 
     /// Adds a rule after the others.
-    pub fn push(&mut self, rule: Rule) -> Result<(), AllocError>
+    pub fn push(&mut self, rule: Rule) -> Put
         ensures ok { OnOk result (targets_of self.new ≡ targets_of self.old ++ target_of rule ∷ []) }
         ensures err { OnErr result (targets_of self.new ≡ targets_of self.old) }
     {

@@ -10,6 +10,7 @@ ghost use Rattle.er_rules.specs.Inner.RuleLines.{GivesRun, GivesRule, site_in, s
 ghost use Rattle.er_rules.specs.Rules.{target_of, targets_of};
 ghost use Rattle.er_rules.specs.Texts.{TellsRules};
 
+use crate::Done;
 use crate::rules::{Rule, Suppressions, WordSpan};
 use er_device::Device;
 use er_event::Word;
@@ -19,6 +20,9 @@ use er_lines::{
 };
 use std::alloc::{AllocError, Global};
 use std::io::Read;
+
+/// How many bytes are read ahead.
+const WINDOW_BYTES: usize = 65_536;
 
 /// Reads a suppression text to its end, or to its first faulty line, in whatever pieces it comes.
 ///
@@ -139,12 +143,7 @@ fn owned(alloc: Global, rule: &LineRule<'_>) -> Result<Rule, AllocError>
 }
 
 /// Adds the rule of a line in the limits, if it has one.
-fn add_line(
-    alloc: Global,
-    rules: &mut Suppressions,
-    line: u64,
-    bytes: &[u8],
-) -> Result<(), ReadFault>
+fn add_line(alloc: Global, rules: &mut Suppressions, line: u64, bytes: &[u8]) -> Done
     ensures added { Reads line (targets_of rules.new) result (plain_rule_at (targets_of rules.old) bytes.now) }
     ensures failed { IsErrOf result ReadFault.Read → ⊥ }
 {
@@ -203,7 +202,7 @@ fn read_rules<R: Read>(
     ensures failed { HasFailedBy (has_failed reader.new) result }
     ensures taken { taken_of reader.new ≤ taken_of reader.old + byte_limit + bytes_past_limit }
 {
-    let mut lines = LineReader::new(alloc, byte_limit)?;
+    let mut lines = LineReader::new(alloc, byte_limit, WINDOW_BYTES)?;
     let mut rules = Suppressions::new(alloc);
     while next_rule(alloc, &mut lines, reader, &mut rules)? {}
     Ok(rules)

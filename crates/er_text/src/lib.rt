@@ -13,7 +13,7 @@
 //!
 //! ```
 //! let mut reader = Device::new(b"eraser trace 1\nt1 lock m\nt1 write 0x1000 save.c:12\n".as_slice());
-//! match read_trace(rt.alloc(), &mut reader, 1 << 20, NameKeys::KNOWN) {
+//! match read_trace(rt.alloc(), &mut reader, 1 << 20) {
 //!     // Two steps of one thread, of the lines 2 and 3.
 //!     Ok(trace) => println!(rt; "{} steps", trace.steps().len())?,
 //!     Err(ReadFault::Text(fault)) => println!(rt; "line {}: {}", fault.line, fault.kind.text())?,
@@ -26,7 +26,7 @@ pub use endings::{Ending, Lost};
 pub use er_lines::{ReadFault, TextFault, TextKind};
 pub use laws::{a_batch_may_be_forgotten, steps_are_named, trace_or_fault};
 pub use pieces::Piece;
-pub use reading::{Batch, TraceReader, read_trace};
+pub use reading::{Batch, TraceReader, read_trace, read_trace_keyed};
 pub use verbs::Version;
 
 mod adding;

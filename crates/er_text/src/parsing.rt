@@ -29,6 +29,9 @@ pub(crate) enum Action<'a> {
     Await(&'a str),
 }
 
+/// What the words of an action say, or the first fault among them.
+type Said<'a> = Result<Action<'a>, TextKind>;
+
 /// What a line says.
 #[derive(Clone, Copy)]
 pub(crate) struct ParsedLine<'a> {
@@ -102,7 +105,7 @@ fn operand_count(words: &Words<'_>) -> u32
     }
 }
 
-fn parse_action<'a>(version: Version, words: &Words<'a>) -> Result<Action<'a>, TextKind>
+fn parse_action<'a>(version: Version, words: &Words<'a>) -> Said<'a>
     ensures { GivesOperation result (operation_in version (verb_of version words.now.second.now) words.now.third.now words.now.fourth.now words.now.fifth.now words.now.sixth.now) }
 {
     let Some(verb) = verb_of(version, words.second) else {
@@ -124,7 +127,7 @@ fn operands<'a>(
     first: &'a [u8],
     second: &'a [u8],
     third: &'a [u8],
-) -> Result<Action<'a>, TextKind>
+) -> Said<'a>
     ensures { GivesOperation result (operands_in version verb first.now second.now third.now) }
 {
     match verb {
@@ -146,12 +149,7 @@ fn operands<'a>(
     }
 }
 
-fn access<'a>(
-    version: Version,
-    kind: Kind,
-    address: &'a [u8],
-    site: &'a [u8],
-) -> Result<Action<'a>, TextKind>
+fn access<'a>(version: Version, kind: Kind, address: &'a [u8], site: &'a [u8]) -> Said<'a>
     ensures { GivesOperation result (access_in version kind address.now site.now) }
 {
     let address = number(address)?;
@@ -159,12 +157,7 @@ fn access<'a>(
     Ok(Action::Access(kind, word_at(address)?, site))
 }
 
-fn reuse<'a>(
-    version: Version,
-    address: &'a [u8],
-    size: &'a [u8],
-    site: &'a [u8],
-) -> Result<Action<'a>, TextKind>
+fn reuse<'a>(version: Version, address: &'a [u8], size: &'a [u8], site: &'a [u8]) -> Said<'a>
     ensures { GivesOperation result (reuse_in version address.now size.now site.now) }
 {
     let address = number(address)?;
@@ -201,19 +194,13 @@ fn site_of(version: Version, word: &[u8]) -> Result<Option<&str>, TextKind>
 fn word_at(address: u64) -> Result<Word, TextKind>
     ensures { result ≡ word_in address }
 {
-    match Word::of_address(address) {
-        Ok(word) => Ok(word),
-        Err(_) => Err(TextKind::AddressOutOfRange),
-    }
+    Word::of_address(address).or(Err(TextKind::AddressOutOfRange))
 }
 
 fn level_of(number: u64) -> Result<Level, TextKind>
     ensures { result ≡ level_in number }
 {
-    match Level::of_number(number) {
-        Ok(level) => Ok(level),
-        Err(_) => Err(TextKind::LevelTooHigh),
-    }
+    Level::of_number(number).or(Err(TextKind::LevelTooHigh))
 }
 
 fn range_of(address: u64, size: u64) -> Result<Option<WordRange>, TextKind>

@@ -99,12 +99,15 @@ impl Header {
         Ok(())
     }
 
-    /// Reads a line of ASCII.
+    /// Reads a line in the limits, in whatever form.
     fn read(&mut self, trace: &mut Trace, line: u64, bytes: &[u8]) -> Done
-        ensures read { Reads line (at_line (line + 1) self.new.stage self.new.idle trace.new) result (read_at (at_line line self.old.stage self.old.idle trace.old) line bytes.now) }
+        ensures read { Reads line (at_line (line + 1) self.new.stage self.new.idle trace.new) result (plain_at (at_line line self.old.stage self.old.idle trace.old) line bytes.now) }
         ensures comment { OnOk result (self.new.comment ≡ comment_past self.old.comment line bytes.now) }
         ensures failed { IsErrOf result ReadFault.Read → ⊥ }
     {
+        if !is_ascii(bytes) {
+            return Err(fault_at(line, TextKind::NotAscii));
+        }
         let words = split_words(bytes);
         if !says_something(words.first, bytes) {
             self.comment = comment_past(self.comment, line, bytes);
@@ -144,18 +147,6 @@ impl Header {
         Ok(true)
     }
 
-    /// Reads a line in the limits, in whatever form.
-    fn read_any(&mut self, trace: &mut Trace, line: u64, bytes: &[u8]) -> Done
-        ensures read { Reads line (at_line (line + 1) self.new.stage self.new.idle trace.new) result (plain_at (at_line line self.old.stage self.old.idle trace.old) line bytes.now) }
-        ensures comment { OnOk result (self.new.comment ≡ comment_past self.old.comment line bytes.now) }
-        ensures failed { IsErrOf result ReadFault.Read → ⊥ }
-    {
-        if !is_ascii(bytes) {
-            return Err(fault_at(line, TextKind::NotAscii));
-        }
-        self.read(trace, line, bytes)
-    }
-
     /// Reads a line in the limits. A line in its usual form is ASCII, and so the test is for the others alone.
     #[inline(always)]
     pub(crate) fn read_plain(&mut self, trace: &mut Trace, line: u64, bytes: &[u8]) -> Done
@@ -166,7 +157,7 @@ impl Header {
         if self.read_usual(trace, line, bytes)? {
             return Ok(());
         }
-        self.read_any(trace, line, bytes)
+        self.read(trace, line, bytes)
     }
 }
 
@@ -225,7 +216,7 @@ impl TraceReader {
         ensures tail { IfOk result (λ r. r.tail ≡ no_tail) }
         ensures starts { IfOk result (λ r. (text : List ℕ) → HasRead text [] [] [] r (Some text) no_steps) }
     {
-        let lines = LineReader::with_window(alloc, limit, size)?;
+        let lines = LineReader::new(alloc, limit, size)?;
         let header = Header {
             stage: Stage::Front,
             idle: IdleThreads::new(alloc),
@@ -456,16 +447,15 @@ fn read_all<R: Read>(
     }
 }
 
-/// Reads a trace text to its end, or to its first faulty line, in whatever pieces it comes. Its names are hashed by these keys.
+/// Reads a trace text to its end, or to its first faulty line, in whatever pieces it comes.
 ///
 /// The text has at most `byte_limit` bytes, and the limit is at most 2^62. What follows a faulty line may or may not have been taken
-/// from the reader. No memory is kept but that of the trace and a window of 65,536 bytes. Whoever knows the keys can make a text with many
-/// names that is slow to read.
+/// from the reader. No memory is kept but that of the trace and a window of 65,536 bytes. Whoever makes a text with many names can make
+/// it slow: see [`read_trace_keyed`].
 pub fn read_trace<R: Read>(
     alloc: Global,
     reader: &mut Device<R>,
     byte_limit: u64,
-    keys: NameKeys,
 ) -> Result<Trace, ReadFault>
     requires open { has_failed reader.old ≡ false }
     requires limit { byte_limit ≤ 2 ^ 62 }
@@ -473,6 +463,22 @@ pub fn read_trace<R: Read>(
     // If the reader's bytes are known, the answer is their trace, or their fault.
     ensures told { IfSome (R.remaining (inner_of reader.old)) (λ text. Tells text byte_limit result) }
 
+    ensures failed { HasFailedBy (has_failed reader.new) result }
+    ensures taken { taken_of reader.new ≤ taken_of reader.old + byte_limit + bytes_past_limit }
+{
+    read_trace_keyed(alloc, reader, byte_limit, NameKeys::KNOWN)
+}
+
+/// The same for a text of a stranger: its names are hashed by these keys.
+pub fn read_trace_keyed<R: Read>(
+    alloc: Global,
+    reader: &mut Device<R>,
+    byte_limit: u64,
+    keys: NameKeys,
+) -> Result<Trace, ReadFault>
+    requires open { has_failed reader.old ≡ false }
+    requires limit { byte_limit ≤ 2 ^ 62 }
+    ensures told { IfSome (R.remaining (inner_of reader.old)) (λ text. Tells text byte_limit result) }
     ensures failed { HasFailedBy (has_failed reader.new) result }
     ensures taken { taken_of reader.new ≤ taken_of reader.old + byte_limit + bytes_past_limit }
 {

@@ -10,7 +10,7 @@ use er_exit::Fault;
 use er_print::WriteFault;
 use er_request::Explain;
 use er_story::{tell_line, write_story};
-use er_text::read_trace;
+use er_text::read_trace_keyed;
 use er_trace::{NameKeys, Trace};
 use std::alloc::Global;
 use std::fs::File;
@@ -61,7 +61,7 @@ fn explain_from<D: Read, O: Write>(
     ensures fault { IfErr result (λ why. IfSome (D.remaining (inner_of source.old)) (λ text. IsExplainFault text asked.now.byte_limit asked.now.line why)) }
     ensures failed { FailsOutput (has_failed output.new) result }
 {
-    match read_trace(alloc, source, asked.byte_limit, keys) {
+    match read_trace_keyed(alloc, source, asked.byte_limit, keys) {
         Ok(trace) => {
             let written = explain_in(alloc, &trace, asked.line, output);
             drop(trace);

@@ -7,7 +7,7 @@ use er_report::ReportBuilder;
 use er_rules::Suppressions;
 use er_table::LocksetTable;
 use er_text::read_trace;
-use er_trace::{NameKeys, Trace};
+use er_trace::Trace;
 use std::process::Abort;
 use std::sync::Wait;
 
