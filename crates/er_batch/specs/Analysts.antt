@@ -7,8 +7,8 @@ use Rattle.er_report.specs.Builder.{Built}
 use Rattle.er_report.specs.declared.reports.Analysis.{Analysis}
 use Rattle.er_rules.specs.Rules.{Target}
 use Rattle.er_text.specs.Trace.{IsTrace, IsFault}
-use Rattle.er_text.specs.declared.faults.ReadFault.{ReadFault}
-use Rattle.er_text.specs.declared.faults.ReadFault.TheVariants.{Text, Memory, Read}
+use Rattle.er_lines.specs.declared.faults.ReadFault.{ReadFault}
+use Rattle.er_lines.specs.declared.faults.ReadFault.TheVariants.{Text, Memory, Read}
 use Rattle.er_trace.specs.Names.{NameTable}
 use Rattle.er_trace.specs.Trace.{Recording}
 

@@ -5,8 +5,8 @@ ghost use Rattle.er_batch.specs.Inner.Passes.{HasCome};
 ghost use Rattle.er_batch.specs.Limits.{bytes_past_limit, most_bytes};
 ghost use Rattle.er_device.specs.Device.{inner_of, has_failed, taken_of};
 ghost use Rattle.er_text.specs.Ending.{KnowsEnd, IsEndingOf};
-ghost use Rattle.er_text.specs.Inner.Lending.{taken_by};
-ghost use Rattle.er_text.specs.Trace.{HasFailedBy};
+ghost use Rattle.er_lines.specs.Lending.{taken_by};
+ghost use Rattle.er_lines.specs.Faults.{HasFailedBy};
 ghost use Rattle.er_trace.specs.Trace.{no_steps};
 
 use crate::{Analyst, Progress, Watch};

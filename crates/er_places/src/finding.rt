@@ -5,9 +5,9 @@ ghost use Rattle.er_event.specs.declared.steps.Step.{Step};
 ghost use Rattle.er_places.specs.Inner.Following.{AreNamed, HasCome, HasEnded, StandsFor};
 ghost use Rattle.er_places.specs.Places.{ArePlaces, IsFaultOf};
 ghost use Rattle.er_places.specs.Wanted.{are_asked, is_wanted};
-ghost use Rattle.er_text.specs.Lines.{bytes_past_limit};
-ghost use Rattle.er_text.specs.Trace.{HasFailedBy};
-ghost use Rattle.er_text.specs.Inner.Lending.{taken_by};
+ghost use Rattle.er_lines.specs.Lines.{bytes_past_limit};
+ghost use Rattle.er_lines.specs.Faults.{HasFailedBy};
+ghost use Rattle.er_lines.specs.Lending.{taken_by};
 ghost use Rattle.er_trace.specs.Trace.{IsNamed};
 
 use crate::Places;

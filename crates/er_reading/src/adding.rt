@@ -3,8 +3,8 @@ ghost use Rattle.std.specs.Prelude.{◌≡◌, ◌+◌, ◌≤◌, ◌<◌, ◌^
 ghost use Rattle.er_event.specs.declared.steps.Step.{Step};
 ghost use Rattle.er_reading.specs.Inner.Adding.{AreEntered, AreReady, FitBehind, IsWhole, MayAllBeAdded, StandInFront, names_behind};
 ghost use Rattle.er_text.specs.Batches.{HasRead};
-ghost use Rattle.er_text.specs.Inner.Lending.{taken_by};
-ghost use Rattle.er_text.specs.Lines.{bytes_past_limit};
+ghost use Rattle.er_lines.specs.Lending.{taken_by};
+ghost use Rattle.er_lines.specs.Lines.{bytes_past_limit};
 ghost use Rattle.er_text.specs.Named.{Grows};
 ghost use Rattle.er_text.specs.Pieces.{ReadPiece};
 ghost use Rattle.er_trace.specs.Names.{NameTable};

@@ -4,11 +4,11 @@ ghost use Rattle.er_device.specs.Device.{inner_of, has_failed, taken_of};
 ghost use Rattle.er_event.specs.declared.steps.Step.{Step};
 ghost use Rattle.er_text.specs.Batches.{HasRead, GivesBatch};
 ghost use Rattle.er_text.specs.Ending.{KnowsEnd, IsEndingOf};
-ghost use Rattle.er_text.specs.Inner.Lending.{taken_by};
-ghost use Rattle.er_text.specs.Lines.{bytes_past_limit};
+ghost use Rattle.er_lines.specs.Lending.{taken_by};
+ghost use Rattle.er_lines.specs.Lines.{bytes_past_limit};
 ghost use Rattle.er_text.specs.Named.{Grows};
 ghost use Rattle.er_text.specs.Places.{no_tail};
-ghost use Rattle.er_text.specs.Trace.{HasFailedBy};
+ghost use Rattle.er_lines.specs.Faults.{HasFailedBy};
 ghost use Rattle.er_trace.specs.Trace.{no_steps};
 
 use crate::adding::add_pieces;

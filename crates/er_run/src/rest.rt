@@ -8,8 +8,8 @@ ghost use Rattle.er_run.specs.Faults.{IsFaultOfText, IsNoDamage};
 ghost use Rattle.er_run.specs.Inner.Several.{BeginsWith, FailsReader, HasMore, IsReadFault};
 ghost use Rattle.er_batch.specs.Limits.{bytes_past_limit};
 ghost use Rattle.er_text.specs.Batches.{GivesBatch, HasRead};
-ghost use Rattle.er_text.specs.Inner.Lending.{taken_by};
-ghost use Rattle.er_text.specs.Trace.{HasFailedBy};
+ghost use Rattle.er_lines.specs.Lending.{taken_by};
+ghost use Rattle.er_lines.specs.Faults.{HasFailedBy};
 
 use crate::RunFault;
 use er_device::Device;

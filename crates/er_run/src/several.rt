@@ -20,9 +20,9 @@ ghost use Rattle.er_batch.specs.Limits.{bytes_past_limit, most_bytes};
 ghost use Rattle.er_report.specs.declared.reports.Analysis.TheVariants.{Lockset};
 ghost use Rattle.er_text.specs.Batches.{HasRead, GivesBatch};
 ghost use Rattle.er_text.specs.Ending.{KnowsEnd, IsEndingOf};
-ghost use Rattle.er_text.specs.Inner.Lending.{taken_by};
+ghost use Rattle.er_lines.specs.Lending.{taken_by};
 ghost use Rattle.er_text.specs.Named.{Grows};
-ghost use Rattle.er_text.specs.Trace.{HasFailedBy};
+ghost use Rattle.er_lines.specs.Faults.{HasFailedBy};
 ghost use Rattle.er_trace.specs.Trace.{IsNamed, HasSiteName};
 
 use crate::adding::add_batch;

@@ -6,14 +6,14 @@
 ghost use Rattle.std.specs.Prelude.{◌≡◌, ◌+◌, ◌<◌, ◌≤◌, ◌∷◌, ◌++◌, not, position, length, codes, ℕ, List, IfSome};
 ghost use Rattle.std.specs.List.{list_all, position_or_len};
 ghost use Rattle.std.specs.Char.{digit_value};
-ghost use Rattle.er_text.specs.Naming.{is_name_byte};
+ghost use Rattle.er_lines.specs.Naming.{is_name_byte};
 ghost use Rattle.er_text.specs.Inner.FastPath.{IsLeadingName, HexSoFar, AreLeadingDigits, IsLeadingWord, IsFastAccess, IsFastAcquire, IsFastRelease, IsFastOperation, IsFastLine, AddsOperation, AddsLine};
 
 use crate::adding::{add_access, add_acquire, add_lone_access, add_release};
-use crate::classes::{class_of, is_name_byte};
-use crate::naming::{is_lock_name, is_site_word, site_text, text};
+use crate::naming::is_site_word;
 use crate::verbs::Version;
 use er_event::{Kind, Mode, Word};
+use er_lines::{class_of, is_lock_name, is_name_byte, name_text, site_text};
 use er_trace::Trace;
 use std::alloc::AllocError;
 
@@ -130,7 +130,7 @@ fn leading_name(bytes: &[u8]) -> Option<(&str, &[u8])>
     }
     let (name, rest) = bytes.split_at(len);
     let rest = after_space(rest)?;
-    Some((text(name), rest))
+    Some((name_text(name), rest))
 }
 
 /// The value of the hexadecimal digits in front, of which at most 12 are read one by one, and how many these are.
@@ -270,7 +270,7 @@ fn add_usual_acquire(
     if !is_lock_name(bytes) {
         return Ok(false);
     }
-    add_acquire(trace, line, thread, text(bytes), mode)?;
+    add_acquire(trace, line, thread, name_text(bytes), mode)?;
     Ok(true)
 }
 
@@ -288,7 +288,7 @@ fn add_usual_release(
     if !is_lock_name(bytes) {
         return Ok(false);
     }
-    add_release(trace, line, thread, text(bytes), mode)?;
+    add_release(trace, line, thread, name_text(bytes), mode)?;
     Ok(true)
 }
 

@@ -10,7 +10,7 @@ use er_exit::Fault;
 use er_print::WriteFault;
 use er_request::Explain;
 use er_story::{tell_line, write_story};
-use er_text::read_trace_keyed;
+use er_text::read_trace;
 use er_trace::{NameKeys, Trace};
 use std::alloc::Global;
 use std::fs::File;
@@ -18,17 +18,15 @@ use std::io::{Read, Write};
 use std::random::RandomSource;
 use std::rt::Files;
 
+type Told = Result<u8, Fault>;
+
 /// Writes the story of the step that was asked for. Returns the exit status.
-pub(crate) fn explain_step<R, I, O>(
+pub(crate) fn explain_step<R: Files + RandomSource + AllocGlobal, I: Read, O: Write>(
     rt: &R,
     asked: &Explain<'_>,
     input: &mut Device<I>,
     output: &mut Device<O>,
-) -> Result<u8, Fault>
-where
-    R: Files + RandomSource + AllocGlobal,
-    I: Read,
-    O: Write,
+) -> Told
     requires input { has_failed input.old ≡ false }
     requires output { has_failed output.old ≡ false }
     ensures status { IfOk result (λ status. status ≡ 0) }
@@ -54,7 +52,7 @@ fn explain_from<D: Read, O: Write>(
     keys: NameKeys,
     source: &mut Device<D>,
     output: &mut Device<O>,
-) -> Result<u8, Fault>
+) -> Told
     requires source { has_failed source.old ≡ false }
     requires output { has_failed output.old ≡ false }
     ensures status { IfOk result (λ status. status ≡ 0) }
@@ -63,7 +61,7 @@ fn explain_from<D: Read, O: Write>(
     ensures fault { IfErr result (λ why. IfSome (D.remaining (inner_of source.old)) (λ text. IsExplainFault text asked.now.byte_limit asked.now.line why)) }
     ensures failed { FailsOutput (has_failed output.new) result }
 {
-    match read_trace_keyed(alloc, source, asked.byte_limit, keys) {
+    match read_trace(alloc, source, asked.byte_limit, keys) {
         Ok(trace) => {
             let written = explain_in(alloc, &trace, asked.line, output);
             drop(trace);
@@ -74,12 +72,7 @@ fn explain_from<D: Read, O: Write>(
 }
 
 // Writes the story of the step on a line of a trace.
-fn explain_in<O: Write>(
-    alloc: Global,
-    trace: &Trace,
-    line: u64,
-    output: &mut Device<O>,
-) -> Result<u8, Fault>
+fn explain_in<O: Write>(alloc: Global, trace: &Trace, line: u64, output: &mut Device<O>) -> Told
     requires { has_failed output.old ≡ false }
     ensures status { IfOk result (λ status. status ≡ 0) }
     ensures story { OnOk result (WritesStory (O.contents (inner_of output.old)) (O.contents (inner_of output.new)) trace.now line) }

@@ -11,8 +11,8 @@ use Rattle.er_batch.specs.declared.verdict.Verdict.{Verdict}
 use Rattle.er_text.specs.Batches.{HasRead}
 use Rattle.er_text.specs.Places.{Reached}
 use Rattle.er_text.specs.Trace.{IsTrace, IsFault}
-use Rattle.er_text.specs.declared.faults.ReadFault.{ReadFault}
-use Rattle.er_text.specs.declared.faults.ReadFault.TheVariants as fault
+use Rattle.er_lines.specs.declared.faults.ReadFault.{ReadFault}
+use Rattle.er_lines.specs.declared.faults.ReadFault.TheVariants as fault
 use Rattle.er_trace.specs.Names.{NameTable}
 use Rattle.er_trace.specs.Trace.{Recording, IsNamed, HasSiteName}
 

@@ -3,7 +3,7 @@ use Rattle.er_device.specs.Device.{inner_of, has_failed, taken_of}
 use Rattle.er_event.specs.declared.steps.Step.{Step}
 use Rattle.er_run.specs.Inner.Several.{HasMore}
 use Rattle.er_text.specs.Batches.{HasRead}
-use Rattle.er_text.specs.Inner.Lending.{taken_by}
+use Rattle.er_lines.specs.Lending.{taken_by}
 use Rattle.er_run.proofs.rest.read_out.Given as goal
 
 -- what was read goes on from where the reading began

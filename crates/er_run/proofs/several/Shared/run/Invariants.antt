@@ -3,7 +3,7 @@ use Rattle.er_device.specs.Device.{inner_of, has_failed, taken_of}
 use Rattle.er_batch.specs.Inner.Passes.{HasCome}
 use Rattle.er_run.specs.Inner.Inspected.{IsInspected}
 use Rattle.er_run.specs.Inner.Several.{HasReadOn}
-use Rattle.er_text.specs.Inner.Lending.{taken_by}
+use Rattle.er_lines.specs.Lending.{taken_by}
 use Rattle.er_trace.specs.Trace.{IsNamed, HasSiteName}
 use Rattle.er_run.proofs.several.Shared.run.Given as goal
 

@@ -16,7 +16,7 @@ use Rattle.er_run.specs.Faults.{IsFaultOfText}
 use Rattle.er_text.specs.Batches.{GivesBatch}
 use Rattle.er_text.specs.Ending.{KnowsEnd}
 use Rattle.er_text.specs.Named.{Grows}
-use Rattle.er_text.specs.declared.faults.ReadFault.{ReadFault}
+use Rattle.er_lines.specs.declared.faults.ReadFault.{ReadFault}
 use Rattle.er_text.specs.declared.reading.Batch.{Batch}
 use Rattle.er_text.specs.declared.reading.Batch.TheVariants.{End}
 use Rattle.er_trace.specs.Trace.{Recording}
