@@ -152,8 +152,8 @@ counts_member counts = codes ",\n\"suppressions\":[" ++ values_text decimal coun
 -- the totals, with the lost events, if some were; this closes the document
 unfoldable pub totals_member : Summary → List ℕ
 totals_member s =
-    (codes ",\n\"totals\":{\"steps\":" ++ decimal s.steps ++ codes ",\"races\":" ++ decimal s.races ++ codes ",\"suppressed\":" ++ decimal s.suppressed
-    ++ codes ",\"refused\":" ++ decimal s.refused) ++ lost_text (codes ",\"lost\":") [] s.lost ++ codes "}}\n"
+    codes ",\n\"totals\":{\"steps\":" ++ decimal s.steps ++ codes ",\"races\":" ++ decimal s.races ++ codes ",\"suppressed\":" ++ decimal s.suppressed
+    ++ codes ",\"refused\":" ++ decimal s.refused ++ lost_text (codes ",\"lost\":") [] s.lost ++ codes "}}\n"
 
 -- the lists of a document, each in the order of the report, and the first behind this heading
 unfoldable pub lists_text : List ℕ → NameTable → PlaceTable → List LineView → List ℕ

@@ -202,11 +202,14 @@ access_story names table race kind word =
     head_text names race kind word ++ holds_text names race (access_place table race.line race.thread kind) race.held
     ++ flat_map (reason_text names table race.line) race.explained ++ so_text race.explained
 
--- who gave back how much memory, and why it is a race
-unfoldable pub reuse_text : NameTable → PlaceTable → RaceView → PageRange → List ℕ
-reuse_text names table race range =
+-- who gave back how much memory
+abbrev pub given_back_text : NameTable → RaceView → PageRange → List ℕ
+given_back_text names race range =
     codes "  " ++ thread_in style.Short names race.thread ++ codes " gave back " ++ decimal (bytes_between range.lo range.hi) ++ codes " bytes (line " ++ decimal race.line ++ codes ")\n"
-    ++ flat_map (reason_text names table race.line) race.explained
+
+-- and why it is a race
+unfoldable pub reuse_text : NameTable → PlaceTable → RaceView → PageRange → List ℕ
+reuse_text names table race range = given_back_text names race range ++ flat_map (reason_text names table race.line) race.explained
 
 -- what the thread of a race did, in sentences
 abbrev pub deed_text : NameTable → PlaceTable → RaceView → Deed → List ℕ

@@ -1,11 +1,11 @@
 //! One race in sentences.
-ghost use Rattle.std.specs.Prelude.{◌≡◌, ◌++◌, ◌≤◌, All, flat_map, length, option_and_then, option_copied, OnOk, Some};
+ghost use Rattle.std.specs.Prelude.{◌≡◌, ◌++◌, ◌≤◌, flat_map, length, option_and_then, option_copied, OnOk, Some};
 ghost use Rattle.std.specs.List.{list_any};
 ghost use Rattle.er_places.specs.Places.{HasPlaceNames};
 ghost use Rattle.er_places.specs.Reasons.{reason_place};
 ghost use Rattle.er_report.specs.Lines.{line_view, race_of};
 ghost use Rattle.er_report.specs.Names.{HasLockName, HasNames, HasRaceNames, HasReasonNames};
-ghost use Rattle.er_sites.specs.Text.{access_story, deed_text, example_text, head_text, held_text, holds_text, is_weak_at, lacks_lock, line_text, lone_text, may_meet, met, met_text, mode_text, title_text, reason_text, reuse_story, reuse_text, so_text, story_text, is_without};
+ghost use Rattle.er_sites.specs.Text.{access_story, deed_text, example_text, given_back_text, head_text, held_text, holds_text, is_weak_at, lacks_lock, line_text, lone_text, may_meet, met, met_text, mode_text, title_text, reason_text, reuse_story, reuse_text, so_text, story_text, is_without};
 
 use crate::names::{access_text, did_text, put_pair};
 use crate::standing::put_where;
@@ -150,8 +150,8 @@ fn put_access(
         race,
         places.of_access(race.line, race.thread, kind),
     )?;
-    put_reasons(out, names, places, race.line, race.explained)?;
-    put_so(out, race.explained)
+    put_reasons(out, names, places, race)?;
+    put_so(out, race)
 }
 
 fn put_head(out: &mut Vec<u8>, names: &Names, race: &Race<'_>, kind: Kind, word: Word) -> Put
@@ -269,7 +269,7 @@ fn put_lone(out: &mut Vec<u8>, names: &Names, places: &Places, race: &Race<'_>) 
     }
 }
 
-// Puts who gave back how much memory, and the reasons.
+// Puts who gave back how much memory, and why that is a race.
 #[tactic(auto, unfolding(crate::specs::Text::reuse_text))]
 fn put_reuse(
     out: &mut Vec<u8>,
@@ -281,29 +281,30 @@ fn put_reuse(
     requires { HasRaceNames names.now race.now }
     ensures { OnOk result (out.new.items ≡ out.old.items ++ reuse_text names.now places.now race.now range.now) }
 {
+    put_given_back(out, names, race, range)?;
+    put_reasons(out, names, places, race)
+}
+
+fn put_given_back(out: &mut Vec<u8>, names: &Names, race: &Race<'_>, range: &PageRange) -> Put
+    requires { HasRaceNames names.now race.now }
+    ensures { OnOk result (out.new.items ≡ out.old.items ++ given_back_text names.now race.now range.now) }
+{
     let pieces = [
         Thread(b"  ", race.thread),
         Number(b" gave back ", bytes_of(range)),
         Number(b" bytes (line ", race.line),
         Text(b")\n"),
     ];
-    put_all(out, Style::Short, names, &pieces)?;
-    put_reasons(out, names, places, race.line, race.explained)
+    put_all(out, Style::Short, names, &pieces)
 }
 
-// Puts the reasons of the race on this line.
-fn put_reasons(
-    out: &mut Vec<u8>,
-    names: &Names,
-    places: &Places,
-    line: u64,
-    explained: &[Because],
-) -> Put
-    requires { All (HasReasonNames names.now) explained.now }
-    ensures { OnOk result (out.new.items ≡ out.old.items ++ flat_map (reason_text names.now places.now line) explained.now) }
+// Puts the reasons of a race.
+fn put_reasons(out: &mut Vec<u8>, names: &Names, places: &Places, race: &Race<'_>) -> Put
+    requires { HasRaceNames names.now race.now }
+    ensures { OnOk result (out.new.items ≡ out.old.items ++ flat_map (reason_text names.now places.now race.now.line) race.now.explained) }
 {
-    for because in explained {
-        put_reason(out, names, places, line, because)?;
+    for because in race.explained {
+        put_reason(out, names, places, race.line, because)?;
     }
     Ok(())
 }
@@ -370,10 +371,10 @@ fn put_line(out: &mut Vec<u8>, names: &Names, line: u64) -> Put
 }
 
 // Puts what follows from the reasons, if they are known.
-fn put_so(out: &mut Vec<u8>, explained: &[Because]) -> Put
-    ensures { OnOk result (out.new.items ≡ out.old.items ++ so_text explained.now) }
+fn put_so(out: &mut Vec<u8>, race: &Race<'_>) -> Put
+    ensures { OnOk result (out.new.items ≡ out.old.items ++ so_text race.now.explained) }
 {
-    match explained.first() {
+    match race.explained.first() {
         None => Ok(()),
         Some(because) if matches!(because.label, Label::Unordered) => Ok(()),
         Some(_) => out.extend_from_slice(

@@ -1,8 +1,8 @@
 use Rattle.std.proofs.Common.{◌≡◌, ◌++◌, take, flat_map}
-use Rattle.er_report.specs.Lines.{line_view}
+use Rattle.er_report.specs.Lines.{line_view, race_of}
 use Rattle.er_report.specs.declared.report.Line.{Line}
 use Rattle.er_sites.specs.Text.{reuse_story}
 use Rattle.er_sites.proofs.text.put_reuses.Given as goal
 
 abbrev pub invariant-loop-line : goal.invariant-loop-line
-invariant-loop-line l = l.out.items ≡ l.fn.out.items ++ flat_map (λ (line : Line). reuse_story l.names l.places (line_view line)) (take l.line-index l.lines)
+invariant-loop-line l = l.out.items ≡ l.fn.out.items ++ flat_map (λ (line : Line). reuse_story l.names l.places (race_of (line_view line))) (take l.line-index l.lines)
