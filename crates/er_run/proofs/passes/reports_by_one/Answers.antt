@@ -7,7 +7,7 @@ use Rattle.er_run.specs.Inner.Outcomes.{asked_by}
 use Rattle.er_run.specs.declared.fault.RunFault.TheVariants.{Read}
 use Rattle.er_run.proofs.OutcomeLemmas.{failed-outcome}
 use Rattle.er_run.proofs.PassLemmas.{of-reading}
-use Rattle.er_run.proofs.passes.reports_over.Goals as goal
+use Rattle.er_run.proofs.passes.reports_by_one.Goals as goal
 
 pub returns-in-Ok : goal.returns-in-Ok
 returns-in-Ok g c =
