@@ -5,10 +5,12 @@
 
 - each kind is answered as the references answer it: by locks and by happens-before, with reasons, by several workers, and also if the system gives no
   random bytes to hash by
+- clocks that really differ take no more memory than other texts: the replay ends with a fault
 - no text takes more than 400 bytes of memory for each of its own, beside 32 MiB, and by happens-before alone no more than 200. The dearest line takes a
   page: 4,096 bytes by locks, and 2,048 by happens-before
 - two of many readers of a word that read it in turn, two million times, take no more than 16 MiB
 - a second look at a file, for the places of reasons, ends behind the last line that a reason names
+- as many rules of words as there are reuses, none of which takes a reuse, cost in the same way
 - a text that is four times as long takes at most 5.5 times the instructions, as valgrind counts them. What compares each with all others takes up to 16
   times as many, and what keeps all for each does so too
 """
@@ -40,6 +42,8 @@ LONGER, MOST_TIMES = 4, 5.5
 TURNS, BYTES_OF_TURNS = 1_000_000, 16 << 20
 # If several workers kept these reuses as steps, they would take more than this memory, which is far more than the stacks of their threads.
 REUSES, BYTES_OF_REUSES = 40_000, 1 << 30
+# The reuses of the shorter text, and half as many as its rules.
+FREED = 2000
 # Lines that no reason names.
 SEEN_ONCE = 20_000
 # What is replayed of each kind: how many there are in the shorter text, and by which options.
@@ -58,7 +62,12 @@ COSTS = {
     "own-objects": (16_000, [[], HAPPENS_BEFORE]),
     "many-objects": (16_000, [[], HAPPENS_BEFORE]),
     "started": (16_000, [[], HAPPENS_BEFORE]),
+    "two-signals": (4000, [[], HAPPENS_BEFORE]),
+    "some-signals": (2000, [[], HAPPENS_BEFORE]),
+    "freed": (2000, [[], HAPPENS_BEFORE]),
 }
+# The clocks of these have each other counts than all others: the longer text ends with a fault.
+TOO_LARGE = ["two-signals", "some-signals"]
 # The same of a kind whose second options want a shorter text: by happens-before only 65,536 threads may take locks, and a text has eight times as many threads as
 # its number.
 COSTS_BESIDE = [("threads", (1000, [HAPPENS_BEFORE]))]
@@ -66,8 +75,8 @@ COUNTED = ["valgrind", "--tool=cachegrind", "--cache-sim=no", "--cachegrind-out-
 
 
 @functools.lru_cache(maxsize=None)
-def made(kind, count):
-    return subprocess.run([HOSTILE, kind, str(count)], capture_output=True, check=True).stdout
+def made(kind, count, *more):
+    return subprocess.run([HOSTILE, kind, str(count), *more], capture_output=True, check=True).stdout
 
 
 def run(words, text=b"", before=(), **more):
@@ -140,12 +149,32 @@ def costs(record):
             for options in rows:
                 name = f"hostile: {kind} {' '.join(options)}"
                 found = run([*options, long], preexec_fn=functools.partial(limited, size, options))
-                is_whole = b"steps %d, " % steps in found[0] and found[1] in (b"", NO_END) and found[2] < 2
+                if options == HAPPENS_BEFORE and kind in TOO_LARGE:
+                    is_whole = found == (b"", b"clocks too large\n", 3)
+                else:
+                    is_whole = b"steps %d, " % steps in found[0] and found[1] in (b"", NO_END) and found[2] < 2
                 record(f"{name}: memory of a text of {size} bytes", is_whole, f"{found}"[:300])
                 # What takes too much memory isn't run without a limit.
                 if is_whole:
                     few, many = instructions([*options, short]), instructions([*options, long])
                     record(f"{name}: instructions", many <= MOST_TIMES * longer * few, f"{few} and {many}, {many / few / longer:.2f} times as many")
+
+
+def rules(record):
+    """Each reuse is a race, and is looked up among as many rules of words as there are words."""
+    counts, sizes = [], []
+    with tempfile.TemporaryDirectory() as folder:
+        trace, chosen = pathlib.Path(folder) / "freed.trace", pathlib.Path(folder) / "freed.rules"
+        for count in (FREED, LONGER * FREED):
+            trace.write_bytes(made("freed", count))
+            chosen.write_bytes(made("freed", count, "rules"))
+            words = [*HAPPENS_BEFORE, "--suppress", chosen, trace]
+            found = run(words)
+            record(f"hostile: {count} reuses that no rule takes", b"unordered %d, suppressed 0," % count in found[0] and found[2] == 1, f"{found}"[-300:])
+            counts.append(instructions(words))
+            sizes.append(trace.stat().st_size + chosen.stat().st_size)
+    longer = sizes[1] / sizes[0] / LONGER
+    record("hostile: rules of words: instructions", counts[1] <= MOST_TIMES * longer * counts[0], f"{counts}, {counts[1] / counts[0] / longer:.2f} times as many")
 
 
 def turns(record):
@@ -190,6 +219,7 @@ def second_looks(record):
 def tests(record, preloaded):
     answers(record, preloaded)
     costs(record)
+    rules(record)
     turns(record)
     long_reuses(record)
     second_looks(record)

@@ -225,7 +225,7 @@ def workers(record, preloaded):
             env = {**os.environ, "LD_PRELOAD": str(library), "REFUSE_THREAD": str(nth), "THREADS_NOTED": str(noted)}
             return run(["replay", "--workers", count, "-"], text_of(trace), env=env), noted.read_text()
 
-        # Half of them read and half of them answer, and an odd one answers. From four workers on a batch is as long for each number.
+        # All of them read a batch, and then all of them answer it. It is as long for each number.
         started = []
         for count in range(4, 17):
             found, notes = noting(count, trace, 0)
@@ -233,8 +233,7 @@ def workers(record, preloaded):
             started.append(notes.count("s"))
         record("limits: each worker has threads of its own", all(fewer < more for fewer, more in zip(started, started[1:])), f"{started}")
         for count in (2, 3, 8, 16):
-            answering = (count + 1) // 2
-            for nth in {1, answering}:
+            for nth in (1, count):
                 for lines in (short, trace):
                     for last, wanted in (([], (b"", b"worker not started\n", 3)), (["t1 hop"], (b"", f"line {len(lines) + 1}: bad verb\n".encode(), 2))):
                         found, notes = noting(count, [*lines, *last], nth)

@@ -6,7 +6,7 @@ use Rattle.std.proofs.Math.Seq.{take-append_seam, take-length}
 use Rattle.std.proofs.lemmas.List.Elements.{All-append}
 use Rattle.std.proofs.lemmas.Option.{get_or_from_slice_get, slice_get_read, slice_get_within, slice_get-get_or}
 use Rattle.er_batch.specs.Inner.Answering.{Answers, HasAnswered}
-use Rattle.er_batch.specs.Runs.{MayStopAt, HasRun, recorded}
+use Rattle.er_batch.specs.Runs.{MayStopAt, HasRun, IsWellFormed, recorded}
 use Rattle.er_event.proofs.Lists.{get_front}
 use Rattle.er_event.specs.declared.refusals.NoRoom.{NoRoom}
 use Rattle.er_event.specs.declared.steps.Event.{Event}
@@ -77,20 +77,14 @@ site-behind read sites more n k site same long within is =
 stop-front : (steps more : List Step) (s : Stopped) → s.at < length steps → MayStopAt steps s → MayStopAt (steps ++ more) s
 stop-front steps more s within lacks = rw (get_front steps more s.at within, take-append-le s.at steps more (omega arith)) lacks
 
--- a batch of steps behind those that are past
-module _ (past : List Step) (lines sites : List ℕ) (names : NameTable) (trace : Recording) (kept : KeepsNames names trace.names)
-    (told : All (IsNamed trace.names) trace.steps) (even : length trace.lines ≡ length trace.steps)
-    (seen : All (HasSiteName trace.names) trace.sites) (level : length trace.sites ≡ length trace.steps)
-    (old : Replayed) (oldest : Built) (stop : Option (ℕ × NoRoom)) (run : HasRun old oldest stop (recorded past lines sites names)) where
-  abbrev after : Recording
-  after = joined past lines sites trace
-
-  on : GoesOn (recorded past lines sites names) after
-  on = record {
-    named = run.named;
-    long = run.long;
-    one_each = run.one_each;
-    known = run.known;
+-- the steps of a batch behind those that are past
+module _ (past : List Step) (lines sites : List ℕ) (names : NameTable) (trace : Recording) (kept : KeepsNames names trace.names) (formed : IsWellFormed (recorded past lines sites names)) where
+  pub goes-on : GoesOn (recorded past lines sites names) (joined past lines sites trace)
+  goes-on = record {
+    named = formed.named;
+    long = formed.long;
+    one_each = formed.one_each;
+    known = formed.known;
     more = trace.steps;
     others = trace.lines;
     other_sites = trace.sites;
@@ -100,24 +94,32 @@ module _ (past : List Step) (lines sites : List ℕ) (names : NameTable) (trace 
     sites = kept.sites;
   }
 
-  named : All (IsNamed trace.names) (past ++ trace.steps)
-  named = All-append (IsNamed trace.names) past trace.steps (all-named names trace.names kept past run.named) told
+  pub grown : IsWellFormed trace → IsWellFormed (joined past lines sites trace)
+  grown fits = record {
+    named = All-append (IsNamed trace.names) past trace.steps (all-named names trace.names kept past formed.named) fits.named;
+    long = let a : length lines ≡ length past = formed.long in let b = fits.long in omega (arith, length-append lines trace.lines, length-append past trace.steps);
+    known = All-append (HasSiteName trace.names) sites trace.sites (all-known names trace.names kept sites formed.known) fits.known;
+    one_each = let a : length sites ≡ length past = formed.one_each in let b = fits.one_each in omega (arith, length-append sites trace.sites, length-append past trace.steps);
+  }
 
-  long : length (lines ++ trace.lines) ≡ length (past ++ trace.steps)
-  long = (let a : length lines ≡ length past = run.long in omega (arith, length-append lines trace.lines, length-append past trace.steps, even))
+-- a run over the steps that are past
+module _ (past : List Step) (lines sites : List ℕ) (names : NameTable) (trace : Recording) (kept : KeepsNames names trace.names) (fits : IsWellFormed trace)
+    (old : Replayed) (oldest : Built) (stop : Option (ℕ × NoRoom)) (run : HasRun old oldest stop (recorded past lines sites names)) where
+  abbrev after : Recording
+  after = joined past lines sites trace
 
-  known : All (HasSiteName trace.names) (sites ++ trace.sites)
-  known = All-append (HasSiteName trace.names) sites trace.sites (all-known names trace.names kept sites run.known) seen
+  on : GoesOn (recorded past lines sites names) after
+  on = goes-on past lines sites names trace kept run.formed
 
-  one_each : length (sites ++ trace.sites) ≡ length (past ++ trace.steps)
-  one_each = (let a : length sites ≡ length past = run.one_each in omega (arith, length-append sites trace.sites, length-append past trace.steps, level))
+  formed : IsWellFormed after
+  formed = grown past lines sites names trace kept run.formed fits
 
   -- a run that has stopped stays where it is
   stays-by : (o : Option Stopped) → run.stopped ≡ o → (stop ≡ None → ⊥) → HasRun old oldest stop after
   stays-by None is some = absurd (some (run.line ∙ ap (stop_line (recorded past lines sites names)) is))
   stays-by (Some s) is some =
       let within : s.at < length past = rw is at run.within in
-      let same : length lines ≡ length past = run.long in
+      let same : length lines ≡ length past = run.formed.long in
       let front : take s.at (past ++ trace.steps) ≡ take s.at past = take-append-le s.at past trace.steps (omega arith) in
       let most : length (take s.at past) ≤ length past = omega (arith, length-take-le s.at past (omega arith)) in
       record {
@@ -129,10 +131,7 @@ module _ (past : List Step) (lines sites : List ℕ) (names : NameTable) (trace 
         reported = subst (λ (steps : List Step). IsReported oldest after (length steps)) (sym front)
             (reported-on oldest _ after (length (take s.at past)) on most (rw is at run.reported));
         stands = λ none. absurd (cc);
-        named = named;
-        long = long;
-        known = known;
-        one_each = one_each;
+        formed = formed;
       }
 
   pub stays : (stop ≡ None → ⊥) → HasRun old oldest stop after
@@ -150,12 +149,6 @@ module _ (past : List Step) (lines sites : List ℕ) (names : NameTable) (trace 
   pub goes : stop ≡ None → HasAnswered old oldest after (length past)
   goes = goes-by run.stopped refl
 
-  pub long-past : length lines ≡ length past
-  long-past = run.long
-
-  pub each-past : length sites ≡ length past
-  each-past = run.one_each
-
   -- and goes on to the end of the batch, or stops in it
   pub whole : (machine : Replayed) (builder : Built) → Answers machine builder after (length past) None → HasRun machine builder None after
   whole machine builder answered =
@@ -166,10 +159,7 @@ module _ (past : List Step) (lines sites : List ℕ) (names : NameTable) (trace 
         cause = tt;
         reported = answered.reported;
         stands = λ none. subst (Stands machine) (take-length (past ++ trace.steps)) answered.stands;
-        named = named;
-        long = long;
-        known = known;
-        one_each = one_each;
+        formed = formed;
       }
 
   pub part : (machine : Replayed) (builder : Built) (s : Stopped) (number : ℕ) → number ≡ slice_index trace.lines s.at → Answers machine builder after (length past) (Some s)
@@ -177,15 +167,12 @@ module _ (past : List Step) (lines sites : List ℕ) (names : NameTable) (trace 
   part machine builder s number is answered =
       record {
         stopped = Some (record { at = length past + s.at; cause = s.cause });
-        line = ap (λ (n : ℕ). Some (n, s.cause)) (is ∙ number-behind lines trace.lines (length past) s.at run.long);
+        line = ap (λ (n : ℕ). Some (n, s.cause)) (is ∙ number-behind lines trace.lines (length past) s.at run.formed.long);
         within = answered.1;
         cause = answered.2;
         reported = subst (IsReported builder after) (sym (length-take-le (length past + s.at) (past ++ trace.steps) (omega (arith, answered.1)))) answered.0;
         stands = λ none. absurd (cc);
-        named = named;
-        long = long;
-        known = known;
-        one_each = one_each;
+        formed = formed;
       }
 
 pub none-by : {X : Type 0} (o : Option X) → is_some o ≡ false → o ≡ None

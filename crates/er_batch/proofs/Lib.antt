@@ -1,4 +1,5 @@
 pub mod BatchLemmas
+pub mod CrewLemmas
 pub mod LagLemmas
 pub mod StepLemmas
 pub mod PassLemmas

@@ -1,14 +1,17 @@
 -- What an analyst is asked for, and what a pass over a text comes to.
-use Rattle.std.specs.Prelude.{◌≡◌, ℕ, Bool, List, Option, IfSome, is_some}
-use Rattle.er_batch.specs.Runs.{HasRun}
+use Rattle.std.specs.Prelude.{◌≡◌, ℕ, Bool, List, length, Option, IfSome, is_some, Result, MatchResult}
+use Rattle.er_batch.specs.Runs.{HasRun, IsWellFormed}
 use Rattle.er_event.specs.declared.refusals.NoRoom.{NoRoom}
+use Rattle.er_parallel.specs.Crews.{Crewed, HaveAnswered}
+use Rattle.er_parallel.specs.Faults.{MayFail}
+use Rattle.er_parallel.specs.declared.faults.ReplayFault.{ReplayFault}
 use Rattle.er_replay.specs.Standing.{Replayed}
-use Rattle.er_report.specs.Builder.{Built}
+use Rattle.er_report.specs.Builder.{Built, IsReported}
 use Rattle.er_report.specs.declared.reports.Analysis.{Analysis}
 use Rattle.er_rules.specs.Rules.{Target}
 use Rattle.er_text.specs.Trace.{IsTrace, IsFault}
-use Rattle.er_text.specs.declared.faults.ReadFault.{ReadFault}
-use Rattle.er_text.specs.declared.faults.ReadFault.TheVariants.{Text, Memory, Read}
+use Rattle.er_lines.specs.declared.faults.ReadFault.{ReadFault}
+use Rattle.er_lines.specs.declared.faults.ReadFault.TheVariants.{Text, Memory, Read}
 use Rattle.er_trace.specs.Names.{NameTable}
 use Rattle.er_trace.specs.Trace.{Recording}
 
@@ -48,3 +51,15 @@ pub record HasRunFor (ran : Ran) (asked : Asked) (r : Recording) : Type 0 where
   pub run : HasRun ran.machine ran.builder ran.stop r
   pub rules : ran.builder.rules ≡ asked.rules
   pub explain : is_some ran.builder.kept ≡ asked.explain
+
+-- what several workers keep of the steps so far: themselves, or why they have stopped, and the report
+pub record CrewRan : Type 0 where
+  pub crew : Result Crewed ReplayFault
+  pub builder : Built
+
+-- they have answered the recording's steps, which are in the report, or have a fault that these steps may give
+pub record HasCrewRun (ran : CrewRan) (asked : Asked) (r : Recording) : Type 0 where
+  pub answered : MatchResult ran.crew (λ crew. HaveAnswered crew r.steps × IsReported ran.builder r (length r.steps)) (λ why. MayFail r.steps why)
+  pub rules : ran.builder.rules ≡ asked.rules
+  pub explain : is_some ran.builder.kept ≡ asked.explain
+  pub formed : IsWellFormed r

@@ -1,7 +1,7 @@
 -- The limits of a replay.
 use Rattle.std.specs.Prelude.{ℕ, ◌^◌, ◌≤◌}
 pub use Rattle.er_table.specs.Sets.{most_sets}
-pub use Rattle.er_text.specs.Lines.{bytes_past_limit}
+pub use Rattle.er_lines.specs.Lines.{bytes_past_limit}
 
 -- the most bytes of a text, and how many it may have unless something else is asked for
 abbrev pub most_bytes : ℕ

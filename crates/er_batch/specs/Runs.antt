@@ -25,6 +25,13 @@ pub record IsRunOf (text : List ℕ) (limit : ℕ) (recording : Recording) (stop
 abbrev pub recorded : List Step → List ℕ → List ℕ → NameTable → Recording
 recorded steps lines sites names = record { steps = steps; lines = lines; sites = sites; names = names }
 
+-- each step has a line and a site, and its numbers have names
+pub record IsWellFormed (r : Recording) : Type 0 where
+  pub named : All (IsNamed r.names) r.steps
+  pub long : length r.lines ≡ length r.steps
+  pub known : All (HasSiteName r.names) r.sites
+  pub one_each : length r.sites ≡ length r.steps
+
 -- a run over a recording's steps, which has answered all of them or stopped at one that found no room
 pub record HasRun (machine : Replayed) (builder : Built) (stop : Option (ℕ × NoRoom)) (r : Recording) : Type 0 where
   pub stopped : Option Stopped
@@ -33,7 +40,4 @@ pub record HasRun (machine : Replayed) (builder : Built) (stop : Option (ℕ × 
   pub cause : IfSome stopped (λ s. MayStopAt r.steps s)
   pub reported : IsReported builder r (length (answered_steps r.steps stopped))
   pub stands : stopped ≡ None → Stands machine r.steps
-  pub named : All (IsNamed r.names) r.steps
-  pub long : length r.lines ≡ length r.steps
-  pub known : All (HasSiteName r.names) r.sites
-  pub one_each : length r.sites ≡ length r.steps
+  pub formed : IsWellFormed r

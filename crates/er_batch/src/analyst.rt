@@ -1,5 +1,6 @@
 //! What answers the steps of a trace.
 ghost use Rattle.std.specs.Prelude.{◌≡◌, ◌+◌, ◌<◌, ◌^◌, ℕ, Bool, List, max, OnOk};
+ghost use Rattle.std.specs.Thread.{IsSync};
 ghost use Rattle.er_batch.specs.Analysts.{Asked};
 ghost use Rattle.er_batch.specs.Runs.{recorded};
 ghost use Rattle.er_event.specs.declared.steps.Step.{Step as Steps};
@@ -10,12 +11,14 @@ ghost use Rattle.er_trace.specs.Trace.{Recording};
 
 use er_trace::Trace;
 use std::alloc::AllocError;
+use std::sync::Wait;
+use std::thread::Threads;
 
 /// What answers the steps of a trace, batch by batch, and keeps what is to be reported of them.
 ///
 /// An analyst that can't go on keeps why, and answers no later step: the text is read to its end all the same, since a fault of the text
-/// comes first. If it may wait for other threads, it does so by the handle `R`.
-pub trait Analyst<R> {
+/// comes first. If it starts threads or waits for others, it does so by the handle `rt`, which they share.
+pub trait Analyst {
     /// It stands for this recording, of which it is asked this.
     ghost stands: { Self → Asked → Recording → Type 0 };
 
@@ -29,7 +32,8 @@ pub trait Analyst<R> {
     ghost found: { Self → ℕ };
 
     /// Answers the steps of a batch, behind those of the batches before.
-    fn answer(&mut self, rt: &R, trace: &Trace) -> Result<(), AllocError>
+    fn answer<R: Threads + Wait + Sync>(&mut self, rt: &R, trace: &Trace) -> Result<(), AllocError>
+        requires sync { IsSync R.row }
         ensures goes_on { (asked : Asked) (past : List Steps) (lines sites : List ℕ) (names : NameTable) → KeepsNames names trace.now.names → stands self.old asked (recorded past lines sites names)
             → OnOk result (stands self.new asked (joined past lines sites trace.now)) };
 
@@ -51,7 +55,7 @@ pub struct Pair<A, B> {
     pub second: B,
 }
 
-impl<R, A: Analyst<R>, B: Analyst<R>> Analyst<R> for Pair<A, B> {
+impl<A: Analyst, B: Analyst> Analyst for Pair<A, B> {
     ghost use Rattle.std.specs.Prelude.{◌+◌, ◌||◌, max};
 
     ghost stands = { λ pair asked r. A.stands pair.first asked r × B.stands pair.second asked r };
@@ -62,7 +66,11 @@ impl<R, A: Analyst<R>, B: Analyst<R>> Analyst<R> for Pair<A, B> {
 
     ghost found = { λ pair. A.found pair.first + B.found pair.second };
 
-    fn answer(&mut self, rt: &R, trace: &Trace) -> Result<(), AllocError> {
+    fn answer<R: Threads + Wait + Sync>(
+        &mut self,
+        rt: &R,
+        trace: &Trace,
+    ) -> Result<(), AllocError> {
         self.first.answer(rt, trace)?;
         self.second.answer(rt, trace)
     }
@@ -77,7 +85,7 @@ impl<R, A: Analyst<R>, B: Analyst<R>> Analyst<R> for Pair<A, B> {
 }
 
 /// An analyst that is there exactly if it is wanted. Without one, no step is answered.
-impl<R, A: Analyst<R>> Analyst<R> for Option<A> {
+impl<A: Analyst> Analyst for Option<A> {
     ghost use Rattle.std.specs.Option.{option_map_or};
     ghost use Rattle.er_batch.specs.Analysts.{StandsIf};
 
@@ -89,7 +97,11 @@ impl<R, A: Analyst<R>> Analyst<R> for Option<A> {
 
     ghost found = { λ analyst. option_map_or A.found analyst 0 };
 
-    fn answer(&mut self, rt: &R, trace: &Trace) -> Result<(), AllocError> {
+    fn answer<R: Threads + Wait + Sync>(
+        &mut self,
+        rt: &R,
+        trace: &Trace,
+    ) -> Result<(), AllocError> {
         match self {
             Some(analyst) => analyst.answer(rt, trace),
             None => Ok(()),

@@ -99,8 +99,8 @@ fn add_answer(
     builder.add(names, line, site, step, answer, held)
 }
 
-// Adds `plain` steps at once that the report has no line for, and then one that has a line.
-fn add_behind(
+/// Adds `plain` steps at once that the report has no line for, and then one that has a line.
+pub(crate) fn add_behind(
     builder: &mut ReportBuilder<'_>,
     plain: u64,
     names: &Names,

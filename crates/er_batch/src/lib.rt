@@ -2,14 +2,15 @@
 //! answered.
 //!
 //! Begin with [`analyse`]. It reads a text batch after batch, has each batch answered by an [`Analyst`], and forgets it. The lockset rule is
-//! one ([`LocksetAnalyst`]), `er_unordered` has another, and `er_run` one that looks for damage. A [`Pair`] of two is one too.
+//! one, by one worker ([`LocksetAnalyst`]) or by several ([`CrewAnalyst`]), `er_unordered` has another, and `er_run` one that looks for damage.
+//! A [`Pair`] of two is one too.
 //!
 //! What it promises, by the name of its clause: an analyst that stands for no steps before the pass stands for all steps of the text behind it
 //! (`answered`), and a fault is the text's first (`fault`).
 //!
 //! ```text
 //! let lockset = LocksetAnalyst::new(alloc, &table, &rules, false, NameKeys::KNOWN)?;
-//! let found = analyse(&rt, alloc, &mut reader, Options::USUAL_BYTES, NameKeys::KNOWN, lockset, &mut Unwatched)?;
+//! let found = analyse(&rt, alloc, &mut reader, &Options::usual(), lockset, &mut Unwatched)?;
 //! let report = found.analyst.finish();
 //! ```
 //!
@@ -19,6 +20,7 @@
 
 pub use analyst::{Analyst, Pair};
 pub use answering::{answer_batch, has_room};
+pub use crew::CrewAnalyst;
 pub use lockset::LocksetAnalyst;
 pub use options::Options;
 pub use passes::{Analysed, analyse};
@@ -27,6 +29,7 @@ pub use watching::{Progress, Unwatched, Watch};
 
 mod analyst;
 mod answering;
+mod crew;
 mod lockset;
 mod options;
 mod passes;

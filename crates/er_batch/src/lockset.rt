@@ -16,6 +16,7 @@ use er_trace::{NameKeys, Trace};
 use std::alloc::{AllocError, Global};
 use std::marker::Model;
 use std::sync::Wait;
+use std::thread::Threads;
 
 /// Answers steps by the lockset rule, up to one that finds no room.
 #[derive(Drop)]
@@ -82,7 +83,7 @@ impl<'t, 'r> LocksetAnalyst<'t, 'r> {
     }
 }
 
-impl<'t, 'r, R: Wait> Analyst<R> for LocksetAnalyst<'t, 'r> {
+impl<'t, 'r> Analyst for LocksetAnalyst<'t, 'r> {
     ghost use Rattle.er_batch.specs.Analysts.{HasRunFor};
     ghost use Rattle.er_report.specs.Reports.{asks_locks};
 
@@ -94,7 +95,11 @@ impl<'t, 'r, R: Wait> Analyst<R> for LocksetAnalyst<'t, 'r> {
 
     ghost found = { λ ran. ran.builder.report.races };
 
-    fn answer(&mut self, rt: &R, trace: &Trace) -> Result<(), AllocError> {
+    fn answer<R: Threads + Wait + Sync>(
+        &mut self,
+        rt: &R,
+        trace: &Trace,
+    ) -> Result<(), AllocError> {
         self.stop = answer_batch(rt, &mut self.machine, trace, &mut self.builder, self.stop)?;
         Ok(())
     }

@@ -15,8 +15,8 @@ pub struct Options {
     pub explain: bool,
     /// In how many shards the words are if there are several workers, from 1 to 64.
     pub shards: u32,
-    /// How many workers there are, from 1 to 16. Of several, half read the text, and the others answer its steps. One worker alone has all
-    /// words in one shard.
+    /// How many workers there are, from 1 to 16. All of them read the text, and by the lockset rule all of them answer its steps. One worker
+    /// alone has all words in one shard.
     pub workers: u32,
     /// Whether a damaged trace is a fault.
     pub strict: bool,
@@ -95,64 +95,43 @@ impl Options {
     }
 
     /// The same options, by which each race that is printed is explained, or none is.
-    pub fn with_explain(self, explain: bool) -> Options
+    pub fn with_explain(mut self, explain: bool) -> Options
         ensures explain { result.explain ≡ explain }
         ensures sets { result.max_sets ≡ self.max_sets }
         ensures bytes { result.byte_limit ≡ self.byte_limit }
         ensures crew { (result.shards ≡ self.shards) × (result.workers ≡ self.workers) }
         ensures strict { result.strict ≡ self.strict }
     {
-        Options {
-            max_sets: self.max_sets,
-            byte_limit: self.byte_limit,
-            explain,
-            shards: self.shards,
-            workers: self.workers,
-            strict: self.strict,
-            keys: self.keys,
-        }
+        self.explain = explain;
+        self
     }
 
     /// The same options, by which a damaged trace is a fault, or isn't.
-    pub fn with_strict(self, strict: bool) -> Options
+    pub fn with_strict(mut self, strict: bool) -> Options
         ensures strict { result.strict ≡ strict }
         ensures sets { result.max_sets ≡ self.max_sets }
         ensures bytes { result.byte_limit ≡ self.byte_limit }
         ensures explain { result.explain ≡ self.explain }
         ensures crew { (result.shards ≡ self.shards) × (result.workers ≡ self.workers) }
     {
-        Options {
-            max_sets: self.max_sets,
-            byte_limit: self.byte_limit,
-            explain: self.explain,
-            shards: self.shards,
-            workers: self.workers,
-            strict,
-            keys: self.keys,
-        }
+        self.strict = strict;
+        self
     }
 
     /// The same options, by which the names and the pages of the trace are hashed by these keys.
-    pub fn with_keys(self, keys: NameKeys) -> Options
+    pub fn with_keys(mut self, keys: NameKeys) -> Options
         ensures sets { result.max_sets ≡ self.max_sets }
         ensures bytes { result.byte_limit ≡ self.byte_limit }
         ensures explain { result.explain ≡ self.explain }
         ensures crew { (result.shards ≡ self.shards) × (result.workers ≡ self.workers) }
         ensures strict { result.strict ≡ self.strict }
     {
-        Options {
-            max_sets: self.max_sets,
-            byte_limit: self.byte_limit,
-            explain: self.explain,
-            shards: self.shards,
-            workers: self.workers,
-            strict: self.strict,
-            keys,
-        }
+        self.keys = keys;
+        self
     }
 
     /// The same options, with texts of at most this many bytes; None if it is out of its limits.
-    pub fn with_byte_limit(self, byte_limit: u64) -> Option<Options>
+    pub fn with_byte_limit(mut self, byte_limit: u64) -> Option<Options>
         ensures kept { IfSome result (λ options. (options.max_sets ≡ self.max_sets) × ((options.byte_limit ≡ byte_limit) × (options.explain ≡ self.explain))) }
         ensures crew { IfSome result (λ options. (options.shards ≡ self.shards) × (options.workers ≡ self.workers)) }
         ensures strict { IfSome result (λ options. options.strict ≡ self.strict) }
@@ -162,19 +141,12 @@ impl Options {
         if byte_limit > Options::MOST_BYTES {
             return None;
         }
-        Some(Options {
-            max_sets: self.max_sets,
-            byte_limit,
-            explain: self.explain,
-            shards: self.shards,
-            workers: self.workers,
-            strict: self.strict,
-            keys: self.keys,
-        })
+        self.byte_limit = byte_limit;
+        Some(self)
     }
 
     /// The same options, with this many shards and workers; None if one of them is out of its limits.
-    pub fn with_workers(self, shards: u32, workers: u32) -> Option<Options>
+    pub fn with_workers(mut self, shards: u32, workers: u32) -> Option<Options>
         ensures kept { IfSome result (λ options. (options.max_sets ≡ self.max_sets) × ((options.byte_limit ≡ self.byte_limit) × (options.explain ≡ self.explain))) }
         ensures crew { IfSome result (λ options. (options.shards ≡ shards) × (options.workers ≡ workers)) }
         ensures strict { IfSome result (λ options. options.strict ≡ self.strict) }
@@ -187,14 +159,8 @@ impl Options {
         if workers < 1 || workers > Options::MOST_WORKERS {
             return None;
         }
-        Some(Options {
-            max_sets: self.max_sets,
-            byte_limit: self.byte_limit,
-            explain: self.explain,
-            shards,
-            workers,
-            strict: self.strict,
-            keys: self.keys,
-        })
+        self.shards = shards;
+        self.workers = workers;
+        Some(self)
     }
 }

@@ -5,19 +5,19 @@ ghost use Rattle.er_batch.specs.Inner.Passes.{HasCome};
 ghost use Rattle.er_batch.specs.Limits.{bytes_past_limit, most_bytes};
 ghost use Rattle.er_device.specs.Device.{inner_of, has_failed, taken_of};
 ghost use Rattle.er_text.specs.Ending.{KnowsEnd, IsEndingOf};
-ghost use Rattle.er_text.specs.Inner.Lending.{taken_by};
-ghost use Rattle.er_text.specs.Trace.{HasFailedBy};
+ghost use Rattle.er_lines.specs.Lending.{taken_by};
+ghost use Rattle.er_lines.specs.Faults.{HasFailedBy};
 ghost use Rattle.er_trace.specs.Trace.{no_steps};
 
-use crate::{Analyst, Progress, Watch};
+use crate::{Analyst, Options, Progress, Watch};
 use er_device::Device;
-use er_text::{Batch, Ending, ReadFault, TraceReader};
-use er_trace::{NameKeys, Trace};
+use er_reading::PieceReader;
+use er_text::{Batch, Ending, ReadFault};
+use er_trace::Trace;
 use std::alloc::{AllocError, Global};
 use std::io::Read;
-
-/// How many lines a batch has.
-const BATCH_LINES: u32 = 1024;
+use std::sync::Wait;
+use std::thread::Threads;
 
 /// A text that was read to its end, and what answered its steps.
 #[derive(Drop)]
@@ -33,26 +33,25 @@ pub struct Analysed<A> {
 // What reads the lines, the trace that each batch fills, and what answers its steps.
 #[derive(Drop)]
 struct Pass<A> {
-    lines: TraceReader,
+    lines: PieceReader,
     trace: Trace,
     analyst: A,
 }
 
 impl<A: Drop> Pass<A> {
-    fn new<R>(
-        alloc: Global,
-        byte_limit: u64,
-        keys: NameKeys,
-        analyst: A,
-    ) -> Result<Pass<A>, AllocError>
+    fn new(alloc: Global, options: &Options, analyst: A) -> Result<Pass<A>, AllocError>
     where
-        A: Analyst<R>,
-        requires limit { byte_limit ≤ most_bytes }
+        A: Analyst,
         ensures come { (asked : Asked) → A.stands analyst asked no_steps → IfOk result (λ pass. (told : Option (List ℕ)) → HasCome (A.stands pass.analyst asked) told told pass.lines pass.trace) }
-        ensures limit { IfOk result (λ pass. pass.lines.place.limit ≡ byte_limit) }
+        ensures limit { IfOk result (λ pass. pass.lines.place.limit ≡ options.now.byte_limit) }
         ensures taken { IfOk result (λ pass. taken_by pass.lines.place ≡ 0) }
     {
-        let lines = match TraceReader::new(alloc, byte_limit) {
+        let lines = match PieceReader::new(
+            alloc,
+            options.byte_limit,
+            options.keys,
+            options.workers,
+        ) {
             Ok(lines) => lines,
             Err(refused) => {
                 drop(analyst);
@@ -61,15 +60,19 @@ impl<A: Drop> Pass<A> {
         };
         Ok(Pass {
             lines,
-            trace: Trace::keyed(alloc, keys),
+            trace: Trace::keyed(alloc, options.keys),
             analyst,
         })
     }
 
     // Reads a batch, has its steps answered and forgets them, and says whether lines may follow.
-    fn turn<R, D: Read>(&mut self, rt: &R, reader: &mut Device<D>) -> Result<bool, ReadFault>
+    fn turn<R: Threads + Wait + Sync, D: Read>(
+        &mut self,
+        rt: &R,
+        reader: &mut Device<D>,
+    ) -> Result<bool, ReadFault>
     where
-        A: Analyst<R>,
+        A: Analyst,
         requires open { has_failed reader.old ≡ false }
         ensures come { (asked : Asked) (told : Option (List ℕ)) → HasCome (A.stands self.old.analyst asked) told (D.remaining (inner_of reader.old)) self.old.lines self.old.trace
             → IfOk result (λ more. more ≡ true → HasCome (A.stands self.new.analyst asked) told (D.remaining (inner_of reader.new)) self.new.lines self.new.trace) }
@@ -86,7 +89,7 @@ impl<A: Drop> Pass<A> {
         ensures taken { taken_of reader.new + taken_by self.old.lines.place ≤ taken_of reader.old + taken_by self.new.lines.place }
         ensures most { taken_by self.new.lines.place ≤ self.new.lines.place.limit + bytes_past_limit }
     {
-        let batch = self.lines.next_batch(reader, &mut self.trace, BATCH_LINES)?;
+        let batch = self.lines.next_batch(rt, reader, &mut self.trace)?;
         self.analyst.answer(rt, &self.trace)?;
         match batch {
             Batch::End => Ok(false),
@@ -98,9 +101,9 @@ impl<A: Drop> Pass<A> {
     }
 
     // How far it has come.
-    fn progress<R, D>(&self, reader: &Device<D>) -> Progress
+    fn progress<D>(&self, reader: &Device<D>) -> Progress
     where
-        A: Analyst<R>,
+        A: Analyst,
         ensures bytes { result.bytes ≡ taken_of reader.now }
         ensures steps { result.steps ≡ A.answered self.now.analyst }
         ensures races { A.found self.now.analyst < 2 ^ 64 → result.races ≡ A.found self.now.analyst }
@@ -113,14 +116,14 @@ impl<A: Drop> Pass<A> {
     }
 
     // Reads and answers all batches, and says behind each how far it has come.
-    fn run<R, D: Read, V: Watch>(
+    fn run<R: Threads + Wait + Sync, D: Read, V: Watch>(
         &mut self,
         rt: &R,
         reader: &mut Device<D>,
         watcher: &mut V,
     ) -> Result<(), ReadFault>
     where
-        A: Analyst<R>,
+        A: Analyst,
         requires open { has_failed reader.old ≡ false }
         ensures ended { (asked : Asked) (told : Option (List ℕ)) → HasCome (A.stands self.old.analyst asked) told (D.remaining (inner_of reader.old)) self.old.lines self.old.trace
             → OnOk result (IsAnswered (A.stands self.new.analyst asked) told self.old.lines.place.limit self.new.trace.names) }
@@ -132,9 +135,9 @@ impl<A: Drop> Pass<A> {
         ensures taken { taken_of reader.new + taken_by self.old.lines.place ≤ taken_of reader.old + self.old.lines.place.limit + bytes_past_limit }
     {
         while self.turn(rt, reader)? {
-            watcher.come_to(self.progress::<R, D>(reader));
+            watcher.come_to(self.progress(reader));
         }
-        watcher.come_to(self.progress::<R, D>(reader));
+        watcher.come_to(self.progress(reader));
         Ok(())
     }
 }
@@ -144,25 +147,23 @@ impl<A: Drop> Pass<A> {
 ///
 /// # Errors
 /// The text's first fault, a failed read, or a want of memory wherever it is met.
-pub fn analyse<R, D: Read, V: Watch, A: Analyst<R> + Drop>(
+pub fn analyse<R: Threads + Wait + Sync, D: Read, V: Watch, A: Analyst + Drop>(
     rt: &R,
     alloc: Global,
     reader: &mut Device<D>,
-    byte_limit: u64,
-    keys: NameKeys,
+    options: &Options,
     analyst: A,
     watcher: &mut V,
 ) -> Result<Analysed<A>, ReadFault>
     requires reader { has_failed reader.old ≡ false }
-    requires limit { byte_limit ≤ most_bytes }
     ensures answered { (asked : Asked) → A.stands analyst asked no_steps
-        → IfOk result (λ found. IsAnswered (A.stands found.analyst asked) (D.remaining (inner_of reader.old)) byte_limit found.trace.names) }
+        → IfOk result (λ found. IsAnswered (A.stands found.analyst asked) (D.remaining (inner_of reader.old)) options.now.byte_limit found.trace.names) }
     ensures ending { (asked : Asked) → A.stands analyst asked no_steps → IfOk result (λ found. IfSome (D.remaining (inner_of reader.old)) (λ text. IsEndingOf text found.ending)) }
-    ensures fault { (asked : Asked) → A.stands analyst asked no_steps → IfErr result (λ why. IsFaultOfReading (D.remaining (inner_of reader.old)) byte_limit why) }
+    ensures fault { (asked : Asked) → A.stands analyst asked no_steps → IfErr result (λ why. IsFaultOfReading (D.remaining (inner_of reader.old)) options.now.byte_limit why) }
     ensures failed { HasFailedBy (has_failed reader.new) result }
-    ensures taken { taken_of reader.new ≤ taken_of reader.old + byte_limit + bytes_past_limit }
+    ensures taken { taken_of reader.new ≤ taken_of reader.old + options.now.byte_limit + bytes_past_limit }
 {
-    let mut pass = Pass::new::<R>(alloc, byte_limit, keys, analyst)?;
+    let mut pass = Pass::new(alloc, options, analyst)?;
     match pass.run(rt, reader, watcher) {
         Ok(()) => {
             let Pass {

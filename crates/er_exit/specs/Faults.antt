@@ -2,8 +2,8 @@
 use Rattle.std.specs.Prelude.{ℕ, Option, Some, None}
 use Rattle.er_load.specs.declared.faults.LoadFault.{LoadFault}
 use Rattle.er_load.specs.declared.faults.LoadFault.TheVariants as load
-use Rattle.er_text.specs.declared.faults.ReadFault.{ReadFault}
-use Rattle.er_text.specs.declared.faults.ReadFault.TheVariants as reading
+use Rattle.er_lines.specs.declared.faults.ReadFault.{ReadFault}
+use Rattle.er_lines.specs.declared.faults.ReadFault.TheVariants as reading
 use Rattle.er_exit.specs.declared.faults.Fault.{Fault}
 use Rattle.er_exit.specs.declared.faults.Fault.TheVariants.{Text, Suppressions, Memory, Read, ReadSuppressions, Refused, WorkerNotStarted, WorkerLost, Unsettled}
 

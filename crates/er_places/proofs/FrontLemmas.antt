@@ -4,16 +4,16 @@ use Rattle.er_event.specs.declared.steps.Step.{Step}
 use Rattle.er_text.proofs.GrowthLemmas.{grows_not, grows_on, line_grows}
 use Rattle.er_text.proofs.TraceLaws.{trace_read}
 use Rattle.er_text.specs.Batches.{HasRead, joined}
-use Rattle.er_text.specs.Inner.Lending.{lines_left}
-use Rattle.er_text.specs.Inner.Reading.{Continues, go_on, read_line, read_lines, read_plain}
+use Rattle.er_lines.specs.Lending.{lines_left}
+use Rattle.er_lines.specs.Reading.{Continues, go_on, read_line, read_lines, read_plain}
 use Rattle.er_text.specs.Inner.Traces.{Progress, at_front, finish, finish_as, progress, read_content}
-use Rattle.er_text.specs.Lines.{Placed, placed, width}
+use Rattle.er_lines.specs.Lines.{Placed, placed, width}
 use Rattle.er_text.specs.Named.{Grows}
 use Rattle.er_text.specs.Places.{Reached}
 use Rattle.er_text.specs.Trace.{IsTrace}
-use Rattle.er_text.specs.declared.faults.TextFault.{TextFault}
-use Rattle.er_text.specs.declared.faults.TextKind.{TextKind}
-use Rattle.er_text.specs.declared.faults.TextKind.TheVariants.{LineTooLong, TextTooLong}
+use Rattle.er_lines.specs.declared.faults.TextFault.{TextFault}
+use Rattle.er_lines.specs.declared.faults.TextKind.{TextKind}
+use Rattle.er_lines.specs.declared.faults.TextKind.TheVariants.{LineTooLong, TextTooLong}
 use Rattle.er_text.specs.declared.stages.Stage.{Stage}
 use Rattle.er_text.specs.declared.stages.Stage.TheVariants.{Front, Events, Ended}
 use Rattle.er_trace.specs.Trace.{Recording}

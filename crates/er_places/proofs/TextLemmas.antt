@@ -16,7 +16,7 @@ use Rattle.er_text.specs.Batches.{joined, HasRead, GivesBatch}
 use Rattle.er_text.specs.Named.{Grows, KeepsNames}
 use Rattle.er_text.specs.Places.{Reached}
 use Rattle.er_text.specs.Trace.{IsTrace}
-use Rattle.er_text.specs.declared.faults.ReadFault.{ReadFault}
+use Rattle.er_lines.specs.declared.faults.ReadFault.{ReadFault}
 use Rattle.er_text.specs.declared.reading.Batch.{Batch}
 use Rattle.er_text.specs.declared.reading.Batch.TheVariants.{More, End}
 use Rattle.er_trace.specs.Names.{NameTable, no_names}

@@ -9,7 +9,7 @@ use Rattle.er_places.specs.declared.place.Place.{Place}
 use Rattle.er_report.specs.Names.{HasLockNames}
 use Rattle.er_text.specs.Named.{KeepsNames}
 use Rattle.er_text.specs.Trace.{IsTrace, Tells}
-use Rattle.er_text.specs.declared.faults.ReadFault.{ReadFault}
+use Rattle.er_lines.specs.declared.faults.ReadFault.{ReadFault}
 use Rattle.er_trace.specs.Names.{NameTable}
 use Rattle.er_trace.specs.Trace.{Recording}
 

@@ -14,7 +14,8 @@ use Rattle.er_text.proofs.PieceGives.{past_piece, piece_few, piece_small}
 use Rattle.er_text.specs.Batches.{HasRead}
 use Rattle.er_text.specs.Named.{Grows, KeepsNames}
 use Rattle.er_text.specs.declared.verbs.Version.{Version}
-use Rattle.er_text.specs.Pieces.{AreWhole, IsPieceOf, ReadPiece, CanBeNumbered, IsEntered, IsNumbered, IsReady, MayBeAdded, StandsInFront}
+use Rattle.er_lines.specs.Lines.{AreWhole}
+use Rattle.er_text.specs.Pieces.{IsPieceOf, ReadPiece, CanBeNumbered, IsEntered, IsNumbered, IsReady, MayBeAdded, StandsInFront}
 use Rattle.er_text.specs.Places.{Reached, no_tail}
 use Rattle.er_reading.specs.Inner.Adding.{StandInFront, IsWhole, FitBehind, names_behind, AreEntered, AreNumbered, AreReady, MayAllBeAdded}
 use Rattle.er_reading.specs.Pieces.{ArePiecesOf}

@@ -6,7 +6,8 @@ use Rattle.er_trace.specs.Trace.{Recording}
 use Rattle.er_text.specs.Named.{Grows}
 use Rattle.er_text.proofs.GrowthLemmas.{grows_on}
 use Rattle.er_text.specs.declared.verbs.Version.{Version}
-use Rattle.er_text.specs.Pieces.{AreWhole, ReadPiece, IsPieceOf, StandsInFront}
+use Rattle.er_lines.specs.Lines.{AreWhole}
+use Rattle.er_text.specs.Pieces.{ReadPiece, IsPieceOf, StandsInFront}
 use Rattle.er_text.specs.Places.{Reached}
 use Rattle.er_reading.specs.Inner.Adding.{StandInFront}
 use Rattle.er_reading.specs.Pieces.{ArePiecesOf}

@@ -3,8 +3,8 @@ ghost use Rattle.std.specs.Prelude.{◌≡◌, ◌+◌, ◌≤◌, ◌<◌, ◌^
 ghost use Rattle.er_event.specs.declared.steps.Step.{Step};
 ghost use Rattle.er_reading.specs.Inner.Adding.{AreEntered, AreReady, FitBehind, IsWhole, MayAllBeAdded, StandInFront, names_behind};
 ghost use Rattle.er_text.specs.Batches.{HasRead};
-ghost use Rattle.er_text.specs.Inner.Lending.{taken_by};
-ghost use Rattle.er_text.specs.Lines.{bytes_past_limit};
+ghost use Rattle.er_lines.specs.Lending.{taken_by};
+ghost use Rattle.er_lines.specs.Lines.{bytes_past_limit};
 ghost use Rattle.er_text.specs.Named.{Grows};
 ghost use Rattle.er_text.specs.Pieces.{ReadPiece};
 ghost use Rattle.er_trace.specs.Names.{NameTable};
@@ -14,6 +14,9 @@ use er_text::{Piece, TraceReader};
 use er_trace::Trace;
 use std::alloc::AllocError;
 use std::thread::Threads;
+
+/// What was put into a trace, unless memory was refused.
+type Put = Result<(), AllocError>;
 
 /// How many pieces stand before the first of which not all was read.
 fn whole_count(pieces: &[Piece]) -> usize
@@ -29,7 +32,7 @@ fn whole_count(pieces: &[Piece]) -> usize
 }
 
 /// Adds the names of the pieces to a trace, in their order, and notes in each their numbers there and how many lines stand before it.
-fn enter_pieces(trace: &mut Trace, before: u64, pieces: &mut [Piece]) -> Result<(), AllocError>
+fn enter_pieces(trace: &mut Trace, before: u64, pieces: &mut [Piece]) -> Put
     requires { FitBehind before pieces.old }
     ensures names { OnOk result (trace.new ≡ record trace.old { names = names_behind trace.old.names pieces.old }) }
     ensures entered { OnOk result (AreEntered before trace.old.names pieces.old pieces.new) }
@@ -43,11 +46,7 @@ fn enter_pieces(trace: &mut Trace, before: u64, pieces: &mut [Piece]) -> Result<
 }
 
 /// Adds the steps of pieces that were numbered, and passes over their lines.
-fn add_numbered(
-    lines: &mut TraceReader,
-    trace: &mut Trace,
-    pieces: &[Piece],
-) -> Result<(), AllocError>
+fn add_numbered(lines: &mut TraceReader, trace: &mut Trace, pieces: &[Piece]) -> Put
     requires front { MayAllBeAdded lines.old trace.old pieces.now }
     requires within { lines.old.place.start ≤ lines.old.place.limit }
     requires most { taken_by lines.old.place ≤ lines.old.place.limit + bytes_past_limit }

@@ -3,7 +3,8 @@ ghost use Rattle.std.specs.Prelude.{◌≡◌, ◌+◌, ◌<◌, ◌≤◌, All,
 ghost use Rattle.std.specs.Thread.{IsSync};
 ghost use Rattle.er_reading.specs.Inner.Adding.{AreNumbered};
 ghost use Rattle.er_reading.specs.Pieces.{ArePiecesOf};
-ghost use Rattle.er_text.specs.Pieces.{AreWhole, CanBeNumbered};
+ghost use Rattle.er_lines.specs.Lines.{AreWhole};
+ghost use Rattle.er_text.specs.Pieces.{CanBeNumbered};
 
 use er_text::{Piece, Version};
 use memchr::memchr;

@@ -4,11 +4,11 @@ ghost use Rattle.er_device.specs.Device.{inner_of, has_failed, taken_of};
 ghost use Rattle.er_event.specs.declared.steps.Step.{Step};
 ghost use Rattle.er_text.specs.Batches.{HasRead, GivesBatch};
 ghost use Rattle.er_text.specs.Ending.{KnowsEnd, IsEndingOf};
-ghost use Rattle.er_text.specs.Inner.Lending.{taken_by};
-ghost use Rattle.er_text.specs.Lines.{bytes_past_limit};
+ghost use Rattle.er_lines.specs.Lending.{taken_by};
+ghost use Rattle.er_lines.specs.Lines.{bytes_past_limit};
 ghost use Rattle.er_text.specs.Named.{Grows};
 ghost use Rattle.er_text.specs.Places.{no_tail};
-ghost use Rattle.er_text.specs.Trace.{HasFailedBy};
+ghost use Rattle.er_lines.specs.Faults.{HasFailedBy};
 ghost use Rattle.er_trace.specs.Trace.{no_steps};
 
 use crate::adding::add_pieces;
@@ -33,7 +33,10 @@ const PIECE_BYTES: usize = 65_536;
 /// How many lines are read before those that are cut into pieces. The header is mostly among them.
 const FIRST_LINES: u32 = 64;
 
-/// How many lines a batch has if one thread reads them, or they can't be read in pieces.
+/// How many lines a batch has if there is one thread.
+const LINES_OF_ONE: u32 = 1_024;
+
+/// How many lines a batch has if there are several threads and the lines can't be read in pieces.
 const BATCH_LINES: u32 = 131_072;
 
 /// A reader of a trace text that gives its steps batch by batch, and reads each batch by several threads.
@@ -154,7 +157,7 @@ impl PieceReader {
         ensures most { taken_by self.new.place ≤ self.new.place.limit + bytes_past_limit }
     {
         if self.pieces.len() == 1 {
-            return self.lines.next_batch(reader, trace, BATCH_LINES);
+            return self.lines.next_batch(reader, trace, LINES_OF_ONE);
         }
         match self.lines.next_batch(reader, trace, FIRST_LINES)? {
             Batch::End => return Ok(Batch::End),

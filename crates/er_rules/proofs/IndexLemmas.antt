@@ -1,89 +1,167 @@
--- The first rule at a word or of a site while rules are added one by one.
-use Rattle.std.proofs.Common.{◌≡◌, ◌∙◌, ℕ, ◌+◌, ◌-◌, ◌≤◌, ◌<◌, min, Bool, true, false, cond, List, [], ◌∷◌, ◌++◌, length, take, drop, get_or, Option, Some, None, IfSome, refl, sym, ap, subst, arith, take-append-drop}
+-- The first rule whose words have both of two, or of a site, while rules are added one by one.
+use Rattle.std.proofs.Common.{◌≡◌, ◌∙◌, ℕ, ◌+◌, ◌-◌, ◌≤◌, ◌<◌, min, max, Bool, true, false, ◌&&◌, cond, zero, suc, nat_le, List, [], ◌∷◌, ◌++◌, length, take, drop, get_or, Option, Some, None, ◌⊎◌, inl, inr, refl, sym, ap, subst, arith, take-append-drop}
 use Rattle.std.specs.Option.{option_or}
-use Rattle.std.proofs.lemmas.List.{take_more, drop_more, get_or_read}
-use Rattle.er_rules.specs.declared.pieces.Border.{Border}
-use Rattle.er_rules.specs.Inner.Pieces.{rule_at, first_at}
-use Rattle.er_rules.specs.Inner.Index.{least_of}
+use Rattle.std.proofs.lemmas.List.{take_more, drop_more, take_all, get_or_append_left, get_or_push, length_push}
+use Rattle.std.proofs.lemmas.Bool.Decides.{nat_tests}
+use Rattle.er_event.specs.Span.{Span}
+use Rattle.er_rules.specs.declared.index.Entry.{Entry}
+use Rattle.er_rules.specs.declared.reach.Border.{Border}
+use Rattle.er_rules.specs.Targets.{span_of}
+use Rattle.er_rules.specs.Inner.Index.{first_of, has_both}
+use Rattle.er_rules.specs.Inner.Reach.{end_at}
 
-pub or-assoc : (a b c : Option ℕ) → option_or (option_or a b) c ≡ option_or a (option_or b c)
-or-assoc None b c = refl
-or-assoc (Some x) b c = refl
-
-or-none : (a : Option ℕ) → option_or a None ≡ a
+pub or-none : (a : Option ℕ) → option_or a None ≡ a
 or-none None = refl
 or-none (Some x) = refl
 
-pub first_at-none : (lists : List (List Border)) (w : ℕ) → lists ≡ [] → first_at lists w ≡ None
-unfolding first_at
-first_at-none lists w none = ap (λ ls. first_at ls w) none
+chosen : (b : Bool) (rule : ℕ) (x y z : Option ℕ) → x ≡ option_or y z → cond b (Some rule) x ≡ option_or (cond b (Some rule) y) z
+chosen true rule x y z e = refl
+chosen false rule x y z e = e
 
-pub first_at-append : (lists others : List (List Border)) (w : ℕ) → first_at (lists ++ others) w ≡ option_or (first_at lists w) (first_at others w)
-unfolding first_at
-first_at-append [] others w = refl
-first_at-append (pieces ∷ lists) others w = ap (λ o. option_or (rule_at pieces w) o) (first_at-append lists others w) ∙ sym (or-assoc (rule_at pieces w) (first_at lists w) (first_at others w))
+first_of-append : (entries others : List Entry) (lo hi : ℕ) → first_of (entries ++ others) lo hi ≡ option_or (first_of entries lo hi) (first_of others lo hi)
+unfolding first_of
+first_of-append [] others lo hi = refl
+first_of-append (e ∷ entries) others lo hi =
+    chosen (has_both (Some (span_of e.words)) lo hi) e.rule (first_of (entries ++ others) lo hi) (first_of entries lo hi) (first_of others lo hi) (first_of-append entries others lo hi)
 
-first_at-one : (pieces : List Border) (w : ℕ) → first_at (pieces ∷ []) w ≡ rule_at pieces w
-unfolding first_at
-first_at-one pieces w = or-none (rule_at pieces w)
+pub first_of-none : (entries : List Entry) (lo hi : ℕ) → entries ≡ [] → first_of entries lo hi ≡ None
+unfolding first_of
+first_of-none entries lo hi none = ap (λ es. first_of es lo hi) none
 
-pub first_at-push : (lists : List (List Border)) (pieces : List Border) (w : ℕ) → first_at (lists ++ pieces ∷ []) w ≡ option_or (first_at lists w) (rule_at pieces w)
-first_at-push lists pieces w = first_at-append lists (pieces ∷ []) w ∙ ap (λ o. option_or (first_at lists w) o) (first_at-one pieces w)
+first_of-one : (e : Entry) (lo hi : ℕ) → first_of (e ∷ []) lo hi ≡ cond (has_both (Some (span_of e.words)) lo hi) (Some e.rule) None
+unfolding first_of
+first_of-one e lo hi = refl
 
--- the last of the lists that are kept comes to the new pieces
-pub merged : (lists : List (List Border)) (kept : ℕ) (pieces both : List Border) (w : ℕ) → 0 < kept → kept ≤ length lists
-    → rule_at both w ≡ option_or (rule_at (get_or lists (kept - 1) []) w) (rule_at pieces w)
-    → option_or (first_at (take (kept - 1) lists) w) (rule_at both w) ≡ option_or (first_at (take kept lists) w) (rule_at pieces w)
-merged lists kept pieces both w some within over =
-    ap (λ o. option_or (first_at (take (kept - 1) lists) w) o) over
-    ∙ (sym (or-assoc (first_at (take (kept - 1) lists) w) (rule_at (get_or lists (kept - 1) []) w) (rule_at pieces w))
-    ∙ ap (λ o. option_or o (rule_at pieces w)) (sym (ap (λ n. first_at (take n lists) w) one_more ∙ (ap (λ ls. first_at ls w) (take_more lists (kept - 1) [] (omega arith)) ∙ first_at-push (take (kept - 1) lists) (get_or lists (kept - 1) []) w))))
+pub first_of-push : (entries : List Entry) (e : Entry) (lo hi : ℕ) → first_of (entries ++ e ∷ []) lo hi ≡ option_or (first_of entries lo hi) (cond (has_both (Some (span_of e.words)) lo hi) (Some e.rule) None)
+first_of-push entries e lo hi = first_of-append entries (e ∷ []) lo hi ∙ ap (λ o. option_or (first_of entries lo hi) o) (first_of-one e lo hi)
+
+-- the next entry has not both, or has them
+pub first_of-more : (entries : List Entry) (i lo hi : ℕ) (e : Entry) → i < length entries → first_of (take i entries) lo hi ≡ None → has_both (Some (span_of (get_or entries i e).words)) lo hi ≡ false
+    → first_of (take (i + 1) entries) lo hi ≡ None
+first_of-more entries i lo hi e within none fails =
+    ap (λ es. first_of es lo hi) (take_more entries i e within)
+    ∙ (first_of-push (take i entries) (get_or entries i e) lo hi ∙ (λ k. option_or (none k) (cond (fails k) (Some (get_or entries i e).rule) None)))
+
+first_of-front : (e : Entry) (others : List Entry) (lo hi : ℕ) → has_both (Some (span_of e.words)) lo hi ≡ true → first_of (e ∷ others) lo hi ≡ Some e.rule
+unfolding first_of
+first_of-front e others lo hi has = ap (λ b. cond b (Some e.rule) (first_of others lo hi)) has
+
+pub first_of-found : (entries : List Entry) (i lo hi : ℕ) (e : Entry) → i < length entries → first_of (take i entries) lo hi ≡ None → has_both (Some (span_of (get_or entries i e).words)) lo hi ≡ true
+    → Some (get_or entries i e).rule ≡ first_of entries lo hi
+first_of-found entries i lo hi e within none has = sym
+    (ap (λ es. first_of es lo hi) (sym (take-append-drop i entries)) ∙ (first_of-append (take i entries) (drop i entries) lo hi
+    ∙ ((λ k. option_or (none k) (first_of (drop_more entries i e within k) lo hi)) ∙ first_of-front (get_or entries i e) (drop (i + 1) entries) lo hi has)))
+
+pub first_of-all : (entries : List Entry) (i lo hi : ℕ) → length entries ≤ i → first_of (take i entries) lo hi ≡ None → None ≡ first_of entries lo hi
+first_of-all entries i lo hi all none = sym (ap (λ es. first_of es lo hi) (sym (take_all i entries all)) ∙ none)
+
+-- what the entries keep of one another: where each begins, and how far those from there on reach
+abbrev pub Start : List Entry → Type 0
+Start entries = (p : ℕ) (d : Entry) → p < length entries → (get_or entries p d).start ≤ p
+
+abbrev pub Reaching : List Entry → Type 0
+Reaching entries = (p k w : ℕ) (d e : Entry) → p < length entries → (get_or entries p d).start ≤ k → k ≤ p → (get_or entries k e).words.first ≤ w → (get_or entries k e).words.last < end_at (get_or entries p d).reach w
+
+last_fails : (a b c : Bool) → c ≡ false → (a && (b && c)) ≡ false
+last_fails true true c e = e
+last_fails true false c e = refl
+last_fails false b c e = refl
+
+not_both : (first last lo hi : ℕ) → (first ≤ lo → last < hi) → ((nat_le first lo && nat_le lo last) && (nat_le first hi && nat_le hi last)) ≡ false
+not_both first last lo hi short = by (nat_le first lo) refl
   where
-    one_more : kept ≡ (kept - 1) + 1
-    one_more = omega arith
+    by : (t : Bool) → nat_le first lo ≡ t → ((t && nat_le lo last) && (nat_le first hi && nat_le hi last)) ≡ false
+    by false before = refl
+    by true from =
+        let begins : first ≤ lo = grind (arith, nat_tests, from) in
+        let ends : last < hi = short begins in
+        let past : nat_le hi last ≡ false = grind (arith, nat_tests, ends) in
+        last_fails (nat_le lo last) (nat_le first hi) (nat_le hi last) past
 
--- no list before a place has a rule at the word, and that of the place has one, or none
-pub first_at-more : (lists : List (List Border)) (i : ℕ) (w : ℕ) → i < length lists → first_at (take i lists) w ≡ None → rule_at (get_or lists i []) w ≡ None → first_at (take (i + 1) lists) w ≡ None
-first_at-more lists i w within none here =
-    ap (λ ls. first_at ls w) (take_more lists i [] within) ∙ (first_at-push (take i lists) (get_or lists i []) w ∙ (λ k. option_or (none k) (here k)))
+-- an entry that reaches no further than before the last of the words: none of those that it stands for has both
+pub skipped : (entries : List Entry) (past width lo hi : ℕ) (d : Entry) → Reaching entries → past + width ≤ length entries → 0 < width → (get_or entries (past + width - 1) d).start ≤ past
+    → end_at (get_or entries (past + width - 1) d).reach lo ≤ hi → first_of (take past entries) lo hi ≡ None → first_of (take (past + width) entries) lo hi ≡ None
+skipped entries past width lo hi d reaches within some start short none = go width (omega arith)
+  where
+    go : (m : ℕ) → m ≤ width → first_of (take (past + m) entries) lo hi ≡ None
+    go zero less = ap (λ n. first_of (take n entries) lo hi) (omega arith) ∙ none
+    go (suc m) less =
+        let here : first_of (take (past + m + 1) entries) lo hi ≡ None =
+        first_of-more entries (past + m) lo hi d (omega arith) (go m (omega arith))
+        (not_both (get_or entries (past + m) d).words.first (get_or entries (past + m) d).words.last lo hi
+        (λ begins. omega (arith, short, reaches (past + width - 1) (past + m) lo d d (omega arith) (omega (arith, start)) (omega (arith, less)) begins))) in
+        ap (λ n. first_of (take n entries) lo hi) (omega arith) ∙ here
 
-pub first_at-found : (lists : List (List Border)) (i : ℕ) (w rule : ℕ) → i < length lists → first_at (take i lists) w ≡ None → rule_at (get_or lists i []) w ≡ Some rule → Some rule ≡ first_at lists w
-unfolding first_at
-first_at-found lists i w rule within none here = sym
-    (ap (λ ls. first_at ls w) (sym (take-append-drop i lists)) ∙ (first_at-append (take i lists) (drop i lists) w
-    ∙ ((λ k. option_or (none k) (first_at (drop_more lists i [] within k) w)) ∙ ap (λ o. option_or o (first_at (drop (i + 1) lists) w)) here)))
+-- what holds of each entry and of a new one
+at_push : (P : ℕ → Entry → Type 0) (entries : List Entry) (e d : Entry) → ((k : ℕ) → k < length entries → P k (get_or entries k d)) → P (length entries) e
+    → (k : ℕ) → k < length (entries ++ e ∷ []) → P k (get_or (entries ++ e ∷ []) k d)
+at_push P entries e d old new k within = by (cases k (length entries) (omega (arith, length_push entries e)))
+  where
+    cases : (m n : ℕ) → m < n + 1 → (m < n) ⊎ (n ≡ m)
+    cases m n less = grind arith
 
--- a rule that comes after all others counts where no other does, whether it takes a race by its site or by its word
-pub least-by_site : (site word : Option ℕ) (takes : Bool) (n : ℕ) → IfSome (least_of site word) (λ other. other < n)
-    → least_of (option_or site (cond takes (Some n) None)) word ≡ option_or (least_of site word) (cond takes (Some n) None)
-least-by_site site word false n before = ap (λ o. least_of o word) (or-none site) ∙ sym (or-none (least_of site word))
-least-by_site None None true n before = refl
-least-by_site None (Some w) true n before = let less : min n w ≡ w = omega (arith, before) in ap Some less
-least-by_site (Some s) None true n before = refl
-least-by_site (Some s) (Some w) true n before = refl
+    by : (k < length entries) ⊎ (length entries ≡ k) → P k (get_or (entries ++ e ∷ []) k d)
+    by (inl short) = subst (P k) (sym (get_or_append_left entries (e ∷ []) d k short)) (old k short)
+    by (inr last) = subst (P k) (sym (get_or_push entries e d k last)) (subst (λ n. P n e) last new)
 
-pub least-by_word : (site word : Option ℕ) (takes : Bool) (n : ℕ) → IfSome (least_of site word) (λ other. other < n)
-    → least_of site (option_or word (cond takes (Some n) None)) ≡ option_or (least_of site word) (cond takes (Some n) None)
-least-by_word site word false n before = ap (λ o. least_of site o) (or-none word) ∙ sym (or-none (least_of site word))
-least-by_word None None true n before = refl
-least-by_word None (Some w) true n before = refl
-least-by_word (Some s) None true n before = let less : min s n ≡ s = omega (arith, before) in ap Some less
-least-by_word (Some s) (Some w) true n before = refl
+pub start-push : (entries : List Entry) (e : Entry) → Start entries → e.start ≤ length entries → Start (entries ++ e ∷ [])
+start-push entries e starts own = λ p d. at_push (λ k x. x.start ≤ k) entries e d (λ k short. starts k d short) own p
 
-pub least-neither : (o : Option ℕ) → o ≡ option_or o None
-least-neither o = sym (or-none o)
+-- a new entry reaches as far as those from its start on, and as its own words
+pub record Covers (entries : List Entry) (words : Span) (start : ℕ) (reach : List Border) : Type 0 where
+  pub within : start ≤ length entries
+  pub front : (k w : ℕ) (e : Entry) → start ≤ k → k < length entries → (get_or entries k e).words.first ≤ w → (get_or entries k e).words.last < end_at reach w
+  pub own : (w : ℕ) → words.first ≤ w → words.last < end_at reach w
 
--- the same, as a loop knows it of the list at hand
-pub first_at-here : (items lists : List (List Border)) (i w rule : ℕ) (pieces : List Border) → items ≡ lists → i < length items → pieces ≡ get_or items i pieces → first_at (take i lists) w ≡ None → rule_at pieces w ≡ Some rule
-    → Some rule ≡ first_at lists w
-first_at-here items lists i w rule pieces same within read none here =
-    let short : i < length lists = subst (λ ls. i < length ls) same within in
-    let is : pieces ≡ get_or lists i [] = get_or_read items i pieces within read [] ∙ ap (λ ls. get_or ls i []) same in
-    first_at-found lists i w rule short none (ap (λ ps. rule_at ps w) (sym is) ∙ here)
+pub covers-one : (entries : List Entry) (words : Span) (start : ℕ) (reach : List Border) → start ≡ length entries → ((w : ℕ) → end_at reach w ≡ cond (nat_le words.first w) (words.last + 1) 0) → Covers entries words start reach
+covers-one entries words start reach all ends = record {
+  within = omega (arith, all);
+  front = λ k w e from within begins. absurd (omega (arith, all, from, within));
+  own = λ w begins.
+      let test : nat_le words.first w ≡ true = grind (arith, nat_tests, begins) in
+      let is : end_at reach w ≡ words.last + 1 = ends w ∙ ap (λ b. cond b (words.last + 1) 0) test in
+      omega (arith, is);
+}
 
-pub first_at-not_here : (items lists : List (List Border)) (i w : ℕ) (pieces : List Border) → items ≡ lists → i < length items → pieces ≡ get_or items i pieces → first_at (take i lists) w ≡ None → rule_at pieces w ≡ None
-    → first_at (take (i + 1) lists) w ≡ None
-first_at-not_here items lists i w pieces same within read none here =
-    let short : i < length lists = subst (λ ls. i < length ls) same within in
-    let is : pieces ≡ get_or lists i [] = get_or_read items i pieces within read [] ∙ ap (λ ls. get_or ls i []) same in
-    first_at-more lists i w short none (ap (λ ps. rule_at ps w) (sym is) ∙ here)
+pub covers-more : (entries : List Entry) (words : Span) (start next : ℕ) (reach both : List Border) (d : Entry) → Reaching entries → Start entries → Covers entries words start reach → 0 < start → next ≡ (get_or entries (start - 1) d).start
+    → ((w : ℕ) → end_at both w ≡ max (end_at (get_or entries (start - 1) d).reach w) (end_at reach w)) → Covers entries words next both
+covers-more entries words start next reach both d reaches starts so_far some is over =
+    let inside = so_far.within in
+    let low : (get_or entries (start - 1) d).start ≤ start - 1 = starts (start - 1) d (omega (arith, inside, some)) in
+    record {
+      within = omega (arith, is, low, inside);
+      front = λ k w e from within begins. by k w e from within begins (cases k start);
+      own = λ w begins. omega (arith, over w, so_far.own w begins);
+    }
+  where
+    cases : (m n : ℕ) → (m < n) ⊎ (n ≤ m)
+    cases m n = grind arith
+
+    by : (k w : ℕ) (e : Entry) → next ≤ k → k < length entries → (get_or entries k e).words.first ≤ w → (k < start) ⊎ (start ≤ k) → (get_or entries k e).words.last < end_at both w
+    by k w e from within begins (inl before) =
+        let inside = so_far.within in
+        omega (arith, over w, reaches (start - 1) k w d e (omega (arith, inside, some)) (omega (arith, is, from)) (omega (arith, before)) begins)
+    by k w e from within begins (inr behind) = omega (arith, over w, so_far.front k w e behind within begins)
+
+pub reaching-push : (entries : List Entry) (e : Entry) → Reaching entries → Covers entries (span_of e.words) e.start e.reach → Reaching (entries ++ e ∷ [])
+reaching-push entries e reaches covers = λ p k w d f below from upto begins.
+    at_push (λ q x. (x.start ≤ k → k ≤ q → (get_or (entries ++ e ∷ []) k f).words.first ≤ w → (get_or (entries ++ e ∷ []) k f).words.last < end_at x.reach w)) entries e d
+    (λ q short from' upto' begins'.
+    let same = get_or_append_left entries (e ∷ []) f k (omega (arith, short, upto')) in
+    subst (λ (x : Entry). x.words.first ≤ w → x.words.last < end_at (get_or entries q d).reach w) (sym same) (reaches q k w d f short from' upto') begins')
+    (λ from' upto' begins'.
+    at_push (λ m y. (e.start ≤ m → y.words.first ≤ w → y.words.last < end_at e.reach w)) entries e f
+    (λ m short from'' begins''. covers.front m w f from'' short begins'') (λ from'' begins''. covers.own w begins'') k (omega (arith, length_push entries e, upto')) from' begins')
+    p below from upto begins
+
+pub both_true : (a b : Bool) → a ≡ true → b ≡ true → (a && b) ≡ true
+both_true true b is also = also
+both_true false b is also = is
+
+pub first_false : (a b : Bool) → a ≡ false → (a && b) ≡ false
+first_false true b is = absurd (cc)
+first_false false b is = refl
+
+pub second_false : (a b : Bool) → b ≡ false → (a && b) ≡ false
+second_false true b is = is
+second_false false b is = refl

@@ -1,3 +1,6 @@
 pub mod IndexLemmas
-pub mod PieceLemmas
+pub mod ReachLemmas
 pub mod MatchLemmas
+pub mod RuleLaws
+pub mod PlaceLemmas
+pub mod RuleTexts

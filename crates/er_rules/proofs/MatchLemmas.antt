@@ -1,5 +1,5 @@
 -- The first rule that takes a race, while rules are added one by one.
-use Rattle.std.proofs.Common.{◌≡◌, ◌∙◌, ◌≤◌, ◌+◌, ℕ, Bool, true, false, not, cond, nat_eq, nat_lt, List, [], ◌∷◌, ◌++◌, map, length, position, Option, Some, None, refl, sym, ap, ap₂, arith}
+use Rattle.std.proofs.Common.{◌≡◌, ◌∙◌, ◌≤◌, ◌+◌, ℕ, suc, min, Bool, true, false, not, ◌&&◌, ◌||◌, cond, option_map, nat_eq, nat_lt, List, [], ◌∷◌, ◌++◌, map, length, position, Option, Some, None, refl, sym, subst, ap, ap₂, arith}
 use Rattle.std.specs.List.{position_or_len}
 use Rattle.std.specs.Option.{option_or}
 use Rattle.std.proofs.lemmas.List.{length_push, map_push, length-map}
@@ -7,7 +7,10 @@ use Rattle.std.proofs.lemmas.List.Folds.{position_or_len_push}
 use Rattle.std.proofs.lemmas.List.Sums.{prefix_len-le-length}
 use borrow.Author.Tests.{eqb-true, eqb-false, lt-ltb, le-ltb}
 use Rattle.er_rules.specs.declared.rules.Rule.{Rule}
-use Rattle.er_rules.specs.Targets.{target_of, takes, matching_rule}
+use Rattle.std.proofs.lemmas.Bool.Decides.{nat_tests}
+use Rattle.std.specs.Str.{bytes_eq}
+use Rattle.er_rules.specs.Targets.{Target, AtSite, AtWords, target_of, same_site, is_among, takes, takes_reuse, matching_rule, matching_reuse_rule}
+use Rattle.er_rules.specs.Inner.Index.{least_of, is_of_site, is_of_words}
 
 one_more : (n l : ℕ) (passes same : Bool) → n ≤ l → nat_eq n l ≡ same
     → cond (nat_lt (cond same (l + cond passes 0 1) n) (l + 1)) (Some (cond same (l + cond passes 0 1) n)) None ≡ option_or (cond (nat_lt n l) (Some n) None) (cond passes (Some l) None)
@@ -26,15 +29,80 @@ position-push p xs y =
     (λ k. cond (nat_lt (position_or_len_push p xs y k) (length_push xs y k)) (Some (position_or_len_push p xs y k)) None)
     ∙ one_more (position_or_len p xs) (length xs) (p y) (nat_eq (position_or_len p xs) (length xs)) (prefix_len-le-length _ xs) refl
 
-pub matching_rule-push : (rules : List Rule) (rule : Rule) (site : Option (List ℕ)) (word : ℕ)
-    → matching_rule (map target_of (rules ++ rule ∷ [])) site word ≡ option_or (matching_rule (map target_of rules) site word) (cond (takes (target_of rule) site word) (Some (length rules)) None)
-matching_rule-push rules rule site word =
-    ap (λ ts. matching_rule ts site word) (map_push target_of rules rule) ∙ (position-push (λ target. takes target site word) (map target_of rules) (target_of rule)
-    ∙ ap (λ n. option_or (matching_rule (map target_of rules) site word) (cond (takes (target_of rule) site word) (Some n) None)) (length-map rules target_of))
+pub position-pushed : (p : Target → Bool) (rules : List Rule) (rule : Rule) → position p (map target_of (rules ++ rule ∷ [])) ≡ option_or (position p (map target_of rules)) (cond (p (target_of rule)) (Some (length rules)) None)
+position-pushed p rules rule =
+    ap (λ ts. position p ts) (map_push target_of rules rule) ∙ (position-push p (map target_of rules) (target_of rule)
+    ∙ ap (λ n. option_or (position p (map target_of rules)) (cond (p (target_of rule)) (Some n) None)) (length-map rules target_of))
 
-position_or_len-map : {X Y : Type 0} (p : Y → Bool) (f : X → Y) (xs : List X) → position_or_len p (map f xs) ≡ position_or_len (λ x. p (f x)) xs
-position_or_len-map p f [] = refl
-position_or_len-map p f (x ∷ xs) = ap (λ n. cond (not (p (f x))) (1 + n) 0) (position_or_len-map p f xs)
+abbrev later : Option ℕ → Option ℕ
+later o = option_map (λ n. 1 + n) o
 
-pub position-map : {X Y : Type 0} (p : Y → Bool) (f : X → Y) (xs : List X) → position p (map f xs) ≡ position (λ x. p (f x)) xs
-position-map p f xs = ap₂ (λ i n. cond (nat_lt i n) (Some i) None) (position_or_len-map p f xs) (length-map xs f)
+later-cond : (t : Bool) (i : ℕ) → cond t (Some (1 + i)) None ≡ later (cond t (Some i) None)
+later-cond true i = refl
+later-cond false i = refl
+
+step : (b : Bool) (i l : ℕ) → cond (nat_lt (cond (not b) (1 + i) 0) (suc l)) (Some (cond (not b) (1 + i) 0)) None ≡ cond b (Some 0) (later (cond (nat_lt i l) (Some i) None))
+step true i l = ap (λ t. cond t (Some 0) None) (lt-ltb 0 (suc l) (omega arith))
+step false i l = let same : nat_lt (1 + i) (suc l) ≡ nat_lt i l = grind (arith, nat_tests) in ap (λ t. cond t (Some (1 + i)) None) same ∙ later-cond (nat_lt i l) i
+
+position-cons : {X : Type 0} (p : X → Bool) (x : X) (xs : List X) → position p (x ∷ xs) ≡ cond (p x) (Some 0) (later (position p xs))
+position-cons p x xs = step (p x) (position_or_len p xs) (length xs)
+
+either : (a b : Bool) (m n : Option ℕ) → cond (a || b) (Some 0) (later (least_of m n)) ≡ least_of (cond a (Some 0) (later m)) (cond b (Some 0) (later n))
+either true true m n = refl
+either true false m None = refl
+either true false m (Some n) = let low : 0 ≡ min 0 (1 + n) = omega arith in ap Some low
+either false true None n = refl
+either false true (Some m) n = let low : 0 ≡ min (1 + m) 0 = omega arith in ap Some low
+either false false None n = refl
+either false false (Some m) None = refl
+either false false (Some m) (Some n) = let both : 1 + min m n ≡ min (1 + m) (1 + n) = omega arith in ap Some both
+
+-- the first that has one of two properties is the lesser of the first that has one and the first that has the other
+position-or : {X : Type 0} (p q : X → Bool) (xs : List X) → position (λ x. p x || q x) xs ≡ least_of (position p xs) (position q xs)
+position-or p q [] = refl
+position-or p q (x ∷ xs) =
+    position-cons (λ y. p y || q y) x xs ∙ (ap (λ o. cond (p x || q x) (Some 0) (later o)) (position-or p q xs)
+    ∙ (either (p x) (q x) (position p xs) (position q xs) ∙ sym (ap₂ least_of (position-cons p x xs) (position-cons q x xs))))
+
+or-false : (b : Bool) → b ≡ (b || false)
+or-false true = refl
+or-false false = refl
+
+and-same : (b : Bool) → b ≡ (b && b)
+and-same true = refl
+and-same false = refl
+
+takes_is : (t : Target) (site : Option (List ℕ)) (word : ℕ) → takes t site word ≡ (is_of_site t site || is_of_words t word word)
+takes_is (AtSite name) site word = or-false (same_site name site)
+takes_is (AtWords words) site word = and-same (is_among words word)
+
+reuse_is : (t : Target) (site : List ℕ) (lo hi : ℕ) → takes_reuse t (Some site) lo hi ≡ (is_of_site t (Some site) || is_of_words t lo hi)
+reuse_is (AtSite None) site lo hi = refl
+reuse_is (AtSite (Some name)) site lo hi = or-false (bytes_eq name site)
+reuse_is (AtWords words) site lo hi = refl
+
+nowhere_is : (t : Target) (lo hi : ℕ) → takes_reuse t None lo hi ≡ is_of_words t lo hi
+nowhere_is (AtSite None) lo hi = refl
+nowhere_is (AtSite (Some name)) lo hi = refl
+nowhere_is (AtWords words) lo hi = refl
+
+abbrev pub first_by_site : List Target → Option (List ℕ) → Option ℕ
+first_by_site targets site = position (λ target. is_of_site target site) targets
+
+abbrev pub first_by_words : List Target → ℕ → ℕ → Option ℕ
+first_by_words targets lo hi = position (λ target. is_of_words target lo hi) targets
+
+-- the first rule that takes a race, by the first of its site and the first of its words
+pub matching_is : (targets : List Target) (site : Option (List ℕ)) (word : ℕ) → least_of (first_by_site targets site) (first_by_words targets word word) ≡ matching_rule targets site word
+matching_is targets site word = sym ((λ k. position (λ t. takes_is t site word k) targets) ∙ position-or (λ t. is_of_site t site) (λ t. is_of_words t word word) targets)
+
+matching_reuse_is : (targets : List Target) (site : List ℕ) (lo hi : ℕ) → least_of (first_by_site targets (Some site)) (first_by_words targets lo hi) ≡ matching_reuse_rule targets (Some site) lo hi
+matching_reuse_is targets site lo hi = sym ((λ k. position (λ t. reuse_is t site lo hi k) targets) ∙ position-or (λ t. is_of_site t (Some site)) (λ t. is_of_words t lo hi) targets)
+
+pub matching_nowhere_is : (targets : List Target) (lo hi : ℕ) → first_by_words targets lo hi ≡ matching_reuse_rule targets None lo hi
+matching_nowhere_is targets lo hi = sym (λ k. position (λ t. nowhere_is t lo hi k) targets)
+
+pub matching_reuse_at : (targets : List Target) (site : Option (List ℕ)) (name : List ℕ) (lo hi : ℕ) → site ≡ Some name → least_of (first_by_site targets site) (first_by_words targets lo hi) ≡ matching_reuse_rule targets site lo hi
+matching_reuse_at targets site name lo hi is =
+    subst (λ (s : Option (List ℕ)). least_of (first_by_site targets s) (first_by_words targets lo hi) ≡ matching_reuse_rule targets s lo hi) (sym is) (matching_reuse_is targets name lo hi)

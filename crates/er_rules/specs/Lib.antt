@@ -1,3 +1,4 @@
 pub mod Inner
 pub mod Rules
 pub mod Targets
+pub mod Texts

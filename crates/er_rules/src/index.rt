@@ -1,62 +1,102 @@
-//! Rules, looked up by site and by word.
-ghost use Rattle.std.specs.Prelude.{◌≡◌, ℕ, List, ◌<◌, ◌≤◌, cond, Option, option_copied, Some, None, option_map, string_bytes, bytes_eq, OnOk, OnErr, IfSome};
+//! Rules, looked up by site and by words.
+ghost use Rattle.std.specs.Prelude.{◌≡◌, ℕ, List, ◌<◌, ◌≤◌, cond, get_or, length, take, Option, option_copied, Some, None, option_map, string_bytes, bytes_eq, OnOk, OnErr, IfSome};
+ghost use Rattle.std.proofs.Props.{props};
 ghost use Rattle.std.specs.Option.{option_or};
 ghost use Rattle.std.specs.BTreeMap.{get_by_text};
-ghost use Rattle.er_rules.specs.Targets.{span_of, target_of, takes, same_site, is_among};
-ghost use Rattle.er_rules.specs.Inner.Pieces.{first_at};
-ghost use Rattle.er_rules.specs.Inner.Index.{least_of};
+ghost use Rattle.er_rules.specs.declared.index.Entry.{Entry};
+ghost use Rattle.er_rules.specs.Targets.{span_of, target_of, same_site};
+ghost use Rattle.er_rules.specs.Inner.Index.{least_of, first_of, has_both, is_of_site, is_of_words};
+ghost use Rattle.er_rules.specs.Inner.Reach.{end_at};
 
-use crate::pieces::Pieces;
+use crate::Put;
+use crate::reach::Reach;
 use crate::rules::{Rule, WordSpan};
 use er_event::Word;
-use std::alloc::{AllocError, Global};
+use std::alloc::Global;
 use std::collections::BTreeMap;
 
-/// The rules of words, in lists of pieces. Each list has earlier rules than the next, and at least twice as many borders. So there are
-/// few lists, and a rule moves to a longer list only a few times.
+/// A rule of words, and how far it and those in front of it reach from `start` on, as in a binary indexed tree.
+#[derive(Drop)]
+struct Entry {
+    words: WordSpan,
+    rule: usize,
+    start: usize,
+    reach: Reach,
+}
+
+/// The rules of words, in their order.
 #[derive(Drop)]
 struct WordIndex {
-    lists: Vec<Pieces>,
+    entries: Vec<Entry>,
+    ghost starts: { (p : ℕ) (d : Entry) → p < length entries.items → (get_or entries.items p d).start ≤ p } by { Prim.hlevel props },
+    ghost reaches: { (p k w : ℕ) (d e : Entry) → p < length entries.items → (get_or entries.items p d).start ≤ k → k ≤ p → (get_or entries.items k e).words.first ≤ w
+        → (get_or entries.items k e).words.last < end_at (get_or entries.items p d).reach w } by { Prim.hlevel props },
 }
 
 impl WordIndex {
-    ghost use Rattle.er_rules.specs.Inner.Pieces.{first_at};
-
     fn new(alloc: Global) -> WordIndex
-        ensures { (w : ℕ) → first_at result.lists.items w ≡ None }
+        ensures { (lo hi : ℕ) → first_of result.entries.items lo hi ≡ None }
     {
         WordIndex {
-            lists: Vec::new(alloc),
+            entries: Vec::new(alloc),
         }
     }
 
     /// Adds a rule that counts where no earlier one does.
-    fn push(&mut self, alloc: Global, words: WordSpan, rule: usize) -> Result<(), AllocError>
-        ensures ok { OnOk result ((w : ℕ) → first_at self.new.lists.items w ≡ option_or (first_at self.old.lists.items w) (cond (is_among (Some (span_of words)) w) (Some rule) None)) }
-        ensures err { OnErr result ((w : ℕ) → first_at self.new.lists.items w ≡ first_at self.old.lists.items w) }
+    fn push(&mut self, alloc: Global, words: WordSpan, rule: usize) -> Put
+        ensures ok { OnOk result ((lo hi : ℕ) → first_of self.new.entries.items lo hi ≡ option_or (first_of self.old.entries.items lo hi) (cond (has_both (Some (span_of words)) lo hi) (Some rule) None)) }
+        ensures err { OnErr result ((lo hi : ℕ) → first_of self.new.entries.items lo hi ≡ first_of self.old.entries.items lo hi) }
     {
-        let mut pieces = Pieces::of_words(alloc, words, rule)?;
-        self.lists.reserve(1)?;
-        // A list that has no more borders than the new one joins it, so that lists stay few.
-        let mut kept = self.lists.len();
-        while kept > 0 && self.lists[kept - 1].len() <= pieces.len() {
-            pieces = Pieces::over(alloc, &self.lists[kept - 1], &pieces)?;
-            kept -= 1;
+        self.entries.reserve(1)?;
+        let place = self.entries.len();
+        let mut start = place;
+        let mut reach = Reach::of_words(alloc, &words)?;
+        // The rules that the entry in front stands for join this one, if they are as many as it stands for.
+        while start > 0 && start - self.entries[start - 1].start == place - start + 1 {
+            let before = &self.entries[start - 1];
+            reach = Reach::over(alloc, &before.reach, &reach)?;
+            start = before.start;
         }
-        self.lists.truncate(kept);
-        let pushed: Result<_, _> = self.lists.push(pieces);
+        let pushed: Result<_, _> = self.entries.push(Entry {
+            words,
+            rule,
+            start,
+            reach,
+        });
         pushed.unwrap();
         Ok(())
     }
 
-    /// The first rule that takes a word.
-    fn rule_at(&self, word: u64) -> Option<usize>
-        ensures { result ≡ first_at self.now.lists.items word }
+    /// So many of the rules in front have not both words among theirs, and the next one has, if there is one. Of the last no contract speaks.
+    fn count_past(&self, lo: u64, hi: u64) -> usize
+        ensures within { result ≤ length self.now.entries.items }
+        ensures none { first_of (take result self.now.entries.items) lo hi ≡ None }
     {
-        for pieces in &self.lists {
-            if let Some(rule) = pieces.rule_at(word) {
-                return Some(rule);
+        let mut past = 0;
+        let mut width = 1usize << 62;
+        while width > 0 {
+            if width <= self.entries.len() - past {
+                let entry = &self.entries[past + width - 1];
+                if entry.start <= past && entry.reach.end_at(lo) <= hi {
+                    past += width;
+                }
             }
+            width /= 2;
+        }
+        past
+    }
+
+    /// The first rule that has both words among its own.
+    fn rule_of(&self, lo: u64, hi: u64) -> Option<usize>
+        ensures { result ≡ first_of self.now.entries.items lo hi }
+    {
+        let mut past = self.count_past(lo, hi);
+        while past < self.entries.len() {
+            let entry = &self.entries[past];
+            if entry.words.contains(lo) && entry.words.contains(hi) {
+                return Some(entry.rule);
+            }
+            past += 1;
         }
         None
     }
@@ -82,7 +122,7 @@ impl SiteIndex {
     }
 
     /// Adds a rule that counts unless an earlier one has its site.
-    fn push(&mut self, name: &Option<String>, rule: usize) -> Result<(), AllocError>
+    fn push(&mut self, name: &Option<String>, rule: usize) -> Put
         ensures ok { OnOk result ((site : Option (List ℕ)) → site_rule self.new site ≡ option_or (site_rule self.old site) (cond (same_site (option_map string_bytes name.now) site) (Some rule) None)) }
         ensures err { OnErr result ((site : Option (List ℕ)) → site_rule self.new site ≡ site_rule self.old site) }
     {
@@ -106,11 +146,7 @@ impl SiteIndex {
     }
 }
 
-fn push_name(
-    named: &mut BTreeMap<String, usize>,
-    name: &String,
-    rule: usize,
-) -> Result<(), AllocError>
+fn push_name(named: &mut BTreeMap<String, usize>, name: &String, rule: usize) -> Put
     ensures ok { OnOk result ((q : List ℕ) → get_by_text named.new q ≡ option_or (get_by_text named.old q) (cond (bytes_eq (string_bytes name.now) q) (Some rule) None)) }
     ensures err { OnErr result ((q : List ℕ) → get_by_text named.new q ≡ get_by_text named.old q) }
 {
@@ -121,8 +157,8 @@ fn push_name(
     Ok(())
 }
 
-/// Which rule is the first to take a race, by the site and the word of its access. The time of a look-up grows with the square of the
-/// logarithm of the number of rules, whatever the rules are.
+/// Which rule is the first to take a race, by its site and its words. The time of a look-up grows with the square of the logarithm of the number
+/// of rules, whatever the rules are.
 #[derive(Drop)]
 pub(crate) struct RuleIndex {
     sites: SiteIndex,
@@ -131,11 +167,12 @@ pub(crate) struct RuleIndex {
 }
 
 impl RuleIndex {
-    ghost use Rattle.er_rules.specs.Inner.Rules.{rule_in};
+    ghost use Rattle.er_rules.specs.Inner.Rules.{rule_of_site, rule_of_words};
 
     /// No rule takes a race.
     pub(crate) fn new(alloc: Global) -> RuleIndex
-        ensures { (site : Option (List ℕ)) (w : ℕ) → rule_in result site w ≡ None }
+        ensures sites { (site : Option (List ℕ)) → rule_of_site result site ≡ None }
+        ensures words { (lo hi : ℕ) → rule_of_words result lo hi ≡ None }
     {
         RuleIndex {
             sites: SiteIndex::new(alloc),
@@ -145,10 +182,11 @@ impl RuleIndex {
     }
 
     /// Adds a rule that comes after all others.
-    pub(crate) fn push(&mut self, rule: &Rule, number: usize) -> Result<(), AllocError>
-        requires { (site : Option (List ℕ)) (w : ℕ) → IfSome (rule_in self.old site w) (λ other. other < number) }
-        ensures ok { OnOk result ((site : Option (List ℕ)) (w : ℕ) → rule_in self.new site w ≡ option_or (rule_in self.old site w) (cond (takes (target_of rule.now) site w) (Some number) None)) }
-        ensures err { OnErr result ((site : Option (List ℕ)) (w : ℕ) → rule_in self.new site w ≡ rule_in self.old site w) }
+    pub(crate) fn push(&mut self, rule: &Rule, number: usize) -> Put
+        ensures sites { OnOk result ((site : Option (List ℕ)) → rule_of_site self.new site ≡ option_or (rule_of_site self.old site) (cond (is_of_site (target_of rule.now) site) (Some number) None)) }
+        ensures words { OnOk result ((lo hi : ℕ) → rule_of_words self.new lo hi ≡ option_or (rule_of_words self.old lo hi) (cond (is_of_words (target_of rule.now) lo hi) (Some number) None)) }
+        ensures err_sites { OnErr result ((site : Option (List ℕ)) → rule_of_site self.new site ≡ rule_of_site self.old site) }
+        ensures err_words { OnErr result ((lo hi : ℕ) → rule_of_words self.new lo hi ≡ rule_of_words self.old lo hi) }
     {
         match rule {
             Rule::Site(name) => self.sites.push(name, number),
@@ -157,11 +195,18 @@ impl RuleIndex {
         }
     }
 
-    /// The first rule that takes a race of an access to the word, at the site of this name or at the missing one.
-    pub(crate) fn rule_of(&self, site: Option<&str>, word: Word) -> Option<usize>
-        ensures { result ≡ rule_in self.now (option_copied site.entry) word }
+    /// The first rule of the site of this name or of the missing one, or whose words have both of these.
+    pub(crate) fn rule_of(&self, site: Option<&str>, lo: Word, hi: Word) -> Option<usize>
+        ensures { result ≡ least_of (rule_of_site self.now (option_copied site.entry)) (rule_of_words self.now lo hi) }
     {
-        lesser(self.sites.rule_of(site), self.words.rule_at(word.number()))
+        lesser(self.sites.rule_of(site), self.of_words(lo, hi))
+    }
+
+    /// The first rule whose words have both of these.
+    pub(crate) fn of_words(&self, lo: Word, hi: Word) -> Option<usize>
+        ensures { result ≡ rule_of_words self.now lo hi }
+    {
+        self.words.rule_of(lo.number(), hi.number())
     }
 }
 

@@ -1,12 +1,13 @@
-//! Rules that keep races out of a report.
+//! Rules that keep races out of a report, and the texts that write them.
 //!
 //! Begin with [`Suppressions`], a list of rules in order. A [`Rule`] takes races by the site of the access or by its word, and the
 //! first rule that takes a race is the one that counts it. Sites go by their names, since rules are written in another text than
-//! the trace is.
+//! the trace is. [`read_suppressions`] reads them from a text.
 //!
-//! What it promises, by the names of clauses: a rule takes what the definitions say (`takes`), the rule that is found is the first
-//! that does (`matching_rule`), and a push that found no memory changed nothing (`err`). Sites are looked up in a map, and words in pieces
-//! of the line of words that each have their first rule, so that many rules cost little more than a few.
+//! What it promises, by the names of clauses: the rule that is found is the first that takes the race, as the definitions say
+//! (`matching_rule`), and a push that found no memory changed nothing (`err`). Sites are looked up in a map, and words in a binary indexed tree
+//! of how far the words of rules reach, so that many rules cost little more than a few. A text is its rules or has a fault, by its grammar
+//! (`told`, `rules_or_fault`).
 //!
 //! ```
 //! let mut suppressions = Suppressions::new(alloc);
@@ -18,8 +19,18 @@
 //! ```
 #![tactic(auto)]
 
+pub use laws::rules_or_fault;
 pub use rules::{Rule, Suppressions, WordSpan};
+pub use texts::read_suppressions;
 
 mod index;
-mod pieces;
+mod laws;
+mod reach;
 mod rules;
+mod texts;
+
+/// What was put into a list of rules, unless memory was refused.
+type Put = Result<(), std::alloc::AllocError>;
+
+/// What was read, unless a fault ended it.
+type Done = Result<(), er_lines::ReadFault>;

@@ -1,5 +1,5 @@
 -- The reports of the steps that were answered are those of the text, and a stop of an analysis is a fault at one of its steps.
-use Rattle.std.proofs.Common.{◌≡◌, ◌∙◌, ℕ, true, false, List, Option, Some, None, IfSome, refl, sym, ap, subst}
+use Rattle.std.proofs.Common.{◌≡◌, ◌∙◌, ◌&&◌, ℕ, Bool, true, false, List, Option, Some, None, IfSome, refl, sym, ap, subst}
 use Rattle.std.specs.List.{All}
 use Rattle.er_batch.specs.Analysts.{Asked, HasRunFor, IsAnswered, IsFaultOfReading, Ran}
 use Rattle.er_damage.specs.Standing.{Inspected}
@@ -12,16 +12,19 @@ use Rattle.er_report.specs.Reports.{asks_locks, asks_order}
 use Rattle.er_report.specs.declared.report.Report.{Report}
 use Rattle.er_report.specs.declared.reports.Analysis.{Analysis}
 use Rattle.er_report.specs.declared.reports.Analysis.TheVariants.{Lockset, HappensBefore, Both}
-use Rattle.er_run.specs.Faults.{IsFaultOfText, StopsFor, fault_of_room, fault_of_stop}
+use Rattle.er_parallel.specs.Faults.{MayFail}
+use Rattle.er_parallel.specs.declared.faults.ReplayFault.{ReplayFault}
+use Rattle.er_parallel.specs.declared.faults.ReplayFault.TheVariants as replaying
+use Rattle.er_run.specs.Faults.{IsFaultOfText, StopsFor, fault_of, fault_of_room, fault_of_stop}
 use Rattle.er_run.specs.Inner.Inspected.{IsInspected}
-use Rattle.er_run.specs.Inner.Outcomes.{AllStand, IsRunBuilt}
+use Rattle.er_run.specs.Inner.Outcomes.{AreBuilt, IsRunBuilt}
 use Rattle.er_run.specs.declared.fault.RunFault.TheVariants.{Read}
 use Rattle.er_text.specs.Trace.{IsTrace}
-use Rattle.er_text.specs.declared.faults.ReadFault.{ReadFault}
-use Rattle.er_text.specs.declared.faults.ReadFault.TheVariants as reading
+use Rattle.er_lines.specs.declared.faults.ReadFault.{ReadFault}
+use Rattle.er_lines.specs.declared.faults.ReadFault.TheVariants as reading
 use Rattle.er_trace.specs.Names.{NameTable}
 use Rattle.er_trace.specs.Trace.{Recording}
-use Rattle.er_unordered.specs.Ordered.{OrderRan}
+use Rattle.er_unordered.specs.Reports.{has_order}
 use Rattle.er_unordered.specs.Stops.{IsStopIn}
 use Rattle.er_clock.specs.declared.clock.NoTick.{NoTick}
 use Rattle.er_clock.specs.declared.clock.NoTick.TheVariants as order
@@ -90,16 +93,40 @@ module _ (asked : Asked) (r : Recording) (ran : Ran) (run : HasRunFor ran asked 
 -- happens-before has stopped at a step of the text
 pub order-fault : (analysis : Analysis) (told : Option (List ℕ)) (limit : ℕ) (r : Recording) (why : NoTick) → asks_order analysis ≡ true → IfSome told (λ text. IsTrace text limit r)
     → IsStopIn r.steps why → IsFaultOfText analysis told limit (fault_of_stop why)
-order-fault analysis None limit r order.CountFull orders trace is = (orders, tt)
-order-fault analysis None limit r order.ThreadsFull orders trace is = (orders, tt)
-order-fault analysis (Some text) limit r order.CountFull orders trace is = (orders, record { recording = r; trace = trace; full = is })
-order-fault analysis (Some text) limit r order.ThreadsFull orders trace is = (orders, record { recording = r; trace = trace; full = is })
+order-fault analysis None limit r (order.Beyond beyond) orders trace is = (orders, tt)
+order-fault analysis (Some text) limit r (order.Beyond beyond) orders trace is = (orders, record { recording = r; trace = trace; full = is })
 order-fault analysis told limit r order.OutOfMemory orders trace is = tt
 
+-- the report of several workers is that of the text
+pub crew-built : (asked : Asked) (r : Recording) (report : Report) → asked.analysis ≡ Lockset → summary report ≡ report_of r asked.rules asked.explain None → All (HasNames r.names) report.lines.items
+    → AreBuilt asked r (record { lockset = Some report; unordered = None }) false
+crew-built asked r report alone says named = record {
+  lockset = record {
+    there = sym (ap asks_locks alone);
+    says = record { stop = None; within = tt; cause = tt; whole = λ orders. refl; says = says };
+    names = named;
+  };
+  unordered = record {
+    there = sym (ap asks_order alone);
+    says = tt;
+    names = tt;
+    order = sym (ap (λ (analysis : Analysis). asks_order analysis && has_order r.steps) alone);
+  };
+}
+
+-- or they have a fault at a step of the text
+pub crew-fault : (told : Option (List ℕ)) (limit : ℕ) (r : Recording) (why : ReplayFault) → IfSome told (λ text. IsTrace text limit r) → MayFail r.steps why → IsFaultOfText Lockset told limit (fault_of why)
+crew-fault told limit r replaying.Memory trace may = tt
+crew-fault None limit r replaying.TableFull trace may = tt
+crew-fault (Some text) limit r replaying.TableFull trace may = record { recording = r; trace = trace; asks = may }
+crew-fault None limit r replaying.WorkerNotStarted trace may = tt
+crew-fault (Some text) limit r replaying.WorkerNotStarted trace may = (r, trace)
+crew-fault told limit r replaying.WorkerLost trace may = absurd may
+
 -- what looks for damage stands for the text too
-pub inspected : (told : Option (List ℕ)) (limit : ℕ) (asked : Asked) (used : NameTable) (ran : Option Ran) (ordered : Option OrderRan) (seen : Option Inspected) → IsAnswered (AllStand ran ordered seen asked) told limit used
-    → IsAnswered (IsInspected seen asked.strict) told limit used
-inspected told limit asked used ran ordered seen all = record { recording = all.recording; trace = all.trace; names = all.names; stands = all.stands.1 }
+pub inspected : (Stand : Recording → Type 0) (told : Option (List ℕ)) (limit : ℕ) (strict : Bool) (used : NameTable) (seen : Option Inspected) → IsAnswered (λ r. Stand r × IsInspected seen strict r) told limit used
+    → IsAnswered (IsInspected seen strict) told limit used
+inspected Stand told limit strict used seen all = record { recording = all.recording; trace = all.trace; names = all.names; stands = all.stands.1 }
 
 -- a fault of the pass is one of the replay
 pub of-reading : (analysis : Analysis) (told : Option (List ℕ)) (limit : ℕ) (why : ReadFault) → IsFaultOfReading told limit why → IsFaultOfText analysis told limit (Read why)

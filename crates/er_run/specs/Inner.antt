@@ -1,5 +1,4 @@
 -- What the parts of a replay keep true of one another.
 pub mod Inspected
 pub mod Outcomes
-pub mod Several
 pub mod Written

@@ -11,6 +11,8 @@ use er_damage::{Damage, Inspector};
 use er_text::Ending;
 use er_trace::Trace;
 use std::alloc::{AllocError, Global};
+use std::sync::Wait;
+use std::thread::Threads;
 
 /// What a strict replay has seen of the steps so far. Another replay looks at none.
 #[derive(Drop)]
@@ -45,7 +47,7 @@ impl Inspection {
     }
 }
 
-impl<R> Analyst<R> for Inspection {
+impl Analyst for Inspection {
     ghost use Rattle.er_run.specs.Inner.Inspected.{IsInspected};
 
     ghost stands = { λ seen asked r. IsInspected seen.inspector asked.strict r };
@@ -56,7 +58,11 @@ impl<R> Analyst<R> for Inspection {
 
     ghost found = { λ _. 0 };
 
-    fn answer(&mut self, _rt: &R, trace: &Trace) -> Result<(), AllocError> {
+    fn answer<R: Threads + Wait + Sync>(
+        &mut self,
+        _rt: &R,
+        trace: &Trace,
+    ) -> Result<(), AllocError> {
         let steps = trace.steps();
         let lines = trace.lines();
         match &mut self.inspector {

@@ -22,18 +22,14 @@
 //! limit and 1,025 bytes were taken from the reader (`taken`).
 #![tactic(auto)]
 
-pub use er_batch::{Options, Progress, Replayed, Unwatched, Verdict, Watch, answer_batch};
+pub use er_batch::{Options, Progress, Replayed, Unwatched, Verdict, Watch};
 pub use er_report::{Analysis, Reports};
 pub use fault::RunFault;
 pub use outcome::ReplayedTrace;
 pub use replay::{replay_reports, replay_text, verdict_of};
 
-mod adding;
 mod fault;
 mod inspecting;
 mod outcome;
 mod passes;
 mod replay;
-mod rest;
-mod several;
-mod watching;

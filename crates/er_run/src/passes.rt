@@ -1,12 +1,13 @@
-//! A replay by one worker, in one pass.
+//! A replay in one pass, by one worker or several.
 ghost use Rattle.std.specs.Prelude.{◌≡◌, ℕ, Option, List, IfSome, IfOk, IfErr, IsOk, Some, None, false, true, is_some};
-ghost use Rattle.er_batch.specs.Analysts.{Asked, HasRunFor, IsAnswered, Ran, StandsIf};
+ghost use Rattle.er_batch.specs.Analysts.{Asked, HasCrewRun, HasRunFor, IsAnswered, Ran, StandsIf};
 ghost use Rattle.er_device.specs.Device.{inner_of, has_failed, taken_of};
 ghost use Rattle.er_event.specs.declared.refusals.NoRoom.{NoRoom as Room};
 ghost use Rattle.er_report.specs.Reports.{asks_locks, asks_order};
+ghost use Rattle.er_report.specs.declared.reports.Analysis.TheVariants.{Lockset};
 ghost use Rattle.er_rules.specs.Rules.{targets_of};
 ghost use Rattle.er_run.specs.Faults.{FailsBy, IsFaultOfText, IsNoDamage, IsOfReading};
-ghost use Rattle.er_run.specs.Inner.Outcomes.{AllStand, AreBuilt, IsOrderBuilt, IsOutcomeOf, IsReplayOf, IsRunBuilt};
+ghost use Rattle.er_run.specs.Inner.Outcomes.{AllStand, AreBuilt, CrewStands, IsOrderBuilt, IsOutcomeOf, IsReplayOf, IsRunBuilt};
 ghost use Rattle.er_text.specs.Ending.{IsEndingOf};
 ghost use Rattle.er_text.specs.Trace.{IsTrace};
 ghost use Rattle.er_trace.specs.Trace.{Recording, no_steps};
@@ -15,7 +16,7 @@ ghost use Rattle.er_unordered.specs.Ordered.{HasOrdered, OrderRan};
 use crate::inspecting::Inspection;
 use crate::outcome::{ReplayedTrace, with_lost};
 use crate::{Options, RunFault, Watch};
-use er_batch::{Analysed, LocksetAnalyst, Pair, analyse};
+use er_batch::{Analysed, CrewAnalyst, LocksetAnalyst, Pair, analyse};
 use er_device::Device;
 use er_event::NoRoom;
 use er_report::{Analysis, Report, Reports};
@@ -25,6 +26,7 @@ use er_unordered::OrderAnalyst;
 use std::alloc::{AllocError, Global};
 use std::io::Read;
 use std::sync::Wait;
+use std::thread::Threads;
 
 /// What answers the steps of a request: each rule that is asked for, and what looks for damage.
 type Analysts<'t, 'r> = Pair<
@@ -32,38 +34,74 @@ type Analysts<'t, 'r> = Pair<
     Inspection,
 >;
 
-/// The reports of a replay by one worker that forgets the steps, with reasons if they are asked for.
-pub(crate) fn reports_in_batches<R: Wait, D: Read, V: Watch>(
+/// The report by the lockset rule of a replay by several workers, over this table.
+pub(crate) fn report_by_crew<R: Threads + Wait + Sync, D: Read, V: Watch>(
     rt: &R,
     alloc: Global,
+    table: &LocksetTable,
     reader: &mut Device<D>,
     suppressions: &Suppressions,
     options: &Options,
-    analysis: Analysis,
     watcher: &mut V,
 ) -> Result<ReplayedTrace, RunFault>
     requires reader { has_failed reader.old ≡ false }
-    ensures replay { IsReplayOf (D.remaining (inner_of reader.old)) options.now (targets_of suppressions.now) analysis (taken_of reader.old) (taken_of reader.new) (has_failed reader.new) result }
-    ensures alone { asks_order analysis ≡ false → IfErr result IsOfReading }
+    ensures replay { IsReplayOf (D.remaining (inner_of reader.old)) options.now (targets_of suppressions.now) Lockset (taken_of reader.old) (taken_of reader.new) (has_failed reader.new) result }
+    ensures whole { IfOk result (λ found. IfSome found.reports.lockset (λ report. report.stop ≡ None)) }
 {
-    let table = LocksetTable::keyed(alloc, options.max_sets, options.keys)?;
-    let found = reports_over(
-        rt,
-        alloc,
-        &table,
-        reader,
-        suppressions,
-        options,
-        analysis,
-        watcher,
-    );
-    drop(table);
-    watcher.end();
-    found
+    let crew = CrewAnalyst::new(rt, alloc, table, suppressions, options)?;
+    let inspection = Inspection::new(alloc, options.strict);
+    let analysts = Pair {
+        first: crew,
+        second: inspection,
+    };
+    match analyse(rt, alloc, reader, options, analysts, watcher) {
+        Ok(found) => end_crew(found),
+        Err(why) => Err(RunFault::Read(why)),
+    }
 }
 
-// The same over this table. Split for the prover.
-fn reports_over<R: Wait, D: Read, V: Watch>(
+// The report of the text that was read, or its damage, if the replay is strict and there is any, or why the workers have stopped.
+fn end_crew(
+    found: Analysed<Pair<CrewAnalyst<'_, '_>, Inspection>>,
+) -> Result<ReplayedTrace, RunFault>
+    ensures outcome { (asked : Asked) (told : Option (List ℕ)) (limit : ℕ) → asked.analysis ≡ Lockset → IsAnswered (CrewStands found.entry.analyst.first found.entry.analyst.second.inspector asked) told limit found.entry.trace.names
+        → IfSome told (λ text. IsEndingOf text found.entry.ending) → IsOutcomeOf told limit asked result }
+    ensures failed { FailsBy false false result }
+    ensures whole { IfOk result (λ found. IfSome found.reports.lockset (λ report. report.stop ≡ None)) }
+{
+    let Analysed {
+        analyst,
+        trace,
+        ending,
+    } = found;
+    let Pair {
+        first: crew,
+        second: inspection,
+    } = analyst;
+    let damage = inspection.damage(ending);
+    drop(inspection);
+    if let Some(damage) = damage {
+        drop(crew);
+        drop(trace);
+        return Err(RunFault::Damaged(damage));
+    }
+    match crew.finish() {
+        Ok(report) => {
+            let reports = Reports {
+                lockset: Some(report),
+                unordered: None,
+            };
+            Ok(with_lost(reports, false, trace, ending))
+        }
+        Err(why) => {
+            drop(trace);
+            Err(RunFault::from(why))
+        }
+    }
+}
+
+/// The reports of a replay by one worker that forgets the steps, with reasons if they are asked for, over this table.
+pub(crate) fn reports_by_one<R: Threads + Wait + Sync, D: Read, V: Watch>(
     rt: &R,
     alloc: Global,
     table: &LocksetTable,
@@ -78,15 +116,7 @@ fn reports_over<R: Wait, D: Read, V: Watch>(
     ensures alone { asks_order analysis ≡ false → IfErr result IsOfReading }
 {
     let analysts = analysts_of(alloc, table, suppressions, options, analysis)?;
-    match analyse(
-        rt,
-        alloc,
-        reader,
-        options.byte_limit,
-        options.keys,
-        analysts,
-        watcher,
-    ) {
+    match analyse(rt, alloc, reader, options, analysts, watcher) {
         Ok(found) => end(found),
         Err(why) => Err(RunFault::Read(why)),
     }

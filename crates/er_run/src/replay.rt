@@ -16,13 +16,13 @@ ghost use Rattle.er_run.specs.Reports.{AreReportsOfText, IsOrderOfText, has_race
 ghost use Rattle.er_text.specs.Ending.{IsEndingOf};
 
 use crate::outcome::ReplayedTrace;
-use crate::passes::reports_in_batches;
-use crate::several::report_by_crew;
+use crate::passes::{report_by_crew, reports_by_one};
 use crate::{Options, RunFault, Unwatched, Verdict, Watch};
 use er_device::Device;
 use er_print::write_report;
 use er_report::{Analysis, Report, Reports};
 use er_rules::Suppressions;
+use er_table::LocksetTable;
 use std::alloc::Global;
 use std::io::{Read, Write};
 use std::sync::Wait;
@@ -101,13 +101,13 @@ fn write_found<W: Write>(
 /// The text is read to its end, and the steps of each batch of lines are forgotten once they are answered, so that memory goes by the words,
 /// the names and the lines of the reports. With `explain` each race that is printed has its reasons, and each word has a book of the
 /// accesses that a reason may name. A strict replay of a damaged trace returns its damage. Beside a report by happens-before, that of the
-/// lockset rule is whole: a step that finds no room is a fault. Several workers answer one batch while the next is read, by the lockset rule
-/// alone; by another analysis there is one worker. The watcher is told behind each batch how far the replay has come, and called once more at
+/// lockset rule is whole: a step that finds no room is a fault. Several workers read each batch, and by the lockset rule alone all of them
+/// answer it; by another analysis one does. The watcher is told behind each batch how far the replay has come, and called once more at
 /// the end. What it does changes nothing of what is returned.
 ///
 /// # Errors
 /// `Read`: the text has a fault, a read failed, or memory was refused to the reader or to a step. `Replay`: the table of locksets is full, or
-/// a worker couldn't be started. `CountFull`, `ThreadsFull`: happens-before has no room for a step. `Damaged`: the trace is, and the replay is
+/// a worker couldn't be started. `Beyond`: happens-before has no room for a step. `Damaged`: the trace is, and the replay is
 /// strict. `Memory`: memory was refused elsewhere. Never `Write`.
 pub fn replay_reports<R, D, V>(
     rt: &R,
@@ -136,13 +136,24 @@ where
     ensures whole { 1 < options.now.workers → IfOk result (λ found. IfSome found.reports.lockset (λ report. report.stop ≡ None)) }
     ensures alone { options.now.workers ≡ 1 → analysis ≡ Lockset → IfErr result IsOfReading }
 {
-    if analysis.asks_order() {
-        reports_in_batches(rt, alloc, reader, suppressions, options, analysis, watcher)
-    } else if options.workers > 1 {
-        report_by_crew(rt, alloc, reader, suppressions, options, watcher)
+    let table = LocksetTable::keyed(alloc, options.max_sets, options.keys)?;
+    let found = if options.workers > 1 && !analysis.asks_order() {
+        report_by_crew(rt, alloc, &table, reader, suppressions, options, watcher)
     } else {
-        reports_in_batches(rt, alloc, reader, suppressions, options, analysis, watcher)
-    }
+        reports_by_one(
+            rt,
+            alloc,
+            &table,
+            reader,
+            suppressions,
+            options,
+            analysis,
+            watcher,
+        )
+    };
+    drop(table);
+    watcher.end();
+    found
 }
 
 /// What reports come to: `Stopped` if the run of the lockset rule has, and else whether some report has a race.

@@ -1,7 +1,6 @@
 -- The SARIF of reports: a result for each site and kind of race, one for each reuse without a site, and one for each rule that takes races.
 use Rattle.std.specs.Prelude.{ℕ, zero, suc, ◌+◌, ◌==◌, cond, List, [], ◌∷◌, ◌++◌, flat_map, take, drop, length, max, count_by, slice_get, Option, Some, None, codes, decimal}
 use Rattle.er_event.specs.Lockset.{has}
-use Rattle.er_event.specs.declared.addresses.PageRange.{PageRange}
 use Rattle.er_event.specs.declared.steps.Kind.{Kind}
 use Rattle.er_event.specs.declared.steps.Kind.TheVariants as kind
 use Rattle.er_json.specs.Document.{rows_text, sign_if}
@@ -12,7 +11,10 @@ use Rattle.er_print.specs.Printed.{address_text, bytes_between, kind_text, lost_
 use Rattle.er_print.specs.Styles.{escaped_text, label_in, lock_in, locks_in, string_text, thread_in}
 use Rattle.er_print.specs.Values.{values_text}
 use Rattle.er_print.specs.declared.styles.Style.TheVariants as style
+use Rattle.er_report.specs.Lines.{RaceView, line_view, race_of}
 use Rattle.er_report.specs.declared.report.Because.{Because}
+use Rattle.er_report.specs.declared.report.Deed.{Deed}
+use Rattle.er_report.specs.declared.report.Deed.TheVariants as deed
 use Rattle.er_report.specs.declared.report.Line.{Line}
 use Rattle.er_report.specs.declared.report.Line.TheVariants.{Race, Reused, Refused, Shown}
 use Rattle.er_report.specs.declared.report.Report.{Report}
@@ -26,17 +28,18 @@ use Rattle.er_sites.specs.Table.{reads_at, reuses_at, writes_at}
 use Rattle.er_trace.specs.Names.{NameTable}
 use Rattle.er_triage.specs.Texts.{target_text}
 
--- what an access did to the word of a race
-abbrev pub deed_words : Kind → List ℕ
-deed_words kind.Read = codes " read the word at "
-deed_words kind.Write = codes " wrote the word at "
+-- what a thread did that is a race, as a verb and in words
+abbrev pub verb_of : Deed → List ℕ
+verb_of (deed.Access kind word) = kind_text kind
+verb_of (deed.Reuse range) = codes "reuse"
 
-abbrev pub access_deed : Kind → ℕ → List ℕ
-access_deed kind word = deed_words kind ++ address_text word
+abbrev pub did : Kind → List ℕ
+did kind.Read = codes " read the word at "
+did kind.Write = codes " wrote the word at "
 
--- and what a reuse did
-abbrev pub reuse_deed : PageRange → List ℕ
-reuse_deed range = codes " gave back " ++ decimal (bytes_between range.lo range.hi) ++ codes " bytes at " ++ address_text range.lo
+abbrev pub deed_words : Deed → List ℕ
+deed_words (deed.Access kind word) = did kind ++ address_text word
+deed_words (deed.Reuse range) = codes " gave back " ++ decimal (bytes_between range.lo range.hi) ++ codes " bytes at " ++ address_text range.lo
 
 -- what the results of a run begin with: the front of a rule
 abbrev pub rule_front : ReportKind → List ℕ
@@ -108,32 +111,31 @@ reason_text names table because =
     opening_text table.names (reason_place table because) ++ sentence_words names because ++ holding_words table.names (reason_place table because) ++ codes "\"}}"
 
 -- what is wrong, and how often; then comes where
-unfoldable pub front_text : ReportKind → NameTable → List ℕ → ℕ → List ℕ → ℕ → List ℕ
-front_text of names verb thread deed count =
-    rule_front of ++ verb ++ codes "\",\"level\":\"error\",\"message\":{\"text\":\"" ++ thread_in style.InString names thread
-    ++ deed ++ cause_words of ++ codes "\"},\"occurrenceCount\":" ++ decimal count ++ codes ",\"locations\":["
+unfoldable pub front_text : ReportKind → NameTable → RaceView → ℕ → List ℕ
+front_text of names race count =
+    rule_front of ++ verb_of race.deed ++ codes "\",\"level\":\"error\",\"message\":{\"text\":\"" ++ thread_in style.InString names race.thread ++ deed_words race.deed
+    ++ (cause_words of ++ codes "\"},\"occurrenceCount\":" ++ decimal count ++ codes ",\"locations\":[")
 
--- the same in each run; then come the accesses that make the first race
-unfoldable pub fingerprint_text : List ℕ → List ℕ → List ℕ
-fingerprint_text site verb =
-    codes "}],\"partialFingerprints\":{\"siteAndKind/v1\":\"" ++ escaped_text site ++ codes " " ++ verb ++ codes "\"},\"relatedLocations\":["
+-- where it is: at its site, or a reuse without one at the address of its first byte
+abbrev pub race_site : NameTable → ℕ → Deed → List ℕ
+race_site names zero (deed.Reuse range) = address_text range.lo
+race_site names (suc n) (deed.Reuse range) = site_text names (suc n)
+race_site names site (deed.Access kind word) = site_text names site
 
--- where it is
-unfoldable pub place_text : List ℕ → List ℕ → List ℕ
-place_text site verb = open_location site ++ fingerprint_text site verb
+-- that, and a fingerprint that is the same in each run; then come the accesses that make the first race
+unfoldable pub place_text : List ℕ → Deed → List ℕ
+place_text site deed =
+    open_location site ++ (codes "}],\"partialFingerprints\":{\"siteAndKind/v1\":\"" ++ escaped_text site ++ codes " " ++ verb_of deed ++ codes "\"},\"relatedLocations\":[")
 
--- the line of the first race, and the locks that its thread held
-unfoldable pub properties_text : NameTable → ℕ → List ℕ → List ℕ
-properties_text names number held = codes "],\"properties\":{\"line\":" ++ decimal number ++ codes ",\"held\":" ++ locks_in style.Json names held ++ codes "}}"
-
--- how it came about
-unfoldable pub back_text : NameTable → PlaceTable → ℕ → List ℕ → List Because → List ℕ
-back_text names table number held explained = values_text (reason_text names table) explained ++ properties_text names number held
+-- how it came about, the line of the first race, and the locks that its thread held
+unfoldable pub back_text : NameTable → PlaceTable → RaceView → List ℕ
+back_text names table race =
+    values_text (reason_text names table) race.explained
+    ++ (codes "],\"properties\":{\"line\":" ++ decimal race.line ++ codes ",\"held\":" ++ locks_in style.Json names race.held ++ codes "}}")
 
 -- a result: so many races here, and the first of them
-unfoldable pub result_text : ReportKind → NameTable → PlaceTable → List ℕ → List ℕ → List ℕ → ℕ → ℕ → ℕ → List ℕ → List Because → List ℕ
-result_text of names table verb deed site count number thread held explained =
-    front_text of names verb thread deed count ++ place_text site verb ++ back_text names table number held explained
+unfoldable pub result_text : ReportKind → NameTable → PlaceTable → RaceView → ℕ → List ℕ
+result_text of names table race count = front_text of names race count ++ place_text (race_site names race.site race.deed) race.deed ++ back_text names table race
 
 -- how many of the lines are races of the line's site and kind; a reuse without a site is like none
 abbrev pub races_like : List Line → Line → ℕ
@@ -144,19 +146,13 @@ races_like lines (Reused number thread range (suc site) held explained) = count_
 races_like lines (Refused number step refusal) = 0
 races_like lines (Shown number word state) = 0
 
--- where a reuse is: at its site, or else by the address of its first byte
-unfoldable pub reuse_site : NameTable → PageRange → ℕ → List ℕ
-reuse_site names range zero = address_text range.lo
-reuse_site names range (suc site) = site_text names (suc site)
+-- a race has a result if none like it came before, and there are so many like it in all; one that is like none counts as one
+abbrev pub results_if : ReportKind → NameTable → PlaceTable → ℕ → ℕ → Option RaceView → List (List ℕ)
+results_if of names table before count None = []
+results_if of names table before count (Some race) = cond (before == 0) (result_text of names table race (max count 1) ∷ []) []
 
--- a race has a result if none like it came before, and there are so many like it in all, itself among them
 abbrev pub results_of : ReportKind → NameTable → PlaceTable → ℕ → ℕ → Line → List (List ℕ)
-results_of of names table before count (Race number thread kind word site held explained) =
-    cond (before == 0) (result_text of names table (kind_text kind) (access_deed kind word) (site_text names site) count number thread held explained.items ∷ []) []
-results_of of names table before count (Reused number thread range site held explained) =
-    cond (before == 0) (result_text of names table (codes "reuse") (reuse_deed range) (reuse_site names range site) (max count 1) number thread held explained.items ∷ []) []
-results_of of names table before count (Refused number step refusal) = []
-results_of of names table before count (Shown number word state) = []
+results_of of names table before count line = results_if of names table before count (race_of (line_view line))
 
 abbrev pub results_at : ReportKind → NameTable → PlaceTable → List Line → ℕ → Option Line → List (List ℕ)
 results_at of names table lines n None = []

@@ -10,7 +10,7 @@ use crate::results::put_results;
 use crate::suppressed::put_suppressed;
 use er_json::put_sign;
 use er_places::Places;
-use er_print::{ReportKind, put_lost};
+use er_print::{Put, ReportKind, put_lost};
 use er_report::{Report, Reports};
 use er_rules::Suppressions;
 use er_sites::count_races;
@@ -36,7 +36,6 @@ pub fn sarif_text(
         b"{\"$schema\":\"https://json.schemastore.org/sarif-2.1.0.json\",\n\"version\":\"2.1.0\",\n\"runs\":[",
     )?;
     put_run(
-        alloc,
         &mut text,
         ReportKind::Lockset,
         names,
@@ -46,7 +45,6 @@ pub fn sarif_text(
     )?;
     put_sign(&mut text, reports, b",")?;
     put_run(
-        alloc,
         &mut text,
         ReportKind::Unordered,
         names,
@@ -59,47 +57,33 @@ pub fn sarif_text(
 }
 
 // Puts the run of a report, if there is one.
+#[tactic(auto, unfolding(crate::specs::Document::run_text))]
 fn put_run(
-    alloc: Global,
     out: &mut Vec<u8>,
     of: ReportKind,
     names: &Names,
     places: &Places,
     rules: &Suppressions,
     report: &Option<Report>,
-) -> Result<(), AllocError>
+) -> Put
     requires { IfSome report.now (λ report. All (HasNames names.now) report.lines.items) }
     ensures { OnOk result (out.new.items ≡ out.old.items ++ run_if of names.now places.now (targets_of rules.now) report.now) }
 {
     match report {
-        Some(report) => put_report(alloc, out, of, names, places, rules, report),
+        Some(report) => {
+            let lines = report.lines.as_slice();
+            let total = count_races(*out.allocator(), lines)?;
+            put_start(out, of)?;
+            let is_first = put_results(out, of, names, places, lines, &total)?;
+            put_suppressed(out, of, &report.rule_counts, rules, is_first)?;
+            put_end(out, report.lost)
+        }
         None => Ok(()),
     }
 }
 
-#[tactic(auto, unfolding(crate::specs::Document::run_text))]
-fn put_report(
-    alloc: Global,
-    out: &mut Vec<u8>,
-    of: ReportKind,
-    names: &Names,
-    places: &Places,
-    rules: &Suppressions,
-    report: &Report,
-) -> Result<(), AllocError>
-    requires { All (HasNames names.now) report.now.lines.items }
-    ensures { OnOk result (out.new.items ≡ out.old.items ++ run_text of names.now places.now (targets_of rules.now) report.now) }
-{
-    let lines = report.lines.as_slice();
-    let total = count_races(alloc, lines)?;
-    put_start(out, of)?;
-    let is_first = put_results(alloc, out, of, names, places, lines, &total)?;
-    put_suppressed(alloc, out, of, &report.rule_counts, rules, is_first)?;
-    put_end(out, report.lost)
-}
-
 #[tactic(auto, unfolding(crate::specs::Document::start_text))]
-fn put_start(out: &mut Vec<u8>, of: ReportKind) -> Result<(), AllocError>
+fn put_start(out: &mut Vec<u8>, of: ReportKind) -> Put
     ensures { OnOk result (out.new.items ≡ out.old.items ++ start_text of) }
 {
     out.extend_from_slice(b"{\n\"tool\":{\"driver\":{\"name\":\"eraser\",\"rules\":[")?;
@@ -109,7 +93,7 @@ fn put_start(out: &mut Vec<u8>, of: ReportKind) -> Result<(), AllocError>
 }
 
 #[tactic(auto, unfolding(crate::specs::Document::end_text))]
-fn put_end(out: &mut Vec<u8>, lost: Option<u64>) -> Result<(), AllocError>
+fn put_end(out: &mut Vec<u8>, lost: Option<u64>) -> Put
     ensures { OnOk result (out.new.items ≡ out.old.items ++ end_text lost) }
 {
     out.extend_from_slice(b"]")?;

@@ -8,15 +8,8 @@ pub(crate) fn file_end(name: &[u8]) -> Option<usize>
     ensures { result ≡ file_end name.now }
 {
     match last_colon(name) {
-        None => None,
-        Some(0) => None,
-        Some(place) => {
-            if is_line(&name[place + 1..]) {
-                Some(place)
-            } else {
-                None
-            }
-        }
+        Some(place) if place > 0 && is_line(&name[place + 1..]) => Some(place),
+        _ => None,
     }
 }
 

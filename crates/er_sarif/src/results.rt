@@ -1,28 +1,26 @@
 //! A result for the first race of each site and kind, and for each reuse without a site.
-ghost use Rattle.std.specs.Prelude.{◌≡◌, ◌++◌, ◌&&◌, ◌<◌, ◌≤◌, All, codes, length, max, IfOk, OnOk};
+ghost use Rattle.std.specs.Prelude.{◌≡◌, ◌++◌, ◌&&◌, All, length, IfOk, OnOk};
 ghost use Rattle.er_json.specs.Document.{rows_text};
 ghost use Rattle.er_json.specs.Inner.Sections.{has_none, next_text};
-ghost use Rattle.er_print.specs.Printed.{address_text, site_text};
-ghost use Rattle.er_report.specs.Names.{HasLockNames, HasNames, HasReasonNames};
-ghost use Rattle.er_sarif.specs.Document.{back_text, place_text, result_text, results_below, results_of, reuse_deed, reuse_site};
+ghost use Rattle.er_report.specs.Names.{HasNames, HasRaceNames};
+ghost use Rattle.er_sarif.specs.Document.{back_text, deed_words, did, front_text, place_text, race_site, result_text, results_below, results_of, verb_of};
 ghost use Rattle.er_sites.specs.Inner.Counted.{AreCounts};
 
-use crate::members::{
-    access_deed, open_location, put_fingerprint, put_front, put_properties, put_reasons, reuse_deed,
-};
-use er_event::{LockId, PageRange, Site, ThreadId, Word};
+use crate::cause::{cause_words, rule_front};
+use crate::members::{open_location, put_reasons};
+use er_event::Kind;
 use er_json::put_separator;
 use er_places::Places;
-use er_print::{ReportKind, put_address, verb};
-use er_report::{Because, Line};
+use er_print::Piece::{Address, Locks, Name, Number, Site, Text, Thread};
+use er_print::{Put, ReportKind, Style, bytes_of, put_all, verb};
+use er_report::{Deed, Line, Race};
 use er_sites::Counts;
 use er_trace::Names;
-use std::alloc::{AllocError, Global};
+use std::alloc::AllocError;
 
 /// Puts the results of the lines, each on a line of its own, and returns whether there is none. The counts are those of all races of the
 /// lines.
 pub(crate) fn put_results(
-    alloc: Global,
     out: &mut Vec<u8>,
     of: ReportKind,
     names: &Names,
@@ -36,21 +34,19 @@ pub(crate) fn put_results(
     ensures first { IfOk result (λ first. first ≡ has_none (results_below of names.now places.now lines.now (length lines.now))) }
 {
     prove!(lines.len() < 1 << 63);
-    let mut seen = Counts::new(alloc);
+    let mut seen = Counts::new(*out.allocator());
     let mut is_first = true;
     for line in lines {
         let before = seen.like(line);
         let count = total.like(line);
-        is_first = put_next(alloc, out, of, names, places, line, before, count, is_first)?;
+        is_first = put_next(out, of, names, places, line, before, count, is_first)?;
         seen.count(line)?;
     }
     Ok(is_first)
 }
 
 // Puts the result of a line, if it has one, and returns whether the next one is the first.
-#[tactic(auto, unfolding(crate::specs::Document::result_text))]
 fn put_next(
-    alloc: Global,
     out: &mut Vec<u8>,
     of: ReportKind,
     names: &Names,
@@ -67,132 +63,141 @@ fn put_next(
     if before > 0 {
         return Ok(is_first);
     }
-    match line {
-        Line::Race {
-            line,
-            thread,
-            kind,
-            word,
-            site,
-            held,
-            explained,
-        } => {
-            let deed = access_deed(alloc, *kind, *word)?;
-            put_separator(out, is_first)?;
-            put_front(out, of, names, verb(*kind), *thread, &deed, count)?;
-            put_place(out, names, *site, verb(*kind))?;
-            put_back(out, names, places, *line, held.as_slice(), explained)?;
-            Ok(false)
-        }
-        Line::Reused {
-            line,
-            thread,
-            range,
-            site,
-            held,
-            explained,
-        } => {
-            put_separator(out, is_first)?;
-            let held = held.as_slice();
-            put_reuse(
-                out, of, names, places, *line, *thread, range, *site, count, held, explained,
-            )?;
-            Ok(false)
-        }
-        Line::Refused { .. } | Line::Shown { .. } => Ok(is_first),
-    }
+    let Some(race) = line.race() else {
+        return Ok(is_first);
+    };
+    put_separator(out, is_first)?;
+    put_result(out, of, names, places, &race, count.max(1))?;
+    Ok(false)
 }
 
-// Puts the result of a reuse, of which there are so many. One without a site is alone.
+// Puts the result of a race, of which there are so many.
 #[tactic(auto, unfolding(crate::specs::Document::result_text))]
-fn put_reuse(
+fn put_result(
     out: &mut Vec<u8>,
     of: ReportKind,
     names: &Names,
     places: &Places,
-    line: u64,
-    thread: ThreadId,
-    range: &PageRange,
-    site: Site,
+    race: &Race<'_>,
     count: u64,
-    held: &[LockId],
-    explained: &[Because],
-) -> Result<(), AllocError>
-    requires thread { thread < length names.now.threads }
-    requires site { site ≤ length names.now.sites }
-    requires held { HasLockNames names.now held.now }
-    requires explained { All (HasReasonNames names.now) explained.now }
-    ensures { OnOk result (out.new.items ≡ out.old.items ++ result_text of names.now places.now (codes "reuse") (reuse_deed range.now) (reuse_site names.now range.now site) (max count 1) line thread held.now explained.now) }
+) -> Put
+    requires { HasRaceNames names.now race.now }
+    ensures { OnOk result (out.new.items ≡ out.old.items ++ result_text of names.now places.now race.now count) }
 {
-    let alloc = *out.allocator();
-    let deed = reuse_deed(alloc, range)?;
-    put_front(out, of, names, b"reuse", thread, &deed, count.max(1))?;
-    put_reuse_place(alloc, out, names, range, site)?;
-    put_back(out, names, places, line, held, explained)?;
+    let mut site = Vec::new(*out.allocator());
+    put_site(&mut site, names, race)?;
+    put_front(out, of, names, race, count)?;
+    put_place(out, names, &site, race.deed)?;
+    put_back(out, names, places, race)
+}
+
+// Opens the result: what its first race is, and how many there are.
+#[tactic(auto, unfolding(crate::specs::Document::front_text))]
+fn put_front(out: &mut Vec<u8>, of: ReportKind, names: &Names, race: &Race<'_>, count: u64) -> Put
+    requires { HasRaceNames names.now race.now }
+    ensures { OnOk result (out.new.items ≡ out.old.items ++ front_text of names.now race.now count) }
+{
+    let pieces = [
+        Text(rule_front(of)),
+        Text(verb_of(race.deed)),
+        Thread(
+            b"\",\"level\":\"error\",\"message\":{\"text\":\"",
+            race.thread,
+        ),
+    ];
+    put_all(out, Style::InString, names, &pieces)?;
+    put_deed(out, names, race.deed)?;
+    let pieces = [
+        Text(cause_words(of)),
+        Number(b"\"},\"occurrenceCount\":", count),
+        Text(b",\"locations\":["),
+    ];
+    put_all(out, Style::InString, names, &pieces)?;
     Ok(())
 }
 
-// Puts where a reuse is: at its site, or else by its address.
-#[tactic(auto, unfolding(crate::specs::Document::reuse_site))]
-fn put_reuse_place(
-    alloc: Global,
-    out: &mut Vec<u8>,
-    names: &Names,
-    range: &PageRange,
-    site: Site,
-) -> Result<(), AllocError>
-    requires { site ≤ length names.now.sites }
-    ensures { OnOk result (out.new.items ≡ out.old.items ++ place_text (reuse_site names.now range.now site) (codes "reuse")) }
+fn verb_of(deed: Deed) -> &'static [u8]
+    ensures { result.now ≡ verb_of deed }
 {
-    if site.number() == 0 {
-        let address = address_of(alloc, range.lo)?;
-        put_site(out, names, &address, b"reuse")?;
-        return Ok(());
+    match deed {
+        Deed::Access(kind, _) => verb(kind),
+        Deed::Reuse(_) => b"reuse".as_slice(),
     }
-    put_place(out, names, site, b"reuse")
 }
 
-fn address_of(alloc: Global, word: Word) -> Result<Vec<u8>, AllocError>
-    ensures { IfOk result (λ address. address.items ≡ address_text word) }
+// Puts what the thread of a race did.
+fn put_deed(out: &mut Vec<u8>, names: &Names, deed: Deed) -> Put
+    ensures { OnOk result (out.new.items ≡ out.old.items ++ deed_words deed) }
 {
-    let mut address = Vec::new(alloc);
-    put_address(&mut address, word)?;
-    Ok(address)
-}
-
-// Puts where it is.
-fn put_place(out: &mut Vec<u8>, names: &Names, site: Site, verb: &[u8]) -> Result<(), AllocError>
-    requires { site ≤ length names.now.sites }
-    ensures { OnOk result (out.new.items ≡ out.old.items ++ place_text (site_text names.now site) verb.now) }
-{
-    if site.number() == 0 {
-        return put_site(out, names, b"-", verb);
+    match deed {
+        Deed::Access(kind, word) => {
+            let pieces = [Address(did(kind), word)];
+            put_all(out, Style::InString, names, &pieces)
+        }
+        Deed::Reuse(range) => {
+            let pieces = [
+                Number(b" gave back ", bytes_of(&range)),
+                Address(b" bytes at ", range.lo),
+            ];
+            put_all(out, Style::InString, names, &pieces)
+        }
     }
-    put_site(out, names, names.site_name(site).as_bytes(), verb)
 }
 
+fn did(kind: Kind) -> &'static [u8]
+    ensures { result.now ≡ did kind }
+{
+    match kind {
+        Kind::Read => b" read the word at ".as_slice(),
+        Kind::Write => b" wrote the word at ".as_slice(),
+    }
+}
+
+// Puts where a race is: its site, and of a reuse without one the address.
+fn put_site(out: &mut Vec<u8>, names: &Names, race: &Race<'_>) -> Put
+    requires { HasRaceNames names.now race.now }
+    ensures { OnOk result (out.new.items ≡ out.old.items ++ race_site names.now race.now.site race.now.deed) }
+{
+    match race.deed {
+        Deed::Reuse(range) if race.site.number() == 0 => {
+            let pieces = [Address(b"", range.lo)];
+            put_all(out, Style::Plain, names, &pieces)
+        }
+        _ => {
+            let pieces = [Site(b"", race.site)];
+            put_all(out, Style::Plain, names, &pieces)
+        }
+    }
+}
+
+// Puts the location and what is the same in each run, and opens the array of reasons.
 #[tactic(auto, unfolding(crate::specs::Document::place_text))]
-fn put_site(out: &mut Vec<u8>, names: &Names, site: &[u8], verb: &[u8]) -> Result<(), AllocError>
-    ensures { OnOk result (out.new.items ≡ out.old.items ++ place_text site.now verb.now) }
+fn put_place(out: &mut Vec<u8>, names: &Names, site: &[u8], deed: Deed) -> Put
+    ensures { OnOk result (out.new.items ≡ out.old.items ++ place_text site.now deed) }
 {
     open_location(out, site)?;
-    put_fingerprint(out, names, site, verb)
+    let pieces = [
+        Name(b"}],\"partialFingerprints\":{\"siteAndKind/v1\":\"", site),
+        Text(b" "),
+        Text(verb_of(deed)),
+        Text(b"\"},\"relatedLocations\":["),
+    ];
+    put_all(out, Style::InString, names, &pieces)?;
+    Ok(())
 }
 
-// Puts how it came about, and closes the result.
+// Puts how the first race came about, its line and the locks that its thread held, and closes the result.
 #[tactic(auto, unfolding(crate::specs::Document::back_text))]
-fn put_back(
-    out: &mut Vec<u8>,
-    names: &Names,
-    places: &Places,
-    line: u64,
-    held: &[LockId],
-    explained: &[Because],
-) -> Result<(), AllocError>
-    requires held { HasLockNames names.now held.now }
-    requires explained { All (HasReasonNames names.now) explained.now }
-    ensures { OnOk result (out.new.items ≡ out.old.items ++ back_text names.now places.now line held.now explained.now) }
+fn put_back(out: &mut Vec<u8>, names: &Names, places: &Places, race: &Race<'_>) -> Put
+    requires { HasRaceNames names.now race.now }
+    ensures { OnOk result (out.new.items ≡ out.old.items ++ back_text names.now places.now race.now) }
 {
-    put_reasons(out, names, places, explained)?;
-    put_properties(out, names, line, held)
+    put_reasons(out, names, places, race.explained)?;
+    let pieces = [
+        Number(b"],\"properties\":{\"line\":", race.line),
+        Locks(b",\"held\":", race.held),
+        Text(b"}}"),
+    ];
+    put_all(out, Style::Json, names, &pieces)?;
+    Ok(())
 }

@@ -9,17 +9,12 @@ use crate::members::open_location;
 use er_event::{LockId, Lockset, Site};
 use er_places::Places;
 use er_print::Piece::{Lock, Text};
-use er_print::{Style, put_all};
+use er_print::{Put, Style, put_all};
 use er_report::Because;
 use er_trace::Names;
-use std::alloc::AllocError;
 
 /// Opens the location of a reason, with its site if that is known.
-pub(crate) fn put_opening(
-    out: &mut Vec<u8>,
-    places: &Places,
-    because: &Because,
-) -> Result<(), AllocError>
+pub(crate) fn put_opening(out: &mut Vec<u8>, places: &Places, because: &Because) -> Put
     ensures { OnOk result (out.new.items ≡ out.old.items ++ opening_text places.now.names (reason_place places.now because.now)) }
 {
     match places.of_reason(because) {
@@ -29,7 +24,7 @@ pub(crate) fn put_opening(
 }
 
 #[tactic(auto, unfolding(crate::specs::Document::opening_of))]
-fn put_site(out: &mut Vec<u8>, names: &Names, site: Site) -> Result<(), AllocError>
+fn put_site(out: &mut Vec<u8>, names: &Names, site: Site) -> Put
     requires { site ≤ length names.now.sites }
     ensures { OnOk result (out.new.items ≡ out.old.items ++ opening_of names.now site) }
 {
@@ -42,83 +37,59 @@ fn put_site(out: &mut Vec<u8>, names: &Names, site: Site) -> Result<(), AllocErr
 
 /// Puts what the thread of a reason held, if that is known.
 #[tactic(auto, unfolding(crate::specs::Document::holding_words))]
-pub(crate) fn put_holding(
-    out: &mut Vec<u8>,
-    places: &Places,
-    because: &Because,
-) -> Result<(), AllocError>
+pub(crate) fn put_holding(out: &mut Vec<u8>, places: &Places, because: &Because) -> Put
     ensures { OnOk result (out.new.items ≡ out.old.items ++ holding_words places.now.names (reason_place places.now because.now)) }
 {
     match places.of_reason(because) {
         Some(place) => {
             out.extend_from_slice(b", holding")?;
-            put_locks(
-                out,
-                places.names(),
-                &place.write_held,
-                place.held.as_slice(),
-            )
+            let held = place.held.as_slice();
+            put_locks(out, places.names(), &place.write_held, held)
         }
         None => Ok(()),
     }
 }
 
-fn put_locks(
-    out: &mut Vec<u8>,
-    names: &Names,
-    write_held: &Lockset,
-    locks: &[LockId],
-) -> Result<(), AllocError>
+fn put_locks(out: &mut Vec<u8>, names: &Names, writes: &Lockset, locks: &[LockId]) -> Put
     requires { HasLockNames names.now locks.now }
-    ensures { OnOk result (out.new.items ≡ out.old.items ++ locks_words names.now write_held.now locks.now) }
+    ensures { OnOk result (out.new.items ≡ out.old.items ++ locks_words names.now writes.now locks.now) }
 {
     match locks {
         [] => out.extend_from_slice(b" no lock"),
         [first, rest @ ..] => {
-            put_lock(out, names, write_held, b" ", *first)?;
-            put_more_locks(out, names, write_held, rest)
+            put_lock(out, names, writes, b" ", *first)?;
+            put_more_locks(out, names, writes, rest)
         }
     }
 }
 
 // Puts each lock behind a comma.
-fn put_more_locks(
-    out: &mut Vec<u8>,
-    names: &Names,
-    write_held: &Lockset,
-    locks: &[LockId],
-) -> Result<(), AllocError>
+fn put_more_locks(out: &mut Vec<u8>, names: &Names, writes: &Lockset, locks: &[LockId]) -> Put
     requires { HasLockNames names.now locks.now }
-    ensures { OnOk result (out.new.items ≡ out.old.items ++ flat_map (lock_words names.now write_held.now (codes ", ")) locks.now) }
+    ensures { OnOk result (out.new.items ≡ out.old.items ++ flat_map (lock_words names.now writes.now (codes ", ")) locks.now) }
 {
     for lock in locks {
-        put_lock(out, names, write_held, b", ", *lock)?;
+        put_lock(out, names, writes, b", ", *lock)?;
     }
     Ok(())
 }
 
 // Puts a lock behind this sign.
 #[tactic(auto, unfolding(crate::specs::Document::lock_words))]
-fn put_lock(
-    out: &mut Vec<u8>,
-    names: &Names,
-    write_held: &Lockset,
-    sign: &[u8],
-    lock: LockId,
-) -> Result<(), AllocError>
+fn put_lock(out: &mut Vec<u8>, names: &Names, writes: &Lockset, sign: &[u8], lock: LockId) -> Put
     requires { HasLockName names.now lock }
-    ensures { OnOk result (out.new.items ≡ out.old.items ++ lock_words names.now write_held.now sign.now lock) }
+    ensures { OnOk result (out.new.items ≡ out.old.items ++ lock_words names.now writes.now sign.now lock) }
 {
-    let mode = mode_words(write_held, lock);
+    let mode = mode_words(writes, lock);
     let pieces = [Text(sign), Lock(b"", lock), Text(mode)];
     put_all(out, Style::InString, names, &pieces)
 }
 
 // That a lock was held only to read, if it was.
-fn mode_words(write_held: &Lockset, lock: LockId) -> &'static [u8]
-    ensures { result.now ≡ mode_words write_held.now lock }
+fn mode_words(writes: &Lockset, lock: LockId) -> &'static [u8]
+    ensures { result.now ≡ mode_words writes.now lock }
 {
-    if write_held.contains(lock) {
+    if writes.contains(lock) {
         b"".as_slice()
     } else {
         b" (to read)".as_slice()

@@ -4,32 +4,30 @@ ghost use Rattle.er_json.specs.Document.{rows_text};
 ghost use Rattle.er_json.specs.Inner.Sections.{has_none, next_text};
 ghost use Rattle.er_rules.specs.Rules.{target_of, targets_of};
 ghost use Rattle.er_sarif.specs.Document.{suppressed_below, suppressed_of, suppressed_text, suppression_text, taken_text, target_location};
-ghost use Rattle.er_triage.specs.Texts.{target_text};
 
 use crate::cause::rule_front;
 use crate::members::put_location;
 use er_json::put_separator;
-use er_print::{ReportKind, put_escaped, put_number};
+use er_print::{Put, ReportKind, put_escaped, put_number};
 use er_rules::{Rule, Suppressions};
 use er_triage::put_rule;
-use std::alloc::{AllocError, Global};
+use std::alloc::AllocError;
 
 /// Puts the results of the rules behind other results, each on a line of its own. `is_first` says that there is no other result.
 pub(crate) fn put_suppressed(
-    alloc: Global,
     out: &mut Vec<u8>,
     of: ReportKind,
     rule_counts: &[u64],
     rules: &Suppressions,
     is_first: bool,
-) -> Result<(), AllocError>
+) -> Put
     ensures { (old : List ℕ) (rows : List (List ℕ)) → is_first ≡ has_none rows → out.old.items ≡ old ++ rows_text rows
         → OnOk result (out.new.items ≡ old ++ rows_text (rows ++ suppressed_below of rule_counts.now (targets_of rules.now) (length (targets_of rules.now)))) }
 {
     let mut still_first = is_first;
     for (place, rule) in rules.rules.iter().enumerate() {
         let count = count_at(rule_counts, place);
-        still_first = put_next(alloc, out, of, place as u64 + 1, count, rule, still_first)?;
+        still_first = put_next(out, of, place as u64 + 1, count, rule, still_first)?;
     }
     Ok(())
 }
@@ -43,7 +41,6 @@ fn count_at(counts: &[u64], place: usize) -> Option<u64>
 
 // Puts the result of a rule if it takes a race, and returns whether the next one is the first.
 fn put_next(
-    alloc: Global,
     out: &mut Vec<u8>,
     of: ReportKind,
     number: u64,
@@ -54,46 +51,30 @@ fn put_next(
     ensures text { OnOk result (out.new.items ≡ out.old.items ++ next_text is_first (suppressed_of of number count (target_of rule.now))) }
     ensures first { IfOk result (λ still. still ≡ (is_first && has_none (suppressed_of of number count (target_of rule.now)))) }
 {
-    let Some(count) = count else {
-        return Ok(is_first);
-    };
-    if count == 0 {
-        return Ok(is_first);
+    match count {
+        Some(count) if count > 0 => {
+            put_separator(out, is_first)?;
+            put_result(out, of, number, count, rule)?;
+            Ok(false)
+        }
+        _ => Ok(is_first),
     }
-    put_separator(out, is_first)?;
-    put_result(alloc, out, of, number, count, rule)?;
-    Ok(false)
 }
 
 #[tactic(auto, unfolding(crate::specs::Document::suppressed_text))]
-fn put_result(
-    alloc: Global,
-    out: &mut Vec<u8>,
-    of: ReportKind,
-    number: u64,
-    count: u64,
-    rule: &Rule,
-) -> Result<(), AllocError>
+fn put_result(out: &mut Vec<u8>, of: ReportKind, number: u64, count: u64, rule: &Rule) -> Put
     ensures { OnOk result (out.new.items ≡ out.old.items ++ suppressed_text of number count (target_of rule.now)) }
 {
-    let text = text_of(alloc, rule)?;
+    let mut text = Vec::new(*out.allocator());
+    put_rule(&mut text, rule)?;
     put_taken(out, of, &text, count)?;
     put_place(out, rule)?;
     put_suppression(out, &text, number)
 }
 
-// A rule as a suppression text has it.
-fn text_of(alloc: Global, rule: &Rule) -> Result<Vec<u8>, AllocError>
-    ensures { IfOk result (λ text. text.items ≡ target_text (target_of rule.now)) }
-{
-    let mut text = Vec::new(alloc);
-    put_rule(&mut text, rule)?;
-    Ok(text)
-}
-
 // Opens a result with the rule of this text and how many races it takes.
 #[tactic(auto, unfolding(crate::specs::Document::taken_text))]
-fn put_taken(out: &mut Vec<u8>, of: ReportKind, rule: &[u8], count: u64) -> Result<(), AllocError>
+fn put_taken(out: &mut Vec<u8>, of: ReportKind, rule: &[u8], count: u64) -> Put
     ensures { OnOk result (out.new.items ≡ out.old.items ++ taken_text of rule.now count) }
 {
     out.extend_from_slice(rule_front(of))?;
@@ -107,7 +88,7 @@ fn put_taken(out: &mut Vec<u8>, of: ReportKind, rule: &[u8], count: u64) -> Resu
 }
 
 // Puts where the races are, if the rule is for a site that has a name.
-fn put_place(out: &mut Vec<u8>, rule: &Rule) -> Result<(), AllocError>
+fn put_place(out: &mut Vec<u8>, rule: &Rule) -> Put
     ensures { OnOk result (out.new.items ≡ out.old.items ++ target_location (target_of rule.now)) }
 {
     match rule {
@@ -118,7 +99,7 @@ fn put_place(out: &mut Vec<u8>, rule: &Rule) -> Result<(), AllocError>
 
 // Puts that the races count as suppressed, by the rule of this text and number, and closes the result.
 #[tactic(auto, unfolding(crate::specs::Document::suppression_text))]
-fn put_suppression(out: &mut Vec<u8>, rule: &[u8], number: u64) -> Result<(), AllocError>
+fn put_suppression(out: &mut Vec<u8>, rule: &[u8], number: u64) -> Put
     ensures { OnOk result (out.new.items ≡ out.old.items ++ suppression_text rule.now number) }
 {
     out.extend_from_slice(b",\"partialFingerprints\":{\"rule/v1\":\"")?;
@@ -127,6 +108,5 @@ fn put_suppression(out: &mut Vec<u8>, rule: &[u8], number: u64) -> Result<(), Al
         b"\"},\"suppressions\":[{\"kind\":\"external\",\"justification\":\"rule ",
     )?;
     put_number(out, number)?;
-    out.extend_from_slice(b"\"}]}")?;
-    Ok(())
+    out.extend_from_slice(b"\"}]}")
 }

@@ -2,11 +2,11 @@
 ghost use Rattle.std.specs.Prelude.{◌≡◌, ◌++◌, ◌<◌, flat_map, OnOk};
 ghost use Rattle.er_sarif.specs.Uris.{digit_byte, is_path_byte, uri_byte, uri_text};
 
-use std::alloc::AllocError;
+use er_print::Put;
 
 /// Puts a file as a string with its URI.
 #[tactic(auto, unfolding(crate::specs::Uris::uri_text))]
-pub(crate) fn put_uri(out: &mut Vec<u8>, file: &[u8]) -> Result<(), AllocError>
+pub(crate) fn put_uri(out: &mut Vec<u8>, file: &[u8]) -> Put
     ensures { OnOk result (out.new.items ≡ out.old.items ++ uri_text file.now) }
 {
     out.extend_from_slice(b"\"")?;
@@ -14,7 +14,7 @@ pub(crate) fn put_uri(out: &mut Vec<u8>, file: &[u8]) -> Result<(), AllocError>
     out.extend_from_slice(b"\"")
 }
 
-fn put_path(out: &mut Vec<u8>, file: &[u8]) -> Result<(), AllocError>
+fn put_path(out: &mut Vec<u8>, file: &[u8]) -> Put
     ensures { OnOk result (out.new.items ≡ out.old.items ++ flat_map uri_byte file.now) }
 {
     for byte in file {
@@ -23,7 +23,7 @@ fn put_path(out: &mut Vec<u8>, file: &[u8]) -> Result<(), AllocError>
     Ok(())
 }
 
-fn put_byte(out: &mut Vec<u8>, byte: u8) -> Result<(), AllocError>
+fn put_byte(out: &mut Vec<u8>, byte: u8) -> Put
     ensures { OnOk result (out.new.items ≡ out.old.items ++ uri_byte byte) }
 {
     if is_path_byte(byte) {

@@ -4,17 +4,17 @@ use Rattle.std.specs.List.{list_all}
 use Rattle.er_trace.specs.Names.{NameTable}
 use Rattle.er_trace.specs.Trace.{Recording, without_steps}
 use Rattle.er_event.specs.declared.steps.Step.{Step}
-use Rattle.er_text.specs.declared.faults.TextKind.{TextKind}
-use Rattle.er_text.specs.declared.faults.TextKind.TheVariants.{LineTooLong, TextTooLong, NotAscii}
-use Rattle.er_text.specs.declared.faults.TextFault.{TextFault}
-use Rattle.er_text.specs.declared.faults.ReadFault.{ReadFault}
-use Rattle.er_text.specs.declared.faults.ReadFault.TheVariants as fault
+use Rattle.er_lines.specs.declared.faults.TextKind.{TextKind}
+use Rattle.er_lines.specs.declared.faults.TextKind.TheVariants.{LineTooLong, TextTooLong, NotAscii}
+use Rattle.er_lines.specs.declared.faults.TextFault.{TextFault}
+use Rattle.er_lines.specs.declared.faults.ReadFault.{ReadFault}
+use Rattle.er_lines.specs.declared.faults.ReadFault.TheVariants as fault
 use Rattle.er_text.specs.declared.reading.Batch.{Batch}
 use Rattle.er_text.specs.declared.reading.Batch.TheVariants.{More, End}
 use Rattle.er_text.specs.declared.verbs.Version.{Version}
 use Rattle.er_text.specs.Places.{Reached, no_tail}
 use Rattle.er_text.specs.Batches.{joined, HasRead, GivesBatch}
-use Rattle.er_text.specs.Lines.{Placed, placed, has_content, words, width, is_ascii}
+use Rattle.er_lines.specs.Lines.{Placed, placed, has_content, words, width, is_ascii}
 use Rattle.er_text.specs.Events.{EventLine, Operation, Acquires, Releases, Accesses, Reuses, IgnoresOn, IgnoresOff, Shows, Levels, Starts, Joins, Signals, Awaits, with_operation}
 use Rattle.er_text.specs.declared.stages.Stage.{Stage}
 use Rattle.er_text.specs.declared.stages.Stage.TheVariants.{Front, Events, Ended}
@@ -22,8 +22,8 @@ use Rattle.er_text.specs.Trace.{version_in, is_end, IsTrace, IsFault}
 use Rattle.er_text.specs.Inner.Parsing.{parsed_of}
 use Rattle.er_text.specs.Inner.Idle.{order_fault, idle_past}
 use Rattle.er_text.specs.Inner.Endings.{KeepsTail, BatchesTail}
-use Rattle.er_text.specs.Inner.Lending.{lines_left}
-use Rattle.er_text.specs.Inner.Reading.{read_line, go_on, read_lines, Continues}
+use Rattle.er_lines.specs.Lending.{lines_left}
+use Rattle.er_lines.specs.Reading.{read_line, go_on, read_lines, Continues}
 use Rattle.er_text.specs.Inner.Traces.{Progress, at_front, progress, skip, add_event, add_parsed, open_with, closed, read_words, read_content, finish_as, finish, Batches}
 use Rattle.er_text.proofs.TailLemmas.{tail_goes_on}
 use Rattle.er_text.proofs.TraceLaws.{trace_is, fault_is}

@@ -4,7 +4,7 @@ use Rattle.er_trace.specs.Trace.{Recording}
 use Rattle.er_text.specs.declared.endings.Lost.{Lost}
 use Rattle.er_text.specs.declared.verbs.Version.{Version}
 use Rattle.er_text.specs.Ending.{lost_in, comment_past, comment_after}
-use Rattle.er_text.specs.Lines.{Line, placed_from, width, is_comment}
+use Rattle.er_lines.specs.Lines.{Line, placed_from, width, is_comment}
 use Rattle.er_text.specs.Inner.Pieces.{AreRead, comment_behind}
 
 -- where lines begin says nothing of their comments

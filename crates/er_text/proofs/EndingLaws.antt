@@ -2,22 +2,22 @@
 use Rattle.std.proofs.Common.{◌≡◌, ℕ, ◌+◌, List, [], ◌∷◌, length, Option, Some, None, IfOk, Result, Ok, Err, refl, subst, sym, ap, ◌∙◌, arith}
 use Rattle.er_trace.specs.Trace.{Recording}
 use Rattle.er_event.specs.declared.steps.Step.{Step}
-use Rattle.er_text.specs.declared.faults.TextKind.{TextKind}
-use Rattle.er_text.specs.declared.faults.ReadFault.{ReadFault}
+use Rattle.er_lines.specs.declared.faults.TextKind.{TextKind}
+use Rattle.er_lines.specs.declared.faults.ReadFault.{ReadFault}
 use Rattle.er_text.specs.declared.reading.Batch.{Batch}
 use Rattle.er_text.specs.declared.reading.Batch.TheVariants.{More, End}
 use Rattle.er_text.specs.Batches.{HasRead}
 use Rattle.er_text.specs.Ending.{if_any_lost, KnowsEnd}
-use Rattle.er_text.specs.FirstFault.{known_after}
-use Rattle.er_text.specs.Lines.{Placed, placed}
+use Rattle.er_lines.specs.FirstFault.{known_after}
+use Rattle.er_lines.specs.Lines.{Placed, placed}
 use Rattle.er_text.specs.Places.{Tail, Reached, no_tail}
 use Rattle.er_text.specs.Trace.{Known, nothing_known, known_past}
 use Rattle.er_text.specs.Inner.Endings.{tail_after, KeepsTail, BatchesTail}
-use Rattle.er_text.specs.Inner.Lending.{lines_left}
-use Rattle.er_text.specs.Inner.Reading.{read_line, go_on, read_lines, Continues}
+use Rattle.er_lines.specs.Lending.{lines_left}
+use Rattle.er_lines.specs.Reading.{read_line, go_on, read_lines, Continues}
 use Rattle.er_text.specs.Inner.Traces.{Progress, at_front, progress, read_content, Batches}
 use Rattle.er_text.proofs.BatchLaws.{after, mapped, lines_after}
-use Rattle.er_text.proofs.ReadingLaws.{line_passed}
+use Rattle.er_lines.proofs.ReadingLaws.{line_passed}
 use Rattle.er_text.proofs.TraceFaults.{Stands, front_stands, line_moves}
 
 -- where a reading of lines ends

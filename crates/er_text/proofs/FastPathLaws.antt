@@ -14,9 +14,10 @@ use Rattle.std.proofs.lemmas.List.Sums.{AllPass-from_list_all, list_all-from_All
 use Rattle.er_event.specs.declared.steps.Kind.{Kind}
 use Rattle.er_event.specs.declared.steps.Mode.{Mode}
 use Rattle.er_text.specs.declared.verbs.Version.{Version}
-use Rattle.er_text.specs.Lines.{is_gap, is_ascii, is_comment, has_bytes, words, word_at}
-use Rattle.er_text.specs.Number.{number_of}
-use Rattle.er_text.specs.Naming.{is_name_byte, is_name, is_lock_name, is_site_byte, is_site_word}
+use Rattle.er_lines.specs.Lines.{is_gap, is_ascii, is_comment, has_bytes, words, word_at}
+use Rattle.er_lines.specs.Number.{number_of}
+use Rattle.er_lines.specs.Naming.{is_name_byte, is_name, is_lock_name, is_site_byte}
+use Rattle.er_text.specs.Naming.{is_site_word}
 use Rattle.er_text.specs.Events.{Operation, Acquires, Releases, Accesses, EventLine, with_operation, with_line}
 use Rattle.er_text.specs.declared.stages.Stage.{Stage}
 use Rattle.er_text.specs.declared.stages.Stage.TheVariants.{Events}
@@ -27,7 +28,7 @@ use Rattle.er_text.specs.Inner.Parsing.{parsed_of}
 use Rattle.er_text.specs.Inner.Idle.{last_actor, without_idle, order_fault, waits_for, is_known_name}
 use Rattle.er_text.specs.Inner.Traces.{Progress, past_event, add_event, add_parsed, closed, read_words, plain_at}
 use Rattle.er_text.specs.Inner.FastPath.{IsLeadingName, AreLeadingDigits, IsLeadingWord, IsFastAccess, IsFastOperation, IsFastLine}
-use Rattle.er_text.proofs.ByteLemmas.{name_ascii, site_ascii}
+use Rattle.er_lines.proofs.ByteLemmas.{name_ascii, site_ascii}
 use Rattle.er_text.proofs.SiteLemmas.{site_parts}
 use Rattle.er_text.proofs.ParsingAgain.{says_parsed}
 use Rattle.er_text.proofs.IdleLemmas.{no_fault, last_added}

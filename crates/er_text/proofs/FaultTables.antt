@@ -7,29 +7,24 @@ use Rattle.er_event.specs.Span.{Span}
 use Rattle.er_event.specs.declared.steps.Kind.{Kind}
 use Rattle.er_event.specs.declared.steps.Kind.TheVariants as kind
 use Rattle.er_event.specs.declared.steps.Mode.TheVariants as mode
-use Rattle.er_text.specs.declared.faults.TextKind.{TextKind}
-use Rattle.er_text.specs.declared.faults.TextKind.TheVariants.{BadName, MissingOperand, ExtraOperand, BadNumber, SizeTooLarge, AddressOutOfRange, LevelTooHigh}
+use Rattle.er_lines.specs.declared.faults.TextKind.{TextKind}
+use Rattle.er_lines.specs.declared.faults.TextKind.TheVariants.{BadName, MissingOperand, ExtraOperand, BadNumber, SizeTooLarge, AddressOutOfRange, LevelTooHigh}
 use Rattle.er_text.specs.declared.verbs.Verb.{Verb}
 use Rattle.er_text.specs.declared.verbs.Verb.TheVariants as verb
 use Rattle.er_text.specs.declared.verbs.Version.{Version}
-use Rattle.er_text.specs.Lines.{has_bytes, word_at}
-use Rattle.er_text.specs.Number.{number_of}
-use Rattle.er_text.specs.Naming.{is_name, is_lock_name, is_site_word}
+use Rattle.er_lines.specs.Lines.{has_bytes, word_at}
+use Rattle.er_lines.specs.Number.{number_of}
+use Rattle.er_lines.specs.Naming.{is_name, is_lock_name}
+use Rattle.er_text.specs.Naming.{is_site_word}
 use Rattle.er_text.specs.Verbs.{is_third, verb_of, least_of, most_of}
 use Rattle.er_text.specs.Events.{Operation, Acquires, Releases, Accesses, Reuses, Shows, Levels, Starts, Joins, Signals, Awaits, EventLine, run_of}
-use Rattle.er_text.specs.Inner.Parsing.{and_then, map_ok, or_fault, number_in, name_in, lock_in, site_in, word_in, level_in, is_outside, run_in, access_in, reuse_in, operands_in, count_of, operation_in, parsed_of}
-use Rattle.er_text.specs.FirstFault.{first_kind}
+use Rattle.er_lines.specs.Words.{and_then, map_ok, or_fault, number_in}
+use Rattle.er_text.specs.Inner.Parsing.{name_in, lock_in, site_in, word_in, level_in, is_outside, run_in, access_in, reuse_in, operands_in, count_of, operation_in, parsed_of}
+use Rattle.er_lines.specs.FirstFault.{first_kind}
 use Rattle.er_text.specs.Trace.{site_kind, operand_kinds, verb_kinds, event_kinds}
-use Rattle.er_text.proofs.SpellingLaws.{AreWhole}
+use Rattle.er_lines.proofs.SpelledLemmas.{AreWhole}
 use Rattle.er_text.proofs.SiteLemmas.{dash_named}
-
-abbrev pub fault_of : {X : Type 0} → Result X TextKind → Option TextKind
-fault_of (Ok x) = None
-fault_of (Err k) = Some k
-
-pub fault_of-map : {X Y : Type 0} (f : X → Y) (r : Result X TextKind) → fault_of (map_ok f r) ≡ fault_of r
-fault_of-map f (Ok x) = refl
-fault_of-map f (Err k) = refl
+use Rattle.er_lines.proofs.SaidLemmas.{fault_of, fault_of-map, number_faults}
 
 named : (b : Bool) (w : List ℕ) → cond (not b) (Some BadName) None ≡ fault_of (or_fault BadName (cond b (Some w) None))
 named true w = refl
@@ -40,12 +35,6 @@ lock_faults f w = named (is_lock_name w) w ∙ sym (fault_of-map f (lock_in w))
 
 name_faults : (f : List ℕ → Operation) (w : List ℕ) → first_kind ((not (is_name w), BadName) ∷ []) ≡ fault_of (map_ok f (name_in w))
 name_faults f w = named (is_name w) w ∙ sym (fault_of-map f (name_in w))
-
--- what follows a number
-pub number_faults : {X : Type 0} (r : Option ℕ) (rows : ℕ → List (Bool × TextKind)) (f : ℕ → Result X TextKind) → ((n : ℕ) → first_kind (rows n) ≡ fault_of (f n))
-    → first_kind ((not (is_some r), BadNumber) ∷ rows (unwrap_or r 0)) ≡ fault_of (and_then (or_fault BadNumber r) f)
-number_faults None rows f more = refl
-number_faults (Some n) rows f more = more n
 
 word_faults : {X : Type 0} (b : Bool) (n : ℕ) (f : ℕ → X) → cond b (Some AddressOutOfRange) None ≡ fault_of (map_ok f (cond b (Err AddressOutOfRange) (Ok (n / 4))))
 word_faults true n f = refl

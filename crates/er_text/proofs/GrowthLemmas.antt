@@ -4,10 +4,10 @@ use Rattle.std.specs.List.{list_all}
 use Rattle.er_trace.specs.Names.{NameTable, number_of, with_name}
 use Rattle.er_trace.specs.Trace.{Recording, with_thread_name}
 use Rattle.er_event.specs.declared.steps.Step.{Step}
-use Rattle.er_text.specs.declared.faults.TextKind.{TextKind}
-use Rattle.er_text.specs.declared.faults.TextKind.TheVariants.{NotAscii}
+use Rattle.er_lines.specs.declared.faults.TextKind.{TextKind}
+use Rattle.er_lines.specs.declared.faults.TextKind.TheVariants.{NotAscii}
 use Rattle.er_text.specs.declared.verbs.Version.{Version}
-use Rattle.er_text.specs.Lines.{says_something, words, is_ascii}
+use Rattle.er_lines.specs.Lines.{says_something, words, is_ascii}
 use Rattle.er_text.specs.Events.{EventLine, Operation, Acquires, Releases, Accesses, Reuses, IgnoresOn, IgnoresOff, Shows, Levels, Starts, Joins, Signals, Awaits, with_operation}
 use Rattle.er_text.specs.Named.{KeepsNames, Grows}
 use Rattle.er_text.specs.declared.stages.Stage.{Stage}

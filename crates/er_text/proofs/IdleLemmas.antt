@@ -7,7 +7,7 @@ use Rattle.er_trace.specs.Names.{is_known, number_of, with_name}
 use Rattle.er_trace.specs.Trace.{Recording}
 use Rattle.er_trace.proofs.NumberLemmas.{alone, kept, still, again, given}
 use Rattle.er_event.specs.declared.steps.Step.{Step}
-use Rattle.er_text.specs.declared.faults.TextKind.{TextKind}
+use Rattle.er_lines.specs.declared.faults.TextKind.{TextKind}
 use Rattle.er_text.specs.Events.{EventLine, Operation, Acquires, Releases, Accesses, Reuses, IgnoresOn, IgnoresOff, Shows, Levels, Starts, Joins, Signals, Awaits, with_line}
 use Rattle.er_text.specs.Inner.Idle.{is_idle, without_idle, with_idle, last_actor, has_run, other_thread, operation_fault, waits_for, is_known_name, idle_past}
 

@@ -12,11 +12,11 @@ use Rattle.er_event.specs.declared.steps.Step.{Step}
 use Rattle.er_event.specs.declared.steps.Sync.{Sync as Order}
 use Rattle.er_event.specs.declared.steps.Sync.TheVariants as order
 use Rattle.er_text.specs.declared.verbs.Version.{Version}
-use Rattle.er_text.specs.Lines.{Placed, words}
+use Rattle.er_lines.specs.Lines.{Placed, words}
 use Rattle.er_text.specs.Events.{EventLine, Operation, Acquires, Releases, Accesses, Reuses, IgnoresOn, IgnoresOff, Shows, Levels, Starts, Joins, Signals, Awaits, run_parts, with_operation, with_line}
 use Rattle.er_text.specs.Trace.{Says, AllSay, with_lines, IsTrace}
 use Rattle.er_text.specs.Named.{KeepsNumbers, KeepsNames, IsSiteNumber, Does, site_named, AreNamed}
-use Rattle.er_text.proofs.SpellingLaws.{equal}
+use Rattle.er_lines.proofs.SpelledLemmas.{equal}
 
 kept : {X : Type 0} (xs ys : List X) (n : ℕ) (x : X) → slice_get xs n ≡ Some x → slice_get (xs ++ ys) n ≡ Some x
 kept [] ys n x e = absurd (cc)

@@ -9,15 +9,17 @@ use Rattle.er_event.specs.declared.steps.Mode.{Mode}
 use Rattle.er_event.specs.declared.steps.Mode.TheVariants as mode
 use Rattle.er_text.specs.declared.verbs.Verb.TheVariants as verb
 use Rattle.er_text.specs.declared.verbs.Version.{Version}
-use Rattle.er_text.specs.Lines.{has_bytes}
-use Rattle.er_text.specs.Number.{number_of}
-use Rattle.er_text.specs.Naming.{is_name, is_lock_name, is_site_word}
+use Rattle.er_lines.specs.Lines.{has_bytes}
+use Rattle.er_lines.specs.Number.{number_of}
+use Rattle.er_lines.specs.Naming.{is_name, is_lock_name}
+use Rattle.er_text.specs.Naming.{is_site_word}
 use Rattle.er_text.specs.Verbs.{is_third, verb_of}
 use Rattle.er_text.specs.Events.{Operation, Acquires, Releases, Accesses, Reuses, IgnoresOn, IgnoresOff, Shows, Levels, Starts, Joins, Signals, Awaits, EventLine, run_of}
 use Rattle.er_text.specs.Inner.Parsing.{name_in, lock_in, site_in, word_in, level_in, run_in, parsed_of}
 use Rattle.er_text.specs.Trace.{acquire_word, release_word, kind_word, IsSite, IsReuseSite, IsOperation, Says}
 use Rattle.er_text.proofs.SpellingLaws.{spelled_verb}
 use Rattle.er_text.proofs.SiteLemmas.{site_parts}
+use Rattle.er_lines.proofs.SaidLemmas.{some_number}
 
 pub some_name : (word : List ℕ) → is_name word ≡ true → has_bytes word ≡ true
 some_name [] name = absurd (cc)
@@ -26,10 +28,6 @@ some_name (x ∷ xs) name = refl
 some_lock : (word : List ℕ) → is_lock_name word ≡ true → has_bytes word ≡ true
 some_lock [] name = absurd (cc)
 some_lock (x ∷ xs) name = refl
-
-pub some_number : (word : List ℕ) (n : ℕ) → number_of word ≡ Some n → has_bytes word ≡ true
-some_number [] n e = absurd (cc)
-some_number (x ∷ xs) n e = refl
 
 word_again : (n : ℕ) → n < 2 ^ 48 → word_in n ≡ Ok (n / 4)
 word_again n small = let test : nat_le (2 ^ 48) n ≡ false = grind (arith, nat_tests, small) in rw test refl

@@ -7,33 +7,25 @@ use Rattle.er_event.specs.declared.steps.Kind.{Kind}
 use Rattle.er_event.specs.declared.steps.Kind.TheVariants as kind
 use Rattle.er_event.specs.declared.steps.Mode.{Mode}
 use Rattle.er_event.specs.declared.steps.Mode.TheVariants as mode
-use Rattle.er_text.specs.declared.faults.TextKind.{TextKind}
-use Rattle.er_text.specs.declared.faults.TextKind.TheVariants.{BadName, MissingOperand, ExtraOperand, BadNumber, SizeTooLarge, AddressOutOfRange, LevelTooHigh}
+use Rattle.er_lines.specs.declared.faults.TextKind.{TextKind}
+use Rattle.er_lines.specs.declared.faults.TextKind.TheVariants.{BadName, MissingOperand, ExtraOperand, BadNumber, SizeTooLarge, AddressOutOfRange, LevelTooHigh}
 use Rattle.er_text.specs.declared.verbs.Verb.{Verb}
 use Rattle.er_text.specs.declared.verbs.Verb.TheVariants as verb
 use Rattle.er_text.specs.declared.verbs.Version.{Version}
-use Rattle.er_text.specs.Lines.{has_bytes, word_at}
-use Rattle.er_text.specs.Number.{number_of}
-use Rattle.er_text.specs.Naming.{is_name, is_lock_name, is_site_word}
+use Rattle.er_lines.specs.Lines.{has_bytes, word_at}
+use Rattle.er_lines.specs.Number.{number_of}
+use Rattle.er_lines.specs.Naming.{is_name, is_lock_name}
+use Rattle.er_text.specs.Naming.{is_site_word}
 use Rattle.er_text.specs.Verbs.{is_third, verb_of}
 use Rattle.er_text.specs.Events.{Operation, Acquires, Releases, Accesses, Reuses, IgnoresOn, IgnoresOff, Shows, Levels, Starts, Joins, Signals, Awaits, EventLine, run_of}
-use Rattle.er_text.specs.Inner.Parsing.{and_then, map_ok, or_fault, number_in, name_in, lock_in, site_in, word_in, level_in, run_in, access_in, reuse_in, operands_in, counted_in, operation_in, parsed_of}
+use Rattle.er_lines.specs.Words.{and_then, map_ok, or_fault, number_in}
+use Rattle.er_text.specs.Inner.Parsing.{name_in, lock_in, site_in, word_in, level_in, run_in, access_in, reuse_in, operands_in, counted_in, operation_in, parsed_of}
 use Rattle.er_text.specs.Trace.{acquire_word, release_word, kind_word, IsSite, IsReuseSite, IsOperation, Says}
-use Rattle.er_text.proofs.SpellingLaws.{AreWhole, spelling, IsKnown, verb_spelled}
+use Rattle.er_lines.proofs.SpelledLemmas.{AreWhole}
+use Rattle.er_text.proofs.SpellingLaws.{spelling, IsKnown, verb_spelled}
 use Rattle.er_text.proofs.SiteLemmas.{dash_named}
 use Rattle.er_text.proofs.FaultTables.{count}
-
-pub mapped : {X Y : Type 0} (f : X → Y) (r : Result X TextKind) (y : Y) → map_ok f r ≡ Ok y → (x : X) × (r ≡ Ok x) × (f x ≡ y)
-mapped f (Ok x) y e = (x, refl, cc)
-mapped f (Err k) y e = absurd (cc)
-
-pub bound : {X Y : Type 0} (f : X → Result Y TextKind) (r : Result X TextKind) (y : Y) → and_then r f ≡ Ok y → (x : X) × (r ≡ Ok x) × (f x ≡ Ok y)
-bound f (Ok x) y e = (x, refl, e)
-bound f (Err k) y e = absurd (cc)
-
-pub number_found : (r : Option ℕ) (n : ℕ) → or_fault BadNumber r ≡ Ok n → r ≡ Some n
-number_found None n e = absurd (cc)
-number_found (Some m) n e = cc
+use Rattle.er_lines.proofs.SaidLemmas.{mapped, bound, number_found}
 
 tested : (b : Bool) (w t : List ℕ) → or_fault BadName (cond b (Some w) None) ≡ Ok t → (b ≡ true) × (w ≡ t)
 tested true w t e = (refl, cc)

@@ -15,19 +15,20 @@ use Rattle.er_text.specs.declared.stages.Stage.TheVariants.{Events}
 use Rattle.er_text.specs.declared.verbs.Version.{Version}
 use Rattle.er_text.specs.Batches.{HasRead}
 use Rattle.er_text.specs.Ending.{is_cut_after, comment_after}
-use Rattle.er_text.specs.Lines.{Line, lines_of, placed_from}
-use Rattle.er_text.specs.Pieces.{ReadPiece, StandsInFront, AreWhole, IsReady}
-use Rattle.er_text.specs.Places.{Place, Tail, Reached}
+use Rattle.er_lines.specs.Lines.{Line, lines_of, placed_from, AreWhole}
+use Rattle.er_text.specs.Pieces.{ReadPiece, StandsInFront, IsReady}
+use Rattle.er_lines.specs.Places.{Place}
+use Rattle.er_text.specs.Places.{Tail, Reached}
 use Rattle.er_text.specs.Inner.Endings.{tail_after, BatchesTail}
-use Rattle.er_text.specs.Inner.Lending.{lines_left, past_lines}
+use Rattle.er_lines.specs.Lending.{lines_left, past_lines}
 use Rattle.er_text.specs.Inner.Pieces.{AreRead, comment_behind}
-use Rattle.er_text.specs.Inner.Reading.{read_lines}
+use Rattle.er_lines.specs.Reading.{read_lines}
 use Rattle.er_text.specs.Inner.Traces.{at_line, progress, read_content, Batches}
 use Rattle.er_text.proofs.AppendedLemmas.{nothing_appended}
 use Rattle.er_text.proofs.BatchLaws.{batch_gives}
 use Rattle.er_text.proofs.CommentLemmas.{comments_on, comments_above, IsAbove}
 use Rattle.er_text.proofs.PieceLaws.{Named, lines_on, cut_on, same_cut, lines_below, few_lines}
-use Rattle.er_text.proofs.WholeLemmas.{lines_append, widths, widths_all}
+use Rattle.er_lines.proofs.WholeLemmas.{lines_append, widths, widths_all}
 
 and_false : (b : Bool) → (b && false) ≡ false
 and_false true = refl

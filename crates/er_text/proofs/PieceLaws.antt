@@ -9,21 +9,21 @@ use Rattle.er_trace.specs.Names.{is_known}
 use Rattle.er_trace.specs.Trace.{Recording, IsNamed, HasSiteName, with_thread_name}
 use Rattle.er_trace.specs.Appended.{with_names, appended}
 use Rattle.er_trace.proofs.AppendedLemmas.{there}
-use Rattle.er_text.specs.declared.faults.TextKind.{TextKind}
-use Rattle.er_text.specs.declared.faults.TextKind.TheVariants.{OwnThread, AlreadyRunning, NotAscii}
+use Rattle.er_lines.specs.declared.faults.TextKind.{TextKind}
+use Rattle.er_lines.specs.declared.faults.TextKind.TheVariants.{OwnThread, AlreadyRunning, NotAscii}
 use Rattle.er_text.specs.declared.stages.Stage.TheVariants.{Events, Ended}
 use Rattle.er_text.specs.declared.verbs.Version.{Version}
 use Rattle.er_text.specs.Ending.{is_cut_after}
 use Rattle.er_text.specs.Events.{EventLine, Operation, Acquires, Releases, Accesses, Reuses, IgnoresOn, IgnoresOff, Shows, Levels, Starts, Joins, Signals, Awaits, run_parts, with_operation, with_line}
-use Rattle.er_text.specs.Lines.{Line, Placed, placed_from, says_something, words, is_ascii, width}
+use Rattle.er_lines.specs.Lines.{Line, Placed, placed_from, says_something, words, is_ascii, width}
 use Rattle.er_text.specs.Trace.{is_end}
 use Rattle.er_text.specs.Inner.Idle.{with_idle, other_thread, operation_fault, order_fault, waits_for, is_known_name}
 use Rattle.er_text.specs.Inner.Parsing.{parsed_of}
 use Rattle.er_text.specs.Inner.Pieces.{AreRead}
-use Rattle.er_text.specs.Inner.Reading.{go_on, read_lines}
+use Rattle.er_lines.specs.Reading.{go_on, read_lines}
 use Rattle.er_text.specs.Inner.Traces.{Progress, at_line, skip, past_event, add_event, add_parsed, closed, plain_at, read_content}
 use Rattle.er_text.proofs.AppendedLemmas.{line_appended, line_named, line_sites_named}
-use Rattle.er_text.proofs.WholeLemmas.{widths}
+use Rattle.er_lines.proofs.WholeLemmas.{widths}
 
 -- the steps of a recording have names, and so have its sites
 pub record Named (q : Recording) : Type 0 where

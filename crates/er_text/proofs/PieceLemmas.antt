@@ -8,11 +8,11 @@ use Rattle.er_text.specs.declared.stages.Stage.TheVariants.{Events}
 use Rattle.er_text.specs.declared.verbs.Version.{Version}
 use Rattle.er_text.specs.declared.endings.Lost.{Lost}
 use Rattle.er_text.specs.Ending.{comment_past, comment_after}
-use Rattle.er_text.specs.Lines.{Line, is_end, lines_of, placed_from, width as line_width}
+use Rattle.er_lines.specs.Lines.{Line, is_end, lines_of, placed_from, width as line_width}
 use Rattle.er_text.specs.Inner.Pieces.{AreRead, IsReadInFront}
 use Rattle.er_text.specs.Inner.Traces.{at_line, plain_at}
 use Rattle.er_text.proofs.CommentLemmas.{same_comments}
-use Rattle.er_text.proofs.LineLemmas.{lines_whole}
+use Rattle.er_lines.proofs.LineLemmas.{lines_whole}
 
 first_line : (bytes : List ℕ) (len : ℕ) → len ≡ position_or_len is_end bytes → len < length bytes
     → lines_of bytes ≡ record { bytes = take len bytes; ended = true } ∷ lines_of (drop (len + 1) bytes)

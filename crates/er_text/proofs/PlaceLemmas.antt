@@ -1,20 +1,19 @@
 -- What the line in front did to a reading, by its place, its number and its bytes.
 use Rattle.std.proofs.Common.{◌≡◌, ℕ, true, false, List, take, Option, Some, None, IfSome, Ok, Err, subst, sym, ap, ◌∙◌}
 use Rattle.er_trace.specs.Trace.{Recording}
-use Rattle.er_rules.specs.Rules.{Target}
-use Rattle.er_text.specs.declared.faults.ReadFault.{ReadFault}
-use Rattle.er_text.specs.declared.faults.ReadFault.TheVariants as fault
-use Rattle.er_text.specs.declared.faults.TextKind.TheVariants.{NoHeader}
+use Rattle.er_lines.specs.declared.faults.ReadFault.{ReadFault}
+use Rattle.er_lines.specs.declared.faults.ReadFault.TheVariants as fault
+use Rattle.er_lines.specs.declared.faults.TextKind.TheVariants.{NoHeader}
 use Rattle.er_text.specs.declared.stages.Stage.{Stage}
 use Rattle.er_text.specs.declared.stages.Stage.TheVariants.{Front}
-use Rattle.er_text.specs.Lines.{Placed}
-use Rattle.er_text.specs.declared.lines.FrontLine.{FrontLine}
-use Rattle.er_text.specs.Places.{Place, Reached}
-use Rattle.er_text.specs.Inner.Lending.{lines_from, lines_left, front_line, past, limit_fault, LineThen}
-use Rattle.er_text.specs.Inner.Reading.{Reads, Turns, Continues}
+use Rattle.er_lines.specs.Lines.{Placed}
+use Rattle.er_lines.specs.declared.lines.FrontLine.{FrontLine}
+use Rattle.er_lines.specs.Places.{Place}
+use Rattle.er_text.specs.Places.{Reached}
+use Rattle.er_lines.specs.Lending.{lines_from, lines_left, front_line, past, limit_fault, LineThen}
+use Rattle.er_lines.specs.Reading.{Reads, Turns, Continues}
 use Rattle.er_text.specs.Inner.Traces.{Progress, at_front, at_line, progress, plain_at, read_content, finish_as, finish, read_text, IsOutcome}
-use Rattle.er_text.specs.Inner.RuleLines.{plain_rule_at, add_line}
-use Rattle.er_text.proofs.TurnLemmas.{turn_on, turn_fails}
+use Rattle.er_lines.proofs.TurnLemmas.{turn_on, turn_fails}
 
 -- what a line of a trace did to the reading
 pub trace_fails : (old : Reached) (at : Place) (front : FrontLine) (left rest new : Option (List Placed)) (told : Recording) (line : ℕ) (bytes : List ℕ) (u v : Progress) (e : ReadFault)
@@ -27,27 +26,6 @@ trace_fails old at front left rest new told line bytes u v e first within limit 
     let L : ℕ → Type 0 = λ l. Turns l read_content left new (progress old told) u (Err e) in
     let N : ℕ → Type 0 = λ n. Turns at.limit read_content left new (at_line n old.stage old.idle told) u (Err e) in
     subst L limit (subst N number (turn_fails at.limit read_content left rest new (front_line at front) (at_line at.number old.stage old.idle told) u v e first within (subst H all (subst G same gives))))
-
--- what a line of a suppression text did to the reading
-pub rule_fails : (old at : Place) (front : FrontLine) (left rest new : Option (List Placed)) (t u v : List Target) (line : ℕ) (bytes : List ℕ) (e : ReadFault)
-    → LineThen left (front_line at front) rest → limit_fault at.limit (front_line at front) ≡ None → at.limit ≡ old.limit
-    → line ≡ at.number → bytes ≡ take front.len at.ahead → Reads {X = Unit {0}} line v (Err e) (plain_rule_at t bytes)
-    → Turns old.limit add_line left new t u (Err e)
-rule_fails old at front left rest new t u v line bytes e first within limit same all gives =
-    let G : ℕ → Type 0 = λ n. Reads {X = Unit {0}} n v (Err e) (plain_rule_at t bytes) in
-    let H : List ℕ → Type 0 = λ b. Reads {X = Unit {0}} at.number v (Err e) (plain_rule_at t b) in
-    let L : ℕ → Type 0 = λ l. Turns l add_line left new t u (Err e) in
-    subst L limit (turn_fails at.limit add_line left rest new (front_line at front) t u v e first within (subst H all (subst G same gives)))
-
-pub rule_reads : (old at after : Place) (front : FrontLine) (left : Option (List Placed)) (known : Option (List ℕ)) (t u : List Target) (bytes : List ℕ)
-    → LineThen left (front_line at front) (lines_left (past at front) known) → limit_fault at.limit (front_line at front) ≡ None → at.limit ≡ old.limit
-    → after ≡ past at front → bytes ≡ take front.len at.ahead → plain_rule_at t bytes ≡ Ok u
-    → Turns old.limit add_line left (lines_left after known) t u (Ok true)
-rule_reads old at after front left known t u bytes first within limit same all gives =
-    let H : List ℕ → Type 0 = λ b. plain_rule_at t b ≡ Ok u in
-    let L : ℕ → Type 0 = λ l. Turns l add_line left (lines_left after known) t u (Ok true) in
-    let A : Place → Type 0 = λ p. Turns at.limit add_line left (lines_left p known) t u (Ok true) in
-    subst L limit (subst A (sym same) (turn_on at.limit add_line left (lines_left (past at front) known) (front_line at front) t u first within (subst H all gives)))
 
 -- a fault of the next line is the text's
 pub fault_ends : (limit : ℕ) (known : Option (List ℕ)) (left rest : Option (List Placed)) (p q : Progress) (e : ReadFault)

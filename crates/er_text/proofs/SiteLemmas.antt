@@ -5,10 +5,11 @@ use Rattle.std.specs.Str.{bytes_eq}
 use Rattle.std.proofs.lemmas.Bool.{and_parts}
 use Rattle.er_text.specs.declared.verbs.Version.{Version}
 use Rattle.er_text.specs.declared.verbs.Version.TheVariants.{One, Two, Three}
-use Rattle.er_text.specs.Lines.{has_bytes}
-use Rattle.er_text.specs.Naming.{is_name_byte, is_name, is_site_byte, is_site_name, is_site_word}
-use Rattle.er_text.proofs.ByteLemmas.{name_printed}
-use Rattle.er_text.proofs.SpellingLaws.{equal}
+use Rattle.er_lines.specs.Lines.{has_bytes}
+use Rattle.er_lines.specs.Naming.{is_name_byte, is_name, is_site_byte, is_site_name}
+use Rattle.er_text.specs.Naming.{is_site_word}
+use Rattle.er_lines.proofs.ByteLemmas.{name_printed}
+use Rattle.er_lines.proofs.SpelledLemmas.{equal}
 
 pub record SiteParts (w : List ℕ) : Type 0 where
   pub some : has_bytes w ≡ true

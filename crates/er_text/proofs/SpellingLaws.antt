@@ -8,16 +8,10 @@ use Rattle.er_text.specs.declared.verbs.Verb.{Verb}
 use Rattle.er_text.specs.declared.verbs.Verb.TheVariants.{Lock, Unlock, ReadLock, ReadUnlock, Read, Write, Reuse, IgnoreOn, IgnoreOff, Show, Level, Start, Join, Signal, Await}
 use Rattle.er_text.specs.declared.verbs.Version.{Version}
 use Rattle.er_text.specs.declared.verbs.Version.TheVariants.{One, Two, Three}
-use Rattle.er_text.specs.Lines.{has_bytes, word_at}
+use Rattle.er_lines.specs.Lines.{has_bytes, word_at}
 use Rattle.er_text.specs.Verbs.{version_word, has_levels, is_third, header_version, verb_of, rarer_verb_of, order_verb_of}
 use Rattle.er_text.specs.Trace.{header_words, version_in}
-
-pub equal : (xs ys : List ℕ) → bytes_eq xs ys ≡ true → xs ≡ ys
-equal xs ys e = (bytes_eq-Decides xs ys).0 e
-
--- each of these words has bytes
-abbrev pub AreWhole : List (List ℕ) → Type 0
-AreWhole ws = list_all has_bytes ws ≡ true
+use Rattle.er_lines.proofs.SpelledLemmas.{equal, AreWhole}
 
 -- how a verb is spelled, and in which versions it is one
 abbrev pub spelling : Verb → List ℕ

@@ -1,9 +1,9 @@
 -- What one line does to how the lines before end.
 use Rattle.std.proofs.Common.{◌≡◌, List, [], Option, Some, None, refl, sym, ap, ◌∙◌}
-use Rattle.er_text.specs.Lines.{Placed}
+use Rattle.er_lines.specs.Lines.{Placed}
 use Rattle.er_text.specs.Places.{Tail}
 use Rattle.er_text.specs.Inner.Endings.{tail_after, tail_past, KeepsTail}
-use Rattle.er_text.specs.Inner.Lending.{LineThen, IsNothing}
+use Rattle.er_lines.specs.Lending.{LineThen, IsNothing}
 
 -- a line that is passed over
 pub tail_on : (left rest : Option (List Placed)) (p : Placed) (before after_it : Tail) → LineThen left p rest → after_it ≡ tail_past before p → KeepsTail left rest before after_it

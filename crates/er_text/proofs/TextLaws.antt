@@ -1,6 +1,6 @@
 -- Of a text and a limit: a trace or a fault, and no two of them.
 use Rattle.std.proofs.Common.{◌≡◌, ℕ, ◌⊎◌, inl, inr, List, Result, Ok, Err, refl, sym, ◌∙◌}
-use Rattle.er_text.specs.declared.faults.TextFault.{TextFault}
+use Rattle.er_lines.specs.declared.faults.TextFault.{TextFault}
 use Rattle.er_trace.specs.Trace.{Recording}
 use Rattle.er_text.specs.Inner.Traces.{read_text}
 use Rattle.er_text.specs.Trace.{IsTrace, IsFault}

@@ -4,24 +4,25 @@ use Rattle.std.specs.Option.{is_some}
 use Rattle.std.specs.Str.{bytes_eq}
 use Rattle.er_event.specs.declared.steps.Kind.TheVariants as kind
 use Rattle.er_event.specs.declared.steps.Mode.TheVariants as mode
-use Rattle.er_text.specs.declared.faults.TextKind.{TextKind}
-use Rattle.er_text.specs.declared.faults.TextKind.TheVariants.{NoHeader}
+use Rattle.er_lines.specs.declared.faults.TextKind.{TextKind}
+use Rattle.er_lines.specs.declared.faults.TextKind.TheVariants.{NoHeader}
 use Rattle.er_text.specs.declared.verbs.Version.{Version}
 use Rattle.er_text.specs.declared.stages.Stage.{Stage}
 use Rattle.er_text.specs.declared.stages.Stage.TheVariants.{Front, Events, Ended}
-use Rattle.er_text.specs.Lines.{Placed, has_content, word_at, words}
-use Rattle.er_text.specs.FirstFault.{first_kind}
+use Rattle.er_lines.specs.Lines.{Placed, has_content, word_at, words}
+use Rattle.er_lines.specs.FirstFault.{first_kind}
 use Rattle.er_text.specs.Events.{EventLine, Operation, Acquires, Releases, Accesses, Reuses, IgnoresOn, IgnoresOff, Shows, Levels, Starts, Joins, Signals, Awaits}
 use Rattle.er_text.specs.Trace.{IsOperation, Says, has_acted, version_in, is_end, event_kinds, order_kinds, Known, nothing_known, word_kinds, content_kinds, opened_by, known_by, known_past}
 use Rattle.er_text.specs.Inner.Parsing.{parsed_of}
 use Rattle.er_text.specs.Inner.Idle.{has_run, operation_fault, order_fault}
 use Rattle.er_text.specs.Inner.Traces.{Progress, at_front, skip, past_event, add_event, add_parsed, open_with, closed, read_words, read_content}
-use Rattle.er_text.proofs.SpellingLaws.{AreWhole}
-use Rattle.er_text.proofs.FaultTables.{fault_of, event_faults}
+use Rattle.er_lines.proofs.SpelledLemmas.{AreWhole}
+use Rattle.er_lines.proofs.SaidLemmas.{fault_of}
+use Rattle.er_text.proofs.FaultTables.{event_faults}
 use Rattle.er_text.proofs.ParsingLaws.{parsed_says}
 use Rattle.er_text.proofs.EventWords.{event_words}
 use Rattle.er_text.proofs.IdleLemmas.{runs_past}
-use Rattle.er_text.proofs.ReadingLaws.{whole_words, Agrees}
+use Rattle.er_lines.proofs.ReadingLaws.{whole_words, Agrees}
 
 -- what was read so far is at the stage that is known, and the threads that have run are those that act
 pub record Stands (p : Progress) (known : Known) : Type 0 where

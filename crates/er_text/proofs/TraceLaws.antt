@@ -4,27 +4,29 @@ use Rattle.std.specs.List.{list_all}
 use Rattle.std.specs.Str.{bytes_eq}
 use Rattle.std.proofs.lemmas.Bool.{and_parts}
 use Rattle.er_trace.specs.Trace.{Recording, no_steps}
-use Rattle.er_text.specs.declared.faults.TextKind.{TextKind}
-use Rattle.er_text.specs.declared.faults.TextKind.TheVariants.{NoHeader, OwnThread, AlreadyRunning}
-use Rattle.er_text.specs.declared.faults.TextFault.{TextFault}
-use Rattle.er_text.specs.declared.faults.ReadFault.{ReadFault}
-use Rattle.er_text.specs.declared.faults.ReadFault.TheVariants as fault
+use Rattle.er_lines.specs.declared.faults.TextKind.{TextKind}
+use Rattle.er_lines.specs.declared.faults.TextKind.TheVariants.{NoHeader, OwnThread, AlreadyRunning}
+use Rattle.er_lines.specs.declared.faults.TextFault.{TextFault}
+use Rattle.er_lines.specs.declared.faults.ReadFault.{ReadFault}
+use Rattle.er_lines.specs.declared.faults.ReadFault.TheVariants as fault
 use Rattle.er_text.specs.declared.verbs.Version.{Version}
 use Rattle.er_text.specs.declared.stages.Stage.{Stage}
 use Rattle.er_text.specs.declared.stages.Stage.TheVariants.{Front, Events, Ended}
-use Rattle.er_text.specs.Lines.{Placed, placed, has_bytes, has_content, words, word_at, lines_of}
+use Rattle.er_lines.specs.Lines.{Placed, placed, has_bytes, has_content, words, word_at, lines_of}
 use Rattle.er_text.specs.Verbs.{is_third}
 use Rattle.er_text.specs.Events.{EventLine, Operation, Acquires, Releases, Accesses, Reuses, IgnoresOn, IgnoresOff, Shows, Levels, Starts, Joins, Signals, Awaits, with_line}
 use Rattle.er_text.specs.Trace.{header_words, version_in, is_end, content_kinds, Known, nothing_known, opened_by, known_by, known_past, has_acted, MayDo, AreInOrder, IsClosing, Says, AllSay, with_lines, IsTrace, IsFault, Tells}
-use Rattle.er_text.specs.Inner.Parsing.{and_then, parsed_of}
+use Rattle.er_lines.specs.Words.{and_then}
+use Rattle.er_text.specs.Inner.Parsing.{parsed_of}
 use Rattle.er_text.specs.Inner.Idle.{has_run, operation_fault, order_fault}
-use Rattle.er_text.specs.Inner.Reading.{read_lines, read_contents}
+use Rattle.er_lines.specs.Reading.{read_lines, read_contents}
 use Rattle.er_text.specs.Inner.Traces.{Progress, at_front, skip, past_event, add_event, add_parsed, open_with, closed, read_words, read_content, finish_as, finish, read_text, IsOutcome}
-use Rattle.er_text.proofs.SpellingLaws.{AreWhole, equal, header_is, header_again}
+use Rattle.er_lines.proofs.SpelledLemmas.{AreWhole, equal}
+use Rattle.er_text.proofs.SpellingLaws.{header_is, header_again}
 use Rattle.er_text.proofs.ParsingLaws.{parsed_says}
 use Rattle.er_text.proofs.ParsingAgain.{says_parsed}
 use Rattle.er_text.proofs.EventWords.{event_words, not_end}
-use Rattle.er_text.proofs.ReadingLaws.{whole_words, size_of, all_passed, all_again, none_met, free_read, first_found, first_stops}
+use Rattle.er_lines.proofs.ReadingLaws.{whole_words, size_of, all_passed, all_again, none_met, free_read, first_found, first_stops}
 use Rattle.er_text.proofs.TraceFaults.{Stands, front_stands, read_known, line_moves, trace_agrees}
 
 one_word : (ws : List (List ℕ)) (w : List ℕ) → AreWhole ws → word_at 0 ws ≡ w → has_bytes w ≡ true → not (has_bytes (word_at 1 ws)) ≡ true → ws ≡ w ∷ []

@@ -7,9 +7,9 @@ use Rattle.er_text.specs.declared.endings.Ending.{Ending}
 use Rattle.er_text.specs.declared.endings.Lost.{Lost}
 use Rattle.er_text.specs.declared.stages.Stage.{Stage}
 use Rattle.er_text.specs.declared.stages.Stage.TheVariants.{Front, Events, Ended}
-use Rattle.er_text.specs.FirstFault.{known_after}
-use Rattle.er_text.specs.Lines.{Placed, placed, is_comment}
-use Rattle.er_text.specs.Number.{value_in}
+use Rattle.er_lines.specs.FirstFault.{known_after}
+use Rattle.er_lines.specs.Lines.{Placed, placed, is_comment, before_space, behind_space}
+use Rattle.er_lines.specs.Number.{value_in}
 use Rattle.er_text.specs.Places.{Reached}
 use Rattle.er_text.specs.Trace.{nothing_known, known_past}
 use Rattle.er_text.specs.Verbs.{is_third}
@@ -22,17 +22,6 @@ is_cut_after cut (p ∷ ps) = is_cut_after (not p.line.ended) ps
 -- the last line of the text lacks its LF
 abbrev pub is_cut : List ℕ → Bool
 is_cut text = is_cut_after false (placed text)
-
-abbrev pub is_space : ℕ → Bool
-is_space byte = byte == 32
-
--- the bytes before the first space, and all of them if there is none
-abbrev pub before_space : List ℕ → List ℕ
-before_space bytes = take (position_or_len is_space bytes) bytes
-
--- the bytes behind the first space, and none if there is none
-abbrev pub behind_space : List ℕ → List ℕ
-behind_space bytes = drop (position_or_len is_space bytes + 1) bytes
 
 -- behind `# incomplete:`, these bytes are `M events, N lost`, and this is N; it is 0 if they are others
 abbrev pub lost_behind : List ℕ → ℕ

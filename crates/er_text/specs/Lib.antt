@@ -1,13 +1,8 @@
-pub mod Lines
-pub mod Number
 pub mod Naming
 pub mod Verbs
-pub mod Faults
-pub mod FirstFault
 pub mod Events
 pub mod Trace
 pub mod Named
-pub mod Rules
 pub mod Places
 pub mod Pieces
 pub mod Ending

@@ -10,13 +10,9 @@ use Rattle.er_text.specs.declared.endings.Lost.{Lost}
 use Rattle.er_text.specs.declared.verbs.Version.{Version}
 use Rattle.er_text.specs.declared.stages.Stage.TheVariants.{Events}
 use Rattle.er_text.specs.Ending.{comment_after}
-use Rattle.er_text.specs.Lines.{lines_of, placed_from}
+use Rattle.er_lines.specs.Lines.{lines_of, placed_from, AreWhole}
 use Rattle.er_text.specs.Places.{Reached}
 use Rattle.er_text.specs.Inner.Pieces.{AreRead}
-
--- each of the lines has its LF
-abbrev pub AreWhole : List ℕ → Type 0
-AreWhole bytes = list_all (λ line. line.ended) (lines_of bytes) ≡ true
 
 -- a reader that has come no further, and has perhaps read other bytes ahead
 pub record StaysAt (old new : Reached) : Type 0 where

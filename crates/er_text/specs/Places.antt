@@ -2,13 +2,7 @@
 use Rattle.std.specs.Prelude.{ℕ, Bool, false, List, Option, None}
 use Rattle.er_text.specs.declared.endings.Lost.{Lost}
 use Rattle.er_text.specs.declared.stages.Stage.{Stage}
-
--- a place in a text: the most bytes of the text, the number of the next line, the bytes before that line, and those that were read ahead
-pub record Place : Type 0 where
-  pub limit : ℕ
-  pub number : ℕ
-  pub start : ℕ
-  pub ahead : List ℕ
+use Rattle.er_lines.specs.Places.{Place}
 
 -- how the lines before end: whether the last lacks its LF, and what the last comment says
 pub record Tail : Type 0 where

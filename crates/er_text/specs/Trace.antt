@@ -9,20 +9,21 @@ use Rattle.er_event.specs.declared.steps.Kind.{Kind}
 use Rattle.er_event.specs.declared.steps.Kind.TheVariants as kind
 use Rattle.er_event.specs.declared.steps.Mode.{Mode}
 use Rattle.er_event.specs.declared.steps.Mode.TheVariants as mode
-use Rattle.er_text.specs.declared.faults.TextKind.{TextKind}
-use Rattle.er_text.specs.declared.faults.TextKind.TheVariants.{NoHeader, BadName, MissingOperand, BadVerb, ExtraOperand, BadNumber, SizeTooLarge, AddressOutOfRange, LevelTooHigh, OwnThread, AlreadyRunning, AfterEnd}
-use Rattle.er_text.specs.declared.faults.ReadFault.{ReadFault}
-use Rattle.er_text.specs.declared.faults.ReadFault.TheVariants as fault
-use Rattle.er_text.specs.declared.faults.TextFault.{TextFault}
+use Rattle.er_lines.specs.declared.faults.TextKind.{TextKind}
+use Rattle.er_lines.specs.declared.faults.TextKind.TheVariants.{NoHeader, BadName, MissingOperand, BadVerb, ExtraOperand, BadNumber, SizeTooLarge, AddressOutOfRange, LevelTooHigh, OwnThread, AlreadyRunning, AfterEnd}
+use Rattle.er_lines.specs.declared.faults.ReadFault.{ReadFault}
+use Rattle.er_lines.specs.declared.faults.ReadFault.TheVariants as fault
+use Rattle.er_lines.specs.declared.faults.TextFault.{TextFault}
 use Rattle.er_text.specs.declared.verbs.Verb.{Verb}
 use Rattle.er_text.specs.declared.verbs.Verb.TheVariants as verb
 use Rattle.er_text.specs.declared.verbs.Version.{Version}
 use Rattle.er_text.specs.declared.stages.Stage.{Stage}
 use Rattle.er_text.specs.declared.stages.Stage.TheVariants.{Front, Events, Ended}
-use Rattle.er_text.specs.Lines.{Placed, placed, has_content, has_bytes, words, word_at}
-use Rattle.er_text.specs.FirstFault.{IsPlain, known_after, HasNone, IsFirstFaulty}
-use Rattle.er_text.specs.Number.{number_of}
-use Rattle.er_text.specs.Naming.{is_name, is_lock_name, is_site_word}
+use Rattle.er_lines.specs.Lines.{Placed, placed, has_content, has_bytes, words, word_at}
+use Rattle.er_lines.specs.FirstFault.{IsPlain, known_after, HasNone, IsFirstFaulty}
+use Rattle.er_lines.specs.Number.{number_of, number_at, is_number_at}
+use Rattle.er_lines.specs.Naming.{is_name, is_lock_name}
+use Rattle.er_text.specs.Naming.{is_site_word}
 use Rattle.er_text.specs.Verbs.{version_word, has_levels, is_third, verb_of, version_of, least_of, most_of}
 use Rattle.er_text.specs.Events.{EventLine, Operation, Acquires, Releases, Accesses, Reuses, IgnoresOn, IgnoresOff, Shows, Levels, Starts, Joins, Signals, Awaits, run_of, with_line}
 
@@ -110,13 +111,6 @@ with_lines [] ss r = r
 
 abbrev pub header_words : Version → List (List ℕ)
 header_words v = codes "eraser" ∷ codes "trace" ∷ version_word v ∷ []
-
--- the number that an operand writes, or 0
-abbrev pub number_at : ℕ → List (List ℕ) → ℕ
-number_at i operands = unwrap_or (number_of (word_at i operands)) 0
-
-abbrev pub is_number_at : ℕ → List (List ℕ) → Bool
-is_number_at i operands = is_some (number_of (word_at i operands))
 
 abbrev pub lock_kinds : List (List ℕ) → List (Bool × TextKind)
 lock_kinds operands = (not (is_lock_name (word_at 0 operands)), BadName) ∷ []
@@ -256,10 +250,3 @@ Tells text limit (Ok trace) = IsTrace text limit trace
 Tells text limit (Err (fault.Text f)) = IsFault text limit f
 Tells text limit (Err fault.Memory) = Unit {0}
 Tells text limit (Err fault.Read) = Unit {0}
-
--- a fault of the reader is told exactly where it failed
-abbrev pub HasFailedBy : {X : Type 0} → Bool → Result X ReadFault → Type 0
-HasFailedBy failed (Ok x) = failed ≡ false
-HasFailedBy failed (Err (fault.Text f)) = failed ≡ false
-HasFailedBy failed (Err fault.Memory) = failed ≡ false
-HasFailedBy failed (Err fault.Read) = failed ≡ true

@@ -1,7 +1,7 @@
 -- The words that headers and events are spelled with.
 use Rattle.std.specs.Prelude.{ℕ, ◌&&◌, not, Bool, true, false, List, Option, Some, None, codes, if◌then◌else◌}
 use Rattle.std.specs.Str.{bytes_eq}
-use Rattle.er_text.specs.Lines.{has_bytes}
+use Rattle.er_lines.specs.Lines.{has_bytes}
 use Rattle.er_text.specs.declared.verbs.Verb.{Verb}
 use Rattle.er_text.specs.declared.verbs.Verb.TheVariants.{Lock, Unlock, ReadLock, ReadUnlock, Read, Write, Reuse, IgnoreOn, IgnoreOff, Show, Level, Start, Join, Signal, Await}
 use Rattle.er_text.specs.declared.verbs.Version.{Version}

@@ -2,9 +2,11 @@
 ghost use Rattle.std.specs.Prelude.{◌≡◌, ◌<◌, ℕ, length, Some, None, IfOk, OnOk};
 ghost use Rattle.er_trace.specs.Names.{number_of};
 ghost use Rattle.er_trace.specs.Trace.{HasSiteName};
-ghost use Rattle.er_text.specs.Inner.Parsing.{event_line, seen_name};
+ghost use Rattle.er_text.specs.Inner.Parsing.{event_line};
+ghost use Rattle.er_lines.specs.Words.{seen_name};
 ghost use Rattle.er_text.specs.Events.{Acquires, Releases, Accesses, with_line, site_number, with_site_of, with_reuses, run_parts};
 
+use crate::Put;
 use crate::parsing::{Action, ParsedLine};
 use er_event::{Event, Kind, Mode, Site, Step, Sync, ThreadId, Word, WordRange};
 use er_trace::Trace;
@@ -23,13 +25,7 @@ fn site_number(trace: &mut Trace, site: Option<&str>) -> Result<Site, AllocError
 
 /// Adds the acquire of a lock. The thread is numbered first.
 #[inline(always)]
-pub(crate) fn add_acquire(
-    trace: &mut Trace,
-    line: u64,
-    thread: &str,
-    lock: &str,
-    mode: Mode,
-) -> Result<(), AllocError>
+pub(crate) fn add_acquire(trace: &mut Trace, line: u64, thread: &str, lock: &str, mode: Mode) -> Put
     ensures { OnOk result (trace.new ≡ with_line line (record { thread = thread.now; operation = Acquires lock.now mode }) trace.old) }
 {
     let thread = trace.thread(thread)?;
@@ -40,13 +36,7 @@ pub(crate) fn add_acquire(
 
 /// Adds the release of a lock. The thread is numbered first.
 #[inline(always)]
-pub(crate) fn add_release(
-    trace: &mut Trace,
-    line: u64,
-    thread: &str,
-    lock: &str,
-    mode: Mode,
-) -> Result<(), AllocError>
+pub(crate) fn add_release(trace: &mut Trace, line: u64, thread: &str, lock: &str, mode: Mode) -> Put
     ensures { OnOk result (trace.new ≡ with_line line (record { thread = thread.now; operation = Releases lock.now mode }) trace.old) }
 {
     let thread = trace.thread(thread)?;
@@ -62,7 +52,7 @@ pub(crate) fn add_lone_access(
     thread: &str,
     kind: Kind,
     word: Word,
-) -> Result<(), AllocError>
+) -> Put
     ensures { OnOk result (trace.new ≡ with_line line (record { thread = thread.now; operation = Accesses kind word None }) trace.old) }
 {
     let thread = trace.thread(thread)?;
@@ -79,7 +69,7 @@ pub(crate) fn add_access(
     kind: Kind,
     word: Word,
     site: &str,
-) -> Result<(), AllocError>
+) -> Put
     ensures { OnOk result (trace.new ≡ with_line line (record { thread = thread.now; operation = Accesses kind word (Some site.now) }) trace.old) }
 {
     let thread = trace.thread(thread)?;
@@ -95,7 +85,7 @@ fn add_reuse(
     thread: ThreadId,
     range: Option<WordRange>,
     site: Site,
-) -> Result<(), AllocError>
+) -> Put
     requires thread { thread < length trace.old.names.threads }
     requires site { HasSiteName trace.old.names site }
     ensures { OnOk result (trace.new ≡ with_reuses trace.old line thread site (run_parts range)) }

@@ -2,9 +2,8 @@
 ghost use Rattle.std.specs.Prelude.{◌≡◌};
 ghost use Rattle.er_text.specs.Ending.{lacks_end, is_of_third, lost_in, lost_behind, comment_past, if_any_lost, lost_if};
 
-use crate::bytes::{is_comment, split_at_space};
-use crate::numbers::value_in;
 use crate::stages::Stage;
+use er_lines::{is_comment, split_at_space, value_in};
 
 /// How a text ended that was read to its end.
 #[derive(Clone, Copy, Debug, PartialEq, Eq)]

@@ -6,16 +6,19 @@
 ghost use Rattle.std.specs.Prelude.{◌≡◌, ◌+◌, ◌<◌, ◌≤◌, ◌∷◌, ◌++◌, not, position, length, codes, ℕ, List, IfSome};
 ghost use Rattle.std.specs.List.{list_all, position_or_len};
 ghost use Rattle.std.specs.Char.{digit_value};
-ghost use Rattle.er_text.specs.Naming.{is_name_byte};
+ghost use Rattle.er_lines.specs.Naming.{is_name_byte};
 ghost use Rattle.er_text.specs.Inner.FastPath.{IsLeadingName, HexSoFar, AreLeadingDigits, IsLeadingWord, IsFastAccess, IsFastAcquire, IsFastRelease, IsFastOperation, IsFastLine, AddsOperation, AddsLine};
 
 use crate::adding::{add_access, add_acquire, add_lone_access, add_release};
-use crate::classes::{class_of, is_name_byte};
-use crate::naming::{is_lock_name, is_site_word, site_text, text};
+use crate::naming::is_site_word;
 use crate::verbs::Version;
 use er_event::{Kind, Mode, Word};
+use er_lines::{class_of, is_lock_name, is_name_byte, name_text, site_text};
 use er_trace::Trace;
 use std::alloc::AllocError;
+
+/// Whether a step was added, unless memory was refused.
+type Added = Result<bool, AllocError>;
 
 fn find_name_end(bytes: &[u8]) -> Option<usize>
     ensures { result ≡ position (λ byte. not (is_name_byte byte)) bytes.now }
@@ -130,7 +133,7 @@ fn leading_name(bytes: &[u8]) -> Option<(&str, &[u8])>
     }
     let (name, rest) = bytes.split_at(len);
     let rest = after_space(rest)?;
-    Some((text(name), rest))
+    Some((name_text(name), rest))
 }
 
 /// The value of the hexadecimal digits in front, of which at most 12 are read one by one, and how many these are.
@@ -217,7 +220,7 @@ fn add_word_access(
     kind: Kind,
     word: Word,
     rest: &[u8],
-) -> Result<bool, AllocError>
+) -> Added
     ensures { (bytes : List ℕ) → IsLeadingWord bytes word rest.now → AddsOperation (IsFastAccess version kind bytes) line thread.now trace.old trace.new result }
 {
     if rest.is_empty() {
@@ -247,7 +250,7 @@ fn add_usual_access(
     thread: &str,
     kind: Kind,
     bytes: &[u8],
-) -> Result<bool, AllocError>
+) -> Added
     ensures { AddsOperation (IsFastAccess version kind bytes.now) line thread.now trace.old trace.new result }
 {
     match leading_word(bytes) {
@@ -258,37 +261,25 @@ fn add_usual_access(
 
 /// Adds the acquire of the lock that stands behind the verb, and says whether it did.
 #[inline(always)]
-fn add_usual_acquire(
-    trace: &mut Trace,
-    line: u64,
-    thread: &str,
-    mode: Mode,
-    bytes: &[u8],
-) -> Result<bool, AllocError>
+fn add_usual_acquire(trace: &mut Trace, line: u64, thread: &str, mode: Mode, bytes: &[u8]) -> Added
     ensures { AddsOperation (IsFastAcquire mode bytes.now) line thread.now trace.old trace.new result }
 {
     if !is_lock_name(bytes) {
         return Ok(false);
     }
-    add_acquire(trace, line, thread, text(bytes), mode)?;
+    add_acquire(trace, line, thread, name_text(bytes), mode)?;
     Ok(true)
 }
 
 /// Adds the release of the lock that stands behind the verb, and says whether it did.
 #[inline(always)]
-fn add_usual_release(
-    trace: &mut Trace,
-    line: u64,
-    thread: &str,
-    mode: Mode,
-    bytes: &[u8],
-) -> Result<bool, AllocError>
+fn add_usual_release(trace: &mut Trace, line: u64, thread: &str, mode: Mode, bytes: &[u8]) -> Added
     ensures { AddsOperation (IsFastRelease mode bytes.now) line thread.now trace.old trace.new result }
 {
     if !is_lock_name(bytes) {
         return Ok(false);
     }
-    add_release(trace, line, thread, text(bytes), mode)?;
+    add_release(trace, line, thread, name_text(bytes), mode)?;
     Ok(true)
 }
 
@@ -300,7 +291,7 @@ fn add_usual_operation(
     line: u64,
     thread: &str,
     bytes: &[u8],
-) -> Result<bool, AllocError>
+) -> Added
     ensures { AddsOperation (IsFastOperation version bytes.now) line thread.now trace.old trace.new result }
 {
     if let Some(rest) = after_read(bytes) {
@@ -320,12 +311,7 @@ fn add_usual_operation(
 
 /// Adds the acquire or the release of a lock in read mode, and says whether it did.
 #[inline(always)]
-fn add_usual_read_lock(
-    trace: &mut Trace,
-    line: u64,
-    thread: &str,
-    bytes: &[u8],
-) -> Result<bool, AllocError>
+fn add_usual_read_lock(trace: &mut Trace, line: u64, thread: &str, bytes: &[u8]) -> Added
     ensures { (version : Version) → AddsOperation (IsFastOperation version bytes.now) line thread.now trace.old trace.new result }
 {
     if let Some(rest) = after_rlock(bytes) {
@@ -342,12 +328,7 @@ fn add_usual_read_lock(
 /// It makes no value of an enum with names in it: such a value is copied in pieces that are wider than its parts, and each copy
 /// waits until the parts are written.
 #[inline(always)]
-pub(crate) fn add_usual(
-    trace: &mut Trace,
-    version: Version,
-    line: u64,
-    bytes: &[u8],
-) -> Result<bool, AllocError>
+pub(crate) fn add_usual(trace: &mut Trace, version: Version, line: u64, bytes: &[u8]) -> Added
     ensures { AddsLine (IsFastLine version bytes.now) line trace.old trace.new result }
 {
     match leading_name(bytes) {

@@ -4,11 +4,9 @@ ghost use Rattle.er_event.specs.declared.steps.Step.{Step};
 ghost use Rattle.er_text.specs.Places.{Reached};
 ghost use Rattle.er_text.specs.Batches.{HasRead};
 ghost use Rattle.er_trace.specs.Trace.{Recording, without_steps};
-ghost use Rattle.er_text.specs.declared.faults.TextFault.{TextFault};
+ghost use Rattle.er_lines.specs.declared.faults.TextFault.{TextFault};
 ghost use Rattle.er_text.specs.Named.{AreNamed};
 ghost use Rattle.er_text.specs.Trace.{IsTrace, IsFault};
-ghost use Rattle.er_rules.specs.Rules.{Target};
-ghost use Rattle.er_text.specs.Rules.{IsRules, IsRulesFault};
 
 /// A text is a trace or has a fault, and never both. It has one trace at most, and one fault.
 pub fn trace_or_fault()
@@ -22,14 +20,6 @@ pub fn trace_or_fault()
 /// the names that the trace gives for their numbers.
 pub fn steps_are_named()
     ensures { (text : List ℕ) (limit : ℕ) (t : Recording) (is : IsTrace text limit t) → AreNamed is.version is.events t.names t.steps t.lines t.sites }
-{}
-
-/// A text is a list of rules or has a fault, and never both. It has one list of rules at most, and one fault.
-pub fn rules_or_fault()
-    ensures either { (text : List ℕ) (limit : ℕ) → ((rules : List Target) × IsRules text limit rules) ⊎ ((f : TextFault) × IsRulesFault text limit f) }
-    ensures never_both { (text : List ℕ) (limit : ℕ) (rules : List Target) (f : TextFault) → IsRules text limit rules → IsRulesFault text limit f → ⊥ }
-    ensures one_list { (text : List ℕ) (limit : ℕ) (r s : List Target) → IsRules text limit r → IsRules text limit s → r ≡ s }
-    ensures one_fault { (text : List ℕ) (limit : ℕ) (f g : TextFault) → IsRulesFault text limit f → IsRulesFault text limit g → f ≡ g }
 {}
 
 /// The caller of a reader of batches may take the steps of the trace away: they are then the last of those that were taken.

@@ -1,90 +1,16 @@
-//! Words that are names, and words that are sites.
-ghost use Rattle.std.specs.Prelude.{◌≡◌, IsTrue};
-ghost use Rattle.std.specs.List.{list_all};
-ghost use Rattle.er_text.specs.Naming.{is_name, is_lock_name, is_name_byte, is_site_byte, is_site_name, is_site_word, name_of, lock_name_of, site_name_of};
-ghost use Rattle.er_text.specs.Inner.Parsing.{seen_name};
+//! Words that name sites in a text of some version.
+ghost use Rattle.std.specs.Prelude.{◌≡◌};
+ghost use Rattle.er_lines.specs.Words.{seen_name};
+ghost use Rattle.er_text.specs.Naming.{is_site_word, site_name_of};
 
-use crate::classes::{are_name_blocks, is_name_byte, is_site_byte};
 use crate::verbs::Version;
-
-fn has_name_bytes(word: &[u8]) -> bool
-    ensures { result ≡ list_all is_name_byte word.now }
-{
-    if word.len() >= 16 && are_name_blocks(word) {
-        return true;
-    }
-    word.iter().all(|byte| is_name_byte(*byte))
-}
-
-/// Whether a word is a name.
-pub(crate) fn is_name(word: &[u8]) -> bool
-    ensures { result ≡ is_name word.now }
-{
-    !word.is_empty() && word.len() <= 128 && has_name_bytes(word)
-}
-
-/// Whether a word is the name of a lock.
-pub(crate) fn is_lock_name(word: &[u8]) -> bool
-    ensures { result ≡ is_lock_name word.now }
-{
-    word != b"none".as_slice() && is_name(word)
-}
-
-fn has_site_bytes(word: &[u8]) -> bool
-    ensures { result ≡ list_all is_site_byte word.now }
-{
-    word.iter().all(|byte| is_site_byte(*byte))
-}
-
-/// Whether a word names a site in text 3, or is `-`.
-fn is_site_name(word: &[u8]) -> bool
-    ensures { result ≡ is_site_name word.now }
-{
-    !word.is_empty() && word.len() <= 128 && has_site_bytes(word)
-}
+use er_lines::{is_name, is_site_name, site_text};
 
 /// Whether a word names a site in a text of this version, or is `-`. Most sites are names, which every version allows.
 pub(crate) fn is_site_word(version: Version, word: &[u8]) -> bool
     ensures { result ≡ is_site_word version word.now }
 {
     is_name(word) || version.is_third() && is_site_name(word)
-}
-
-/// A word of a site's bytes, which are ASCII, as text.
-pub(crate) fn site_text(word: &[u8]) -> &str
-    requires { IsTrue (list_all is_site_byte word.now) }
-    ensures { result.now ≡ word.now }
-{
-    // The proof of the call's condition is in proofs/naming/site_text.
-    unsafe { str::from_utf8_unchecked(word) }
-}
-
-/// A word of name bytes as text.
-pub(crate) fn text(word: &[u8]) -> &str
-    requires { IsTrue (list_all is_name_byte word.now) }
-    ensures { result.now ≡ word.now }
-{
-    site_text(word)
-}
-
-/// The name that a word is.
-pub(crate) fn name_of(word: &[u8]) -> Option<&str>
-    ensures { seen_name result ≡ name_of word.now }
-{
-    if !is_name(word) {
-        return None;
-    }
-    Some(text(word))
-}
-
-/// The name of a lock that a word is.
-pub(crate) fn lock_name_of(word: &[u8]) -> Option<&str>
-    ensures { seen_name result ≡ lock_name_of word.now }
-{
-    if word == b"none".as_slice() {
-        return None;
-    }
-    name_of(word)
 }
 
 /// The name of a site that a word is in a text of this version.

@@ -1,17 +1,16 @@
 //! What the words of a line say.
 ghost use Rattle.std.specs.Prelude.{◌≡◌, ℕ, List};
-ghost use Rattle.er_text.specs.Lines.{words};
+ghost use Rattle.er_lines.specs.Lines.{words};
 ghost use Rattle.er_text.specs.Verbs.{verb_of, version_of};
 ghost use Rattle.er_text.specs.Trace.{is_end};
 ghost use Rattle.er_text.specs.Inner.Idle.{other_thread};
-ghost use Rattle.er_text.specs.Inner.Parsing.{AreWords, GivesName, GivesSite, GivesOperation, GivesEventLine, event_line, seen_name, count_of, number_in, name_in, lock_in, site_in, word_in, level_in, run_in, access_in, reuse_in, operands_in, operation_in, parsed_by};
+ghost use Rattle.er_lines.specs.Words.{AreWords, GivesSite, seen_name, number_in};
+ghost use Rattle.er_text.specs.Inner.Parsing.{GivesName, GivesOperation, GivesEventLine, event_line, count_of, name_in, lock_in, site_in, word_in, level_in, run_in, access_in, reuse_in, operands_in, operation_in, parsed_by};
 
-use crate::bytes::next_word;
-use crate::faults::TextKind;
-use crate::naming::{lock_name_of, name_of, site_name_of};
-use crate::numbers::number_of;
+use crate::naming::site_name_of;
 use crate::verbs::{Verb, Version, header_version, verb_of};
 use er_event::{Kind, Level, Mode, Refusal, Word, WordRange};
+use er_lines::{TextKind, Words, lock_name_of, name_of, number};
 
 /// What a thread does, by names.
 #[derive(Clone, Copy)]
@@ -29,6 +28,9 @@ pub(crate) enum Action<'a> {
     Signal(&'a str),
     Await(&'a str),
 }
+
+/// What the words of an action say, or the first fault among them.
+type Said<'a> = Result<Action<'a>, TextKind>;
 
 /// What a line says.
 #[derive(Clone, Copy)]
@@ -49,106 +51,74 @@ impl<'a> ParsedLine<'a> {
     }
 }
 
-/// The first words of a line. One that is missing is empty.
-#[derive(Clone, Copy)]
-pub(crate) struct Words<'a> {
-    pub(crate) first: &'a [u8],
-    pub(crate) second: &'a [u8],
-    pub(crate) third: &'a [u8],
-    pub(crate) fourth: &'a [u8],
-    pub(crate) fifth: &'a [u8],
-    pub(crate) sixth: &'a [u8],
-}
-
-pub(crate) fn split_words(line: &[u8]) -> Words<'_>
-    ensures { AreWords (words line.now) result }
+/// The version, where these are the words of a header.
+pub(crate) fn version_of(words: &Words<'_>) -> Option<Version>
+    ensures { result ≡ version_of words.now.first.now words.now.second.now words.now.third.now words.now.fourth.now }
 {
-    let (first, rest) = next_word(line);
-    let (second, rest) = next_word(rest);
-    let (third, rest) = next_word(rest);
-    let (fourth, rest) = next_word(rest);
-    let (fifth, rest) = next_word(rest);
-    let (sixth, _) = next_word(rest);
-    Words {
-        first,
-        second,
-        third,
-        fourth,
-        fifth,
-        sixth,
+    if words.first == b"eraser".as_slice()
+        && words.second == b"trace".as_slice()
+        && words.fourth.is_empty()
+    {
+        header_version(words.third)
+    } else {
+        None
     }
 }
 
-impl<'a> Words<'a> {
-    /// The version, where these are the words of a header.
-    pub(crate) fn version(&self) -> Option<Version>
-        ensures { result ≡ version_of self.now.first.now self.now.second.now self.now.third.now self.now.fourth.now }
-    {
-        if self.first == b"eraser".as_slice()
-            && self.second == b"trace".as_slice()
-            && self.fourth.is_empty()
-        {
-            header_version(self.third)
-        } else {
-            None
-        }
-    }
+/// Whether these are the words of the line `end`.
+pub(crate) fn is_end(version: Version, words: &Words<'_>) -> bool
+    ensures { (ws : List (List ℕ)) → AreWords ws words.now → result ≡ is_end version ws }
+{
+    version.is_third() && words.first == b"end".as_slice() && words.second.is_empty()
+}
 
-    /// Whether these are the words of the line `end`.
-    pub(crate) fn is_end(&self, version: Version) -> bool
-        ensures { (ws : List (List ℕ)) → AreWords ws self.now → result ≡ is_end version ws }
-    {
-        version.is_third() && self.first == b"end".as_slice() && self.second.is_empty()
+/// What the words of an event line say, or the first fault among them.
+pub(crate) fn parse<'a>(version: Version, words: &Words<'a>) -> Result<ParsedLine<'a>, TextKind>
+    ensures { GivesEventLine result (parsed_by version words.now) }
+{
+    let Some(thread) = name_of(words.first) else {
+        return Err(TextKind::BadName);
+    };
+    if words.second.is_empty() {
+        return Err(TextKind::MissingOperand);
     }
+    match parse_action(version, words) {
+        Ok(action) => Ok(ParsedLine { thread, action }),
+        Err(kind) => Err(kind),
+    }
+}
 
-    /// How many operands there are, up to 4.
-    fn operand_count(&self) -> u32
-        ensures { result ≡ count_of self.now.third.now self.now.fourth.now self.now.fifth.now self.now.sixth.now }
-    {
-        if self.third.is_empty() {
-            0
-        } else if self.fourth.is_empty() {
-            1
-        } else if self.fifth.is_empty() {
-            2
-        } else if self.sixth.is_empty() {
-            3
-        } else {
-            4
-        }
+/// How many operands there are, up to 4.
+fn operand_count(words: &Words<'_>) -> u32
+    ensures { result ≡ count_of words.now.third.now words.now.fourth.now words.now.fifth.now words.now.sixth.now }
+{
+    if words.third.is_empty() {
+        0
+    } else if words.fourth.is_empty() {
+        1
+    } else if words.fifth.is_empty() {
+        2
+    } else if words.sixth.is_empty() {
+        3
+    } else {
+        4
     }
+}
 
-    /// What they say, or the first fault among them.
-    pub(crate) fn parse(&self, version: Version) -> Result<ParsedLine<'a>, TextKind>
-        ensures { GivesEventLine result (parsed_by version self.now) }
-    {
-        let Some(thread) = name_of(self.first) else {
-            return Err(TextKind::BadName);
-        };
-        if self.second.is_empty() {
-            return Err(TextKind::MissingOperand);
-        }
-        match self.action(version) {
-            Ok(action) => Ok(ParsedLine { thread, action }),
-            Err(kind) => Err(kind),
-        }
+fn parse_action<'a>(version: Version, words: &Words<'a>) -> Said<'a>
+    ensures { GivesOperation result (operation_in version (verb_of version words.now.second.now) words.now.third.now words.now.fourth.now words.now.fifth.now words.now.sixth.now) }
+{
+    let Some(verb) = verb_of(version, words.second) else {
+        return Err(TextKind::BadVerb);
+    };
+    let count = operand_count(words);
+    if count < verb.least() {
+        return Err(TextKind::MissingOperand);
     }
-
-    fn action(&self, version: Version) -> Result<Action<'a>, TextKind>
-        ensures { GivesOperation result (operation_in version (verb_of version self.now.second.now) self.now.third.now self.now.fourth.now self.now.fifth.now self.now.sixth.now) }
-    {
-        let Some(verb) = verb_of(version, self.second) else {
-            return Err(TextKind::BadVerb);
-        };
-        let count = self.operand_count();
-        if count < verb.least() {
-            return Err(TextKind::MissingOperand);
-        }
-        if count > verb.most(version) {
-            return Err(TextKind::ExtraOperand);
-        }
-        operands(version, verb, self.third, self.fourth, self.fifth)
+    if count > verb.most(version) {
+        return Err(TextKind::ExtraOperand);
     }
+    operands(version, verb, words.third, words.fourth, words.fifth)
 }
 
 fn operands<'a>(
@@ -157,7 +127,7 @@ fn operands<'a>(
     first: &'a [u8],
     second: &'a [u8],
     third: &'a [u8],
-) -> Result<Action<'a>, TextKind>
+) -> Said<'a>
     ensures { GivesOperation result (operands_in version verb first.now second.now third.now) }
 {
     match verb {
@@ -179,12 +149,7 @@ fn operands<'a>(
     }
 }
 
-fn access<'a>(
-    version: Version,
-    kind: Kind,
-    address: &'a [u8],
-    site: &'a [u8],
-) -> Result<Action<'a>, TextKind>
+fn access<'a>(version: Version, kind: Kind, address: &'a [u8], site: &'a [u8]) -> Said<'a>
     ensures { GivesOperation result (access_in version kind address.now site.now) }
 {
     let address = number(address)?;
@@ -192,24 +157,13 @@ fn access<'a>(
     Ok(Action::Access(kind, word_at(address)?, site))
 }
 
-fn reuse<'a>(
-    version: Version,
-    address: &'a [u8],
-    size: &'a [u8],
-    site: &'a [u8],
-) -> Result<Action<'a>, TextKind>
+fn reuse<'a>(version: Version, address: &'a [u8], size: &'a [u8], site: &'a [u8]) -> Said<'a>
     ensures { GivesOperation result (reuse_in version address.now size.now site.now) }
 {
     let address = number(address)?;
     let size = number(size)?;
     let site = site_of(version, site)?;
     Ok(Action::Reuse(range_of(address, size)?, site))
-}
-
-pub(crate) fn number(word: &[u8]) -> Result<u64, TextKind>
-    ensures { result ≡ number_in word.now }
-{
-    number_of(word).ok_or(TextKind::BadNumber)
 }
 
 fn thread(word: &[u8]) -> Result<&str, TextKind>
@@ -225,7 +179,7 @@ fn lock(word: &[u8]) -> Result<&str, TextKind>
 }
 
 /// The site that a word names in a text of this version. A missing word and `-` name none.
-pub(crate) fn site_of(version: Version, word: &[u8]) -> Result<Option<&str>, TextKind>
+fn site_of(version: Version, word: &[u8]) -> Result<Option<&str>, TextKind>
     ensures { GivesSite result (site_in version word.now) }
 {
     if word.is_empty() || word == b"-".as_slice() {
@@ -240,19 +194,13 @@ pub(crate) fn site_of(version: Version, word: &[u8]) -> Result<Option<&str>, Tex
 fn word_at(address: u64) -> Result<Word, TextKind>
     ensures { result ≡ word_in address }
 {
-    match Word::of_address(address) {
-        Ok(word) => Ok(word),
-        Err(_) => Err(TextKind::AddressOutOfRange),
-    }
+    Word::of_address(address).or(Err(TextKind::AddressOutOfRange))
 }
 
 fn level_of(number: u64) -> Result<Level, TextKind>
     ensures { result ≡ level_in number }
 {
-    match Level::of_number(number) {
-        Ok(level) => Ok(level),
-        Err(_) => Err(TextKind::LevelTooHigh),
-    }
+    Level::of_number(number).or(Err(TextKind::LevelTooHigh))
 }
 
 fn range_of(address: u64, size: u64) -> Result<Option<WordRange>, TextKind>

@@ -2,21 +2,21 @@
 ghost use Rattle.std.specs.Prelude.{◌≡◌, ◌+◌, ◌-◌, ◌<◌, ◌≤◌, ◌^◌, ◌&&◌, nat_eq, ℕ, List, Option, take, drop, length, OnOk, IfSome, IsTrue, [], true};
 ghost use Rattle.er_event.specs.declared.steps.Step.{Step as Steps};
 ghost use Rattle.er_text.specs.Batches.{HasRead};
-ghost use Rattle.er_text.specs.Inner.Lending.{taken_by};
+ghost use Rattle.er_lines.specs.Lending.{taken_by};
 ghost use Rattle.er_text.specs.Inner.Pieces.{AreRead, IsReadInFront, comment_behind};
 ghost use Rattle.er_text.specs.Ending.{comment_past, comment_after};
-ghost use Rattle.er_text.specs.Lines.{bytes_past_limit, lines_of, placed_from};
+ghost use Rattle.er_lines.specs.Lines.{bytes_past_limit, lines_of, placed_from};
 ghost use Rattle.er_text.specs.Pieces.{ReadPiece, CanBeNumbered, IsEntered, IsNumbered, IsPieceOf, IsReady, MayBeAdded, StandsInFront};
 ghost use Rattle.er_trace.specs.Appended.{with_table};
 ghost use Rattle.er_trace.specs.Names.{NameTable};
 ghost use Rattle.er_trace.specs.Trace.{with_steps};
 
-use crate::bytes::line_len;
 use crate::endings::Lost;
 use crate::reading::{Header, TraceReader};
 use crate::stages::Stage;
 use crate::verbs::Version;
 use er_event::{Site, Step};
+use er_lines::line_len;
 use er_trace::{NameKeys, NewTable, Trace};
 use std::alloc::{AllocError, Global};
 use std::marker::Model;

@@ -1,33 +1,35 @@
 //! Traces, line by line, and batch by batch.
 ghost use Rattle.std.specs.Prelude.{◌≡◌, ◌+◌, ◌++◌, ◌<◌, ◌≤◌, ◌^◌, length, OnOk, IfOk, IfSome, IfErr, IsErrOf, IsTrue, Ok, Err, true, false, Option, ℕ, List, [], Some, None};
 ghost use Rattle.er_device.specs.Device.{inner_of, has_failed, taken_of};
-ghost use Rattle.er_text.specs.Lines.{bytes_past_limit, is_comment};
-ghost use Rattle.er_text.specs.Trace.{Tells, HasFailedBy};
+ghost use Rattle.er_lines.specs.Lines.{bytes_past_limit, is_comment, AreWhole};
+ghost use Rattle.er_text.specs.Trace.{Tells};
+ghost use Rattle.er_lines.specs.Faults.{HasFailedBy};
 ghost use Rattle.er_trace.specs.Trace.{Recording, no_steps};
 ghost use Rattle.er_event.specs.declared.steps.Step.{Step};
 ghost use Rattle.er_text.specs.Named.{Grows};
 ghost use Rattle.er_text.specs.Batches.{HasRead, GivesBatch, batch_steps};
-ghost use Rattle.er_text.specs.Pieces.{AreWhole, StaysAt};
+ghost use Rattle.er_text.specs.Pieces.{StaysAt};
 ghost use Rattle.er_text.specs.Places.{no_tail};
 ghost use Rattle.er_text.specs.Ending.{KnowsEnd, IsEndingOf, comment_past};
 ghost use Rattle.er_text.specs.Inner.Endings.{PassesTail, BatchesTail};
-ghost use Rattle.er_text.specs.Inner.Lending.{taken_by, lines_from, lines_left};
-ghost use Rattle.er_text.specs.Inner.Reading.{Continues, Reads, Turns};
+ghost use Rattle.er_lines.specs.Lending.{taken_by, lines_from, lines_left};
+ghost use Rattle.er_lines.specs.Reading.{Continues, Reads, Turns};
 ghost use Rattle.er_text.specs.Inner.FastPath.{ReadsUsual};
 ghost use Rattle.er_text.specs.Verbs.{version_of};
 ghost use Rattle.er_text.specs.Inner.Parsing.{event_line};
 ghost use Rattle.er_text.specs.Inner.Traces.{progress, at_front, at_line, open_with, add_parsed, read_at, plain_at, read_content, read_text, IsOutcome, Batches};
 
+use crate::Done;
 use crate::adding::add_steps;
-use crate::bytes::{is_ascii, says_something};
 use crate::endings::{Ending, Lost, comment_past, if_any_lost, is_of_third, lacks_end};
 use crate::fast_path::add_usual;
-use crate::faults::{ReadFault, TextKind, fault_at};
-use crate::lines::LineReader;
-use crate::parsing::{ParsedLine, Words, split_words};
+use crate::parsing::{ParsedLine, is_end, parse, version_of};
 use crate::stages::{IdleThreads, Stage, is_known_thread};
 use crate::verbs::Version;
 use er_device::Device;
+use er_lines::{
+    LineReader, ReadFault, TextKind, Words, fault_at, is_ascii, says_something, split_words,
+};
 use er_trace::{NameKeys, Trace};
 use std::alloc::{AllocError, Global};
 use std::io::Read;
@@ -67,13 +69,13 @@ impl Header {
     }
 
     /// Reads the words of the first line with content.
-    fn open(&mut self, line: u64, words: &Words<'_>) -> Result<(), ReadFault>
+    fn open(&mut self, line: u64, words: &Words<'_>) -> Done
         ensures read { (told : Recording) → Reads line (at_line (line + 1) self.new.stage self.new.idle told) result
             (open_with (at_line line self.old.stage self.old.idle told) (version_of words.now.first.now words.now.second.now words.now.third.now words.now.fourth.now)) }
         ensures comment { self.new.comment ≡ self.old.comment }
         ensures failed { IsErrOf result ReadFault.Read → ⊥ }
     {
-        let Some(version) = words.version() else {
+        let Some(version) = version_of(words) else {
             return Err(fault_at(line, TextKind::NoHeader));
         };
         self.stage = Stage::Events(version);
@@ -81,12 +83,7 @@ impl Header {
     }
 
     /// Adds the steps of an event line, unless it can't come behind the lines before it.
-    fn add(
-        &mut self,
-        trace: &mut Trace,
-        line: u64,
-        parsed: &ParsedLine<'_>,
-    ) -> Result<(), ReadFault>
+    fn add(&mut self, trace: &mut Trace, line: u64, parsed: &ParsedLine<'_>) -> Done
         ensures read { Reads line (at_line (line + 1) self.new.stage self.new.idle trace.new) result (add_parsed line (at_line line self.old.stage self.old.idle trace.old) (Ok (event_line parsed.now))) }
         ensures comment { self.new.comment ≡ self.old.comment }
         ensures failed { IsErrOf result ReadFault.Read → ⊥ }
@@ -102,12 +99,15 @@ impl Header {
         Ok(())
     }
 
-    /// Reads a line of ASCII.
-    fn read(&mut self, trace: &mut Trace, line: u64, bytes: &[u8]) -> Result<(), ReadFault>
-        ensures read { Reads line (at_line (line + 1) self.new.stage self.new.idle trace.new) result (read_at (at_line line self.old.stage self.old.idle trace.old) line bytes.now) }
+    /// Reads a line in the limits, in whatever form.
+    fn read(&mut self, trace: &mut Trace, line: u64, bytes: &[u8]) -> Done
+        ensures read { Reads line (at_line (line + 1) self.new.stage self.new.idle trace.new) result (plain_at (at_line line self.old.stage self.old.idle trace.old) line bytes.now) }
         ensures comment { OnOk result (self.new.comment ≡ comment_past self.old.comment line bytes.now) }
         ensures failed { IsErrOf result ReadFault.Read → ⊥ }
     {
+        if !is_ascii(bytes) {
+            return Err(fault_at(line, TextKind::NotAscii));
+        }
         let words = split_words(bytes);
         if !says_something(words.first, bytes) {
             self.comment = comment_past(self.comment, line, bytes);
@@ -116,11 +116,11 @@ impl Header {
         match self.stage {
             Stage::Front => self.open(line, &words),
             Stage::Events(version) => {
-                if words.is_end(version) {
+                if is_end(version, &words) {
                     self.stage = Stage::Ended;
                     return Ok(());
                 }
-                match words.parse(version) {
+                match parse(version, &words) {
                     Err(kind) => Err(fault_at(line, kind)),
                     Ok(parsed) => self.add(trace, line, &parsed),
                 }
@@ -147,26 +147,9 @@ impl Header {
         Ok(true)
     }
 
-    /// Reads a line in the limits, in whatever form.
-    fn read_any(&mut self, trace: &mut Trace, line: u64, bytes: &[u8]) -> Result<(), ReadFault>
-        ensures read { Reads line (at_line (line + 1) self.new.stage self.new.idle trace.new) result (plain_at (at_line line self.old.stage self.old.idle trace.old) line bytes.now) }
-        ensures comment { OnOk result (self.new.comment ≡ comment_past self.old.comment line bytes.now) }
-        ensures failed { IsErrOf result ReadFault.Read → ⊥ }
-    {
-        if !is_ascii(bytes) {
-            return Err(fault_at(line, TextKind::NotAscii));
-        }
-        self.read(trace, line, bytes)
-    }
-
     /// Reads a line in the limits. A line in its usual form is ASCII, and so the test is for the others alone.
     #[inline(always)]
-    pub(crate) fn read_plain(
-        &mut self,
-        trace: &mut Trace,
-        line: u64,
-        bytes: &[u8],
-    ) -> Result<(), ReadFault>
+    pub(crate) fn read_plain(&mut self, trace: &mut Trace, line: u64, bytes: &[u8]) -> Done
         ensures read { Reads line (at_line (line + 1) self.new.stage self.new.idle trace.new) result (plain_at (at_line line self.old.stage self.old.idle trace.old) line bytes.now) }
         ensures comment { OnOk result (self.new.comment ≡ comment_past self.old.comment line bytes.now) }
         ensures failed { IsErrOf result ReadFault.Read → ⊥ }
@@ -174,7 +157,7 @@ impl Header {
         if self.read_usual(trace, line, bytes)? {
             return Ok(());
         }
-        self.read_any(trace, line, bytes)
+        self.read(trace, line, bytes)
     }
 }
 
@@ -218,8 +201,7 @@ impl TraceReader {
         ensures tail { IfOk result (λ r. r.tail ≡ no_tail) }
         ensures starts { IfOk result (λ r. (text : List ℕ) → HasRead text [] [] [] r (Some text) no_steps) }
     {
-        let lines = LineReader::new(alloc, limit)?;
-        Ok(TraceReader::over(alloc, lines))
+        TraceReader::with_window(alloc, limit, 65_536)
     }
 
     /// The same, with room for `size` bytes that are read ahead: see [`fill`](TraceReader::fill).
@@ -234,34 +216,22 @@ impl TraceReader {
         ensures tail { IfOk result (λ r. r.tail ≡ no_tail) }
         ensures starts { IfOk result (λ r. (text : List ℕ) → HasRead text [] [] [] r (Some text) no_steps) }
     {
-        let lines = LineReader::with_window(alloc, limit, size)?;
-        Ok(TraceReader::over(alloc, lines))
-    }
-
-    /// A reader of a trace in front of these lines.
-    fn over(alloc: Global, lines: LineReader) -> TraceReader
-        requires number { lines.number ≡ 1 }
-        requires start { lines.start ≡ 0 }
-        requires ahead { length lines.ahead ≡ 0 }
-        ensures place { result.place ≡ lines }
-        ensures stage { result.stage ≡ Stage.Front }
-        ensures tail { result.tail ≡ no_tail }
-        ensures starts { (text : List ℕ) → HasRead text [] [] [] result (Some text) no_steps }
-    {
-        TraceReader {
+        let lines = LineReader::new(alloc, limit, size)?;
+        let header = Header {
+            stage: Stage::Front,
+            idle: IdleThreads::new(alloc),
+            comment: None,
+        };
+        Ok(TraceReader {
             lines,
-            header: Header {
-                stage: Stage::Front,
-                idle: IdleThreads::new(alloc),
-                comment: None,
-            },
+            header,
             cut: false,
-        }
+        })
     }
 
     /// Reads on until the window is full, the limit is reached, or the text ends. It passes over no line: those that were read ahead are
     /// the next ones.
-    pub fn fill<R: Read>(&mut self, reader: &mut Device<R>) -> Result<(), ReadFault>
+    pub fn fill<R: Read>(&mut self, reader: &mut Device<R>) -> Done
         requires { has_failed reader.old ≡ false }
 
         // What was read of a text stays read, and what is left of it is left.
@@ -319,7 +289,7 @@ impl TraceReader {
     }
 
     /// What was read, at the end of the text: a trace, if there was a header.
-    fn finish(&self) -> Result<(), ReadFault>
+    fn finish(&self) -> Done
         ensures ok { OnOk result (self.now.stage ≡ Stage.Front → ⊥) }
         ensures fault { IfErr result (λ e. (self.now.stage ≡ Stage.Front) × (e ≡ ReadFault.Text (record { line = self.now.place.number; kind = TextKind.NoHeader }))) }
     {
@@ -330,11 +300,7 @@ impl TraceReader {
     }
 
     /// Reads all lines that are left of a text.
-    fn read_left<R: Read>(
-        &mut self,
-        reader: &mut Device<R>,
-        trace: &mut Trace,
-    ) -> Result<(), ReadFault>
+    fn read_left<R: Read>(&mut self, reader: &mut Device<R>, trace: &mut Trace) -> Done
         requires open { has_failed reader.old ≡ false }
         requires goes_on { Continues self.old.place.limit read_content (lines_from 1 0 (R.remaining (inner_of reader.old)))
             (lines_left self.old.place (R.remaining (inner_of reader.old))) at_front (progress self.old trace.old) }
@@ -443,7 +409,7 @@ fn read_into<R: Read>(
     reader: &mut Device<R>,
     byte_limit: u64,
     trace: &mut Trace,
-) -> Result<(), ReadFault>
+) -> Done
     requires open { has_failed reader.old ≡ false }
     requires limit { byte_limit ≤ 2 ^ 62 }
     requires empty { trace.old ≡ no_steps }

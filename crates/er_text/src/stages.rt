@@ -1,14 +1,16 @@
 //! How far a text has come, and which threads it has named that don't act yet.
 ghost use Rattle.std.specs.Prelude.{◌≡◌, ℕ, IsTrue, OnOk, Some, []};
-ghost use Rattle.er_text.specs.Inner.Parsing.{event_line, seen_name};
+ghost use Rattle.er_text.specs.Inner.Parsing.{event_line};
+ghost use Rattle.er_lines.specs.Words.{seen_name};
 ghost use Rattle.er_text.specs.Inner.Idle.{is_idle, without_idle, with_idle, last_actor, has_run, order_fault, is_known_name, waits_for};
 
-use crate::faults::TextKind;
+use crate::Put;
 use crate::parsing::{Action, ParsedLine};
 use crate::verbs::Version;
 use er_event::{Step, ThreadId};
+use er_lines::TextKind;
 use er_trace::Names;
-use std::alloc::{AllocError, Global};
+use std::alloc::Global;
 use std::marker::Model;
 
 /// What comes next in a text.
@@ -93,7 +95,7 @@ impl IdleThreads {
         }
     }
 
-    fn add(&mut self, thread: ThreadId) -> Result<(), AllocError>
+    fn add(&mut self, thread: ThreadId) -> Put
         ensures { OnOk result (self.new ≡ with_idle self.old thread) }
     {
         let place = thread.number() as usize;
@@ -107,12 +109,7 @@ impl IdleThreads {
     }
 
     /// Adds the thread of this name, which has a number, if it was not named before.
-    pub(crate) fn add_new(
-        &mut self,
-        names: &Names,
-        name: Option<&str>,
-        is_known: bool,
-    ) -> Result<(), AllocError>
+    pub(crate) fn add_new(&mut self, names: &Names, name: Option<&str>, is_known: bool) -> Put
         requires { IsTrue (is_known_name names.now.threads (seen_name name)) }
         ensures { OnOk result (self.new ≡ waits_for is_known names.now.threads (seen_name name.entry) self.old) }
     {

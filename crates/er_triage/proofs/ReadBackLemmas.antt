@@ -21,11 +21,11 @@ use Rattle.er_print.specs.Printed.{address_text, bytes_between, hex_digits, kind
 use Rattle.er_report.specs.Report.{site_name}
 use Rattle.er_rules.specs.Rules.{Target, AtSite, AtWords}
 use Rattle.er_text.specs.Events.{run_of}
-use Rattle.er_text.specs.FirstFault.{IsPlain}
-use Rattle.er_text.specs.Lines.{Line, Placed, placed_from, lines_of, is_end, is_gap, is_ascii, is_comment, has_bytes, has_content, onto_line, says_something, word_at, words, width}
-use Rattle.er_text.specs.Naming.{is_name, is_name_byte, is_site_name, is_site_byte}
-use Rattle.er_text.specs.Number.{number_of, value_in}
-use Rattle.er_text.specs.Rules.{AllRule, IsRule, IsRules}
+use Rattle.er_lines.specs.FirstFault.{IsPlain}
+use Rattle.er_lines.specs.Lines.{Line, Placed, placed_from, lines_of, is_end, is_gap, is_ascii, is_comment, has_bytes, has_content, onto_line, says_something, word_at, words, width}
+use Rattle.er_lines.specs.Naming.{is_name, is_name_byte, is_site_name, is_site_byte}
+use Rattle.er_lines.specs.Number.{number_of, value_in}
+use Rattle.er_rules.specs.Texts.{AllRule, IsRule, IsRules}
 use Rattle.er_trace.specs.Names.{NameTable}
 use Rattle.er_sites.specs.System.{is_system_name}
 use Rattle.er_triage.specs.Known.{known_target, race_target, target_at}

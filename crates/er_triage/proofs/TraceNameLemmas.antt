@@ -3,8 +3,9 @@ use Rattle.std.proofs.Common.{◌≡◌, ℕ, Bool, true, false, cond, List, [],
 use Rattle.std.specs.Str.{bytes_eq}
 use Rattle.std.proofs.lemmas.List.Elements.{All-push}
 use Rattle.er_text.specs.Events.{EventLine, Operation, Acquires, Releases, Accesses, Reuses, IgnoresOn, IgnoresOff, Shows, Levels, Starts, Joins, Signals, Awaits, with_line, with_operation, with_site_of}
-use Rattle.er_text.specs.Lines.{Placed}
-use Rattle.er_text.specs.Naming.{is_name, is_site_name, is_site_word}
+use Rattle.er_lines.specs.Lines.{Placed}
+use Rattle.er_lines.specs.Naming.{is_name, is_site_name}
+use Rattle.er_text.specs.Naming.{is_site_word}
 use Rattle.er_text.specs.Trace.{AllSay, IsOperation, IsReuseSite, IsSite, IsTrace, with_lines}
 use Rattle.er_text.specs.declared.verbs.Version.{Version}
 use Rattle.er_text.specs.declared.verbs.Version.TheVariants.{One, Two, Three}

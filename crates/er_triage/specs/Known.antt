@@ -1,9 +1,11 @@
 -- Rules that take the races of reports.
 use Rattle.std.specs.Prelude.{◌≡◌, ℕ, ◌<◌, ◌≤◌, Bool, cond, is_some, IfSome, IsSome, IsSomeAnd, List, [], ◌∷◌, ◌++◌, count_by, length, map, position, slice_get, Option, Some, None}
 use Rattle.std.specs.List.{find, fold}
+use Rattle.er_report.specs.Lines.{RaceView, line_view, race_of as raced_in}
 use Rattle.er_report.specs.Report.{is_rule, site_name}
+use Rattle.er_report.specs.declared.report.Deed.{Deed}
+use Rattle.er_report.specs.declared.report.Deed.TheVariants as deed
 use Rattle.er_report.specs.declared.report.Line.{Line}
-use Rattle.er_report.specs.declared.report.Line.TheVariants.{Race, Reused, Refused, Shown}
 use Rattle.er_report.specs.declared.report.Report.{Report}
 use Rattle.er_report.specs.declared.reports.Reports.{Reports}
 use Rattle.er_rules.specs.Rules.{Target, AtSite, AtWords, takes, takes_reuse}
@@ -21,12 +23,19 @@ lines_in (Some report) = report.lines.items
 abbrev pub lines_of : Reports → List Line
 lines_of reports = lines_in reports.lockset ++ lines_in reports.unordered
 
+-- what a race is of, with its site
+abbrev pub raced_of : Deed → ℕ → Raced
+raced_of (deed.Access kind word) site = Access kind word site
+raced_of (deed.Reuse range) site = Reuse range site
+
+-- a race alone
+abbrev pub alone : Option RaceView → Option KnownRace
+alone None = None
+alone (Some race) = Some (record { line = race.line; thread = race.thread; raced = raced_of race.deed race.site; races = 1 })
+
 -- the race of a line, if it is one, alone
 abbrev pub race_of : Line → Option KnownRace
-race_of (Race number thread kind word site held explained) = Some (record { line = number; thread = thread; raced = Access kind word site; races = 1 })
-race_of (Reused number thread range site held explained) = Some (record { line = number; thread = thread; raced = Reuse range site; races = 1 })
-race_of (Refused number step refusal) = None
-race_of (Shown number word state) = None
+race_of line = alone (raced_in (line_view line))
 
 -- whether a rule takes a race
 abbrev pub takes_race : NameTable → Raced → Target → Bool

@@ -1,7 +1,7 @@
 -- Names as a trace may write them, and races of which a text can be written that is read again.
 use Rattle.std.specs.Prelude.{◌≡◌, ℕ, ◌^◌, ◌<◌, true, false, List, All, codes}
 use Rattle.std.specs.Str.{bytes_eq}
-use Rattle.er_text.specs.Naming.{is_name, is_site_name}
+use Rattle.er_lines.specs.Naming.{is_name, is_site_name}
 use Rattle.er_trace.specs.Names.{NameTable}
 use Rattle.er_triage.specs.Known.{IsNamed}
 use Rattle.er_triage.specs.declared.known.KnownRace.{KnownRace}

@@ -25,29 +25,11 @@ pub fn keep_first_races(
     }
 }
 
-fn keep_first(alloc: Global, report: Report, most: u64) -> Result<Report, AllocError>
+fn keep_first(alloc: Global, mut report: Report, most: u64) -> Result<Report, AllocError>
     ensures { IfOk result (IsOfFirst most report) }
 {
-    let Report {
-        lines,
-        stop,
-        rule_counts,
-        steps,
-        races,
-        suppressed,
-        refused,
-        lost,
-    } = report;
-    Ok(Report {
-        lines: first_lines(alloc, lines, most)?,
-        stop,
-        rule_counts,
-        steps,
-        races,
-        suppressed,
-        refused,
-        lost,
-    })
+    report.lines = first_lines(alloc, report.lines, most)?;
+    Ok(report)
 }
 
 fn first_lines(alloc: Global, lines: Vec<Line>, most: u64) -> Result<Vec<Line>, AllocError>
@@ -70,7 +52,7 @@ fn is_kept(line: &Line, left: &mut u64) -> bool
     ensures kept { result ≡ (not (is_some (race_of line.now)) || nat_lt 0 left.old) }
     ensures left { left.new ≡ cond (is_some (race_of line.now)) (left.old - 1) left.old }
 {
-    if !matches!(line, Line::Race { .. } | Line::Reused { .. }) {
+    if line.race().is_none() {
         return true;
     }
     if *left == 0 {

@@ -4,12 +4,13 @@ ghost use Rattle.er_report.specs.Names.{HasNames};
 ghost use Rattle.er_report.specs.Reports.{HaveNames};
 ghost use Rattle.er_rules.specs.Rules.{target_of, targets_of};
 ghost use Rattle.er_trace.specs.Names.{NameTable};
-ghost use Rattle.er_triage.specs.Known.{known_target, lines_in, lines_of, race_of, race_target, rule_of, rules_of, AreCounts, HasRacedName, IsTaken};
+ghost use Rattle.er_triage.specs.Known.{known_target, lines_in, lines_of, race_of, race_target, raced_of, rule_of, rules_of, AreCounts, HasRacedName, IsTaken};
 ghost use Rattle.er_triage.specs.Inner.Counting.{with_one_more, with_race, with_races};
 ghost use Rattle.er_triage.specs.Sound.{IsSound};
 
 use er_event::{Kind, PageRange, Site, ThreadId, Word};
-use er_report::{Line, Report, Reports, name_of};
+use er_print::Put;
+use er_report::{Deed, Line, Report, Reports, name_of};
 use er_rules::{Rule, Suppressions, WordSpan};
 use er_trace::Names;
 use std::alloc::{AllocError, Global};
@@ -50,20 +51,8 @@ pub fn known_races(
 {
     let mut rules = Suppressions::new(alloc);
     let mut known = Vec::new(alloc);
-    add_lines(
-        alloc,
-        &mut rules,
-        &mut known,
-        names,
-        lines_in(&reports.lockset),
-    )?;
-    add_lines(
-        alloc,
-        &mut rules,
-        &mut known,
-        names,
-        lines_in(&reports.unordered),
-    )?;
+    add_lines(&mut rules, &mut known, names, lines_in(&reports.lockset))?;
+    add_lines(&mut rules, &mut known, names, lines_in(&reports.unordered))?;
     Ok(known)
 }
 
@@ -80,12 +69,11 @@ pub(crate) fn lines_in(report: &Option<Report>) -> &[Line]
 
 // Adds the races of these lines.
 fn add_lines(
-    alloc: Global,
     rules: &mut Suppressions,
     known: &mut Vec<KnownRace>,
     names: &Names,
     lines: &[Line],
-) -> Result<(), AllocError>
+) -> Put
     requires names { All (HasNames names.now) lines.now }
     requires rules { map (known_target names.now) known.old.items ≡ targets_of rules.old }
     requires sound { All (IsSound names.now) known.old.items }
@@ -95,7 +83,7 @@ fn add_lines(
 {
     for line in lines {
         if let Some(race) = race_of(names, line) {
-            add_race(alloc, rules, known, names, race)?;
+            add_race(rules, known, names, race)?;
         }
     }
     Ok(())
@@ -107,45 +95,31 @@ fn race_of(names: &Names, line: &Line) -> Option<KnownRace>
     ensures race { result ≡ race_of line.now }
     ensures sound { IfSome result (IsSound names.now) }
 {
-    match line {
-        Line::Race {
-            line,
-            thread,
-            kind,
-            word,
-            site,
-            ..
-        } => Some(alone(*line, *thread, Raced::Access(*kind, *word, *site))),
-        Line::Reused {
-            line,
-            thread,
-            range,
-            site,
-            ..
-        } => Some(alone(*line, *thread, Raced::Reuse(*range, *site))),
-        Line::Refused { .. } | Line::Shown { .. } => None,
-    }
+    let race = line.race()?;
+    Some(KnownRace {
+        line: race.line,
+        thread: race.thread,
+        raced: raced_of(race.deed, race.site),
+        races: 1,
+    })
 }
 
-fn alone(line: u64, thread: ThreadId, raced: Raced) -> KnownRace
-    ensures { result ≡ record { line = line; thread = thread; raced = raced; races = 1 } }
+fn raced_of(deed: Deed, site: Site) -> Raced
+    ensures { result ≡ raced_of deed site }
 {
-    KnownRace {
-        line,
-        thread,
-        raced,
-        races: 1,
+    match deed {
+        Deed::Access(kind, word) => Raced::Access(kind, word, site),
+        Deed::Reuse(range) => Raced::Reuse(range, site),
     }
 }
 
 // Counts a race at the first rule that takes it, and adds a rule for it if none does.
 fn add_race(
-    alloc: Global,
     rules: &mut Suppressions,
     known: &mut Vec<KnownRace>,
     names: &Names,
     race: KnownRace,
-) -> Result<(), AllocError>
+) -> Put
     requires race { IsSound names.now race }
     requires rules { map (known_target names.now) known.old.items ≡ targets_of rules.old }
     requires sound { All (IsSound names.now) known.old.items }
@@ -159,9 +133,9 @@ fn add_race(
             Ok(())
         }
         None => {
+            let alloc = *known.allocator();
             rules.push(rule_for(alloc, names, race.raced)?)?;
-            known.push(race)?;
-            Ok(())
+            Ok(known.push(race)?)
         }
     }
 }

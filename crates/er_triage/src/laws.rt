@@ -1,6 +1,6 @@
 //! What holds of the texts of rules.
 ghost use Rattle.std.specs.Prelude.{ℕ, ◌≤◌, All, List, length, map};
-ghost use Rattle.er_text.specs.Rules.{IsRules};
+ghost use Rattle.er_rules.specs.Texts.{IsRules};
 ghost use Rattle.er_text.specs.Trace.{IsTrace};
 ghost use Rattle.er_trace.specs.Names.{NameTable};
 ghost use Rattle.er_trace.specs.Trace.{Recording};

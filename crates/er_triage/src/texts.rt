@@ -2,12 +2,12 @@
 ghost use Rattle.std.specs.Prelude.{◌≡◌, ◌++◌, All, cond, [], Some, IfOk, OnOk};
 ghost use Rattle.er_rules.specs.Rules.{AtWords, target_of, targets_of};
 ghost use Rattle.er_triage.specs.Known.{IsNamed};
-ghost use Rattle.er_triage.specs.Texts.{comment_text, hidden_text, is_unused, known_text, known_races_text, left_out_text, raced_text, taken_text, target_text, took_none, unused_from, unused_text};
+ghost use Rattle.er_triage.specs.Texts.{comment_text, hidden_text, is_unused, known_text, known_races_text, left_out_text, taken_text, target_text, took_none, unused_from, unused_text};
 
 use crate::known::{KnownRace, Raced, rule_for};
 use er_event::Word;
 use er_print::Piece::{Address, Number, Text, Thread, Verb};
-use er_print::{Style, bytes_of, put_address, put_all, put_number};
+use er_print::{Put, Style, bytes_of, put_address, put_all, put_number};
 use er_report::{Report, Reports};
 use er_rules::{Rule, Suppressions, WordSpan};
 use er_sites::is_system_name;
@@ -26,7 +26,7 @@ pub fn known_races_text(
     let mut text = Vec::new(alloc);
     text.extend_from_slice(b"# Known races, written by eraser replay --write-rules\n")?;
     for race in known {
-        put_known(alloc, &mut text, names, race)?;
+        put_known(&mut text, names, race)?;
     }
     Ok(text)
 }
@@ -59,24 +59,19 @@ pub fn left_out_text(alloc: Global, races: u64) -> Result<Vec<u8>, AllocError>
     Ok(text)
 }
 
-fn put_known(
-    alloc: Global,
-    out: &mut Vec<u8>,
-    names: &Names,
-    race: &KnownRace,
-) -> Result<(), AllocError>
+fn put_known(out: &mut Vec<u8>, names: &Names, race: &KnownRace) -> Put
     requires { IsNamed names.now race.now }
     ensures { OnOk result (out.new.items ≡ out.old.items ++ known_text names.now race.now) }
 {
     put_taken(out, names, race)?;
-    let rule = rule_for(alloc, names, race.raced)?;
+    let rule = rule_for(*out.allocator(), names, race.raced)?;
     put_hidden(out, &rule)?;
     put_rule(out, &rule)?;
     out.extend_from_slice(b"\n")
 }
 
 // Puts what a rule hides, if it is for a site in a header of the system.
-fn put_hidden(out: &mut Vec<u8>, rule: &Rule) -> Result<(), AllocError>
+fn put_hidden(out: &mut Vec<u8>, rule: &Rule) -> Put
     ensures { OnOk result (out.new.items ≡ out.old.items ++ hidden_text (target_of rule.now)) }
 {
     match rule {
@@ -86,51 +81,41 @@ fn put_hidden(out: &mut Vec<u8>, rule: &Rule) -> Result<(), AllocError>
 }
 
 #[tactic(auto, unfolding(crate::specs::Texts::comment_text))]
-fn put_comment(out: &mut Vec<u8>, name: &str) -> Result<(), AllocError>
+fn put_comment(out: &mut Vec<u8>, name: &str) -> Put
     ensures { OnOk result (out.new.items ≡ out.old.items ++ comment_text name.now) }
 {
     out.extend_from_slice(b"# ")?;
     out.extend_from_slice(name.as_bytes())?;
     out.extend_from_slice(
         b" is a line of a system header: this rule hides the races of every part of the program that uses it\n",
-    )?;
-    Ok(())
+    )
 }
 
-// Puts how many races a rule takes, and the first of them.
-fn put_taken(out: &mut Vec<u8>, names: &Names, race: &KnownRace) -> Result<(), AllocError>
+// Puts how many races a rule takes, and the first of them: who did what to which word, or gave back which words.
+fn put_taken(out: &mut Vec<u8>, names: &Names, race: &KnownRace) -> Put
     requires { IsNamed names.now race.now }
     ensures { OnOk result (out.new.items ≡ out.old.items ++ taken_text names.now race.now) }
-{
-    let pieces = [
-        Number(b"# races ", race.races),
-        Number(b", first: line ", race.line),
-        Text(b", "),
-    ];
-    put_all(out, Style::Plain, names, &pieces)?;
-    put_raced(out, names, race)?;
-    out.extend_from_slice(b"\n")
-}
-
-// Puts who did what to which word, or gave back which words.
-fn put_raced(out: &mut Vec<u8>, names: &Names, race: &KnownRace) -> Result<(), AllocError>
-    requires { IsNamed names.now race.now }
-    ensures { OnOk result (out.new.items ≡ out.old.items ++ raced_text names.now race.now.thread race.now.raced) }
 {
     match race.raced {
         Raced::Access(kind, word, _) => {
             let pieces = [
-                Thread(b"", race.thread),
+                Number(b"# races ", race.races),
+                Number(b", first: line ", race.line),
+                Thread(b", ", race.thread),
                 Verb(b" ", kind),
                 Address(b" ", word),
+                Text(b"\n"),
             ];
             put_all(out, Style::Plain, names, &pieces)
         }
         Raced::Reuse(range, _) => {
             let pieces = [
-                Thread(b"", race.thread),
+                Number(b"# races ", race.races),
+                Number(b", first: line ", race.line),
+                Thread(b", ", race.thread),
                 Address(b" reuse ", range.lo),
                 Number(b" ", bytes_of(&range)),
+                Text(b"\n"),
             ];
             put_all(out, Style::Plain, names, &pieces)
         }
@@ -138,7 +123,7 @@ fn put_raced(out: &mut Vec<u8>, names: &Names, race: &KnownRace) -> Result<(), A
 }
 
 // Puts the rule of the words from the first to the last.
-fn put_run(out: &mut Vec<u8>, first: Word, last: Word) -> Result<(), AllocError>
+fn put_run(out: &mut Vec<u8>, first: Word, last: Word) -> Put
     ensures { OnOk result (out.new.items ≡ out.old.items ++ target_text (AtWords (Some (record { first = first; last = last })))) }
 {
     let words = (last.number() + 1).saturating_sub(first.number());
@@ -165,12 +150,7 @@ fn is_unused(reports: &Reports, place: usize) -> bool
 }
 
 // Puts the line of the rule of this number, if it took no race.
-fn put_if_unused(
-    out: &mut Vec<u8>,
-    unused: bool,
-    number: u64,
-    rule: &Rule,
-) -> Result<(), AllocError>
+fn put_if_unused(out: &mut Vec<u8>, unused: bool, number: u64, rule: &Rule) -> Put
     ensures { OnOk result (out.new.items ≡ out.old.items ++ cond unused (unused_text number (target_of rule.now)) []) }
 {
     if !unused {
@@ -184,7 +164,7 @@ fn put_if_unused(
 }
 
 /// Puts a rule as a suppression text has it, without a line feed.
-pub fn put_rule(out: &mut Vec<u8>, rule: &Rule) -> Result<(), AllocError>
+pub fn put_rule(out: &mut Vec<u8>, rule: &Rule) -> Put
     ensures { OnOk result (out.new.items ≡ out.old.items ++ target_text (target_of rule.now)) }
 {
     match rule {

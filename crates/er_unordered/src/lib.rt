@@ -13,7 +13,7 @@
 //!
 //! ```text
 //! let analyst = OrderAnalyst::new(alloc, &rules, false, NameKeys::KNOWN)?;
-//! let found = analyse(&(), alloc, &mut reader, Options::USUAL_BYTES, NameKeys::KNOWN, analyst, &mut Unwatched)?;
+//! let found = analyse(&rt, alloc, &mut reader, &Options::usual(), analyst, &mut Unwatched)?;
 //! let report = found.analyst.finish();
 //! ```
 //!

@@ -27,6 +27,8 @@ use er_rules::Suppressions;
 use er_trace::{NameKeys, Trace};
 use std::alloc::{AllocError, Global};
 use std::marker::Model;
+use std::sync::Wait;
+use std::thread::Threads;
 
 /// Answers steps by happens-before, up to one that can't be answered.
 #[derive(Drop)]
@@ -98,7 +100,7 @@ impl<'r> OrderAnalyst<'r> {
     }
 }
 
-impl<'r, R> Analyst<R> for OrderAnalyst<'r> {
+impl<'r> Analyst for OrderAnalyst<'r> {
     ghost use Rattle.er_report.specs.Reports.{asks_order};
     ghost use Rattle.er_unordered.specs.Ordered.{HasOrdered};
 
@@ -110,7 +112,11 @@ impl<'r, R> Analyst<R> for OrderAnalyst<'r> {
 
     ghost found = { λ ran. ran.built.report.races };
 
-    fn answer(&mut self, _rt: &R, trace: &Trace) -> Result<(), AllocError> {
+    fn answer<R: Threads + Wait + Sync>(
+        &mut self,
+        _rt: &R,
+        trace: &Trace,
+    ) -> Result<(), AllocError> {
         self.has_order = with_order(self.has_order, trace.steps());
         if self.stop.is_some() {
             return Ok(());

@@ -23,7 +23,7 @@ use Rattle.er_run.specs.Reports.{AreReportsOfText, IsOrderOfText, IsReportOfRun,
 use Rattle.er_run.specs.declared.fault.RunFault.{RunFault}
 use Rattle.er_run.specs.declared.fault.RunFault.TheVariants as running
 use Rattle.er_text.specs.Ending.{IsEndingOf, lost_told}
-use Rattle.er_text.specs.declared.faults.ReadFault.TheVariants as reading
+use Rattle.er_lines.specs.declared.faults.ReadFault.TheVariants as reading
 use Rattle.er_trace.specs.Names.{NameTable}
 use Rattle.er_trace.specs.Trace.{Recording}
 use Rattle.er_triage.specs.First.{KeepFirst}
@@ -140,8 +140,7 @@ found_usually replay text found usual cause from lenient =
     by_case (running.Read reading.Read) is read whole = tt
     by_case (running.Write f) is read whole = absurd read
     by_case (running.Replay f) is read whole = absurd read
-    by_case running.CountFull is read whole = absurd read
-    by_case running.ThreadsFull is read whole = absurd read
+    by_case (running.Beyond limit) is read whole = absurd read
     by_case running.Memory is read whole = tt
     by_case (running.Damaged damage) is read whole = absurd whole
 
@@ -170,8 +169,7 @@ usual-fails remaining replay text old new why usual fails = by_case why fails
     by_case (fault.Damaged damage) fails = other (fault.Damaged damage) fails
     by_case (fault.NoStep line) fails = other (fault.NoStep line) fails
     by_case fault.TableFull fails = other fault.TableFull fails
-    by_case fault.CountFull fails = other fault.CountFull fails
-    by_case fault.ThreadsFull fails = other fault.ThreadsFull fails
+    by_case (fault.Beyond limit) fails = other (fault.Beyond limit) fails
     by_case fault.OpenTrace fails = other fault.OpenTrace fails
     by_case (fault.OpenSuppressions file) fails = other (fault.OpenSuppressions file) fails
     by_case fault.Read fails = other fault.Read fails

@@ -1,7 +1,7 @@
 -- What a replay may come to before a byte is written.
 use Rattle.std.specs.Prelude.{◌≡◌, ◌&&◌, ◌+◌, ◌≤◌, ℕ, Bool, true, false, List, Option, None, Result, IfSome, IfOk, IfErr, IsFalse, IsTrue, OnOk, is_some}
 use Rattle.std.specs.Option.{option_map}
-use Rattle.er_batch.specs.Analysts.{Asked, HasRunFor, Ran, StandsIf}
+use Rattle.er_batch.specs.Analysts.{Asked, CrewRan, HasCrewRun, HasRunFor, Ran, StandsIf}
 use Rattle.er_batch.specs.Limits.{bytes_past_limit}
 use Rattle.er_batch.specs.declared.options.Options.{Options}
 use Rattle.er_damage.specs.Damaged.{IsDamageOf, no_damage}
@@ -29,6 +29,10 @@ abbrev pub AllStand : Option Ran → Option OrderRan → Option Inspected → As
 AllStand ran ordered seen asked r =
     (StandsIf (λ (one : Ran). HasRunFor one asked r) (asks_locks asked.analysis) ran × StandsIf (λ (one : OrderRan). HasOrdered one asked r) (asks_order asked.analysis) ordered)
     × IsInspected seen asked.strict r
+
+-- several workers stand for it, and what looks for damage
+abbrev pub CrewStands : CrewRan → Option Inspected → Asked → Recording → Type 0
+CrewStands ran seen asked r = HasCrewRun ran asked r × IsInspected seen asked.strict r
 
 -- the report by the lockset rule of the recording's steps, if it is asked for
 pub record IsRunBuilt (asked : Asked) (r : Recording) (report : Option Report) : Type 0 where

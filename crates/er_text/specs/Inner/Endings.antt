@@ -1,10 +1,10 @@
 -- How the lines before end, as lines are passed over.
 use Rattle.std.specs.Prelude.{◌≡◌, not, Bool, true, false, List, [], Option, Some, None, Result, Ok, Err}
-use Rattle.er_text.specs.declared.faults.ReadFault.{ReadFault}
+use Rattle.er_lines.specs.declared.faults.ReadFault.{ReadFault}
 use Rattle.er_text.specs.declared.reading.Batch.{Batch}
 use Rattle.er_text.specs.declared.reading.Batch.TheVariants.{More, End}
 use Rattle.er_text.specs.Ending.{is_cut_after, comment_after, comment_past}
-use Rattle.er_text.specs.Lines.{Placed}
+use Rattle.er_lines.specs.Lines.{Placed}
 use Rattle.er_text.specs.Places.{Tail}
 
 -- how lines end, behind others that end so

@@ -7,9 +7,9 @@ use Rattle.er_event.specs.declared.steps.Kind.{Kind}
 use Rattle.er_event.specs.declared.steps.Mode.{Mode}
 use Rattle.er_text.specs.declared.verbs.Version.{Version}
 use Rattle.er_text.specs.declared.stages.Stage.{Stage}
-use Rattle.er_text.specs.Lines.{words, word_at, has_bytes, is_ascii, is_comment}
-use Rattle.er_text.specs.Number.{number_of}
-use Rattle.er_text.specs.Naming.{is_name, is_lock_name}
+use Rattle.er_lines.specs.Lines.{words, word_at, has_bytes, is_ascii, is_comment}
+use Rattle.er_lines.specs.Number.{number_of}
+use Rattle.er_lines.specs.Naming.{is_name, is_lock_name}
 use Rattle.er_trace.specs.Trace.{Recording}
 use Rattle.er_trace.specs.Names.{number_of as place_of}
 use Rattle.er_text.specs.Events.{Operation, Acquires, Releases, Accesses, EventLine, with_operation, with_line}

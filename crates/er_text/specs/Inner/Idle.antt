@@ -3,8 +3,8 @@ use Rattle.std.specs.Prelude.{ℕ, zero, suc, ◌&&◌, Bool, true, false, not, 
 use Rattle.std.specs.Str.{bytes_eq}
 use Rattle.er_trace.specs.Names.{is_known, number_of}
 use Rattle.er_event.specs.declared.steps.Step.{Step}
-use Rattle.er_text.specs.declared.faults.TextKind.{TextKind}
-use Rattle.er_text.specs.declared.faults.TextKind.TheVariants.{OwnThread, AlreadyRunning}
+use Rattle.er_lines.specs.declared.faults.TextKind.{TextKind}
+use Rattle.er_lines.specs.declared.faults.TextKind.TheVariants.{OwnThread, AlreadyRunning}
 use Rattle.er_text.specs.Events.{EventLine, Operation, Starts, Joins}
 
 abbrev pub is_idle : List Bool → ℕ → Bool

@@ -6,35 +6,22 @@ use Rattle.er_event.specs.Span.{Span}
 use Rattle.er_event.specs.declared.steps.Kind.{Kind}
 use Rattle.er_event.specs.declared.steps.Kind.TheVariants as kind
 use Rattle.er_event.specs.declared.steps.Mode.TheVariants as mode
-use Rattle.er_text.specs.declared.faults.TextKind.{TextKind}
-use Rattle.er_text.specs.declared.faults.TextKind.TheVariants.{BadName, MissingOperand, BadVerb, ExtraOperand, BadNumber, SizeTooLarge, AddressOutOfRange, LevelTooHigh}
+use Rattle.er_lines.specs.declared.faults.TextKind.{TextKind}
+use Rattle.er_lines.specs.declared.faults.TextKind.TheVariants.{BadName, MissingOperand, BadVerb, ExtraOperand, BadNumber, SizeTooLarge, AddressOutOfRange, LevelTooHigh}
 use Rattle.er_text.specs.declared.verbs.Verb.{Verb}
 use Rattle.er_text.specs.declared.verbs.Verb.TheVariants as verb
 use Rattle.er_text.specs.declared.verbs.Version.{Version}
 use Rattle.er_text.specs.declared.parsing.Action.{Action}
 use Rattle.er_text.specs.declared.parsing.Action.TheVariants as action
 use Rattle.er_text.specs.declared.parsing.ParsedLine.{ParsedLine}
-use Rattle.er_text.specs.declared.parsing.Words.{Words}
-use Rattle.er_text.specs.Lines.{has_bytes, word_at}
-use Rattle.er_text.specs.Number.{number_of}
-use Rattle.er_text.specs.Naming.{name_of, lock_name_of, site_name_of}
+use Rattle.er_lines.specs.declared.words.Words.{Words}
+use Rattle.er_lines.specs.Lines.{has_bytes, word_at}
+use Rattle.er_lines.specs.Number.{number_of}
+use Rattle.er_lines.specs.Naming.{name_of, lock_name_of}
+use Rattle.er_text.specs.Naming.{site_name_of}
 use Rattle.er_text.specs.Verbs.{verb_of, least_of, most_of}
 use Rattle.er_text.specs.Events.{Operation, Acquires, Releases, Accesses, Reuses, IgnoresOn, IgnoresOff, Shows, Levels, Starts, Joins, Signals, Awaits, EventLine, run_of}
-
-abbrev pub and_then : {A B : Type 0} → Result A TextKind → (A → Result B TextKind) → Result B TextKind
-and_then (Ok x) f = f x
-and_then (Err k) f = Err k
-
-abbrev pub map_ok : {A B : Type 0} → (A → B) → Result A TextKind → Result B TextKind
-map_ok f (Ok x) = Ok (f x)
-map_ok f (Err k) = Err k
-
-abbrev pub or_fault : {A : Type 0} → TextKind → Option A → Result A TextKind
-or_fault k None = Err k
-or_fault k (Some x) = Ok x
-
-abbrev pub number_in : List ℕ → Result ℕ TextKind
-number_in word = or_fault BadNumber (number_of word)
+use Rattle.er_lines.specs.Words.{and_then, map_ok, or_fault, number_in, seen_name, GivesBy}
 
 abbrev pub name_in : List ℕ → Result (List ℕ) TextKind
 name_in word = or_fault BadName (name_of word)
@@ -110,11 +97,6 @@ parsed_of version words = parsed_in version (word_at 0 words) (word_at 1 words) 
 abbrev pub parsed_by : Version → Words → Result EventLine TextKind
 parsed_by version w = parsed_in version w.first.now w.second.now w.third.now w.fourth.now w.fifth.now w.sixth.now
 
--- the code's values, without where they lie in memory
-abbrev pub seen_name : Option (Bor (List ℕ)) → Option (List ℕ)
-seen_name None = None
-seen_name (Some name) = Some name.now
-
 abbrev pub action_view : Action → Operation
 action_view (action.Acquire lock m) = Acquires lock.now m
 action_view (action.Release lock m) = Releases lock.now m
@@ -132,28 +114,11 @@ action_view (action.Await object) = Awaits object.now
 abbrev pub event_line : ParsedLine → EventLine
 event_line parsed_line = record { thread = parsed_line.thread.now; operation = action_view parsed_line.action }
 
--- what a call returned, seen by view, is what the definition gives
-abbrev pub GivesBy : {X Y E : Type 0} → (X → Y) → Result X E → Result Y E → Type 0
-GivesBy view (Ok x) gives = gives ≡ Ok (view x)
-GivesBy view (Err e) gives = gives ≡ Err e
-
 abbrev pub GivesName : Result (Bor (List ℕ)) TextKind → Result (List ℕ) TextKind → Type 0
 GivesName = GivesBy (λ name. name.now)
-
-abbrev pub GivesSite : Result (Option (Bor (List ℕ))) TextKind → Result (Option (List ℕ)) TextKind → Type 0
-GivesSite = GivesBy seen_name
 
 abbrev pub GivesOperation : Result Action TextKind → Result Operation TextKind → Type 0
 GivesOperation = GivesBy action_view
 
 abbrev pub GivesEventLine : Result ParsedLine TextKind → Result EventLine TextKind → Type 0
 GivesEventLine = GivesBy event_line
-
--- the first six words
-pub record AreWords (words : List (List ℕ)) (w : Words) : Type 0 where
-  pub first : w.first.now ≡ word_at 0 words
-  pub second : w.second.now ≡ word_at 1 words
-  pub third : w.third.now ≡ word_at 2 words
-  pub fourth : w.fourth.now ≡ word_at 3 words
-  pub fifth : w.fifth.now ≡ word_at 4 words
-  pub sixth : w.sixth.now ≡ word_at 5 words

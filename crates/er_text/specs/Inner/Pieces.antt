@@ -4,7 +4,7 @@ use Rattle.er_trace.specs.Trace.{Recording}
 use Rattle.er_text.specs.declared.endings.Lost.{Lost}
 use Rattle.er_text.specs.declared.verbs.Version.{Version}
 use Rattle.er_text.specs.declared.stages.Stage.TheVariants.{Events}
-use Rattle.er_text.specs.Lines.{Line, lines_of}
+use Rattle.er_lines.specs.Lines.{Line, lines_of}
 use Rattle.er_text.specs.Inner.Traces.{at_line, plain_at}
 
 -- lines of a text of this version, each with its LF and in its limit, of which the first has this number. They lead from one recording to another,

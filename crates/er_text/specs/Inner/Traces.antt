@@ -2,23 +2,23 @@
 use Rattle.std.specs.Prelude.{◌≡◌, ℕ, ◌+◌, not, Bool, List, [], Option, Some, None, Result, Ok, Err, if◌then◌else◌}
 use Rattle.std.specs.List.{list_all}
 use Rattle.er_trace.specs.Trace.{Recording, no_steps}
-use Rattle.er_text.specs.declared.faults.TextKind.{TextKind}
-use Rattle.er_text.specs.declared.faults.TextKind.TheVariants.{NoHeader, NotAscii, AfterEnd}
-use Rattle.er_text.specs.declared.faults.TextFault.{TextFault}
-use Rattle.er_text.specs.declared.faults.ReadFault.{ReadFault}
-use Rattle.er_text.specs.declared.faults.ReadFault.TheVariants as fault
+use Rattle.er_lines.specs.declared.faults.TextKind.{TextKind}
+use Rattle.er_lines.specs.declared.faults.TextKind.TheVariants.{NoHeader, NotAscii, AfterEnd}
+use Rattle.er_lines.specs.declared.faults.TextFault.{TextFault}
+use Rattle.er_lines.specs.declared.faults.ReadFault.{ReadFault}
+use Rattle.er_lines.specs.declared.faults.ReadFault.TheVariants as fault
 use Rattle.er_text.specs.declared.reading.Batch.{Batch}
 use Rattle.er_text.specs.declared.reading.Batch.TheVariants.{More, End}
 use Rattle.er_text.specs.declared.verbs.Version.{Version}
 use Rattle.er_text.specs.declared.stages.Stage.{Stage}
 use Rattle.er_text.specs.declared.stages.Stage.TheVariants.{Front, Events, Ended}
 use Rattle.er_text.specs.Places.{Reached}
-use Rattle.er_text.specs.Lines.{Placed, placed, says_something, words, is_ascii}
+use Rattle.er_lines.specs.Lines.{Placed, placed, says_something, words, is_ascii}
 use Rattle.er_text.specs.Trace.{version_in, is_end}
 use Rattle.er_text.specs.Events.{EventLine, with_line}
 use Rattle.er_text.specs.Inner.Parsing.{parsed_of}
 use Rattle.er_text.specs.Inner.Idle.{order_fault, idle_past}
-use Rattle.er_text.specs.Inner.Reading.{read_lines}
+use Rattle.er_lines.specs.Reading.{read_lines}
 
 -- how far a reading has come: the number of the next line, the stage, the threads that are idle, and the steps so far
 pub record Progress : Type 0 where

@@ -1,8 +1,8 @@
 use Rattle.std.proofs.Common.{◌≡◌, ℕ, ◌+◌, ◌-◌, ◌<◌, List, ap, take, drop, get_or, length, sym, subst, ◌∙◌, arith}
 use Rattle.std.proofs.lemmas.Bool.{eqb-true}
 use Rattle.std.proofs.lemmas.List.{get_or-drop, length-drop, take_all, take-append-drop}
-use Rattle.er_text.specs.Pieces.{AreWhole}
-use Rattle.er_text.proofs.WholeLemmas.{whole_front, whole_rest}
+use Rattle.er_lines.specs.Lines.{AreWhole}
+use Rattle.er_lines.proofs.WholeLemmas.{whole_front, whole_rest}
 use Rattle.er_reading.proofs.cutting.front_len.Goals as goal
 
 pub returns-in-Some-clause-front : goal.returns-in-Some-clause-front

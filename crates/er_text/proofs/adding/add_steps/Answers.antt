@@ -1,5 +1,5 @@
 -- Each number of the step has a name by then.
-use Rattle.er_text.specs.Inner.Parsing.{seen_name}
+use Rattle.er_lines.specs.Words.{seen_name}
 use Rattle.er_text.proofs.AddingLemmas.{thread_named, lock_named, other_named, site_named}
 use Rattle.er_text.proofs.adding.add_steps.Goals.{in-Acquire+in_ok-lock-in-Acquire, in-Release+in_ok-lock-in-Release, in-IgnoreOn, in-IgnoreOff, in-Show, in-Level, in-Start+in_ok-thread-in-Start, in-Join+in_ok-thread-in-Join, in-Signal+in_ok-lock-in-Signal, in-Await+in_ok-lock-in-Await}
 use Rattle.er_text.proofs.adding.add_steps.Goals as goal

@@ -3,7 +3,7 @@ use Rattle.std.proofs.Common.{ap}
 use Rattle.std.specs.List.{list_all}
 use Rattle.er_event.specs.declared.steps.Kind.TheVariants.{Read, Write}
 use Rattle.er_event.specs.declared.steps.Mode.TheVariants as mode
-use Rattle.er_text.specs.Lines.{is_ascii, words}
+use Rattle.er_lines.specs.Lines.{is_ascii, words}
 use Rattle.er_text.specs.Inner.FastPath.{IsFastAccess, IsFastAcquire, IsFastRelease, IsFastOperation}
 use Rattle.er_text.proofs.FastPathLaws.{access_tells, lock_tells, unlock_tells}
 use Rattle.er_text.proofs.UsualLemmas.{adds_as}

@@ -1,6 +1,6 @@
 use Rattle.std.proofs.Common.{length, not, unwrap_or, ap, ◌∙◌, arith}
-use Rattle.er_text.specs.Naming.{is_name_byte}
-use Rattle.er_text.proofs.WordLemmas.{place_of, place_le}
+use Rattle.er_lines.specs.Naming.{is_name_byte}
+use Rattle.er_lines.proofs.WordLemmas.{place_of, place_le}
 use Rattle.er_text.proofs.fast_path.name_len.Goals as goal
 
 pub returns-clause-place : goal.returns-clause-place

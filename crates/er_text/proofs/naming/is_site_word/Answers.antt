@@ -1,6 +1,6 @@
 -- A name is the name of a site in each version.
 use Rattle.std.proofs.Common.{◌≡◌, true, sym, ◌∙◌, rules}
-use Rattle.er_text.specs.Naming.{is_name}
+use Rattle.er_lines.specs.Naming.{is_name}
 use Rattle.er_text.proofs.SiteLemmas.{name_word}
 use Rattle.er_text.proofs.naming.is_site_word.Goals as goal
 

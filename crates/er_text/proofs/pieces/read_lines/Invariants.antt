@@ -4,7 +4,7 @@ use Rattle.er_trace.specs.Trace.{Recording}
 use Rattle.er_text.specs.declared.stages.Stage.TheVariants.{Events}
 use Rattle.er_text.specs.Inner.Pieces.{AreRead}
 use Rattle.er_text.specs.Ending.{comment_after}
-use Rattle.er_text.specs.Lines.{lines_of, placed_from}
+use Rattle.er_lines.specs.Lines.{lines_of, placed_from}
 use Rattle.er_text.proofs.pieces.read_lines.Given as goal
 
 abbrev pub invariant-loop-at : goal.invariant-loop-at

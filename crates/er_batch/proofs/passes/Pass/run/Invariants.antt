@@ -2,7 +2,7 @@ use Rattle.std.proofs.Common.{◌≡◌, ◌+◌, ◌-◌, ◌≤◌, ℕ, List,
 use Rattle.er_batch.specs.Analysts.{Asked}
 use Rattle.er_batch.specs.Inner.Passes.{HasCome}
 use Rattle.er_device.specs.Device.{inner_of, has_failed, taken_of}
-use Rattle.er_text.specs.Inner.Lending.{taken_by}
+use Rattle.er_lines.specs.Lending.{taken_by}
 use Rattle.er_batch.proofs.passes.Pass.run.Given as goal
 
 -- what a turn wants, and that it goes on from where the pass began

@@ -1,6 +1,6 @@
 use Rattle.std.proofs.Common.{◌≡◌, ◌+◌, ◌-◌, ◌≤◌, ℕ, List, Option, false}
 use Rattle.er_device.specs.Device.{inner_of, has_failed, taken_of}
-use Rattle.er_text.specs.Inner.Lending.{taken_by}
+use Rattle.er_lines.specs.Lending.{taken_by}
 use Rattle.er_places.specs.Inner.Following.{HasCome}
 use Rattle.er_places.specs.Wanted.{is_wanted}
 use Rattle.er_places.proofs.finding.Finder.run.Given as goal

@@ -1,23 +1,28 @@
--- Each turn lays the last list that is left over the new pieces.
-use Rattle.std.proofs.Common.{◌≡◌, ◌∙◌, ◌∷◌, ◌++◌, ◌-◌, [], is_ok, if◌then◌else◌, cond, Some, None, get_or, ap, arith}
+-- The new entry reaches as far as those that it stands for.
+use Rattle.std.proofs.Common.{◌≡◌, ◌∙◌, ◌∷◌, ◌++◌, [], List, IsOk, is_ok, if◌then◌else◌, cond, Some, None, sym, ap, subst, arith}
 use Rattle.std.specs.Option.{option_or}
-use Rattle.std.proofs.lemmas.List.{get_or_read}
-use Rattle.er_rules.specs.Targets.{span_of, is_among}
-use Rattle.er_rules.specs.Inner.Pieces.{rule_at, first_at}
-use Rattle.er_rules.proofs.IndexLemmas.{merged, first_at-push}
+use Rattle.er_rules.specs.declared.index.Entry.{Entry}
+use Rattle.er_rules.specs.Targets.{span_of}
+use Rattle.er_rules.specs.Inner.Index.{first_of, has_both}
+use Rattle.er_rules.proofs.IndexLemmas.{Start, Reaching, start-push, reaching-push, first_of-push}
 use Rattle.er_rules.proofs.index.WordIndex.push.Goals as goal
 
-pub loop-kept-preserved : goal.loop-kept-preserved
-loop-kept-preserved c =
-    let here : c.index-in-loop-kept.result.now ≡ get_or c.reserve.new.self.items (c.loop-kept.kept - 1) [] = get_or_read c.reserve.new.self.items (c.loop-kept.kept - 1) c.index-in-loop-kept.result.now (omega arith) c.index-in-loop-kept.ensures [] in
+pub invariant_of-self-2 : goal.invariant_of-self-2
+invariant_of-self-2 c =
+    let items = c.reserve.new.self.items in
+    let entry : Entry = record { words = c.args.words; rule = c.args.rule; start = c.loop-start.start; reach = c.loop-start.reach } in
+    let room : IsOk c.push-pushed.result = c.push-pushed.ensures.succeeds (omega (arith, c.in_ok-reserve.ensures.ok)) in
+    let added : c.push-pushed.new.self.items ≡ items ++ entry ∷ [] = c.push-pushed.ensures.items ∙ ap (λ b. if b then items ++ entry ∷ [] else items) room in
+    let starts : Start items = subst (λ (es : List Entry). Start es) (sym c.reserve.ensures.items) c.args.self.now.starts in
+    let reaches : Reaching items = subst (λ (es : List Entry). Reaching es) (sym c.reserve.ensures.items) c.args.self.now.reaches in
     record {
-      within = omega arith;
-      both = λ w. merged c.reserve.new.self.items c.loop-kept.kept c.loop-kept.pieces c.in_ok-pieces-2.pieces w c.loop-kept-test.true c.loop-kept.invariant.within
-          (c.in_ok-pieces-2.ensures w ∙ ap (λ ps. option_or (rule_at ps w) (rule_at c.loop-kept.pieces w)) here) ∙ c.loop-kept.invariant.both w;
+      starts = subst (λ (es : List Entry). Start es) (sym added) (start-push items entry starts c.loop-start.invariant.within);
+      reaches = subst (λ (es : List Entry). Reaching es) (sym added) (reaching-push items entry reaches c.loop-start.invariant);
     }
 
 pub returns-clause-ok : goal.returns-clause-ok
-returns-clause-ok c = λ w.
-    ap (λ ls. first_at ls w) (c.push-pushed.ensures.items ∙ ap (λ r. if is_ok r then c.truncate.new.self.items ++ c.loop-kept.pieces ∷ [] else c.truncate.new.self.items) c.unwrap.ensures)
-    ∙ (first_at-push c.truncate.new.self.items c.loop-kept.pieces w ∙ (ap (λ ls. option_or (first_at ls w) (rule_at c.loop-kept.pieces w)) c.truncate.ensures.items ∙ (c.loop-kept.invariant.both w
-    ∙ ap (λ ls. option_or (first_at ls w) (cond (is_among (Some (span_of c.args.words)) w) (Some c.args.rule) None)) c.reserve.ensures.items)))
+returns-clause-ok c = λ lo hi.
+    let items = c.reserve.new.self.items in
+    let entry : Entry = record { words = c.args.words; rule = c.args.rule; start = c.loop-start.start; reach = c.loop-start.reach } in
+    ap (λ es. first_of es lo hi) (c.push-pushed.ensures.items ∙ ap (λ r. if is_ok r then items ++ entry ∷ [] else items) c.unwrap.ensures)
+    ∙ (first_of-push items entry lo hi ∙ ap (λ es. option_or (first_of es lo hi) (cond (has_both (Some (span_of c.args.words)) lo hi) (Some c.args.rule) None)) c.reserve.ensures.items)

@@ -2,7 +2,7 @@
 use Rattle.std.proofs.Common.{◌≡◌, ℕ, ◌+◌, ◌<◌, ◌≤◌, ◌^◌, ◌&&◌, nat_eq, Option, IfSome, refl, subst, sym, ap, ◌∙◌, arith}
 use Rattle.er_text.specs.Batches.{HasRead}
 use Rattle.er_text.specs.declared.endings.Lost.{Lost}
-use Rattle.er_text.specs.Inner.Lending.{past_lines}
+use Rattle.er_lines.specs.Lending.{past_lines}
 use Rattle.er_text.specs.Inner.Pieces.{comment_behind}
 use Rattle.er_text.specs.Pieces.{ReadPiece, StandsInFront, IsReady}
 use Rattle.er_text.specs.Places.{Tail, Reached}

@@ -3,8 +3,8 @@ use Rattle.std.proofs.Common.{◌+◌, subst}
 use Rattle.std.proofs.lemmas.Result.{err_from_is_err_and}
 use Rattle.er_device.specs.Device.{inner_of}
 use Rattle.er_text.specs.Places.{Reached}
-use Rattle.er_text.specs.Inner.Lending.{lines_left}
-use Rattle.er_text.specs.Inner.Reading.{Turns}
+use Rattle.er_lines.specs.Lending.{lines_left}
+use Rattle.er_lines.specs.Reading.{Turns}
 use Rattle.er_text.specs.Inner.Traces.{at_line, progress, read_content}
 use Rattle.er_text.proofs.GrowthLemmas.{grows_not, line_grows}
 use Rattle.er_text.proofs.PlaceLemmas.{trace_fails}

@@ -2,12 +2,12 @@
 use Rattle.std.proofs.Common.{◌≡◌, ◌+◌, ◌≤◌, ℕ, Ok, true, refl, ◌∙◌, subst, arith, rules}
 use Rattle.er_device.specs.Device.{inner_of}
 use Rattle.er_text.specs.Places.{Reached}
-use Rattle.er_text.specs.Inner.Lending.{lines_left, taken_by}
-use Rattle.er_text.specs.Inner.Reading.{Turns}
+use Rattle.er_lines.specs.Lending.{lines_left, taken_by}
+use Rattle.er_lines.specs.Reading.{Turns}
 use Rattle.er_text.specs.Inner.Traces.{Progress, progress, read_content}
 use Rattle.er_text.proofs.GrowthLemmas.{grows_not, grows_on}
 use Rattle.er_text.proofs.TailLemmas.{tail_start, tail_goes_on}
-use Rattle.er_text.proofs.TurnLemmas.{at_start, goes_on}
+use Rattle.er_lines.proofs.TurnLemmas.{at_start, goes_on}
 use Rattle.er_text.proofs.reading.TraceReader.read_batch.Goals as goal
 
 pub loop-init : goal.loop-init

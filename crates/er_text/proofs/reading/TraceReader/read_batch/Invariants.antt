@@ -3,8 +3,8 @@ use Rattle.std.proofs.Common.{◌≡◌, ◌+◌, ◌≤◌, false}
 use Rattle.er_device.specs.Device.{inner_of, has_failed, taken_of}
 use Rattle.er_text.specs.Named.{Grows}
 use Rattle.er_text.specs.Inner.Endings.{KeepsTail}
-use Rattle.er_text.specs.Inner.Lending.{taken_by, lines_left}
-use Rattle.er_text.specs.Inner.Reading.{Continues}
+use Rattle.er_lines.specs.Lending.{taken_by, lines_left}
+use Rattle.er_lines.specs.Reading.{Continues}
 use Rattle.er_text.specs.Inner.Traces.{progress, read_content}
 use Rattle.er_text.proofs.reading.TraceReader.read_batch.Given as goal
 

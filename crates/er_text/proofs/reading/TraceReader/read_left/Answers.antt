@@ -2,8 +2,8 @@
 use Rattle.std.proofs.Common.{ℕ, Err, subst}
 use Rattle.std.proofs.lemmas.Result.{err_from_is_err_and}
 use Rattle.er_device.specs.Device.{inner_of}
-use Rattle.er_text.specs.Inner.Lending.{lines_left}
-use Rattle.er_text.specs.Inner.Reading.{Turns}
+use Rattle.er_lines.specs.Lending.{lines_left}
+use Rattle.er_lines.specs.Reading.{Turns}
 use Rattle.er_text.specs.Inner.Traces.{Progress, progress, read_content}
 use Rattle.er_text.proofs.PlaceLemmas.{fault_ends}
 use Rattle.er_text.proofs.reading.TraceReader.read_left.Goals as goal

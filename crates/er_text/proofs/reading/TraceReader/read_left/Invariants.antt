@@ -1,7 +1,7 @@
 use Rattle.std.proofs.Common.{◌≡◌, ◌+◌, ◌-◌, ◌≤◌, false}
 use Rattle.er_device.specs.Device.{inner_of, has_failed, taken_of}
-use Rattle.er_text.specs.Inner.Lending.{taken_by, lines_from, lines_left}
-use Rattle.er_text.specs.Inner.Reading.{Continues}
+use Rattle.er_lines.specs.Lending.{taken_by, lines_from, lines_left}
+use Rattle.er_lines.specs.Reading.{Continues}
 use Rattle.er_text.specs.Inner.Traces.{progress, at_front, read_content}
 use Rattle.er_text.proofs.reading.TraceReader.read_left.Given as goal
 

@@ -1,0 +1,231 @@
+-- Workers go on with each batch, and its items say what is to be said of each of its steps.
+use Rattle.std.proofs.Common.{◌≡◌, ◌⊎◌, ◌<◌, ◌≤◌, ◌+◌, ℕ, suc, add-one, true, false, List, [], ◌++◌, length, length-append, slice_get, slice_index, Some, Result, Ok, Err, IfOk, IfErr, OnOk, is_some, refl, sym, ap, subst, ◌∙◌, inl, inr, arith}
+use Rattle.std.specs.Prelude.{MatchResult}
+use Rattle.std.proofs.lemmas.Bool.{cases_lt}
+use Rattle.std.proofs.lemmas.List.Elements.{All-nil}
+use Rattle.std.proofs.lemmas.Option.{slice_get_within}
+use Rattle.er_batch.proofs.BatchLemmas.{goes-on, grown}
+use Rattle.er_batch.specs.Analysts.{Asked, CrewRan, HasCrewRun}
+use Rattle.er_batch.specs.Inner.Items.{IsNext}
+use Rattle.er_batch.specs.Runs.{IsWellFormed, recorded}
+use Rattle.er_event.proofs.Lists.{get_behind, get_still}
+use Rattle.er_event.specs.declared.steps.Event.{Event}
+use Rattle.er_event.specs.declared.steps.Event.TheVariants.{Acquire, Release, Access, Reuse, IgnoreOn, IgnoreOff, Show, Level, Sync}
+use Rattle.er_event.specs.declared.steps.Step.{Step}
+use Rattle.er_event.specs.declared.steps.WordState.{WordState}
+use Rattle.er_explain.proofs.RaceLemmas.{race-is}
+use Rattle.er_explain.specs.Racing.{is_race}
+use Rattle.er_model.proofs.Prefixes.{holdings-front, state-front}
+use Rattle.er_model.specs.Answers.{answer, state_at}
+use Rattle.er_model.specs.Explanations.{word_in, word_of}
+use Rattle.er_model.specs.Holdings.{Holdings, holdings_at}
+use Rattle.er_model.specs.Threads.{accepted, held}
+use Rattle.er_parallel.specs.Crews.{Crewed, AreNoted, AreUnusual, HaveAnswered, LeavesWord, IsAmong, IsAnswered}
+use Rattle.er_parallel.specs.Faults.{AsksForSet, MayFail}
+use Rattle.er_parallel.specs.Usual.{usual}
+use Rattle.er_parallel.specs.declared.faults.ReplayFault.{ReplayFault}
+use Rattle.er_parallel.specs.declared.faults.ReplayFault.TheVariants as replaying
+use Rattle.er_parallel.specs.declared.unusual.Unusual.{Unusual}
+use Rattle.er_replay.specs.Wants.{asks_by, is_access}
+use Rattle.er_report.proofs.GrowthLemmas.{reported-on}
+use Rattle.er_report.specs.Builder.{Built, IsReported, IsStepAt, KeepsState, is_plain}
+use Rattle.er_text.specs.Batches.{joined}
+use Rattle.er_text.specs.Named.{KeepsNames}
+use Rattle.er_trace.specs.Names.{NameTable}
+use Rattle.er_trace.specs.Trace.{Recording, IsNamed, HasSiteName, no_steps}
+
+-- the usual answer is no race
+usual-quiet : (event : Event) → is_race (usual event) ≡ false
+usual-quiet (Access kind w site) = refl
+usual-quiet (Acquire l m) = refl
+usual-quiet (Release l m) = refl
+usual-quiet (Reuse range) = refl
+usual-quiet IgnoreOn = refl
+usual-quiet IgnoreOff = refl
+usual-quiet (Show w) = refl
+usual-quiet (Level n) = refl
+usual-quiet (Sync sync) = refl
+
+plain-usual : (event : Event) → is_plain (usual event) ≡ true
+plain-usual (Access kind w site) = refl
+plain-usual (Acquire l m) = refl
+plain-usual (Release l m) = refl
+plain-usual (Reuse range) = refl
+plain-usual IgnoreOn = refl
+plain-usual IgnoreOff = refl
+plain-usual (Show w) = refl
+plain-usual (Level n) = refl
+plain-usual (Sync sync) = refl
+
+-- an access that leaves its word leaves the state of it
+leaves-state : (steps : List Step) (k : ℕ) (event : Event) → is_access event ≡ true → LeavesWord steps k event → (w : ℕ) × (word_in event ≡ Some w) × (state_at steps w (suc k) ≡ state_at steps w k)
+leaves-state steps k (Access kind w site) accesses same = (w, refl, ap (state_at steps w) (sym (add-one k)) ∙ same)
+leaves-state steps k (Acquire l m) accesses same = cc
+leaves-state steps k (Release l m) accesses same = cc
+leaves-state steps k (Reuse range) accesses same = cc
+leaves-state steps k IgnoreOn accesses same = cc
+leaves-state steps k IgnoreOff accesses same = cc
+leaves-state steps k (Show w) accesses same = cc
+leaves-state steps k (Level n) accesses same = cc
+leaves-state steps k (Sync sync) accesses same = cc
+
+same-step : (one other : Step) → Some one ≡ Some other → one ≡ other
+same-step one other is = cc
+
+-- the step at position k of a batch
+module _ (past batch : List Step) (lines sites : List ℕ) (names : NameTable) (items : List Unusual) (unusual : AreUnusual past batch items) (k number site : ℕ) (step : Step)
+    (here : slice_get batch k ≡ Some step) (is : number ≡ slice_index lines (length past + k)) (stood : site ≡ slice_index sites (length past + k)) where
+  there : slice_get (past ++ batch) (length past + k) ≡ Some step
+  there = get_behind past batch k (length past + k) refl ∙ here
+
+  -- its unusual answer
+  pub with-item : (next : ℕ) (item : Unusual) → slice_get items next ≡ Some item → item.at ≡ k
+      → IsStepAt (recorded (past ++ batch) lines sites names) (length past + k) names number site step item.answer item.held
+  with-item next item found at =
+      let known : IsAnswered past batch item = unusual.right next item found in
+      let same : known.step ≡ step = same-step known.step step (sym known.there ∙ ap (slice_get batch) at ∙ here) in
+      record {
+        here = there;
+        line = is;
+        site = stood;
+        named = refl;
+        answered = known.answered ∙ ap (λ (n : ℕ). answer (past ++ batch) (length past + n)) at;
+        locked = λ race.
+            known.locked (race-is item.answer race)
+            ∙ ap (λ (n : ℕ). held (accepted (past ++ batch) (length past + n)) known.step.thread) at
+            ∙ ap (λ (s : Step). held (accepted (past ++ batch) (length past + k)) s.thread) same;
+      }
+
+  among-none : (next : ℕ) → IsNext items next k → IsNext items next (k + 1) → IsAmong items k → ⊥
+  among-none next before after among =
+      by (cases_lt among.index next)
+    where
+      by : (among.index < next) ⊎ (next ≤ among.index) → ⊥
+      by (inl low) = (let small : among.item.at < k = before.below among.index among.item among.there low in let at : among.item.at ≡ k = among.at in omega arith)
+      by (inr high) = (let great : k + 1 ≤ among.item.at = after.above among.index among.item among.there high in let at : among.item.at ≡ k = among.at in omega arith)
+
+  -- or its usual one
+  pub as-usual : (next : ℕ) → IsNext items next k → IsNext items next (k + 1)
+      → (locks : List ℕ) → IsStepAt (recorded (past ++ batch) lines sites names) (length past + k) names number site step (usual step.event) locks
+  as-usual next before after locks =
+      record {
+        here = there;
+        line = is;
+        site = stood;
+        named = refl;
+        answered = by (unusual.others k step here);
+        locked = λ race. absurd (let none = usual-quiet step.event in cc);
+      }
+    where
+      by : (answer (past ++ batch) (length past + k) ≡ usual step.event) ⊎ IsAmong items k → usual step.event ≡ answer (past ++ batch) (length past + k)
+      by (inl same) = sym same
+      by (inr among) = absurd (among-none next before after among)
+
+  -- which is no race, no refusal and no state
+  pub usual-plain : (next : ℕ) → IsNext items next k → IsNext items next (k + 1) → is_plain (answer (past ++ batch) (length past + k)) ≡ true
+  usual-plain next before after = ap is_plain (sym (as-usual next before after []).answered) ∙ plain-usual step.event
+
+  -- and if it is an access that isn't noted, its word has the state that it had
+  pub unnoted : AreNoted past batch items → is_access step.event ≡ true → (next : ℕ) → IsNext items next k → IsNext items next (k + 1) → KeepsState (past ++ batch) (length past + k)
+  unnoted noted accesses next before after = by (noted k step here)
+    where
+      by : LeavesWord (past ++ batch) (length past + k) step.event ⊎ IsAmong items k → KeepsState (past ++ batch) (length past + k)
+      by (inl same) =
+          let found = leaves-state (past ++ batch) (length past + k) step.event accesses same in
+          (found.0, ap word_of there ∙ found.1, found.2)
+      by (inr among) = absurd (among-none next before after among)
+
+-- a step that asks for a set does so in every list that goes on from its own
+asks-still : (h other : Holdings) (states others : ℕ → WordState) (t : ℕ) (event : Event) → other ≡ h → ((w : ℕ) → others w ≡ states w)
+    → asks_by other others t event ≡ asks_by h states t event
+asks-still h other states others t (Access kind w site) same words = rw (same, words w) refl
+asks-still h other states others t (Acquire l m) same words = refl
+asks-still h other states others t (Release l m) same words = refl
+asks-still h other states others t (Reuse range) same words = refl
+asks-still h other states others t IgnoreOn same words = refl
+asks-still h other states others t IgnoreOff same words = refl
+asks-still h other states others t (Show w) same words = refl
+asks-still h other states others t (Level n) same words = refl
+asks-still h other states others t (Sync sync) same words = refl
+
+asks-front : (steps more : List Step) → AsksForSet steps → AsksForSet (steps ++ more)
+asks-front steps more asks =
+    let within : asks.at < length steps = slice_get_within steps asks.at asks.step asks.there in
+    record {
+      at = asks.at;
+      step = asks.step;
+      there = get_still steps more asks.at asks.step asks.there;
+      asks = asks-still (holdings_at steps asks.step.thread asks.at) (holdings_at (steps ++ more) asks.step.thread asks.at)
+          (λ w. state_at steps w asks.at) (λ w. state_at (steps ++ more) w asks.at) asks.step.thread asks.step.event
+          (holdings-front steps more asks.step.thread asks.at (omega (arith, within))) (λ w. state-front steps more w asks.at (omega (arith, within)))
+          ∙ asks.asks;
+    }
+
+may-front : (steps more : List Step) (why : ReplayFault) → MayFail steps why → MayFail (steps ++ more) why
+may-front steps more replaying.Memory may = tt
+may-front steps more replaying.TableFull may = asks-front steps more may
+may-front steps more replaying.WorkerNotStarted may = tt
+may-front steps more replaying.WorkerLost may = may
+
+-- workers that can't be started
+pub start-may : (why : ReplayFault) → (why ≡ replaying.Memory) ⊎ (why ≡ replaying.WorkerNotStarted) → MayFail [] why
+start-may why (inl is) = rw is tt
+start-may why (inr is) = rw is tt
+
+-- the steps of a batch behind those that are past
+module _ (past : List Step) (lines sites : List ℕ) (names : NameTable) (trace : Recording) (kept : KeepsNames names trace.names) (fits : IsWellFormed trace)
+    (old : CrewRan) (asked : Asked) (run : HasCrewRun old asked (recorded past lines sites names)) where
+  abbrev after : Recording
+  after = joined past lines sites trace
+
+  formed : IsWellFormed after
+  formed = grown past lines sites names trace kept run.formed fits
+
+  -- workers that have stopped stay so
+  pub stays : (why : ReplayFault) → old.crew ≡ Err why → HasCrewRun old asked after
+  stays why is = record {
+    answered = rw is (may-front past trace.steps why (rw is at run.answered));
+    rules = run.rules;
+    explain = run.explain;
+    formed = formed;
+  }
+
+  -- others have answered what is past
+  pub answered : (crew : Crewed) → old.crew ≡ Ok crew → HaveAnswered crew past
+  answered crew is = (rw is at run.answered).0
+
+  pub reported : (crew : Crewed) → old.crew ≡ Ok crew → IsReported old.builder after (length past)
+  reported crew is = reported-on old.builder _ after (length past) (goes-on past lines sites names trace kept run.formed) (omega arith) (rw is at run.answered).1
+
+  -- and go on to the end of the batch, or stop in it
+  pub goes : (crew : Crewed) (added : Built) → added.rules ≡ old.builder.rules → is_some added.kept ≡ is_some old.builder.kept → HaveAnswered crew (past ++ trace.steps)
+      → IsReported added after (length past + length trace.steps) → HasCrewRun (record { crew = Ok crew; builder = added }) asked after
+  goes crew added rules explains answered reported = record {
+    answered = (answered, subst (IsReported added after) (sym (length-append past trace.steps)) reported);
+    rules = rules ∙ run.rules;
+    explain = explains ∙ run.explain;
+    formed = formed;
+  }
+
+  pub stops : (why : ReplayFault) → MayFail (past ++ trace.steps) why → HasCrewRun (record { crew = Err why; builder = old.builder }) asked after
+  stops why may = record { answered = may; rules = run.rules; explain = run.explain; formed = formed }
+
+-- before any step
+pub begun : (crew : Result Crewed ReplayFault) (builder : Built) (asked : Asked) → IfOk crew (λ crew. HaveAnswered crew []) → IfErr crew (λ why. (why ≡ replaying.Memory) ⊎ (why ≡ replaying.WorkerNotStarted))
+    → ((r : Recording) → IsReported builder r 0) → builder.rules ≡ asked.rules → is_some builder.kept ≡ asked.explain → HasCrewRun (record { crew = crew; builder = builder }) asked no_steps
+begun crew builder asked none fault built rules explain = record {
+  answered = by crew none fault;
+  rules = rules;
+  explain = explain;
+  formed = record { named = All-nil (IsNamed no_steps.names); long = refl; known = All-nil (HasSiteName no_steps.names); one_each = refl };
+}
+  where
+    by : (o : Result Crewed ReplayFault) → IfOk o (λ crew. HaveAnswered crew []) → IfErr o (λ why. (why ≡ replaying.Memory) ⊎ (why ≡ replaying.WorkerNotStarted))
+        → MatchResult o (λ crew. HaveAnswered crew [] × IsReported builder no_steps 0) (λ why. MayFail [] why)
+    by (Ok crew) none fault = (none, built no_steps)
+    by (Err why) none fault = start-may why fault
+
+-- what holds of a batch that was added
+pub on-done : (X E : Type 0) (result : Result X E) (P Q S T : Type 0) → OnOk result P → OnOk result Q → OnOk result S → (P → Q → S → T) → OnOk result T
+on-done X E (Ok x) P Q S T p q s then = then p q s
+on-done X E (Err e) P Q S T p q s then = tt

@@ -1,0 +1,264 @@
+//! The lockset rule by several workers, as an analyst.
+ghost use Rattle.std.specs.Prelude.{◌≡◌, ◌+◌, ◌<◌, ◌≤◌, ◌^◌, ℕ, List, All, IfOk, IfErr, IsTrue, MatchOption, None, OnOk, Some, is_some, length, slice_get, true};
+ghost use Rattle.er_batch.specs.Analysts.{Asked, HasCrewRun};
+ghost use Rattle.er_batch.specs.Inner.Answering.{Lags};
+ghost use Rattle.er_batch.specs.Inner.Items.{AreItems, IsNext};
+ghost use Rattle.er_event.specs.declared.steps.Step.{Step as Steps};
+ghost use Rattle.er_parallel.specs.Crews.{AreUnusual, Rise};
+ghost use Rattle.er_parallel.specs.Faults.{MayFail};
+ghost use Rattle.er_parallel.specs.Usual.{usual};
+ghost use Rattle.er_replay.specs.Wants.{is_access};
+ghost use Rattle.er_report.specs.Builder.{IsReported};
+ghost use Rattle.er_report.specs.Names.{HasNames};
+ghost use Rattle.er_report.specs.Report.{report_of, told};
+ghost use Rattle.er_rules.specs.Rules.{targets_of};
+ghost use Rattle.er_text.specs.Batches.{joined};
+ghost use Rattle.er_trace.specs.Trace.{Recording, no_steps};
+
+use crate::answering::{add_behind, has_room};
+use crate::{Analyst, Options};
+use er_event::{Event, Lockset, Refusal, Reply};
+use er_parallel::{Crew, ReplayConfig, ReplayFault, Unusual};
+use er_report::{Report, ReportBuilder};
+use er_rules::Suppressions;
+use er_table::LocksetTable;
+use er_trace::Trace;
+use std::alloc::{AllocError, Global};
+use std::marker::Model;
+use std::sync::Wait;
+use std::thread::Threads;
+
+/// Answers steps by the lockset rule and several workers, up to a batch that these can't answer.
+#[derive(Drop)]
+pub struct CrewAnalyst<'t, 'r> {
+    alloc: Global,
+    crew: Result<Crew<'t>, ReplayFault>,
+    builder: ReportBuilder<'r>,
+}
+
+impl<'t, 'r> Model for CrewAnalyst<'t, 'r> {
+    ghost use Rattle.er_batch.specs.Analysts.{CrewRan};
+
+    ghost Value = { CrewRan };
+
+    ghost view = { λ a. record { crew = a.crew; builder = a.builder } };
+}
+
+impl<'t, 'r> CrewAnalyst<'t, 'r> {
+    /// Before any step, with the workers, the shards and the keys of these options.
+    pub fn new<R: Threads + Wait + Sync>(
+        rt: &R,
+        alloc: Global,
+        table: &'t LocksetTable,
+        suppressions: &'r Suppressions,
+        options: &Options,
+    ) -> Result<CrewAnalyst<'t, 'r>, AllocError>
+        ensures stands { (asked : Asked) → asked.rules ≡ targets_of suppressions.now → asked.explain ≡ options.now.explain → IfOk result (λ analyst. HasCrewRun analyst asked no_steps) }
+    {
+        let builder = ReportBuilder::explaining_keyed(
+            alloc,
+            suppressions,
+            options.explain,
+            options.keys,
+        )?;
+        let config = ReplayConfig {
+            shards: options.shards,
+            max_sets: options.max_sets,
+            keys: options.keys,
+        };
+        let crew = Crew::new(rt, alloc, table, config, options.workers);
+        Ok(CrewAnalyst {
+            alloc,
+            crew,
+            builder,
+        })
+    }
+
+    /// The report of the steps so far, or why they weren't all answered.
+    pub fn finish(self) -> Result<Report, ReplayFault>
+        ensures report { (asked : Asked) (r : Recording) → HasCrewRun self.entry asked r → IfOk result (λ report. told report ≡ report_of r asked.rules asked.explain None) }
+        ensures named { (asked : Asked) (r : Recording) → HasCrewRun self.entry asked r → IfOk result (λ report. All (HasNames r.names) report.lines.items) }
+        ensures whole { IfOk result (λ report. report.stop ≡ None) }
+        ensures fault { (asked : Asked) (r : Recording) → HasCrewRun self.entry asked r → IfErr result (λ why. MayFail r.steps why) }
+    {
+        let CrewAnalyst {
+            alloc: _,
+            crew,
+            builder,
+        } = self;
+        match crew {
+            Ok(crew) => {
+                drop(crew);
+                Ok(builder.finish_explained(None))
+            }
+            Err(why) => {
+                drop(builder);
+                Err(why)
+            }
+        }
+    }
+}
+
+impl<'t, 'r> Analyst for CrewAnalyst<'t, 'r> {
+    ghost use Rattle.er_batch.specs.Analysts.{HasCrewRun};
+    ghost use Rattle.er_report.specs.Reports.{asks_locks};
+
+    ghost stands = { λ ran asked r. HasCrewRun ran asked r };
+
+    ghost wanted = { λ asked. asks_locks asked.analysis };
+
+    ghost answered = { λ ran. ran.builder.report.steps };
+
+    ghost found = { λ ran. ran.builder.report.races };
+
+    fn answer<R: Threads + Wait + Sync>(
+        &mut self,
+        rt: &R,
+        trace: &Trace,
+    ) -> Result<(), AllocError> {
+        let steps = trace.steps();
+        prove!(steps.len() == trace.lines().len());
+        prove!(steps.len() == trace.sites().len());
+        let Ok(crew) = &mut self.crew else {
+            return Ok(());
+        };
+        match crew.take(rt, steps, self.builder.explains()) {
+            Ok(items) => add_items(self.alloc, &mut self.builder, trace, items.as_slice()),
+            Err(why) => {
+                self.crew = Err(why);
+                Ok(())
+            }
+        }
+    }
+
+    fn steps(&self) -> u64 {
+        self.builder.steps()
+    }
+
+    fn races(&self) -> u64 {
+        self.builder.races()
+    }
+}
+
+// Adds the steps of a batch to the report, with their items' answers and otherwise the usual ones. If reasons are wanted, each access that
+// changed its word must have an item.
+fn add_items(
+    alloc: Global,
+    builder: &mut ReportBuilder<'_>,
+    trace: &Trace,
+    items: &[Unusual],
+) -> Result<(), AllocError>
+    ensures rules { OnOk result (builder.new.rules ≡ builder.old.rules) }
+    ensures explains { OnOk result (is_some builder.new.kept ≡ is_some builder.old.kept) }
+    ensures reported { (past : List Steps) (lines sites : List ℕ) → length lines ≡ length past → length sites ≡ length past → AreItems (is_some builder.old.kept) past trace.now.steps items.now
+        → IsReported builder.old (joined past lines sites trace.now) (length past) → OnOk result (IsReported builder.new (joined past lines sites trace.now) (length past + length trace.now.steps)) }
+{
+    let steps = trace.steps();
+    if !has_room(builder, steps) {
+        return Err(AllocError);
+    }
+    let explains = builder.explains();
+    let none = Lockset::new(alloc);
+    let mut next = 0;
+    let mut plain = 0;
+    for (k, step) in steps.iter().enumerate() {
+        if says_nothing(explains, step.event, items, next, k) {
+            plain += 1;
+        } else {
+            next = add_next(builder, plain, trace, items, next, k, &none)?;
+            plain = 0;
+        }
+    }
+    builder.add_plain(plain);
+    Ok(())
+}
+
+// Whether the report says nothing of the step at position k: its answer is the usual one, and if reasons are wanted it is an access that
+// isn't noted as one that changed its word.
+#[inline(always)]
+fn says_nothing(explains: bool, event: Event, items: &[Unusual], next: usize, k: usize) -> bool
+    ensures place { IsTrue result → Rise items.now → IsNext items.now next k → IsNext items.now next (k + 1) }
+    ensures access { IsTrue result → explains ≡ true → is_access event ≡ true }
+{
+    if item_at(items, next, k).is_some() {
+        return false;
+    }
+    !explains || matches!(event, Event::Access(..))
+}
+
+// Adds `plain` steps at once that the report has no line for, and then the step at position k of a batch, with its item's answer or the
+// usual one. Returns how many of the items are behind.
+fn add_next(
+    builder: &mut ReportBuilder<'_>,
+    plain: u64,
+    trace: &Trace,
+    items: &[Unusual],
+    next: usize,
+    k: usize,
+    none: &Lockset,
+) -> Result<usize, AllocError>
+    requires room { builder.old.report.steps + plain + 1 < 2 ^ 64 }
+    requires within { k < length trace.now.steps }
+    requires next { next ≤ k }
+    ensures rules { OnOk result (builder.new.rules ≡ builder.old.rules) }
+    ensures steps { OnOk result (builder.new.report.steps ≡ builder.old.report.steps + plain + 1) }
+    ensures explains { OnOk result (is_some builder.new.kept ≡ is_some builder.old.kept) }
+    ensures next { IfOk result (λ after. after ≤ k + 1) }
+    ensures place { Rise items.now → IsNext items.now next k → IfOk result (λ after. IsNext items.now after (k + 1)) }
+    ensures reported { (past : List Steps) (lines sites : List ℕ) → length lines ≡ length past → length sites ≡ length past → AreUnusual past trace.now.steps items.now → IsNext items.now next k
+        → Lags builder.old (joined past lines sites trace.now) (length past + k) plain → OnOk result (IsReported builder.new (joined past lines sites trace.now) (length past + k + 1)) }
+{
+    let step = &trace.steps()[k];
+    let line = trace.lines()[k];
+    let site = trace.sites()[k];
+    match item_at(items, next, k) {
+        Some(item) => {
+            add_behind(
+                builder,
+                plain,
+                trace.names(),
+                line,
+                site,
+                step,
+                &item.answer,
+                &item.held,
+            )?;
+            Ok(next + 1)
+        }
+        None => {
+            let answer = usual_answer(step.event);
+            add_behind(
+                builder,
+                plain,
+                trace.names(),
+                line,
+                site,
+                step,
+                &answer,
+                none,
+            )?;
+            Ok(next)
+        }
+    }
+}
+
+// The unusual answer to the step at position k, if it has one. It is the next one.
+fn item_at(items: &[Unusual], next: usize, k: usize) -> Option<&Unusual>
+    ensures { Rise items.now → IsNext items.now next k → MatchOption result (IsNext items.now next (k + 1))
+        (λ item. (slice_get items.now next ≡ Some item.now) × (item.now.at ≡ k) × IsNext items.now (next + 1) (k + 1)) }
+{
+    match items.get(next) {
+        Some(item) if item.at == k => Some(item),
+        _ => None,
+    }
+}
+
+// The usual answer to a step.
+fn usual_answer(event: Event) -> Result<Reply, Refusal>
+    ensures { result ≡ usual event }
+{
+    Ok(match event {
+        Event::Access(..) => Reply::Quiet,
+        _ => Reply::Done,
+    })
+}

@@ -1,0 +1,13 @@
+pub mod ByteLemmas
+pub mod ClassLemmas
+pub mod BlockLemmas
+pub mod LineLemmas
+pub mod WholeLemmas
+pub mod WordLemmas
+pub mod WindowLemmas
+pub mod NumberLemmas
+pub mod LendingLemmas
+pub mod TurnLemmas
+pub mod SpelledLemmas
+pub mod SaidLemmas
+pub mod ReadingLaws

@@ -1,0 +1,16 @@
+use Rattle.std.proofs.Common.{◌≡◌, ◌+◌, ◌-◌, ◌≤◌, length}
+use Rattle.std.specs.Io.KnownBytes.{Keeps, prepend_known}
+use Rattle.er_device.specs.Device.{inner_of, has_failed, taken_of}
+use Rattle.er_lines.specs.Inner.Windows.{items}
+use Rattle.er_lines.proofs.windows.Window.find.Given as goal
+
+abbrev pub invariant-loop-bytes : goal.invariant-loop-bytes
+invariant-loop-bytes g l = record {
+  same : Keeps (prepend_known (items l.fn.self) (g.R.Read.remaining (inner_of l.fn.reader))) (prepend_known (items l.self) (g.R.Read.remaining (inner_of l.reader)));
+  most : length (items l.self) ≤ l.most;
+  failed : has_failed l.reader ≡ has_failed l.fn.reader;
+  taken : taken_of l.reader + length (items l.fn.self) ≤ taken_of l.fn.reader + length (items l.self);
+}
+
+abbrev pub decreases-loop-bytes : goal.decreases-loop-bytes
+decreases-loop-bytes g l = 1025 - length (items l.self)

@@ -1,0 +1,3 @@
+-- What the code's parts keep true of one another. No public clause cites it.
+pub mod Windows
+pub mod Blocks

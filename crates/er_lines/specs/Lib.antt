@@ -1,0 +1,10 @@
+pub mod Lines
+pub mod Number
+pub mod Naming
+pub mod Faults
+pub mod FirstFault
+pub mod Places
+pub mod Words
+pub mod Lending
+pub mod Reading
+pub mod Inner

@@ -1,0 +1,86 @@
+-- The rules of lines, as the code finds them out. The grammar of suppression texts stands apart from it, in `Rules`.
+use Rattle.std.specs.Prelude.{◌≡◌, ℕ, ◌+◌, ◌^◌, ◌||◌, ◌++◌, not, Bool, nat_le, nat_lt, List, [], ◌∷◌, Option, Some, None, Result, Ok, Err, codes, option_map, if◌then◌else◌}
+use Rattle.std.specs.List.{list_all}
+use Rattle.std.specs.Str.{bytes_eq}
+use Rattle.er_event.specs.Span.{Span}
+use Rattle.er_rules.specs.Rules.{Target, AtSite, AtWords, span_of, targets_of}
+use Rattle.er_rules.specs.declared.rules.WordSpan.{WordSpan}
+use Rattle.er_rules.specs.declared.rules.Suppressions.{Suppressions}
+use Rattle.er_lines.specs.declared.faults.TextKind.{TextKind}
+use Rattle.er_rules.specs.Texts.{run_of}
+use Rattle.er_lines.specs.Naming.{is_site_name}
+use Rattle.er_lines.specs.declared.faults.TextKind.TheVariants.{BadName, NotAscii, MissingOperand, BadVerb, ExtraOperand, AddressOutOfRange}
+use Rattle.er_lines.specs.declared.faults.TextFault.{TextFault}
+use Rattle.er_lines.specs.declared.faults.ReadFault.{ReadFault}
+use Rattle.er_lines.specs.declared.faults.ReadFault.TheVariants as fault
+use Rattle.er_rules.specs.declared.texts.LineRule.{LineRule}
+use Rattle.er_rules.specs.declared.texts.LineRule.TheVariants.{Site, Words}
+use Rattle.er_lines.specs.Lines.{Placed, placed, says_something, has_bytes, words, word_at, is_ascii}
+use Rattle.er_lines.specs.Words.{and_then, map_ok, number_in, seen_name, GivesBy}
+use Rattle.er_lines.specs.Reading.{read_lines}
+
+-- the site that a word names, of which `-` is none
+abbrev pub site_in : List ℕ → Result (Option (List ℕ)) TextKind
+site_in word = if not (is_site_name word) then Err BadName else if bytes_eq word (codes "-") then Ok None else Ok (Some word)
+
+abbrev pub site_rule_in : List ℕ → List ℕ → Result Target TextKind
+site_rule_in first second =
+    if not (has_bytes first) then Err MissingOperand else if has_bytes second then Err ExtraOperand else map_ok AtSite (site_in first)
+
+abbrev pub is_outside : ℕ → ℕ → Bool
+is_outside address size = nat_le (2 ^ 48) address || nat_lt (2 ^ 48) (address + size)
+
+-- a run of bytes of any size within memory
+abbrev pub long_run_in : ℕ → ℕ → Result (Option Span) TextKind
+long_run_in address size = if is_outside address size then Err AddressOutOfRange else Ok (run_of address size)
+
+abbrev pub run_rule_in : List ℕ → List ℕ → List ℕ → Result Target TextKind
+run_rule_in first second third =
+    if not (has_bytes second) then Err MissingOperand else if has_bytes third then Err ExtraOperand
+    else and_then (number_in first) (λ a. and_then (number_in second) (λ n. map_ok AtWords (long_run_in a n)))
+
+-- the rule that four words write, of which those that are missing are empty
+abbrev pub rule_in : List ℕ → List ℕ → List ℕ → List ℕ → Result Target TextKind
+rule_in sort first second third =
+    if bytes_eq sort (codes "site") then site_rule_in first second
+    else if bytes_eq sort (codes "words") then run_rule_in first second third
+    else Err BadVerb
+
+abbrev pub rule_of : List (List ℕ) → Result Target TextKind
+rule_of words = rule_in (word_at 0 words) (word_at 1 words) (word_at 2 words) (word_at 3 words)
+
+abbrev pub with_rule : List Target → Target → List Target
+with_rule rules rule = rules ++ rule ∷ []
+
+abbrev pub add_at : List Target → List ℕ → Result (List Target) TextKind
+add_at rules bytes = if says_something bytes then map_ok (with_rule rules) (rule_of (words bytes)) else Ok rules
+
+-- a line in the limits
+abbrev pub plain_rule_at : List Target → List ℕ → Result (List Target) TextKind
+plain_rule_at rules bytes = if not (list_all is_ascii bytes) then Err NotAscii else add_at rules bytes
+
+-- the rules so far, and that of one more line
+abbrev pub add_line : List Target → Placed → Result (List Target) TextKind
+add_line rules line = add_at rules line.line.bytes
+
+-- what a reading of a text gives
+abbrev pub rules_in : ℕ → List ℕ → Result (List Target) TextFault
+rules_in limit text = read_lines limit add_line (placed text) []
+
+-- the code's values, without where they lie in memory
+abbrev pub rule_view : LineRule → Target
+rule_view (Site name) = AtSite (seen_name name)
+rule_view (Words run) = AtWords (option_map span_of run)
+
+abbrev pub GivesRun : Result (Option WordSpan) TextKind → Result (Option Span) TextKind → Type 0
+GivesRun = GivesBy (option_map span_of)
+
+abbrev pub GivesRule : Result LineRule TextKind → Result Target TextKind → Type 0
+GivesRule = GivesBy rule_view
+
+-- what a call returned is this outcome, unless memory or the reader failed
+abbrev pub IsRulesOutcome : Result (List Target) TextFault → Result Suppressions ReadFault → Type 0
+IsRulesOutcome outcome (Ok rules) = outcome ≡ Ok (targets_of rules)
+IsRulesOutcome outcome (Err (fault.Text f)) = outcome ≡ Err f
+IsRulesOutcome outcome (Err fault.Memory) = Unit {0}
+IsRulesOutcome outcome (Err fault.Read) = Unit {0}

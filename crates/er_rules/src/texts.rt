@@ -1,0 +1,209 @@
+//! The texts of rules, line by line.
+ghost use Rattle.std.specs.Prelude.{◌≡◌, ◌+◌, ◌^◌, ◌<◌, ◌≤◌, OnOk, IfOk, IfSome, IsErrOf, true, false, option_map, string_bytes};
+ghost use Rattle.er_device.specs.Device.{inner_of, has_failed, taken_of};
+ghost use Rattle.er_lines.specs.Faults.{HasFailedBy};
+ghost use Rattle.er_lines.specs.Lending.{taken_by, lines_left};
+ghost use Rattle.er_lines.specs.Lines.{bytes_past_limit};
+ghost use Rattle.er_lines.specs.Reading.{Reads, Turns};
+ghost use Rattle.er_lines.specs.Words.{seen_name, GivesSite};
+ghost use Rattle.er_rules.specs.Inner.RuleLines.{GivesRun, GivesRule, site_in, site_rule_in, long_run_in, run_rule_in, rule_in, add_line, plain_rule_at, rules_in, rule_view, IsRulesOutcome};
+ghost use Rattle.er_rules.specs.Rules.{target_of, targets_of};
+ghost use Rattle.er_rules.specs.Texts.{TellsRules};
+
+use crate::Done;
+use crate::rules::{Rule, Suppressions, WordSpan};
+use er_device::Device;
+use er_event::Word;
+use er_lines::{
+    LineReader, ReadFault, TextKind, Words, fault_at, is_ascii, is_site_name, number,
+    says_something, site_text, split_words,
+};
+use std::alloc::{AllocError, Global};
+use std::io::Read;
+
+/// How many bytes are read ahead.
+const WINDOW_BYTES: usize = 65_536;
+
+/// Reads a suppression text to its end, or to its first faulty line, in whatever pieces it comes.
+///
+/// Each line that isn't blank or a comment is a rule: `site NAME`, of which `-` is the missing site, or `words ADDRESS SIZE`, the
+/// size in bytes. A line of a race in the report names its site and its address as they are written here.
+///
+/// The text has at most `byte_limit` bytes, and the limit is at most 2^62. What follows a faulty line may or may not have been taken
+/// from the reader. No memory is kept but that of the rules and a window of 65,536 bytes.
+pub fn read_suppressions<R: Read>(
+    alloc: Global,
+    reader: &mut Device<R>,
+    byte_limit: u64,
+) -> Result<Suppressions, ReadFault>
+    requires open { has_failed reader.old ≡ false }
+    requires limit { byte_limit ≤ 2 ^ 62 }
+
+    // If the reader's bytes are known, the answer is their rules, or their fault.
+    ensures told { IfSome (R.remaining (inner_of reader.old)) (λ text. TellsRules text byte_limit result) }
+
+    ensures failed { HasFailedBy (has_failed reader.new) result }
+    ensures taken { taken_of reader.new ≤ taken_of reader.old + byte_limit + bytes_past_limit }
+{
+    read_rules(alloc, reader, byte_limit)
+}
+
+/// A rule whose name is still a part of its line.
+#[derive(Clone, Copy)]
+enum LineRule<'a> {
+    Site(Option<&'a str>),
+    Words(Option<WordSpan>),
+}
+
+/// The site that a word of a rule names, which may be one of any trace. `-` names none.
+fn site_of(word: &[u8]) -> Result<Option<&str>, TextKind>
+    ensures { GivesSite result (site_in word.now) }
+{
+    if !is_site_name(word) {
+        return Err(TextKind::BadName);
+    }
+    if word == b"-".as_slice() {
+        return Ok(None);
+    }
+    Ok(Some(site_text(word)))
+}
+
+fn site_rule<'a>(first: &'a [u8], second: &[u8]) -> Result<LineRule<'a>, TextKind>
+    ensures { GivesRule result (site_rule_in first.now second.now) }
+{
+    if first.is_empty() {
+        return Err(TextKind::MissingOperand);
+    }
+    if !second.is_empty() {
+        return Err(TextKind::ExtraOperand);
+    }
+    Ok(LineRule::Site(site_of(first)?))
+}
+
+/// The words that some bytes of memory touch, of which there may be none.
+fn run_of(address: u64, size: u64) -> Result<Option<WordSpan>, TextKind>
+    ensures { GivesRun result (long_run_in address size) }
+{
+    if address >= Word::ADDRESSES || size > Word::ADDRESSES - address {
+        return Err(TextKind::AddressOutOfRange);
+    }
+    if size == 0 {
+        return Ok(None);
+    }
+    Ok(Some(WordSpan {
+        first: Word::new(address / Word::BYTES),
+        last: Word::new((address + size - 1) / Word::BYTES),
+    }))
+}
+
+fn run_rule<'a>(first: &[u8], second: &[u8], third: &[u8]) -> Result<LineRule<'a>, TextKind>
+    ensures { GivesRule result (run_rule_in first.now second.now third.now) }
+{
+    if second.is_empty() {
+        return Err(TextKind::MissingOperand);
+    }
+    if !third.is_empty() {
+        return Err(TextKind::ExtraOperand);
+    }
+    let address = number(first)?;
+    let size = number(second)?;
+    Ok(LineRule::Words(run_of(address, size)?))
+}
+
+/// The rule that these words write, or the first fault among them.
+fn rule_of<'a>(words: &Words<'a>) -> Result<LineRule<'a>, TextKind>
+    ensures { GivesRule result (rule_in words.now.first.now words.now.second.now words.now.third.now words.now.fourth.now) }
+{
+    if words.first == b"site".as_slice() {
+        site_rule(words.second, words.third)
+    } else if words.first == b"words".as_slice() {
+        run_rule(words.second, words.third, words.fourth)
+    } else {
+        Err(TextKind::BadVerb)
+    }
+}
+
+fn owned_name(alloc: Global, name: Option<&str>) -> Result<Option<String>, AllocError>
+    ensures { IfOk result (λ owned. option_map string_bytes owned ≡ seen_name name.entry) }
+{
+    match name {
+        Some(name) => Ok(Some(String::from_str(alloc, name)?)),
+        None => Ok(None),
+    }
+}
+
+/// The rule, with a name of its own.
+fn owned(alloc: Global, rule: &LineRule<'_>) -> Result<Rule, AllocError>
+    ensures { IfOk result (λ owned. target_of owned ≡ rule_view rule.now) }
+{
+    match *rule {
+        LineRule::Site(name) => Ok(Rule::Site(owned_name(alloc, name)?)),
+        LineRule::Words(words) => Ok(Rule::Words(words)),
+    }
+}
+
+/// Adds the rule of a line in the limits, if it has one.
+fn add_line(alloc: Global, rules: &mut Suppressions, line: u64, bytes: &[u8]) -> Done
+    ensures added { Reads line (targets_of rules.new) result (plain_rule_at (targets_of rules.old) bytes.now) }
+    ensures failed { IsErrOf result ReadFault.Read → ⊥ }
+{
+    if !is_ascii(bytes) {
+        return Err(fault_at(line, TextKind::NotAscii));
+    }
+    let words = split_words(bytes);
+    if !says_something(words.first, bytes) {
+        return Ok(());
+    }
+    match rule_of(&words) {
+        Err(kind) => Err(fault_at(line, kind)),
+        Ok(rule) => {
+            rules.push(owned(alloc, &rule)?)?;
+            Ok(())
+        }
+    }
+}
+
+/// Reads the next line, and says whether there was one.
+fn next_rule<R: Read>(
+    alloc: Global,
+    lines: &mut LineReader,
+    reader: &mut Device<R>,
+    rules: &mut Suppressions,
+) -> Result<bool, ReadFault>
+    requires open { has_failed reader.old ≡ false }
+    ensures turn { Turns lines.old.limit add_line (lines_left lines.old (R.remaining (inner_of reader.old)))
+        (lines_left lines.new (R.remaining (inner_of reader.new))) (targets_of rules.old) (targets_of rules.new) result }
+    ensures limit { lines.new.limit ≡ lines.old.limit }
+    ensures more { IfOk result (λ more. more ≡ true → lines.old.start < lines.new.start) }
+    ensures within { lines.new.start ≤ lines.new.limit }
+    ensures failed { HasFailedBy (has_failed reader.new) result }
+    ensures taken { taken_of reader.new + taken_by lines.old ≤ taken_of reader.old + taken_by lines.new }
+    ensures most { taken_by lines.new ≤ lines.new.limit + bytes_past_limit }
+{
+    let Some(front) = lines.find(reader)? else {
+        return Ok(false);
+    };
+    let line = lines.number();
+    let bytes = lines.bytes(front);
+    add_line(alloc, rules, line, bytes)?;
+    lines.pass(front);
+    Ok(true)
+}
+
+/// Reads a text to its end, in whatever pieces it comes.
+fn read_rules<R: Read>(
+    alloc: Global,
+    reader: &mut Device<R>,
+    byte_limit: u64,
+) -> Result<Suppressions, ReadFault>
+    requires open { has_failed reader.old ≡ false }
+    requires limit { byte_limit ≤ 2 ^ 62 }
+    ensures outcome { IfSome (R.remaining (inner_of reader.old)) (λ text. IsRulesOutcome (rules_in byte_limit text) result) }
+    ensures failed { HasFailedBy (has_failed reader.new) result }
+    ensures taken { taken_of reader.new ≤ taken_of reader.old + byte_limit + bytes_past_limit }
+{
+    let mut lines = LineReader::new(alloc, byte_limit, WINDOW_BYTES)?;
+    let mut rules = Suppressions::new(alloc);
+    while next_rule(alloc, &mut lines, reader, &mut rules)? {}
+    Ok(rules)
+}

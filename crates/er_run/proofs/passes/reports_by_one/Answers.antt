@@ -1,0 +1,39 @@
+-- What the pass stands for at the end of the text is the text's reports.
+use Rattle.std.proofs.Common.{◌∙◌, ℕ, List, Option, refl, rules}
+use Rattle.er_batch.specs.Analysts.{Asked}
+use Rattle.er_device.specs.Device.{inner_of}
+use Rattle.er_rules.specs.Rules.{targets_of}
+use Rattle.er_run.specs.Inner.Outcomes.{asked_by}
+use Rattle.er_run.specs.declared.fault.RunFault.TheVariants.{Read}
+use Rattle.er_run.proofs.OutcomeLemmas.{failed-outcome}
+use Rattle.er_run.proofs.PassLemmas.{of-reading}
+use Rattle.er_run.proofs.passes.reports_by_one.Goals as goal
+
+pub returns-in-Ok : goal.returns-in-Ok
+returns-in-Ok g c =
+    let told : Option (List ℕ) = g.D.Read.remaining (inner_of c.args.reader.now) in
+    let asked : Asked = asked_by c.args.options.now (targets_of c.args.suppressions.now) c.args.analysis in
+    let stands = c.in_ok-analysts.ensures.stands asked refl refl refl refl in
+    let all = c.in-Ok.ensures.answered asked stands in
+    record {
+      replay = record {
+        outcome = c.end.ensures.outcome asked told c.args.options.now.byte_limit all (c.in-Ok.ensures.ending asked stands);
+        failed = search rules;
+        taken = search rules;
+      };
+      alone = λ none. c.end.ensures.alone (all.stands.0.1.there ∙ none);
+    }
+
+pub returns-in-Err : goal.returns-in-Err
+returns-in-Err g c =
+    let told : Option (List ℕ) = g.D.Read.remaining (inner_of c.args.reader.now) in
+    let asked : Asked = asked_by c.args.options.now (targets_of c.args.suppressions.now) c.args.analysis in
+    let stands = c.in_ok-analysts.ensures.stands asked refl refl refl refl in
+    record {
+      replay = record {
+        outcome = failed-outcome told c.args.options.now.byte_limit asked (Read c.in-Err.why) (of-reading asked.analysis told c.args.options.now.byte_limit c.in-Err.why (c.in-Err.ensures.fault asked stands)) (λ lenient. tt);
+        failed = search rules;
+        taken = search rules;
+      };
+      alone = λ none. tt;
+    }

@@ -1,9 +1,0 @@
--- By the table.
-use Rattle.er_text.proofs.ClassLemmas.{digit_right, name_right}
-use Rattle.er_text.proofs.classes.class_of.Goals as goal
-
-pub returns-clause-digit : goal.returns-clause-digit
-returns-clause-digit c = digit_right c.args.byte c.ranges.byte.fits
-
-pub returns-clause-name : goal.returns-clause-name
-returns-clause-name c = name_right c.args.byte c.ranges.byte.fits

@@ -1,6 +1,0 @@
--- Name bytes are bytes of sites too.
-use Rattle.er_text.proofs.ByteLemmas.{name_printed}
-use Rattle.er_text.proofs.naming.text.Goals as goal
-
-pub site_text-requires : goal.site_text-requires
-site_text-requires c = name_printed c.args.word.now c.requires

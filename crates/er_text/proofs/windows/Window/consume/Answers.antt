@@ -1,5 +1,0 @@
-use Rattle.er_text.proofs.WindowLemmas.{passed_over}
-use Rattle.er_text.proofs.windows.Window.consume.Goals as goal
-
-pub returns : goal.returns
-returns c = let w = c.args.self.now in passed_over w.bytes.items w.start w.end c.args.count c.requires
